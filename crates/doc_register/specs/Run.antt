@@ -1,0 +1,55 @@
+-- All documents: the state with the pairs used so far, its step, and legal runs.
+use Rattle.std.specs.Prelude.{◌≡◌, ◌≢◌, ℕ, List, [], ◌∷◌, ◌++◌, Option, Some, None, IfSome, option_map, Contains}
+use Rattle.std.specs.Option.{option_to_list}
+use Rattle.version_pair.specs.declared.pair.Pair.{Pair}
+use Rattle.doc_register.specs.Register.{DocStep}
+use Rattle.doc_register.specs.declared.op.Op.{Op}
+use Rattle.doc_register.specs.declared.reply.Reply.{Reply}
+use Rattle.doc_register.specs.declared.reply.Reply.TheVariants.{Indexed, Deleted, Found, Missing, Conflict}
+use Rattle.doc_register.specs.declared.state.DocState.{DocState}
+use Rattle.doc_register.specs.declared.state.DocState.TheVariants.{Never}
+
+-- One entry of a run: an operation on a document of a shard, its reply, and the pair that the reply hides.
+pub record Entry : Type 0 where
+  pub shard : ℕ
+  pub doc : List ℕ
+  pub op : Op
+  pub reply : Reply
+  pub hidden : Option Pair
+
+-- the pair that a performed entry takes
+abbrev pub pair_taken : Reply → Option Pair → Option Pair
+pair_taken (Indexed q created) h = Some q
+pair_taken (Deleted q found) h = Some q
+pair_taken (Found p k) h = None
+pair_taken Missing h = None
+pair_taken Conflict h = h
+
+-- the pair that the entry takes, with the shard whose pair it is
+abbrev pub taken : Entry → Option (ℕ × Pair)
+taken e = option_map (λ q. (e.shard, q)) (pair_taken e.reply e.hidden)
+
+-- What each document is, and the pairs used so far, each with its shard.
+pub record State : Type 0 where
+  pub document : List ℕ → DocState
+  pub used : List (ℕ × Pair)
+
+-- no document was ever written, and no pair is used
+abbrev pub start : State
+start = record { document = λ d. Never; used = [] }
+
+-- One step: its document takes a step of its own, the others stay, a pair that it takes wasn't used and is used now.
+pub record Step (s : State) (e : Entry) (t : State) : Type 0 where
+  pub own : DocStep (s.document e.doc) e.op e.reply e.hidden (t.document e.doc)
+  pub others : (d : List ℕ) → d ≢ e.doc → t.document d ≡ s.document d
+  pub unused : IfSome (taken e) (λ q. ¬ Contains s.used q)
+  pub used : t.used ≡ option_to_list (taken e) ++ s.used
+
+-- the entries are steps one after another, from s to t
+abbrev pub IsRun : State → List Entry → State → Type 0
+IsRun s [] t = t ≡ s
+IsRun s (e ∷ es) t = (m : State) × Step s e m × IsRun m es t
+
+-- the entries are steps one after another, from the start
+abbrev pub IsLegalRun : List Entry → Type 0
+IsLegalRun es = (t : State) × IsRun start es t

@@ -1,0 +1,88 @@
+-- Worked cases: which answers one document can give in a state, and which orders of calls are legal runs.
+use Rattle.std.specs.Prelude.{ℕ, ◌<◌, ◌≤◌, ◌^◌, [], ◌∷◌, true, false, Option, Some, None}
+use Rattle.std.proofs.Common.{lit≤, lit<}
+use Rattle.version_pair.specs.declared.pair.Pair.{Pair}
+use Rattle.doc_register.specs.Register.{DocStep}
+use Rattle.doc_register.specs.Run.{Entry, IsLegalRun}
+use Rattle.doc_register.specs.declared.op.Op.{Op}
+use Rattle.doc_register.specs.declared.op.Op.TheVariants.{Get, Index, Delete, Create}
+use Rattle.doc_register.specs.declared.reply.Reply.{Reply}
+use Rattle.doc_register.specs.declared.reply.Reply.TheVariants.{Indexed, Deleted, Found, Missing, Conflict}
+use Rattle.doc_register.specs.declared.state.DocState.{DocState}
+use Rattle.doc_register.specs.declared.state.DocState.TheVariants.{Never, Gone, Here}
+
+abbrev pub pair : (term seq : ℕ) → 1 ≤ term → term < 2 ^ 63 → seq < 2 ^ 63 → Pair
+pair t s a b c = record { term = t; seq = s; term_from_one = a; term_fits = b; seq_fits = c }
+
+-- pairs, named by their terms and their sequence numbers
+abbrev pub one_zero : Pair
+one_zero = pair 1 0 (lit≤ tt) (lit< tt) (lit< tt)
+
+abbrev pub one_one : Pair
+one_one = pair 1 1 (lit≤ tt) (lit< tt) (lit< tt)
+
+abbrev pub two_zero : Pair
+two_zero = pair 2 0 (lit≤ tt) (lit< tt) (lit< tt)
+
+abbrev pub three_two : Pair
+three_two = pair 3 2 (lit≤ tt) (lit< tt) (lit< tt)
+
+-- in the state the operation cannot answer so, whatever the document is after it
+abbrev pub IsIllegal : DocState → Op → Reply → Option Pair → Type 0
+IsIllegal s op r h = (t : DocState) → ¬ DocStep s op r h t
+
+-- an entry on the document "d" of shard 0
+abbrev pub entry_of_d : Op → Reply → Option Pair → Entry
+entry_of_d op r h = record { shard = 0; doc = 100 ∷ []; op = op; reply = r; hidden = h }
+
+-- an entry on the document "e" of the shard
+abbrev pub entry_of_e : ℕ → Op → Reply → Entry
+entry_of_e n op r = record { shard = n; doc = 101 ∷ []; op = op; reply = r; hidden = None }
+
+abbrev pub created_once : Entry
+created_once = entry_of_d (Index 1 None) (Indexed one_zero true) None
+
+abbrev pub refused : Entry
+refused = entry_of_d (Index 3 (Some one_zero)) Conflict None
+
+pub record WorkedSteps : Type 0 where
+  -- a get
+  pub get_shows_document : DocStep (Here one_zero 1) Get (Found one_zero 1) None (Here one_zero 1)
+  pub get_of_another_number : IsIllegal (Here one_zero 1) Get (Found one_zero 2) None
+  pub get_of_another_pair : IsIllegal (Here one_zero 1) Get (Found one_one 1) None
+  pub get_of_never_written : DocStep Never Get Missing None Never
+  pub get_of_deleted : DocStep (Gone one_zero) Get Missing None (Gone one_zero)
+  pub get_misses_document : IsIllegal (Here one_zero 1) Get Missing None
+  -- a write without condition
+  pub index_creates : DocStep Never (Index 1 None) (Indexed one_zero true) None (Here one_zero 1)
+  pub index_creates_unsaid : IsIllegal Never (Index 1 None) (Indexed one_zero false) None
+  pub index_takes_low_pair : IsIllegal (Here one_one 1) (Index 2 None) (Indexed one_zero false) None
+  pub index_takes_same_pair : IsIllegal (Gone one_one) (Index 2 None) (Indexed one_one true) None
+  pub term_before_sequence_number : DocStep (Here one_one 1) (Index 2 None) (Indexed two_zero false) None (Here two_zero 2)
+  pub delete_of_document : DocStep (Here one_zero 1) (Delete None) (Deleted one_one true) None (Gone one_one)
+  pub delete_of_missing : DocStep Never (Delete None) (Deleted one_zero false) None (Gone one_zero)
+  pub delete_of_missing_found : IsIllegal (Gone one_zero) (Delete None) (Deleted one_one true) None
+  pub conflict_without_condition : IsIllegal (Here one_zero 1) (Index 2 None) Conflict None
+  -- a write under a condition
+  pub condition_met : DocStep (Here one_zero 1) (Index 2 (Some one_zero)) (Indexed one_one false) None (Here one_one 2)
+  pub performed_though_not_met : IsIllegal (Here one_one 1) (Index 2 (Some one_zero)) (Indexed three_two false) None
+  pub performed_on_deleted : IsIllegal (Gone one_zero) (Delete (Some one_zero)) (Deleted one_one false) None
+  pub conflict_on_missing : DocStep Never (Index 2 (Some one_zero)) Conflict None Never
+  pub conflict_though_met : IsIllegal (Here one_zero 1) (Index 2 (Some one_zero)) Conflict None
+  pub conflict_with_hidden_pair : DocStep (Here one_zero 1) (Index 2 (Some one_zero)) Conflict (Some one_one) (Here one_one 2)
+  pub hidden_pair_of_answered_write : IsIllegal Never (Index 1 None) (Indexed one_zero true) (Some one_zero)
+  -- a create
+  pub create_of_absent : DocStep (Gone one_zero) (Create 2) (Indexed one_one true) None (Here one_one 2)
+  pub create_over_document : IsIllegal (Here one_zero 1) (Create 2) (Indexed one_one false) None
+  pub create_refused : DocStep (Here one_zero 1) (Create 2) Conflict None (Here one_zero 1)
+  -- whole runs
+  pub overlapping_gets : IsLegalRun (
+      created_once
+      ∷ entry_of_d Get (Found one_zero 1) None
+      ∷ entry_of_d (Index 2 (Some one_zero)) (Indexed one_one false) None
+      ∷ entry_of_d Get (Found one_one 2) None
+      ∷ [])
+  pub conflict_without_cause : ¬ IsLegalRun (created_once ∷ refused ∷ [])
+  pub lost_write_explains_conflict : IsLegalRun (created_once ∷ entry_of_d (Index 2 (Some one_zero)) (Indexed three_two false) None ∷ refused ∷ [])
+  pub pair_twice_in_a_shard : ¬ IsLegalRun (created_once ∷ entry_of_e 0 (Index 1 None) (Indexed one_zero true) ∷ [])
+  pub same_pair_in_two_shards : IsLegalRun (created_once ∷ entry_of_e 1 (Index 1 None) (Indexed one_zero true) ∷ [])

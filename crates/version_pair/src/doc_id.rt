@@ -1,0 +1,133 @@
+ghost use Rattle.std.specs.Prelude.{◌≡◌, ℕ, ◌<◌, ◌≤◌, ◌↔◌, ◌==◌, List, [], length, IsTrue, IfOk, IsErrOf};
+ghost use Rattle.std.specs.String.{string_bytes};
+ghost use Rattle.std.specs.Cmp.{partial_equiv_from_equiv};
+ghost use Rattle.std.specs.Cmp.Lexicographic.{pointwise, nat_list_eq_equiv};
+ghost use Rattle.std.specs.Cmp.Rules.{hashing};
+ghost use Rattle.std.specs.Hash as fed;
+ghost use Rattle.std.proofs.Common.{rules};
+ghost use Rattle.version_pair.specs.Id.{IsIdLength};
+
+use std::alloc::{AllocError, Global};
+use std::hash::{Hash, Hasher};
+use std::marker::Model;
+
+/// What a call answers that was refused memory and can be refused nothing else.
+pub type NoMemory = AllocError;
+
+/// The most bytes that a document id has.
+pub const LONGEST_ID: usize = 512;
+
+/// Why a text is no document id.
+#[derive(Clone, Copy, Debug, PartialEq, Eq)]
+pub enum IdFault {
+    /// The text has no byte.
+    Empty,
+    /// The text has more than 512 bytes.
+    TooLong,
+    /// The copy of the text was refused memory.
+    NoMemory,
+}
+
+/// The id of a document: a text of 1 to 512 bytes.
+#[derive(Debug, Drop)]
+pub struct DocId {
+    text: String,
+}
+
+impl Model for DocId {
+    ghost Value = { List ℕ };
+
+    ghost view = { λ d. string_bytes d.text };
+
+    ghost invariant = { λ d. IsIdLength (length (string_bytes d.text)) };
+}
+
+impl DocId {
+    /// The id with the bytes of the text.
+    pub fn new(alloc: Global, text: &str) -> Result<DocId, IdFault>
+        ensures ok { IfOk result (λ id. (id ≡ text.now) × IsIdLength (length text.now)) }
+        ensures empty { IsErrOf result IdFault.Empty ↔ (length text.now ≡ 0) }
+        ensures too_long { IsErrOf result IdFault.TooLong ↔ (512 < length text.now) }
+    {
+        if text.is_empty() {
+            return Err(IdFault::Empty);
+        }
+        if text.len() > LONGEST_ID {
+            return Err(IdFault::TooLong);
+        }
+        match String::from_str(alloc, text) {
+            Ok(text) => Ok(DocId { text }),
+            Err(_) => Err(IdFault::NoMemory),
+        }
+    }
+
+    /// The id as text.
+    pub fn as_str(&self) -> &str
+        ensures same { result.now ≡ self.now }
+        ensures id { IsIdLength (length self.now) }
+    {
+        self.text.as_str()
+    }
+
+    /// Another id with the same bytes.
+    pub fn copy(&self) -> Result<DocId, NoMemory>
+        ensures { IfOk result (λ id. id ≡ self.now) }
+    {
+        Ok(DocId {
+            text: self.text.clone()?,
+        })
+    }
+}
+
+impl PartialEq for DocId {
+    ghost eq = { λ a b. pointwise ◌==◌ a b };
+
+    ghost laws = { partial_equiv_from_equiv nat_list_eq_equiv };
+
+    fn eq(&self, other: &DocId) -> bool {
+        self.text == other.text
+    }
+}
+
+impl Eq for DocId {
+    ghost laws = { nat_list_eq_equiv };
+}
+
+impl Hash for DocId {
+    ghost hash_input = { λ d. fed.str d };
+
+    ghost respects_eq = { Prim.search (hashing, rules) };
+
+    fn hash<H: Hasher>(&self, state: &mut H) {
+        self.text.hash(state);
+    }
+}
+
+#[cfg(test)]
+mod tests {
+    use super::*;
+    use std::test::Fail;
+
+    #[test]
+    fn id_lengths(rt: HostRuntime) -> Result<(), Fail> {
+        let letters = [b'd'; 513];
+        let longest = str::from_utf8(&letters[..512])?;
+        let too_long = str::from_utf8(&letters)?;
+        assert_eq!(rt; DocId::new(rt.alloc(), "").err(), Some(IdFault::Empty));
+        assert_eq!(rt; DocId::new(rt.alloc(), longest).err(), None);
+        assert_eq!(rt;
+            DocId::new(rt.alloc(), too_long).err(),
+            Some(IdFault::TooLong)
+        );
+        Ok(())
+    }
+
+    #[test]
+    fn copies(rt: HostRuntime) -> Result<(), Fail> {
+        let id = DocId::new(rt.alloc(), "d").map_err(|_| "an id")?;
+        let copy = id.copy()?;
+        assert_eq!(rt; copy.as_str(), "d");
+        assert!(rt; copy == id);
+        Ok(())
+    }
+}
