@@ -1,1 +1,3 @@
 pub mod WorkedSteps
+pub mod RunLemmas
+pub mod RunLaws

@@ -1,5 +1,5 @@
 -- The worked cases, proved.
-use Rattle.std.proofs.Common.{◌≡◌, ◌≢◌, ℕ, zero, suc, List, [], ◌∷◌, Bool, true, false, cond, nat_eq, Contains, sym, ap, ◌∙◌, refl, arith, rules, lit<}
+use Rattle.std.proofs.Common.{◌≡◌, ◌≢◌, ℕ, zero, suc, List, [], ◌∷◌, Bool, true, false, cond, nat_eq, Contains, sym, ap, ◌∙◌, refl, arith, rules, lit<, Some, None}
 use Rattle.std.specs.Cmp.Lexicographic.{pointwise, same_text}
 use Rattle.version_pair.specs.declared.pair.Pair.{Pair}
 use Rattle.doc_register.specs.Run.{State, Step, start}
@@ -57,6 +57,7 @@ worked_steps = record {
   get_of_never_written = search rules;
   get_of_deleted = search rules;
   get_misses_document = λ t h. grind arith;
+  get_hides_pair = λ t h. let impossible : Some one_one ≡ None = h.1 in cc;
   index_creates = search rules;
   index_creates_unsaid = λ t h. grind arith;
   index_takes_low_pair = λ t h. grind arith;
@@ -73,9 +74,16 @@ worked_steps = record {
   conflict_though_met = λ t h. h.0 refl;
   conflict_with_hidden_pair = search (rules, arith);
   hidden_pair_of_answered_write = λ t h. h;
+  hidden_pair_though_not_met = λ t h. h.allowed;
+  hidden_pair_is_low = λ t h. grind arith;
+  hidden_pair_is_same = λ t h. grind arith;
+  delete_under_condition_met = search (rules, arith);
+  delete_conflict_though_met = λ t h. h.0 refl;
   create_of_absent = search (rules, arith);
   create_over_document = λ t h. grind arith;
   create_refused = search rules;
+  create_refused_on_never_written = λ t h. h.0 refl;
+  create_refused_on_deleted = λ t h. h.0 refl;
   overlapping_gets =
       let last : State = state (Here one_one 2) Never ((0, one_one) ∷ (0, one_zero) ∷ []) in (
         last,
@@ -130,6 +138,26 @@ worked_steps = record {
               own = search rules;
               others = others_than_e _ _ _;
               unused = not_the_one _ _ (λ e. let n : 0 ≡ 1 = ap (λ (p : ℕ × Pair). p.0) e in absurd (omega (arith, n)));
+              used = refl;
+            },
+            refl,
+          ),
+        ),
+      );
+  hidden_pair_was_used = λ (t, (m, first, (n, second, e))). second.unused (rw first.used (0, lit< tt, refl));
+  hidden_pair_used_again = λ (t, (m, first, (n, second, e))). second.unused (rw first.used (0, lit< tt, refl));
+  hidden_pair_of_its_own =
+      let last : State = state (Here one_zero 1) (Here one_one 1) ((0, one_one) ∷ (0, one_zero) ∷ []) in (
+        last,
+        (
+          after_creation,
+          creation,
+          (
+            last,
+            record {
+              own = search rules;
+              others = others_than_e _ _ _;
+              unused = not_the_one _ _ (λ e. other_number (sym (ap (λ (p : ℕ × Pair). p.1) e)));
               used = refl;
             },
             refl,

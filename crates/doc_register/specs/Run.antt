@@ -1,5 +1,6 @@
 -- All documents: the state with the pairs used so far, its step, and legal runs.
-use Rattle.std.specs.Prelude.{◌≡◌, ◌≢◌, ℕ, List, [], ◌∷◌, ◌++◌, Option, Some, None, IfSome, option_map, Contains}
+use Rattle.std.specs.Prelude.{◌≡◌, ◌≢◌, ◌==◌, ℕ, List, [], ◌∷◌, ◌++◌, Option, Some, None, IfSome, option_map, option_and_then, slice_get, filter, Contains}
+use Rattle.std.specs.Cmp.Lexicographic.{pointwise}
 use Rattle.std.specs.Option.{option_to_list}
 use Rattle.version_pair.specs.declared.pair.Pair.{Pair}
 use Rattle.doc_register.specs.Register.{DocStep}
@@ -53,3 +54,22 @@ IsRun s (e ∷ es) t = (m : State) × Step s e m × IsRun m es t
 -- the entries are steps one after another, from the start
 abbrev pub IsLegalRun : List Entry → Type 0
 IsLegalRun es = (t : State) × IsRun start es t
+
+-- ---- one document of a run
+
+-- the entries of the document, in their order
+abbrev pub part_of : List ℕ → List Entry → List Entry
+part_of d es = filter (λ e. pointwise ◌==◌ e.doc d) es
+
+-- The entries are steps of one document, one after another, from s to t. Their ids play no part, nor do the pairs used elsewhere.
+abbrev pub IsDocRun : DocState → List Entry → DocState → Type 0
+IsDocRun s [] t = t ≡ s
+IsDocRun s (e ∷ es) t = (m : DocState) × DocStep s e.op e.reply e.hidden m × IsDocRun m es t
+
+-- the pair that the entry at the place takes, with its shard
+abbrev pub taken_at : List Entry → ℕ → Option (ℕ × Pair)
+taken_at es i = option_and_then taken (slice_get es i)
+
+-- no pair of a shard is taken at two places
+abbrev pub PairsDistinct : List Entry → Type 0
+PairsDistinct es = (i j : ℕ) (q : ℕ × Pair) → taken_at es i ≡ Some q → taken_at es j ≡ Some q → i ≡ j

@@ -45,6 +45,10 @@ created_once = entry_of_d (Index 1 None) (Indexed one_zero true) None
 abbrev pub refused : Entry
 refused = entry_of_d (Index 3 (Some one_zero)) Conflict None
 
+-- a create of the document "e" of shard 0 that was performed with the pair, although it answers a conflict
+abbrev pub created_unsaid : Pair → Entry
+created_unsaid q = record { shard = 0; doc = 101 ∷ []; op = Create 1; reply = Conflict; hidden = Some q }
+
 pub record WorkedSteps : Type 0 where
   -- a get
   pub get_shows_document : DocStep (Here one_zero 1) Get (Found one_zero 1) None (Here one_zero 1)
@@ -53,6 +57,7 @@ pub record WorkedSteps : Type 0 where
   pub get_of_never_written : DocStep Never Get Missing None Never
   pub get_of_deleted : DocStep (Gone one_zero) Get Missing None (Gone one_zero)
   pub get_misses_document : IsIllegal (Here one_zero 1) Get Missing None
+  pub get_hides_pair : IsIllegal (Here one_zero 1) Get (Found one_zero 1) (Some one_one)
   -- a write without condition
   pub index_creates : DocStep Never (Index 1 None) (Indexed one_zero true) None (Here one_zero 1)
   pub index_creates_unsaid : IsIllegal Never (Index 1 None) (Indexed one_zero false) None
@@ -71,10 +76,17 @@ pub record WorkedSteps : Type 0 where
   pub conflict_though_met : IsIllegal (Here one_zero 1) (Index 2 (Some one_zero)) Conflict None
   pub conflict_with_hidden_pair : DocStep (Here one_zero 1) (Index 2 (Some one_zero)) Conflict (Some one_one) (Here one_one 2)
   pub hidden_pair_of_answered_write : IsIllegal Never (Index 1 None) (Indexed one_zero true) (Some one_zero)
+  pub hidden_pair_though_not_met : IsIllegal Never (Index 2 (Some one_zero)) Conflict (Some one_one)
+  pub hidden_pair_is_low : IsIllegal (Here one_one 1) (Index 2 (Some one_one)) Conflict (Some one_zero)
+  pub hidden_pair_is_same : IsIllegal (Here one_one 1) (Index 2 (Some one_one)) Conflict (Some one_one)
+  pub delete_under_condition_met : DocStep (Here one_zero 1) (Delete (Some one_zero)) (Deleted one_one true) None (Gone one_one)
+  pub delete_conflict_though_met : IsIllegal (Here one_zero 1) (Delete (Some one_zero)) Conflict None
   -- a create
   pub create_of_absent : DocStep (Gone one_zero) (Create 2) (Indexed one_one true) None (Here one_one 2)
   pub create_over_document : IsIllegal (Here one_zero 1) (Create 2) (Indexed one_one false) None
   pub create_refused : DocStep (Here one_zero 1) (Create 2) Conflict None (Here one_zero 1)
+  pub create_refused_on_never_written : IsIllegal Never (Create 2) Conflict None
+  pub create_refused_on_deleted : IsIllegal (Gone one_zero) (Create 2) Conflict None
   -- whole runs
   pub overlapping_gets : IsLegalRun (
       created_once
@@ -86,3 +98,6 @@ pub record WorkedSteps : Type 0 where
   pub lost_write_explains_conflict : IsLegalRun (created_once ∷ entry_of_d (Index 2 (Some one_zero)) (Indexed three_two false) None ∷ refused ∷ [])
   pub pair_twice_in_a_shard : ¬ IsLegalRun (created_once ∷ entry_of_e 0 (Index 1 None) (Indexed one_zero true) ∷ [])
   pub same_pair_in_two_shards : IsLegalRun (created_once ∷ entry_of_e 1 (Index 1 None) (Indexed one_zero true) ∷ [])
+  pub hidden_pair_was_used : ¬ IsLegalRun (created_once ∷ created_unsaid one_zero ∷ [])
+  pub hidden_pair_used_again : ¬ IsLegalRun (created_unsaid one_zero ∷ created_once ∷ [])
+  pub hidden_pair_of_its_own : IsLegalRun (created_once ∷ created_unsaid one_one ∷ [])

@@ -1,0 +1,52 @@
+-- Laws of steps and runs.
+use Rattle.std.specs.Prelude.{◌≡◌, ◌⊎◌, ◌↔◌, ◌<◌, ◌++◌, ℕ, List, ◌∷◌, Option, Some, None, slice_get}
+use Rattle.version_pair.specs.declared.pair.Pair.{Pair}
+use Rattle.version_pair.specs.PairOrder.{IsBelow}
+use Rattle.doc_register.specs.Register.{DocStep}
+use Rattle.doc_register.specs.Run.{Entry, IsDocRun, IsLegalRun, IsRun, PairsDistinct, State, pair_taken, part_of, start}
+use Rattle.doc_register.specs.declared.op.Op.{Op}
+use Rattle.doc_register.specs.declared.op.Op.TheVariants.{Get}
+use Rattle.doc_register.specs.declared.reply.Reply.{Reply}
+use Rattle.doc_register.specs.declared.reply.Reply.TheVariants.{Conflict}
+use Rattle.doc_register.specs.declared.state.DocState.{DocState}
+use Rattle.doc_register.specs.declared.state.DocState.TheVariants.{Never}
+
+-- ---- one document
+
+-- the state, the operation, the reply and the pair that it hides leave at most one state
+abbrev pub StepIsDecided : Type 0
+StepIsDecided = (s : DocState) (op : Op) (r : Reply) (h : Option Pair) (t u : DocState) → DocStep s op r h t → DocStep s op r h u → t ≡ u
+
+-- the pair that the entry at the place takes
+abbrev pub IsPairAt : List Entry → ℕ → Pair → Type 0
+IsPairAt es i p = (e : Entry) × (slice_get es i ≡ Some e) × (pair_taken e.reply e.hidden ≡ Some p)
+
+-- in a run of one document each pair that is taken is below those that are taken later
+abbrev pub PairsRise : Type 0
+PairsRise = (s t : DocState) (es : List Entry) → IsDocRun s es t → (i j : ℕ) (p q : Pair) → i < j → IsPairAt es i p → IsPairAt es j q → IsBelow p q
+
+-- entries of one document, of one shard, that are a run of it alone are a legal run: its pairs rise, so none comes twice
+abbrev pub OneDocument : Type 0
+OneDocument = (d : List ℕ) (h : ℕ) (es : List Entry) → ((i : ℕ) (e : Entry) → slice_get es i ≡ Some e → (e.doc ≡ d) × (e.shard ≡ h)) → ((t : DocState) × IsDocRun Never es t) → IsLegalRun es
+
+-- ---- all documents
+
+-- a run determines what each document is after it, and which pairs are used
+abbrev pub RunIsDecided : Type 0
+RunIsDecided = (es : List Entry) (t u : State) → IsRun start es t → IsRun start es u → ((d : List ℕ) → t.document d ≡ u.document d) × (t.used ≡ u.used)
+
+-- in a legal run no two performed entries of a shard carry the same pair, whether their replies show it or hide it
+abbrev pub NoPairTwice : Type 0
+NoPairTwice = (es : List Entry) → IsLegalRun es → PairsDistinct es
+
+-- the entry is a get, or a write that answers a conflict and was not performed
+abbrev pub ChangesNothing : Entry → Type 0
+ChangesNothing e = (e.op ≡ Get) ⊎ ((e.reply ≡ Conflict) × (e.hidden ≡ None))
+
+-- an entry that changes nothing can be left out of a legal run
+abbrev pub LeavingOut : Type 0
+LeavingOut = (es fs : List Entry) (e : Entry) → ChangesNothing e → IsLegalRun (es ++ e ∷ fs) → IsLegalRun (es ++ fs)
+
+-- entries are a legal run exactly where each document's part of them is a run of it alone, and no pair of a shard is taken twice
+abbrev pub Locality : Type 0
+Locality = (es : List Entry) → IsLegalRun es ↔ (((d : List ℕ) → (t : DocState) × IsDocRun Never (part_of d es) t) × PairsDistinct es)

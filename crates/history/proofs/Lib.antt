@@ -1,0 +1,9 @@
+pub mod ListLemmas
+pub mod EventLemmas
+pub mod HistoryLemmas
+pub mod IndexLemmas
+pub mod PushLemmas
+pub mod LineLemmas
+pub mod ReadLemmas
+pub mod TextLemmas
+pub mod RecordLemmas

@@ -1,0 +1,10 @@
+pub mod Events
+pub mod Refusal
+pub mod Indexes
+pub mod Records
+pub mod Order
+pub mod Json
+pub mod ReplyTable
+pub mod Text
+pub mod Fields
+pub mod Reading

@@ -1,0 +1,69 @@
+-- Linearizable histories: orders of a history, which of them respect it, and the order of the replies.
+use Rattle.std.specs.Prelude.{◌≡◌, ℕ, ◌<◌, List, Option, Some, None, option_and_then, map, filter_map, slice_get}
+use Rattle.doc_register.specs.declared.reply.Reply.{Reply as Answer}
+use Rattle.doc_register.specs.declared.state.Conflicts.{Conflicts}
+use Rattle.doc_register.specs.declared.state.Conflicts.TheVariants.{Plain}
+use Rattle.doc_register.specs.Run.{Entry, IsLegalRun}
+use Rattle.history.specs.declared.event.Event.{Event}
+use Rattle.history.specs.declared.event.Event.TheVariants.{Call, Reply, Lost}
+use Rattle.history.specs.Events.{IsCallAt, IsReplyAt, Precedes, is_call, place_of}
+
+-- One call in an order: its number, and the entry that it is in the run.
+pub record Placed : Type 0 where
+  pub no : ℕ
+  pub entry : Entry
+
+abbrev pub run_of : List Placed → List Entry
+run_of order = map (λ p. p.entry) order
+
+-- the entry is of the call with that number, with some reply
+abbrev pub IsOfCall : List Event → Placed → Type 0
+IsOfCall events p = (i : ℕ) × IsCallAt events i p.no p.entry.shard p.entry.doc p.entry.op
+
+-- An order of a history. A call stands in it at most once, an answered one just once and with its reply, a pending
+-- one with any reply or not at all. Under plain conflicts no reply hides a pair.
+pub record IsOrder (mode : Conflicts) (events : List Event) (order : List Placed) : Type 0 where
+  pub calls : (i : ℕ) (p : Placed) → slice_get order i ≡ Some p → IsOfCall events p
+  pub once : (i j : ℕ) (p q : Placed) → slice_get order i ≡ Some p → slice_get order j ≡ Some q → p.no ≡ q.no → i ≡ j
+  pub answered : (k n : ℕ) (r : Answer) → IsReplyAt events k n r → (i : ℕ) × (p : Placed) × (slice_get order i ≡ Some p) × (p.no ≡ n) × (p.entry.reply ≡ r)
+  pub plain : mode ≡ Plain → (i : ℕ) (p : Placed) → slice_get order i ≡ Some p → p.entry.hidden ≡ None
+
+-- where one call precedes another and both stand in the order, it stands first
+abbrev pub Respects : List Event → List Placed → Type 0
+Respects events order = (i j : ℕ) (p q : Placed) → slice_get order i ≡ Some p → slice_get order j ≡ Some q → Precedes events p.no q.no → i < j
+
+-- the order explains the history: it is an order of it, respects it, and is a legal run
+pub record Explains (mode : Conflicts) (events : List Event) (order : List Placed) : Type 0 where
+  pub is_order : IsOrder mode events order
+  pub respects : Respects events order
+  pub legal : IsLegalRun (run_of order)
+
+-- some order of all calls, over all documents, explains the history
+abbrev pub IsLinearizable : Conflicts → List Event → Type 0
+IsLinearizable mode events = (order : List Placed) × Explains mode events order
+
+-- ---- the order of the replies
+
+-- a call with the reply r to it, read as not performed where it is a conflict
+abbrev pub placed_with : Answer → Event → Option Placed
+placed_with r (Call n h d op) = Some (record { no = n; entry = record { shard = h; doc = d; op = op; reply = r; hidden = None } })
+placed_with r (Reply n s) = None
+placed_with r (Lost n) = None
+
+-- the call numbered n, with the reply r to it
+abbrev pub call_with : List Event → ℕ → Answer → Option Placed
+call_with events n r = option_and_then (λ i. option_and_then (placed_with r) (slice_get events i)) (place_of (is_call n) events)
+
+-- the call that a reply answers
+abbrev pub answered_by : List Event → Event → Option Placed
+answered_by events (Call n h d op) = None
+answered_by events (Reply n r) = call_with events n r
+answered_by events (Lost n) = None
+
+-- the answered calls by place of reply
+abbrev pub reply_order : List Event → List Placed
+reply_order events = filter_map (answered_by events) events
+
+-- the answered calls by place of reply are a legal run
+abbrev pub IsPlainlyRight : List Event → Type 0
+IsPlainlyRight events = IsLegalRun (run_of (reply_order events))

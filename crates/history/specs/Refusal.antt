@@ -1,0 +1,71 @@
+-- Which events a history refuses, and why.
+use Rattle.std.specs.Prelude.{ℕ, ◌==◌, Bool, false, not, List, length, Option, Some, None, Result, Ok, Err, option_and_then, is_some, slice_get, nat_lt, if◌then◌else◌}
+use Rattle.std.specs.Option.{option_map_or}
+use Rattle.doc_register.specs.declared.op.Op.{Op}
+use Rattle.doc_register.specs.Register.{fits}
+use Rattle.history.specs.declared.event.Event.{Event}
+use Rattle.history.specs.declared.event.Event.TheVariants.{Call, Reply, Lost}
+use Rattle.history.specs.declared.fault.HistFault.{HistFault}
+use Rattle.history.specs.declared.fault.HistFault.TheVariants.{SecondCall, NoCall, Ended, Kind, Full, NoMemory, ShardMoved}
+use Rattle.history.specs.Events.{is_call, is_call_of, is_ending, place_of}
+
+-- the most events that a history is kept with, or read from a text
+abbrev pub most_events : ℕ
+most_events = 1048576
+
+-- the first event that passes the test
+abbrev pub first_event : (Event → Bool) → List Event → Option Event
+first_event test events = option_and_then (slice_get events) (place_of test events)
+
+abbrev pub shard_named : Event → Option ℕ
+shard_named (Call n h d op) = Some h
+shard_named (Reply n r) = None
+shard_named (Lost n) = None
+
+abbrev pub op_named : Event → Option Op
+op_named (Call n h d op) = Some op
+op_named (Reply n r) = None
+op_named (Lost n) = None
+
+-- the shard of the document: that of its first call
+abbrev pub shard_of : List Event → List ℕ → Option ℕ
+shard_of events d = option_and_then shard_named (first_event (is_call_of d) events)
+
+-- the operation of the call numbered n
+abbrev pub op_of : List Event → ℕ → Option Op
+op_of events n = option_and_then op_named (first_event (is_call n) events)
+
+-- the document was called before on another shard than h
+abbrev pub is_moved : List Event → List ℕ → ℕ → Bool
+is_moved events d h = option_map_or (λ s. not (s == h)) (shard_of events d) false
+
+-- the last reason to refuse an event: the history has its most events
+abbrev pub when_full : List Event → Option HistFault
+when_full events = if nat_lt (length events) most_events then None else Some Full
+
+-- the reasons to refuse an ending, where the operation of its call is known
+abbrev pub when_ended : List Event → ℕ → Option HistFault → Option HistFault
+when_ended events n later = if is_some (place_of (is_ending n) events) then Some Ended else later
+
+-- the first reason to refuse an event, if there is one
+abbrev pub refusal_of : List Event → Event → Option HistFault
+refusal_of events (Call n h d op) =
+    if is_some (place_of (is_call n) events) then Some SecondCall else (if is_moved events d h then Some ShardMoved else when_full events)
+refusal_of events (Reply n r) =
+    option_map_or (λ op. when_ended events n (if fits op r then when_full events else Some Kind)) (op_of events n) (Some NoCall)
+refusal_of events (Lost n) =
+    option_map_or (λ op. when_ended events n (when_full events)) (op_of events n) (Some NoCall)
+
+-- the reason that an answer tells; want of memory is none
+abbrev pub reason_told : HistFault → Option HistFault
+reason_told SecondCall = Some SecondCall
+reason_told NoCall = Some NoCall
+reason_told Ended = Some Ended
+reason_told Kind = Some Kind
+reason_told Full = Some Full
+reason_told NoMemory = None
+reason_told ShardMoved = Some ShardMoved
+
+abbrev pub refusal_told : {X : Type 0} → Result X HistFault → Option HistFault
+refusal_told (Ok x) = None
+refusal_told (Err e) = reason_told e

@@ -1,0 +1,21 @@
+//! Histories of calls and replies: events, well-formed histories, and the text that they are read from.
+#![tactic(auto)]
+
+mod call_line;
+mod event;
+mod events;
+mod fault;
+mod fields;
+mod lines;
+mod reader;
+mod record;
+mod reply_line;
+mod reply_table;
+mod text_fault;
+
+pub use event::Event;
+pub use events::{History, MOST_EVENTS};
+pub use fault::HistFault;
+pub use reader::{LONGEST_LINE, MOST_LINES, read};
+pub use record::Rec;
+pub use text_fault::{ReadFault, TextCause, TextFault};
