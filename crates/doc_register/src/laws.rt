@@ -21,7 +21,7 @@ pub fn pairs_rise()
     ensures { PairsRise }
 {}
 
-/// Shows that a run of one document alone is a legal run: the pairs of a document rise, so none comes twice.
+/// Shows that a run of one document alone, of one shard, is a legal run: the pairs of a document rise, so none comes twice.
 #[tactic(auto, using(crate::proofs::RunLaws::one_document))]
 pub fn one_document()
     ensures { OneDocument }

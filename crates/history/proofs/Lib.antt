@@ -7,3 +7,9 @@ pub mod LineLemmas
 pub mod ReadLemmas
 pub mod TextLemmas
 pub mod RecordLemmas
+pub mod OrderLemmas
+pub mod OrderLaws
+pub mod RecordLaws
+pub mod LeavingLaws
+pub mod PrefixLaws
+pub mod TextLaws

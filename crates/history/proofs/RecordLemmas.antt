@@ -29,7 +29,7 @@ places_snoc k t (y ∷ xs) x = by_test (t y) (places_snoc (suc k) t xs x) where
   by_test false later = later ∙ ap (λ is. places_from (suc k) t xs ++ is) moved
 
 -- the first events, with the next one
-take_next : (xs : List Event) (i : ℕ) (x : Event) → slice_get xs i ≡ Some x → take (suc i) xs ≡ take i xs ++ x ∷ []
+pub take_next : (xs : List Event) (i : ℕ) (x : Event) → slice_get xs i ≡ Some x → take (suc i) xs ≡ take i xs ++ x ∷ []
 take_next [] i x at = let impossible : None ≡ Some x = at in absurd (cc)
 take_next (y ∷ xs) zero x at = let same : y ≡ x = (let eq : Some y ≡ Some x = at in cc) in ap (λ z. z ∷ []) same
 take_next (y ∷ xs) (suc i) x at = ap (λ ys. y ∷ ys) (take_next xs i x at)

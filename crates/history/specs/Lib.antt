@@ -8,3 +8,4 @@ pub mod ReplyTable
 pub mod Text
 pub mod Fields
 pub mod Reading
+pub mod Laws

@@ -24,7 +24,7 @@ pub const MOST_EVENTS: usize = 1_048_576;
 /// A history: events in the order in which they were recorded.
 ///
 /// Its type keeps that call numbers are distinct, that each call has at most one ending, after it and of a kind
-/// that fits its operation, and that the calls of a document name one shard.
+/// that fits its operation, and that the calls of a document name one shard, 0 to 1,023.
 #[derive(Debug, Drop)]
 pub struct History {
     events: Vec<Event>,
@@ -376,3 +376,6 @@ fn note_place_in_room(places: &mut IndexMap<u64, usize>, no: u64, place: usize)
         Err(_) => unreachable!(),
     }
 }
+
+#[cfg(test)]
+mod tests;

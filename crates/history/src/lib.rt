@@ -6,6 +6,7 @@ mod event;
 mod events;
 mod fault;
 mod fields;
+pub mod laws;
 mod lines;
 mod reader;
 mod record;

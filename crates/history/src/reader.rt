@@ -66,8 +66,8 @@ fn read_line(alloc: Global, history: &mut History, line: &[u8]) -> Result<(), Li
 /// The history that a text spells, or the first line that is refused with its first cause.
 ///
 /// Causes are told in this order: `Lines` and `Long`; a blank line is then passed over; `Json`, `Shape`, `Id`,
-/// `Half`, `Range`; for a call `SecondCall`, `ShardMoved`, `Full`; for a reply `NoCall`, `Ended`, `Stranger`,
-/// `Full`. `NoMemory` is told where a growth was refused.
+/// `Half`, `Range`; for a call `SecondCall`, `ShardMoved`, `Full`; for a reply `NoCall`, `Ended`, `Stranger`, for
+/// now `Shape` for one that is not read yet, `Full`. `NoMemory` is told where a growth was refused.
 ///
 /// Read are calls of gets and of indexes, and the replies to them that tell their outcome; for now every other
 /// line that a history text may have is refused as `Shape`.
@@ -90,3 +90,6 @@ pub fn read(alloc: Global, text: &[u8]) -> Result<History, ReadFault>
     }
     Ok(history)
 }
+
+#[cfg(test)]
+mod tests;

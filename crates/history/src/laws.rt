@@ -1,0 +1,41 @@
+//! Laws of the definitions, each the contract of a function that does nothing.
+
+ghost use Rattle.history.specs.Laws.{PlainlyRightIsLinearizable, PrecedenceIsStrict, PrefixesStay, SplitByDocument, TextOfOneHistory, UnansweredLeftOut};
+
+/// Shows that no call of a history precedes itself, that precedence passes on, and that a pending call precedes none.
+#[tactic(auto, using(crate::proofs::OrderLaws::precedence_is_strict))]
+pub fn precedence()
+    ensures { PrecedenceIsStrict }
+{}
+
+/// Shows that a history is linearizable whose answered calls, by place of reply, are a legal run.
+#[tactic(auto, using(crate::proofs::OrderLaws::plainly_right_is_linearizable))]
+pub fn plainly_right()
+    ensures { PlainlyRightIsLinearizable }
+{}
+
+/// Shows that an order that explains a history explains it without a pending call that changes nothing: a get, or a
+/// write that answers a conflict and was not performed.
+#[tactic(auto, using(crate::proofs::LeavingLaws::unanswered_left_out))]
+pub fn leaving_out()
+    ensures { UnansweredLeftOut }
+{}
+
+/// Shows that a prefix of a history is a history, and that it is linearizable where the whole is.
+#[tactic(auto, using(crate::proofs::PrefixLaws::prefixes_stay))]
+pub fn prefixes()
+    ensures { PrefixesStay }
+{}
+
+/// Shows that each call of a history has its record among those of its document, and nowhere else; that a record
+/// tells what was heard of its call; and that precedence between two calls of a document shows in their records.
+#[tactic(auto, using(crate::proofs::RecordLaws::split_by_document))]
+pub fn split_by_document()
+    ensures { SplitByDocument }
+{}
+
+/// Shows that a text is the text of one history only.
+#[tactic(auto, using(crate::proofs::TextLaws::text_of_one_history))]
+pub fn one_history()
+    ensures { TextOfOneHistory }
+{}

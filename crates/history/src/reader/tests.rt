@@ -1,0 +1,237 @@
+use super::*;
+use crate::record::Rec;
+use crate::text_fault::TextFault;
+use doc_register::{Op, Reply};
+use std::test::Fail;
+use version_pair::Pair;
+
+const BLANK_LINES: &str = "\n \t\r\n\n   ";
+
+const INDEX_THEN_GET: &str = r#"{"e":"call","n":0,"id":"d","op":"index","k":1}
+{"e":"reply","n":0,"status":201,"body":{"_index":"i","_id":"d","_version":1,"result":"created","_shards":{"total":2,"successful":1,"failed":0},"_seq_no":0,"_primary_term":1}}
+{"e":"call","n":1,"id":"d","op":"get"}
+{"e":"reply","n":1,"status":200,"body":{"_index":"i","_id":"d","_version":1,"_seq_no":0,"_primary_term":1,"found":true,"_source":{"k":1}}}
+"#;
+
+const TERM_BEFORE_SEQUENCE: &str = r#"{"e":"call","n":0,"id":"d","op":"index","k":1}
+{"e":"reply","n":0,"status":201,"body":{"_index":"i","_id":"d","_version":1,"result":"created","_shards":{"total":2,"successful":1,"failed":0},"_seq_no":7,"_primary_term":1}}
+{"e":"call","n":1,"id":"d","op":"index","k":2}
+{"e":"reply","n":1,"status":200,"body":{"_index":"i","_id":"d","_version":1,"result":"updated","_shards":{"total":2,"successful":1,"failed":0},"_seq_no":5,"_primary_term":2}}
+"#;
+
+const PAIR_FALLS: &str = r#"{"e":"call","n":0,"id":"d","op":"index","k":1}
+{"e":"reply","n":0,"status":201,"body":{"_index":"i","_id":"d","_version":1,"result":"created","_shards":{"total":2,"successful":1,"failed":0},"_seq_no":7,"_primary_term":1}}
+{"e":"call","n":1,"id":"d","op":"index","k":2}
+{"e":"reply","n":1,"status":200,"body":{"_index":"i","_id":"d","_version":1,"result":"updated","_shards":{"total":2,"successful":1,"failed":0},"_seq_no":5,"_primary_term":2}}
+{"e":"call","n":2,"id":"d","op":"index","k":3}
+{"e":"reply","n":2,"status":200,"body":{"_index":"i","_id":"d","_version":1,"result":"updated","_shards":{"total":2,"successful":1,"failed":0},"_seq_no":9,"_primary_term":1}}
+"#;
+
+const GREATEST_SEQUENCE_NUMBER: &str =
+    r#"{"e":"call","n":0,"id":"d","op":"index","k":1,"if_seq_no":9223372036854775807,"if_primary_term":1}
+"#;
+
+const SHOWN_AND_TAKEN_BACK: &str = r#"{"e":"call","n":0,"id":"d","op":"index","k":1}
+{"e":"reply","n":0,"status":201,"body":{"_index":"i","_id":"d","_version":1,"result":"created","_shards":{"total":2,"successful":1,"failed":0},"_seq_no":0,"_primary_term":1}}
+{"e":"call","n":1,"id":"d","op":"index","k":2,"if_primary_term":1,"if_seq_no":0}
+{"e":"call","n":2,"id":"d","op":"get"}
+{"e":"reply","n":2,"status":200,"body":{"_index":"i","_id":"d","_version":1,"_seq_no":1,"_primary_term":1,"found":true,"_source":{"k":2}}}
+{"e":"call","n":3,"id":"d","op":"get"}
+{"e":"reply","n":3,"status":200,"body":{"_index":"i","_id":"d","_version":1,"_seq_no":0,"_primary_term":1,"found":true,"_source":{"k":1}}}
+{"e":"reply","n":1,"status":200,"body":{"_index":"i","_id":"d","_version":1,"result":"updated","_shards":{"total":2,"successful":1,"failed":0},"_seq_no":1,"_primary_term":1}}
+"#;
+
+const SECOND_REPLY: &str = r#"{"e":"call","n":0,"id":"d","op":"index","k":1}
+{"e":"reply","n":0,"status":201,"body":{"_index":"i","_id":"d","_version":1,"result":"created","_shards":{"total":2,"successful":1,"failed":0},"_seq_no":0,"_primary_term":1}}
+{"e":"reply","n":0,"status":201,"body":{"_index":"i","_id":"d","_version":1,"result":"created","_shards":{"total":2,"successful":1,"failed":0},"_seq_no":0,"_primary_term":1}}
+"#;
+
+const HALF_CONDITION: &str = r#"{"e":"call","n":0,"id":"d","op":"index","k":1,"if_seq_no":0}
+"#;
+
+const SEQUENCE_NUMBER_PAST_RANGE: &str =
+    r#"{"e":"call","n":0,"id":"d","op":"index","k":1,"if_seq_no":9223372036854775808,"if_primary_term":1}
+"#;
+
+const TWO_HUNDRED_BRACKETS: &str =
+    "[[[[[[[[[[[[[[[[[[[[[[[[[[[[[[[[[[[[[[[[[[[[[[[[[[[[[[[[[[[[[[[[[[[[[[[[[[[[[[[[[[[[[[[[[[[[[[[[[[[[[[[[[[[[[[[[[[[[[[[[[[[[[[[[[[[[[[[[[[[[[[[[[[[[[[[[[[[[[[[[[[[[[[[[[[[[[[[[[[[[[[[[[[[[[[[[[[[[[[[[";
+
+const LINE_CUT_SHORT: &str = r#"{"e":"call","n":0,"i"#;
+
+const REPLY_OF_ANOTHER_DOCUMENT: &str = r#"{"e":"call","n":0,"id":"d","op":"index","k":1}
+{"e":"reply","n":0,"status":201,"body":{"_id":"x","result":"created","_seq_no":0,"_primary_term":1}}
+"#;
+
+const REPLY_WITHOUT_CALL: &str = r#"{"e":"reply","n":9,"status":200,"body":{}}
+"#;
+
+const NUMBER_FRACTION: &str = r#"{"e":"call","n":1.5,"id":"d","op":"get"}
+"#;
+
+const NUMBER_MINUS: &str = r#"{"e":"call","n":-1,"id":"d","op":"get"}
+"#;
+
+const EMPTY_ID: &str = r#"{"e":"call","n":0,"id":"","op":"get"}
+"#;
+
+const UNKNOWN_OPERATION: &str = r#"{"e":"call","n":0,"id":"d","op":"merge"}
+"#;
+
+const SECOND_CALL: &str = r#"{"e":"call","n":0,"id":"d","op":"get"}
+{"e":"call","n":0,"id":"d","op":"get"}
+"#;
+
+const SHARD_MOVED: &str = r#"{"e":"call","n":0,"id":"d","op":"index","k":1}
+{"e":"call","n":1,"id":"d","op":"get","shard":1}
+"#;
+
+// How many events a text has, or why it is refused.
+fn count(alloc: Global, text: &str) -> Result<usize, ReadFault> {
+    Ok(read(alloc, text.as_bytes())?.len())
+}
+
+fn refused(line: u64, cause: TextCause) -> Result<usize, ReadFault> {
+    Err(ReadFault::Text(TextFault { line, cause }))
+}
+
+#[test]
+fn texts(rt: HostRuntime) {
+    for (text, want) in [
+        ("", Ok(0)),
+        (BLANK_LINES, Ok(0)),
+        (INDEX_THEN_GET, Ok(4)),
+        (TERM_BEFORE_SEQUENCE, Ok(4)),
+        (PAIR_FALLS, Ok(6)),
+        (GREATEST_SEQUENCE_NUMBER, Ok(1)),
+        (SHOWN_AND_TAKEN_BACK, Ok(8)),
+        (SECOND_REPLY, refused(3, TextCause::Ended)),
+        (HALF_CONDITION, refused(1, TextCause::Half)),
+        (SEQUENCE_NUMBER_PAST_RANGE, refused(1, TextCause::Range)),
+        (TWO_HUNDRED_BRACKETS, refused(1, TextCause::Json)),
+        (LINE_CUT_SHORT, refused(1, TextCause::Json)),
+        (REPLY_OF_ANOTHER_DOCUMENT, refused(2, TextCause::Stranger)),
+        (REPLY_WITHOUT_CALL, refused(1, TextCause::NoCall)),
+        (NUMBER_FRACTION, refused(1, TextCause::Range)),
+        (NUMBER_MINUS, refused(1, TextCause::Range)),
+        (EMPTY_ID, refused(1, TextCause::Id)),
+        (UNKNOWN_OPERATION, refused(1, TextCause::Shape)),
+        (SECOND_CALL, refused(2, TextCause::SecondCall)),
+        (SHARD_MOVED, refused(2, TextCause::ShardMoved)),
+    ] {
+        assert_eq!(rt; count(rt.alloc(), text), want, "{text}");
+    }
+}
+
+#[test]
+fn lines(rt: HostRuntime) {
+    for (line, want) in [
+        (
+            r#"{"e":"call","n":0,"id":"d","op":"get","shard":1023}"#,
+            Ok(1),
+        ),
+        (
+            r#"{"e":"call","n":0,"id":"d","op":"get","shard":1024}"#,
+            refused(1, TextCause::Range),
+        ),
+        (
+            r#"{"e":"call","n":0,"id":"d","op":"get","shard":null}"#,
+            refused(1, TextCause::Shape),
+        ),
+        (
+            r#"{"e":"call","n":0,"id":"d","op":"index","k":1,"if_seq_no":null,"if_primary_term":null}"#,
+            refused(1, TextCause::Shape),
+        ),
+        (
+            r#"{"e":"call","n":0,"id":"d","op":"index","k":1,"if_seq_no":0,"if_primary_term":0}"#,
+            refused(1, TextCause::Range),
+        ),
+        // An unknown field is passed over.
+        (
+            r#"{"e":"call","n":18446744073709551615,"id":"d","op":"get","at":[1,{}]}"#,
+            Ok(1),
+        ),
+        (
+            r#"{"e":"call","n":18446744073709551616,"id":"d","op":"get"}"#,
+            refused(1, TextCause::Range),
+        ),
+        (
+            r#"{"e":"call","id":"d","op":"get"}"#,
+            refused(1, TextCause::Shape),
+        ),
+        (r#"["e","call"]"#, refused(1, TextCause::Shape)),
+        // Not read yet.
+        (
+            r#"{"e":"call","n":0,"id":"d","op":"delete"}"#,
+            refused(1, TextCause::Shape),
+        ),
+        (r#"{"e":"lost","n":0}"#, refused(1, TextCause::Shape)),
+    ] {
+        assert_eq!(rt; count(rt.alloc(), line), want, "{line}");
+    }
+}
+
+#[test]
+fn causes_in_order(rt: HostRuntime) {
+    for (line, cause) in [
+        // A field of another kind, before an empty id, a half of a condition and a number past its range.
+        (
+            r#"{"e":"call","n":1.5,"id":"","op":"index","k":"1","if_seq_no":0}"#,
+            TextCause::Shape,
+        ),
+        (
+            r#"{"e":"call","n":1.5,"id":"","op":"index","k":1,"if_seq_no":0}"#,
+            TextCause::Id,
+        ),
+        (
+            r#"{"e":"call","n":1.5,"id":"d","op":"index","k":1,"if_seq_no":0}"#,
+            TextCause::Half,
+        ),
+        (r#"{"e":"reply","n":9,"status":70000}"#, TextCause::Range),
+        (r#"{"e":"reply","n":9,"status":200}"#, TextCause::NoCall),
+    ] {
+        assert_eq!(rt; count(rt.alloc(), line), refused(1, cause), "{line}");
+    }
+}
+
+#[test]
+fn long_lines(rt: HostRuntime) -> Result<(), Fail> {
+    let mut line = vec![in rt.alloc(); b' '; LONGEST_LINE]?;
+    assert!(rt; read(rt.alloc(), &line)?.is_empty());
+    line.push(b' ')?;
+    assert_eq!(rt;
+        read(rt.alloc(), &line).err(),
+        refused(1, TextCause::Long).err()
+    );
+    Ok(())
+}
+
+#[test]
+fn events_of_a_text(rt: HostRuntime) -> Result<(), Fail> {
+    let history = read(rt.alloc(), INDEX_THEN_GET.as_bytes())?;
+    let pair = Pair::new(1, 0).ok_or("a pair")?;
+    assert_eq!(rt; history.docs(), 1);
+    assert_eq!(rt; history.doc(0).as_str(), "d");
+    assert_eq!(rt; history.shard(0), 0);
+    let want = [
+        Rec {
+            no: 0,
+            op: Op::Index { k: 1, cond: None },
+            call_at: 0,
+            heard: Some((
+                1,
+                Reply::Indexed {
+                    pair,
+                    created: true,
+                },
+            )),
+        },
+        Rec {
+            no: 1,
+            op: Op::Get,
+            call_at: 2,
+            heard: Some((3, Reply::Found { pair, k: 1 })),
+        },
+    ];
+    assert_eq!(rt; history.records(0)?.as_slice(), want.as_slice());
+    Ok(())
+}
