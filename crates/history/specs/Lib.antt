@@ -8,4 +8,5 @@ pub mod ReplyTable
 pub mod Text
 pub mod Fields
 pub mod Reading
+pub mod Faults
 pub mod Laws

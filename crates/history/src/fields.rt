@@ -1,8 +1,10 @@
-ghost use Rattle.std.specs.Prelude.{◌≡◌, ◌≢◌, IfOk, Some};
+ghost use Rattle.std.specs.Prelude.{◌≡◌, ◌≢◌, IsSome, MatchResult, Some};
 ghost use Rattle.serde_json.specs.View.{view};
-ghost use Rattle.history.specs.Fields.{IsNumberField, IsOptionalField};
+ghost use Rattle.history.specs.Fields.{IsNumberField, IsOptionalField, LacksNumber, LacksText};
 ghost use Rattle.history.specs.Json.{HasText};
-ghost use Rattle.history.specs.declared.fields.Number.TheVariants.{Whole};
+ghost use Rattle.history.specs.declared.fields.Number.TheVariants.{Whole, NotWhole};
+ghost use Rattle.history.specs.declared.text_fault.TextCause.TheVariants.{Shape, Range};
+ghost use Rattle.serde_json.specs.Find.{get};
 
 use crate::text_fault::TextCause;
 use serde_json::Value;
@@ -17,7 +19,7 @@ pub enum Number {
 impl Number {
     /// The whole number, else `Range`.
     pub fn whole(self) -> Result<u64, TextCause>
-        ensures { IfOk result (λ n. self ≡ Whole n) }
+        ensures { MatchResult result (λ n. self ≡ Whole n) (λ cause. (self ≡ NotWhole) × (cause ≡ Range)) }
     {
         match self {
             Number::Whole(n) => Ok(n),
@@ -28,7 +30,8 @@ impl Number {
 
 /// A number that may be absent; a field of another kind is `Shape`.
 pub fn optional_number(value: &Value, key: &str) -> Result<Option<Number>, TextCause>
-    ensures { IfOk result (IsOptionalField (view value.now) key.now) }
+    ensures { MatchResult result (IsOptionalField (view value.now) key.now)
+        (λ cause. IsSome (get key.now (view value.now)) × LacksNumber (view value.now) key.now × (cause ≡ Shape)) }
 {
     let Some(field) = value.get(key) else {
         return Ok(None);
@@ -44,7 +47,7 @@ pub fn optional_number(value: &Value, key: &str) -> Result<Option<Number>, TextC
 
 /// A number that has to be there, else `Shape`.
 pub fn required_number(value: &Value, key: &str) -> Result<Number, TextCause>
-    ensures { IfOk result (IsNumberField (view value.now) key.now) }
+    ensures { MatchResult result (IsNumberField (view value.now) key.now) (λ cause. LacksNumber (view value.now) key.now × (cause ≡ Shape)) }
 {
     match optional_number(value, key)? {
         Some(number) => Ok(number),
@@ -54,7 +57,7 @@ pub fn required_number(value: &Value, key: &str) -> Result<Number, TextCause>
 
 /// A text that has to be there, else `Shape`.
 pub fn required_text<'v>(value: &'v Value, key: &str) -> Result<&'v str, TextCause>
-    ensures { IfOk result (λ text. HasText key.now text.now (view value.now)) }
+    ensures { MatchResult result (λ text. HasText key.now text.now (view value.now)) (λ cause. LacksText (view value.now) key.now × (cause ≡ Shape)) }
 {
     match value.get(key).and_then(Value::as_str) {
         Some(text) => Ok(text),

@@ -1,5 +1,6 @@
 ghost use Rattle.std.specs.Prelude.{◌≡◌};
 ghost use Rattle.history.specs.declared.text_fault.LineFault.TheVariants.{NoMemory as Unread, Told};
+ghost use Rattle.history.specs.Faults.{line_fault, text_fault};
 
 use crate::fault::HistFault;
 use std::alloc::AllocError;
@@ -60,7 +61,9 @@ pub enum LineFault {
 
 impl LineFault {
     /// The fault as one of the text's line with this number.
-    pub fn at(self, line: u64) -> ReadFault {
+    pub fn at(self, line: u64) -> ReadFault
+        ensures { result ≡ text_fault line self }
+    {
         match self {
             LineFault::Told(cause) => ReadFault::Text(TextFault { line, cause }),
             LineFault::NoMemory => ReadFault::NoMemory,
@@ -85,6 +88,8 @@ impl From<AllocError> for LineFault {
 }
 
 impl From<HistFault> for LineFault {
+    ghost from_gives = { λ event fault. fault ≡ line_fault event };
+
     fn from(fault: HistFault) -> LineFault {
         match fault {
             HistFault::SecondCall => LineFault::Told(TextCause::SecondCall),

@@ -95,78 +95,92 @@ fn refused(line: u64, cause: TextCause) -> Result<usize, ReadFault> {
 }
 
 #[test]
-fn texts(rt: HostRuntime) {
-    for (text, want) in [
-        ("", Ok(0)),
-        (BLANK_LINES, Ok(0)),
-        (INDEX_THEN_GET, Ok(4)),
-        (TERM_BEFORE_SEQUENCE, Ok(4)),
-        (PAIR_FALLS, Ok(6)),
-        (GREATEST_SEQUENCE_NUMBER, Ok(1)),
-        (SHOWN_AND_TAKEN_BACK, Ok(8)),
-        (SECOND_REPLY, refused(3, TextCause::Ended)),
-        (HALF_CONDITION, refused(1, TextCause::Half)),
-        (SEQUENCE_NUMBER_PAST_RANGE, refused(1, TextCause::Range)),
-        (TWO_HUNDRED_BRACKETS, refused(1, TextCause::Json)),
-        (LINE_CUT_SHORT, refused(1, TextCause::Json)),
-        (REPLY_OF_ANOTHER_DOCUMENT, refused(2, TextCause::Stranger)),
-        (REPLY_WITHOUT_CALL, refused(1, TextCause::NoCall)),
-        (NUMBER_FRACTION, refused(1, TextCause::Range)),
-        (NUMBER_MINUS, refused(1, TextCause::Range)),
-        (EMPTY_ID, refused(1, TextCause::Id)),
-        (UNKNOWN_OPERATION, refused(1, TextCause::Shape)),
-        (SECOND_CALL, refused(2, TextCause::SecondCall)),
-        (SHARD_MOVED, refused(2, TextCause::ShardMoved)),
+fn texts_taken(rt: HostRuntime) {
+    for (text, events) in [
+        ("", 0),
+        (BLANK_LINES, 0),
+        (INDEX_THEN_GET, 4),
+        (TERM_BEFORE_SEQUENCE, 4),
+        (PAIR_FALLS, 6),
+        (GREATEST_SEQUENCE_NUMBER, 1),
+        (SHOWN_AND_TAKEN_BACK, 8),
     ] {
-        assert_eq!(rt; count(rt.alloc(), text), want, "{text}");
+        assert_eq!(rt; count(rt.alloc(), text), Ok(events), "{text}");
     }
 }
 
 #[test]
-fn lines(rt: HostRuntime) {
-    for (line, want) in [
+fn texts_refused(rt: HostRuntime) {
+    for (text, line, cause) in [
+        (SECOND_REPLY, 3, TextCause::Ended),
+        (HALF_CONDITION, 1, TextCause::Half),
+        (SEQUENCE_NUMBER_PAST_RANGE, 1, TextCause::Range),
+        (TWO_HUNDRED_BRACKETS, 1, TextCause::Json),
+        (LINE_CUT_SHORT, 1, TextCause::Json),
+        (REPLY_OF_ANOTHER_DOCUMENT, 2, TextCause::Stranger),
+        (REPLY_WITHOUT_CALL, 1, TextCause::NoCall),
+        (NUMBER_FRACTION, 1, TextCause::Range),
+        (NUMBER_MINUS, 1, TextCause::Range),
+        (EMPTY_ID, 1, TextCause::Id),
+        (UNKNOWN_OPERATION, 1, TextCause::Shape),
+        (SECOND_CALL, 2, TextCause::SecondCall),
+        (SHARD_MOVED, 2, TextCause::ShardMoved),
+    ] {
+        assert_eq!(rt; count(rt.alloc(), text), refused(line, cause), "{text}");
+    }
+}
+
+#[test]
+fn lines_taken(rt: HostRuntime) {
+    for (text, events) in [
+        (r#"{"e":"call","n":0,"id":"d","op":"get","shard":1023}"#, 1),
         (
-            r#"{"e":"call","n":0,"id":"d","op":"get","shard":1023}"#,
-            Ok(1),
+            r#"{"e":"call","n":18446744073709551615,"id":"d","op":"get","at":[1,{}]}"#,
+            1,
         ),
+    ] {
+        assert_eq!(rt; count(rt.alloc(), text), Ok(events), "{text}");
+    }
+}
+
+#[test]
+fn lines_refused(rt: HostRuntime) {
+    for (text, line, cause) in [
         (
             r#"{"e":"call","n":0,"id":"d","op":"get","shard":1024}"#,
-            refused(1, TextCause::Range),
+            1,
+            TextCause::Range,
         ),
         (
             r#"{"e":"call","n":0,"id":"d","op":"get","shard":null}"#,
-            refused(1, TextCause::Shape),
+            1,
+            TextCause::Shape,
         ),
         (
             r#"{"e":"call","n":0,"id":"d","op":"index","k":1,"if_seq_no":null,"if_primary_term":null}"#,
-            refused(1, TextCause::Shape),
+            1,
+            TextCause::Shape,
         ),
         (
             r#"{"e":"call","n":0,"id":"d","op":"index","k":1,"if_seq_no":0,"if_primary_term":0}"#,
-            refused(1, TextCause::Range),
-        ),
-        // An unknown field is passed over.
-        (
-            r#"{"e":"call","n":18446744073709551615,"id":"d","op":"get","at":[1,{}]}"#,
-            Ok(1),
+            1,
+            TextCause::Range,
         ),
         (
             r#"{"e":"call","n":18446744073709551616,"id":"d","op":"get"}"#,
-            refused(1, TextCause::Range),
+            1,
+            TextCause::Range,
         ),
-        (
-            r#"{"e":"call","id":"d","op":"get"}"#,
-            refused(1, TextCause::Shape),
-        ),
-        (r#"["e","call"]"#, refused(1, TextCause::Shape)),
-        // Not read yet.
+        (r#"{"e":"call","id":"d","op":"get"}"#, 1, TextCause::Shape),
+        (r#"["e","call"]"#, 1, TextCause::Shape),
         (
             r#"{"e":"call","n":0,"id":"d","op":"delete"}"#,
-            refused(1, TextCause::Shape),
+            1,
+            TextCause::Shape,
         ),
-        (r#"{"e":"lost","n":0}"#, refused(1, TextCause::Shape)),
+        (r#"{"e":"lost","n":0}"#, 1, TextCause::Shape),
     ] {
-        assert_eq!(rt; count(rt.alloc(), line), want, "{line}");
+        assert_eq!(rt; count(rt.alloc(), text), refused(line, cause), "{text}");
     }
 }
 
