@@ -41,7 +41,7 @@ same_some : {X : Type 0} (x y : X) → Some x ≡ Some y → x ≡ y
 same_some x y h = cc
 
 -- the pair of a step, where it takes one
-pair_performs : (s : DocState) (e : Entry) (t : DocState) (q : Pair) → pair_taken e.reply e.hidden ≡ Some q → IsKind s e.op e.reply e.hidden t → Performs s e.op q t
+pub pair_performs : (s : DocState) (e : Entry) (t : DocState) (q : Pair) → pair_taken e.reply e.hidden ≡ Some q → IsKind s e.op e.reply e.hidden t → Performs s e.op q t
 pair_performs s e t q is (inl none) = absurd (some_not_none q (sym none.0 ∙ is))
 pair_performs s e t q is (inr (p, at, w)) = subst (λ x. Performs s e.op x t) (same_some p q (sym at ∙ is)) w
 

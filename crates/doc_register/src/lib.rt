@@ -10,4 +10,4 @@ mod transition;
 pub use op::Op;
 pub use reply::Reply;
 pub use state::{Conflicts, DocState};
-pub use transition::step;
+pub use transition::{performed_reply, step};

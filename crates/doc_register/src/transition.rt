@@ -1,7 +1,7 @@
 ghost use Rattle.doc_register.specs.declared.op.Op.TheVariants.{Get};
 ghost use Rattle.std.specs.Prelude.{◌≡◌, ◌↔◌, IsTrue, IfSome, IfNone};
 ghost use Rattle.doc_register.specs.declared.state.DocState.{DocState as State};
-ghost use Rattle.doc_register.specs.Register.{DocStep, Exceeds, HasPair, IsMet, IsPerformed, Performs, WriteStep, is_here, performed_reply, performed_state, shown};
+ghost use Rattle.doc_register.specs.Register.{DocStep, Exceeds, HasPair, IsMet, IsPerformed, Performs, WriteStep, is_here, performed_reply as answer, performed_state, shown};
 
 use crate::{DocState, Op, Reply};
 use version_pair::Pair;
@@ -56,9 +56,10 @@ fn is_performed(state: DocState, op: Op) -> bool
     }
 }
 
-// What a performed write answers that takes the pair.
-fn reply_of(state: DocState, op: Op, pair: Pair) -> Reply
-    ensures { result ≡ performed_reply state op pair }
+/// What a performed write answers that takes the pair: whether the document was there is told by `created` or
+/// `found`. A get is no write, and the answer given for it is `Missing`.
+pub fn performed_reply(state: DocState, op: Op, pair: Pair) -> Reply
+    ensures { result ≡ answer state op pair }
 {
     match op {
         Op::Get => Reply::Missing,
@@ -107,7 +108,7 @@ fn write(state: DocState, op: Op, reply: Reply, hidden: Option<Pair>) -> Option<
 {
     match (reply, hidden) {
         (Reply::Indexed { pair, .. } | Reply::Deleted { pair, .. }, None) => {
-            if reply == reply_of(state, op, pair) {
+            if reply == performed_reply(state, op, pair) {
                 performed(state, op, pair)
             } else {
                 None

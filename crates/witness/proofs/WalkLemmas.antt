@@ -1,0 +1,361 @@
+-- The check's walk over places: what is late, what steps, and what holds after one place more.
+use Rattle.std.proofs.Common.{ℕ, zero, suc, ◌≡◌, ◌≢◌, ◌<◌, ◌≤◌, ◌↔◌, ◌⊎◌, inl, inr, List, [], ◌∷◌, ◌++◌, length, take, refl, sym, ap, subst, ◌∙◌, arith, Bool, true, false, Option, Some, None, slice_get}
+use Rattle.std.specs.Prelude.{IsSome, MatchOption, set}
+use Rattle.std.proofs.Math.Seq.{take-length}
+use Rattle.version_pair.specs.declared.pair.Pair.{Pair}
+use Rattle.doc_register.specs.declared.op.Op.{Op}
+use Rattle.doc_register.specs.declared.reply.Reply.{Reply}
+use Rattle.doc_register.specs.declared.state.Conflicts.{Conflicts}
+use Rattle.doc_register.specs.declared.state.DocState.{DocState}
+use Rattle.doc_register.specs.declared.state.DocState.TheVariants.{Never}
+use Rattle.doc_register.specs.Register.{performed_reply}
+use Rattle.doc_register.proofs.RunLaws.{step_decided}
+use Rattle.history.specs.declared.record.Rec.{Rec}
+use Rattle.history.proofs.ListLemmas.{compare, get_front, get_last, get_snoc, get_within, none_is_not_some, same_some}
+use Rattle.witness.specs.declared.broken.Broken.{Broken}
+use Rattle.witness.specs.declared.broken.Broken.TheVariants.{Stranger, Twice, Absent, Late, PairMissing, PairGiven, Illegal, NoMemory}
+use Rattle.witness.specs.declared.place.Place.{Place}
+use Rattle.witness.specs.Places.{AreRight, AreValid, GivesAsMay, IsHeardBefore, IsNamed, IsPlaceOf, IsPlaceRun, IsUnansweredGet, StepsAt}
+use Rattle.witness.specs.Faults.{IsFirstFault, IsFresh, IsLate, IsReached, IsStranger}
+use Rattle.witness.specs.Walks.{AllNamedBelow, IsAbsent, IsNextStep, IsWalked}
+
+-- ---- late
+
+heard_later : (heard : Option (ℕ × Reply)) (a b : ℕ) → a ≤ b → IsHeardBefore heard a → IsHeardBefore heard b
+heard_later None a b less before = before
+heard_later (Some h) a b less before = omega arith
+
+not_before_start : (heard : Option (ℕ × Reply)) (a : ℕ) → a ≡ 0 → IsHeardBefore heard a → ⊥
+not_before_start None a none before = before
+not_before_start (Some h) a none before = omega arith
+
+pub late_is : (mode : Conflicts) (records : List Rec) (places : List Place) (i : ℕ) (marks : List Bool) (latest : ℕ) (s : DocState) (r : Rec)
+    → IsWalked mode records (take i places) marks latest s → IsHeardBefore r.heard r.call_at ⊎ IsHeardBefore r.heard latest → IsLate records places i r
+late_is mode records places i marks latest s r walked (inl own) = inl own
+late_is mode records places i marks latest s r walked (inr before) = elim walked.reached as (λ _. IsLate records places i r) [
+  | inl none ↦ absurd (not_before_start r.heard latest none before)
+  | inr some ↦ inr (some.0, some.1, some.2, some.3, some.4, heard_later r.heard latest some.2.call_at (let same = some.5 in omega arith) before)
+]
+
+pub late_not : (mode : Conflicts) (records : List Rec) (places : List Place) (i : ℕ) (marks : List Bool) (latest : ℕ) (s : DocState) (r : Rec)
+    → IsWalked mode records (take i places) marks latest s → ((IsHeardBefore r.heard r.call_at ⊎ IsHeardBefore r.heard latest) → ⊥) → IsLate records places i r → ⊥
+late_not mode records places i marks latest s r walked not (inl own) = not (inl own)
+late_not mode records places i marks latest s r walked not (inr other) =
+    not (inr (heard_later r.heard other.2.call_at latest (walked.greatest other.0 other.1 other.2 other.3 other.4) other.5))
+
+-- ---- steps
+
+pub steps_decided : (s : DocState) (op : Op) (heard : Option (ℕ × Reply)) (pair : Option Pair) (t u : DocState) → StepsAt s op heard pair t → StepsAt s op heard pair u → t ≡ u
+steps_decided s op (Some h) pair t u a b = step_decided s op h.1 pair t u a b
+steps_decided s op None (Some q) t u a b = step_decided s op (performed_reply s op q) None t u a b
+steps_decided s op None None t u a b = absurd a
+
+pub only_state : (records : List Rec) (s : DocState) (ps : List Place) (t u : DocState) → IsPlaceRun records s ps t → IsPlaceRun records s ps u → t ≡ u
+only_state records s [] t u a b = a ∙ sym b
+only_state records s (p ∷ ps) t u a b =
+    let same : a.1 ≡ b.1 = same_some a.1 b.1 (sym a.2 ∙ b.2) in
+    let middle : a.0 ≡ b.0 = steps_decided s b.1.op b.1.heard p.pair a.0 b.0 (subst (λ r. StepsAt s r.op r.heard p.pair a.0) same a.3) b.3 in
+    only_state records b.0 ps t u (subst (λ m. IsPlaceRun records m ps t) middle a.4) b.4
+
+pub stuck_along : (records : List Rec) (front : List Place) (m : DocState) (r : Rec) (pair : Option Pair) → IsPlaceRun records Never front m
+    → ((t : DocState) → StepsAt m r.op r.heard pair t → ⊥) → (s t : DocState) → IsPlaceRun records Never front s → StepsAt s r.op r.heard pair t → ⊥
+stuck_along records front m r pair run stuck s t other step =
+    stuck t (subst (λ k. StepsAt k r.op r.heard pair t) (only_state records Never front s m other run) step)
+
+-- ---- one place
+
+pub reached_at : (mode : Conflicts) (records : List Rec) (places : List Place) (i : ℕ) (p : Place) (marks : List Bool) (latest : ℕ) (s : DocState)
+    → slice_get places i ≡ Some p → IsWalked mode records (take i places) marks latest s → IsReached mode records places i p
+reached_at mode records places i p marks latest s here walked = record { here = here; right = walked.right }
+
+pub fresh_at : (mode : Conflicts) (records : List Rec) (places : List Place) (i : ℕ) (p : Place) (r : Rec) (marks : List Bool) (latest : ℕ) (s : DocState)
+    → slice_get places i ≡ Some p → IsWalked mode records (take i places) marks latest s → IsPlaceOf records p r → (IsUnansweredGet r → ⊥)
+    → slice_get marks p.rec ≡ Some false → IsFresh mode records places i p r
+fresh_at mode records places i p r marks latest s here walked place_of known unmarked = record {
+  reached = reached_at mode records places i p marks latest s here walked;
+  place_of = place_of;
+  known = known;
+  fresh = λ named.
+      let marked : slice_get marks p.rec ≡ Some true = (walked.marked p.rec).1 named in
+      let impossible : Some true ≡ Some false = sym marked ∙ unmarked in
+      cc;
+}
+
+pub pair_fault_is : (mode : Conflicts) (records : List Rec) (places : List Place) (i : ℕ) (p : Place) (r : Rec) (heard : Option (ℕ × Reply)) (pair : Option Pair) (b : Broken)
+    → r.heard ≡ heard → p.pair ≡ pair → IsFresh mode records places i p r → (GivesAsMay mode r.heard p.pair → ⊥) → MatchOption heard (b ≡ PairMissing i) (λ _. b ≡ PairGiven i)
+    → IsFirstFault mode records places b
+pair_fault_is mode records places i p r None None b is pair_is fresh not fault =
+    subst (IsFirstFault mode records places) (sym fault) (p, r, fresh, is, pair_is)
+pair_fault_is mode records places i p r None (Some q) b is pair_is fresh not fault =
+    absurd (not (subst (λ h. GivesAsMay mode h p.pair) (sym is) (subst (λ o. IsSome o) (sym pair_is) refl)))
+pair_fault_is mode records places i p r (Some h) pair b is pair_is fresh not fault =
+    subst (IsFirstFault mode records places) (sym fault) (p, r, fresh, subst (λ o. IsSome o) (sym is) refl, not)
+
+-- ---- lists
+
+pub take_one_more : {X : Type 0} (xs : List X) (i : ℕ) (x : X) → slice_get xs i ≡ Some x → take (suc i) xs ≡ take i xs ++ x ∷ []
+take_one_more [] i x at = absurd (none_is_not_some x at)
+take_one_more (y ∷ xs) zero x at = ap (λ z. z ∷ []) (same_some y x at)
+take_one_more (y ∷ xs) (suc i) x at = ap (λ ys. y ∷ ys) (take_one_more xs i x at)
+
+-- what stands at a place of the front stands there in the whole list, before the front's end
+pub get_take : {X : Type 0} (xs : List X) (i j : ℕ) (x : X) → slice_get (take i xs) j ≡ Some x → (slice_get xs j ≡ Some x) × (j < i)
+get_take [] zero j x at = absurd (none_is_not_some x at)
+get_take [] (suc i) j x at = absurd (none_is_not_some x at)
+get_take (y ∷ xs) zero j x at = absurd (none_is_not_some x at)
+get_take (y ∷ xs) (suc i) zero x at = (at, omega arith)
+get_take (y ∷ xs) (suc i) (suc j) x at = let rest = get_take xs i j x at in (rest.0, let less : j < i = rest.1 in omega arith)
+
+set_here : (marks : List Bool) (k : ℕ) → k < length marks → slice_get (set marks k true) k ≡ Some true
+set_here [] k within = absurd (omega arith)
+set_here (m ∷ marks) zero within = refl
+set_here (m ∷ marks) (suc k) within = set_here marks k (omega arith)
+
+set_there : (marks : List Bool) (k j : ℕ) → (j ≡ k → ⊥) → slice_get (set marks k true) j ≡ slice_get marks j
+set_there [] k j other = refl
+set_there (m ∷ marks) zero zero other = absurd (other refl)
+set_there (m ∷ marks) zero (suc j) other = refl
+set_there (m ∷ marks) (suc k) zero other = refl
+set_there (m ∷ marks) (suc k) (suc j) other = set_there marks k j (λ same. other (ap suc same))
+
+set_length : (marks : List Bool) (k : ℕ) → length (set marks k true) ≡ length marks
+set_length [] k = refl
+set_length (m ∷ marks) zero = refl
+set_length (m ∷ marks) (suc k) = ap suc (set_length marks k)
+
+same_or_not : (j k : ℕ) → (j ≡ k) ⊎ (j ≡ k → ⊥)
+same_or_not zero zero = inl refl
+same_or_not zero (suc k) = inr (λ same. omega arith)
+same_or_not (suc j) zero = inr (λ same. omega arith)
+same_or_not (suc j) (suc k) = elim (same_or_not j k) as (λ _. (suc j ≡ suc k) ⊎ (suc j ≡ suc k → ⊥)) [ inl same ↦ inl (ap suc same) | inr other ↦ inr (λ same. other (omega arith)) ]
+
+-- ---- one place more
+
+pub run_append : (records : List Rec) (s m t : DocState) (ps qs : List Place) → IsPlaceRun records s ps m → IsPlaceRun records m qs t → IsPlaceRun records s (ps ++ qs) t
+run_append records s m t [] qs a b = subst (λ k. IsPlaceRun records k qs t) a b
+run_append records s m t (p ∷ ps) qs a b = (a.0, a.1, a.2, a.3, run_append records a.0 m t ps qs a.4 b)
+
+-- what the next place brings: its record, which may be named and is not yet, with a pair as it may give, in time, and its step
+record IsNext (mode : Conflicts) (records : List Rec) (front : List Place) (p : Place) (r : Rec) (s t : DocState) : Type 0 where
+  place_of : IsPlaceOf records p r
+  known : IsUnansweredGet r → ⊥
+  fresh : IsNamed front p.rec → ⊥
+  gives : GivesAsMay mode r.heard p.pair
+  own_in_time : IsHeardBefore r.heard r.call_at → ⊥
+  in_time : (j : ℕ) (q : Place) (o : Rec) → slice_get front j ≡ Some q → IsPlaceOf records q o → IsHeardBefore r.heard o.call_at → ⊥
+  steps : StepsAt s r.op r.heard p.pair t
+
+run_more : (mode : Conflicts) (records : List Rec) (front : List Place) (p : Place) (r : Rec) (s t : DocState)
+    → IsPlaceRun records Never front s → IsNext mode records front p r s t → IsPlaceRun records Never (front ++ p ∷ []) t
+run_more mode records front p r s t run next = run_append records Never s t front (p ∷ []) run (t, r, next.place_of, next.steps, refl)
+
+right_more : (mode : Conflicts) (records : List Rec) (front : List Place) (p : Place) (r : Rec) (s t : DocState)
+    → AreRight mode records front → IsPlaceRun records Never front s → IsNext mode records front p r s t → AreRight mode records (front ++ p ∷ [])
+right_more mode records front p r s t right run next = record {
+  known = λ i q at. elim (get_snoc front p q i at) as (λ _. (o : Rec) × IsPlaceOf records q o × (IsUnansweredGet o → ⊥)) [
+    | inl before ↦ right.known i q before
+    | inr last ↦ (r, subst (λ o. IsPlaceOf records o r) last.1 next.place_of, next.known)
+  ];
+  once = λ i j q u at bt same. elim (get_snoc front p q i at) as (λ _. i ≡ j) [
+    | inl before ↦ elim (get_snoc front p u j bt) as (λ _. i ≡ j) [
+      | inl first ↦ right.once i j q u before first same
+      | inr last ↦ absurd (next.fresh (i, q, before, same ∙ ap (λ o. o.rec) (sym last.1)))
+    ]
+    | inr end ↦ elim (get_snoc front p u j bt) as (λ _. i ≡ j) [
+      | inl first ↦ absurd (next.fresh (j, u, first, sym same ∙ ap (λ o. o.rec) (sym end.1)))
+      | inr last ↦ end.0 ∙ sym last.0
+    ]
+  ];
+  pairs = λ i q o at place_of. elim (get_snoc front p q i at) as (λ _. GivesAsMay mode o.heard q.pair) [
+    | inl before ↦ right.pairs i q o before place_of
+    | inr last ↦
+        let named : IsPlaceOf records p o = subst (λ u. IsPlaceOf records u o) (sym last.1) place_of in
+        let same : r ≡ o = same_some r o (sym next.place_of ∙ named) in
+        subst (λ u. GivesAsMay mode o.heard u.pair) last.1 (subst (λ k. GivesAsMay mode k.heard p.pair) same next.gives)
+  ];
+  in_time = λ i j q u o v less at bt of_q of_u. elim (get_snoc front p u j bt) as (λ _. IsHeardBefore v.heard o.call_at → ⊥) [
+    | inl first ↦ elim (get_snoc front p q i at) as (λ _. IsHeardBefore v.heard o.call_at → ⊥) [
+      | inl before ↦ right.in_time i j q u o v less before first of_q of_u
+      | inr end ↦ let within : j < length front = get_within front j u first in let here : i ≡ length front = end.0 in absurd (omega arith)
+    ]
+    | inr last ↦
+        let named : IsPlaceOf records p v = subst (λ k. IsPlaceOf records k v) (sym last.1) of_u in
+        let same : r ≡ v = same_some r v (sym next.place_of ∙ named) in
+        elim (get_snoc front p q i at) as (λ _. IsHeardBefore v.heard o.call_at → ⊥) [
+          | inl before ↦ λ late. next.in_time i q o before of_q (subst (λ k. IsHeardBefore k.heard o.call_at) (sym same) late)
+          | inr end ↦
+              let own : IsPlaceOf records p o = subst (λ k. IsPlaceOf records k o) (sym end.1) of_q in
+              let mine : r ≡ o = same_some r o (sym next.place_of ∙ own) in
+              λ late. next.own_in_time (subst (λ k. IsHeardBefore r.heard k.call_at) (sym mine) (subst (λ k. IsHeardBefore k.heard o.call_at) (sym same) late))
+        ]
+  ];
+  legal = (t, run_more mode records front p r s t run next);
+}
+
+named_before : (front : List Place) (p : Place) (k : ℕ) → IsNamed front k → IsNamed (front ++ p ∷ []) k
+named_before front p k named = (named.0, named.1, get_front front (p ∷ []) named.0 named.1 named.2, named.3)
+
+named_last : (front : List Place) (p : Place) → IsNamed (front ++ p ∷ []) p.rec
+named_last front p = (length front, p, get_last front p, refl)
+
+named_or_last : (front : List Place) (p : Place) (k : ℕ) → IsNamed (front ++ p ∷ []) k → IsNamed front k ⊎ (k ≡ p.rec)
+named_or_last front p k named = elim (get_snoc front p named.1 named.0 named.2) as (λ _. IsNamed front k ⊎ (k ≡ p.rec)) [
+  | inl before ↦ inl (named.0, named.1, before, named.3)
+  | inr last ↦ inr (sym (ap (λ o. o.rec) last.1 ∙ named.3))
+]
+
+marked_more : (front : List Place) (p : Place) (marks : List Bool) → p.rec < length marks → ((k : ℕ) → (slice_get marks k ≡ Some true) ↔ IsNamed front k)
+    → (k : ℕ) → (slice_get (set marks p.rec true) k ≡ Some true) ↔ IsNamed (front ++ p ∷ []) k
+marked_more front p marks within marked k = elim (same_or_not k p.rec) as (λ _. (slice_get (set marks p.rec true) k ≡ Some true) ↔ IsNamed (front ++ p ∷ []) k) [
+  | inl same ↦ (
+    λ _. subst (IsNamed (front ++ p ∷ [])) (sym same) (named_last front p),
+    λ _. subst (λ j. slice_get (set marks p.rec true) j ≡ Some true) (sym same) (set_here marks p.rec within),
+  )
+  | inr other ↦ (
+    λ set_is. named_before front p k ((marked k).0 (sym (set_there marks p.rec k other) ∙ set_is)),
+    λ named. elim (named_or_last front p k named) as (λ _. slice_get (set marks p.rec true) k ≡ Some true) [
+      | inl before ↦ set_there marks p.rec k other ∙ (marked k).1 before
+      | inr same ↦ absurd (other same)
+    ],
+  )
+]
+
+-- the latest call after one place more
+record IsLatest (old at new : ℕ) : Type 0 where
+  grows : old ≤ new
+  within : at ≤ new
+  one : (new ≡ old) ⊎ (new ≡ at)
+
+walked_more : (mode : Conflicts) (records : List Rec) (front : List Place) (marks : List Bool) (latest new : ℕ) (p : Place) (r : Rec) (s t : DocState)
+    → IsWalked mode records front marks latest s → IsNext mode records front p r s t → IsLatest latest r.call_at new
+    → IsWalked mode records (front ++ p ∷ []) (set marks p.rec true) new t
+walked_more mode records front marks latest new p r s t walked next later =
+    let size = walked.size in
+    let named : p.rec < length records = get_within records p.rec r next.place_of in
+    record {
+      right = right_more mode records front p r s t walked.right walked.run next;
+      run = run_more mode records front p r s t walked.run next;
+      size = set_length marks p.rec ∙ size;
+      marked = marked_more front p marks (omega arith) walked.marked;
+      greatest = λ i q o at place_of. elim (get_snoc front p q i at) as (λ _. o.call_at ≤ new) [
+        | inl before ↦ let old : o.call_at ≤ latest = walked.greatest i q o before place_of in let grows : latest ≤ new = later.grows in omega arith
+        | inr last ↦
+            let same : r ≡ o = same_some r o (sym next.place_of ∙ subst (λ u. IsPlaceOf records u o) (sym last.1) place_of) in
+            subst (λ k. k.call_at ≤ new) same later.within
+      ];
+      reached = elim later.one as (λ _. (new ≡ 0) ⊎ ((i : ℕ) × (q : Place) × (o : Rec) × (slice_get (front ++ p ∷ []) i ≡ Some q) × IsPlaceOf records q o × (o.call_at ≡ new))) [
+        | inl kept ↦ elim walked.reached as (λ _. (new ≡ 0) ⊎ ((i : ℕ) × (q : Place) × (o : Rec) × (slice_get (front ++ p ∷ []) i ≡ Some q) × IsPlaceOf records q o × (o.call_at ≡ new))) [
+          | inl none ↦ inl (kept ∙ none)
+          | inr some ↦ inr (some.0, some.1, some.2, get_front front (p ∷ []) some.0 some.1 some.3, some.4, some.5 ∙ sym kept)
+        ]
+        | inr is ↦ inr (length front, p, r, get_last front p, next.place_of, sym is)
+      ];
+    }
+
+next_of_step : (mode : Conflicts) (records : List Rec) (places : List Place) (i : ℕ) (r : Rec) (s t : DocState) → (n : IsNextStep mode records places i r s t)
+    → IsNext mode records (take i places) n.place r s t
+next_of_step mode records places i r s t n = record {
+  place_of = n.fresh.place_of;
+  known = n.fresh.known;
+  fresh = n.fresh.fresh;
+  gives = n.gives;
+  own_in_time = λ late. n.in_time (inl late);
+  in_time = λ j q o at of_q late. n.in_time (inr (j, q, o, at, of_q, late));
+  steps = n.steps;
+}
+
+-- the walk goes on over the place at i
+pub walked_next : (mode : Conflicts) (records : List Rec) (places : List Place) (i : ℕ) (marks news : List Bool) (latest new : ℕ) (p : Place) (r : Rec) (s t u : DocState)
+    → IsWalked mode records (take i places) marks latest s → IsNextStep mode records places i r s t → slice_get places i ≡ Some p → news ≡ set marks p.rec true
+    → u ≡ t → (latest ≤ new) × (r.call_at ≤ new) × ((new ≡ latest) ⊎ (new ≡ r.call_at)) → IsWalked mode records (take (suc i) places) news new u
+walked_next mode records places i marks news latest new p r s t u walked n at set_is state_is later =
+    let same : n.place ≡ p = same_some n.place p (sym n.fresh.reached.here ∙ at) in
+    let next : IsNext mode records (take i places) p r s t = subst (λ q. IsNext mode records (take i places) q r s t) same (next_of_step mode records places i r s t n) in
+    subst (λ k. IsWalked mode records (take (suc i) places) news new k) (sym state_is)
+    (subst (λ ms. IsWalked mode records (take (suc i) places) ms new t) (sym set_is)
+    (subst (λ ps. IsWalked mode records ps (set marks p.rec true) new t) (sym (take_one_more places i p at))
+    (walked_more mode records (take i places) marks latest new p r s t walked next (record { grows = later.0; within = later.1; one = later.2 }))))
+
+-- the record of the next place has a mark to set
+pub within_marks : (mode : Conflicts) (records : List Rec) (places : List Place) (i : ℕ) (marks : List Bool) (latest : ℕ) (p : Place) (r : Rec) (s t : DocState)
+    → IsWalked mode records (take i places) marks latest s → IsNextStep mode records places i r s t → slice_get places i ≡ Some p → p.rec < length marks
+within_marks mode records places i marks latest p r s t walked n at =
+    let same : n.place ≡ p = same_some n.place p (sym n.fresh.reached.here ∙ at) in
+    let named : p.rec < length records = get_within records p.rec r (subst (λ q. IsPlaceOf records q r) same n.fresh.place_of) in
+    let size = walked.size in
+    omega arith
+
+-- ---- the end of the walk
+
+pub all_valid : (mode : Conflicts) (records : List Rec) (places : List Place) (marks : List Bool) (latest : ℕ) (s : DocState)
+    → IsWalked mode records places marks latest s → AllNamedBelow records marks (length records) → AreValid mode records places
+all_valid mode records places marks latest s walked named = record {
+  right = walked.right;
+  answered = λ k r at heard. (walked.marked k).0 (named k r (get_within records k r at) at heard);
+}
+
+pub one_absent : (mode : Conflicts) (records : List Rec) (places : List Place) (marks : List Bool) (latest : ℕ) (s : DocState) (k : ℕ)
+    → IsWalked mode records places marks latest s → IsAbsent records marks k → AllNamedBelow records marks k → IsFirstFault mode records places (Absent k)
+one_absent mode records places marks latest s k walked missing named = (
+  missing.0,
+  walked.right,
+  missing.1,
+  missing.2,
+  λ at. missing.3 ((walked.marked k).1 at),
+  λ j r less at heard. (walked.marked j).0 (named j r less at heard),
+)
+
+-- ---- a fault rules out that the places are valid
+
+run_at : (records : List Rec) (s t : DocState) (places : List Place) (i : ℕ) (p : Place) → IsPlaceRun records s places t → slice_get places i ≡ Some p
+    → (m u : DocState) × (r : Rec) × IsPlaceRun records s (take i places) m × IsPlaceOf records p r × StepsAt m r.op r.heard p.pair u
+run_at records s t [] i p run at = absurd (none_is_not_some p at)
+run_at records s t (q ∷ places) zero p run at =
+    (s, run.0, run.1, refl, subst (λ k. IsPlaceOf records k run.1) (same_some q p at) run.2, subst (λ k. StepsAt s run.1.op run.1.heard k.pair run.0) (same_some q p at) run.3)
+run_at records s t (q ∷ places) (suc i) p run at =
+    let rest = run_at records run.0 t places i p run.4 at in
+    (rest.0, rest.1, rest.2, (run.0, run.1, run.2, run.3, rest.3), rest.4, rest.5)
+
+missing_pair : (mode : Conflicts) (heard : Option (ℕ × Reply)) (pair : Option Pair) → heard ≡ None → pair ≡ None → GivesAsMay mode heard pair → ⊥
+missing_pair mode None None is none gives = let impossible : false ≡ true = gives in cc
+missing_pair mode None (Some q) is none gives = none_is_not_some q (sym none)
+missing_pair mode (Some h) pair is none gives = none_is_not_some h (sym is)
+
+late_not_valid : (mode : Conflicts) (records : List Rec) (places : List Place) (i : ℕ) (p : Place) (r : Rec) → AreRight mode records places
+    → slice_get places i ≡ Some p → IsPlaceOf records p r → IsLate records places i r → ⊥
+late_not_valid mode records places i p r right at place_of (inl own) = right.in_time i i p p r r (omega arith) at at place_of place_of own
+late_not_valid mode records places i p r right at place_of (inr other) =
+    let before = get_take places i other.0 other.1 other.3 in
+    let less : other.0 < i = before.1 in
+    right.in_time other.0 i other.1 p other.2 r (omega arith) before.0 at other.4 place_of other.5
+
+illegal_not_valid : (mode : Conflicts) (records : List Rec) (places : List Place) (i : ℕ) (p : Place) (r : Rec) → AreRight mode records places
+    → slice_get places i ≡ Some p → IsPlaceOf records p r → ((s t : DocState) → IsPlaceRun records Never (take i places) s → StepsAt s r.op r.heard p.pair t → ⊥) → ⊥
+illegal_not_valid mode records places i p r right at place_of stuck =
+    let here = run_at records Never right.legal.0 places i p right.legal.1 at in
+    let same : here.2 ≡ r = same_some here.2 r (sym here.4 ∙ place_of) in
+    stuck here.0 here.1 here.3 (subst (λ k. StepsAt here.0 k.op k.heard p.pair here.1) same here.5)
+
+pub fault_not_valid : (mode : Conflicts) (records : List Rec) (places : List Place) (b : Broken) → IsFirstFault mode records places b → AreValid mode records places → ⊥
+fault_not_valid mode records places (Stranger i) fault valid =
+    let known = valid.right.known i fault.0 fault.1.here in known.2 (fault.2 known.0 known.1)
+fault_not_valid mode records places (Twice i) fault valid =
+    let named = fault.5 in
+    let before = get_take places i named.0 named.1 named.2 in
+    let less : named.0 < i = before.1 in
+    let same : named.0 ≡ i = valid.right.once named.0 i named.1 fault.0 before.0 fault.2.here named.3 in
+    omega arith
+fault_not_valid mode records places (PairMissing i) fault valid =
+    missing_pair mode fault.1.heard fault.0.pair fault.3 fault.4 (valid.right.pairs i fault.0 fault.1 fault.2.reached.here fault.2.place_of)
+fault_not_valid mode records places (PairGiven i) fault valid = fault.4 (valid.right.pairs i fault.0 fault.1 fault.2.reached.here fault.2.place_of)
+fault_not_valid mode records places (Late i) fault valid = late_not_valid mode records places i fault.0 fault.1 valid.right fault.2.reached.here fault.2.place_of fault.4
+fault_not_valid mode records places (Illegal i) fault valid =
+    illegal_not_valid mode records places i fault.0 fault.1 valid.right fault.2.reached.here fault.2.place_of fault.5
+fault_not_valid mode records places (Absent k) fault valid = fault.4 (valid.answered k fault.0 fault.2 fault.3)
+fault_not_valid mode records places NoMemory fault valid = absurd fault
+
+-- a walk to the end of the places is over them all
+pub walked_all : (mode : Conflicts) (records : List Rec) (places : List Place) (i : ℕ) (marks : List Bool) (latest : ℕ) (s : DocState)
+    → i ≡ length places → IsWalked mode records (take i places) marks latest s → IsWalked mode records places marks latest s
+walked_all mode records places i marks latest s end walked =
+    subst (λ front. IsWalked mode records front marks latest s) (ap (λ k. take k places) end ∙ take-length places) walked

@@ -1,0 +1,51 @@
+-- The first fault of places that are not valid.
+use Rattle.std.specs.Prelude.{◌≡◌, ℕ, ◌<◌, ◌⊎◌, List, Option, Some, None, IsSome, slice_get, take}
+use Rattle.doc_register.specs.declared.state.Conflicts.{Conflicts}
+use Rattle.doc_register.specs.declared.state.DocState.{DocState}
+use Rattle.doc_register.specs.declared.state.DocState.TheVariants.{Never}
+use Rattle.history.specs.declared.record.Rec.{Rec}
+use Rattle.witness.specs.declared.broken.Broken.{Broken}
+use Rattle.witness.specs.declared.broken.Broken.TheVariants.{Stranger, Twice, Absent, Late, PairMissing, PairGiven, Illegal, NoMemory}
+use Rattle.witness.specs.declared.place.Place.{Place}
+use Rattle.witness.specs.Places.{AreRight, GivesAsMay, IsHeardBefore, IsNamed, IsPlaceOf, IsPlaceRun, IsUnansweredGet, StepsAt}
+
+-- the place names no record, or an unanswered get
+abbrev pub IsStranger : List Rec → Place → Type 0
+IsStranger records p = (r : Rec) → IsPlaceOf records p r → IsUnansweredGet r
+
+-- the place stands at i, and all places before it are right
+pub record IsReached (mode : Conflicts) (records : List Rec) (places : List Place) (i : ℕ) (p : Place) : Type 0 where
+  pub here : slice_get places i ≡ Some p
+  pub right : AreRight mode records (take i places)
+
+-- it is reached, and it names a record that may be named and is not named before
+pub record IsFresh (mode : Conflicts) (records : List Rec) (places : List Place) (i : ℕ) (p : Place) (r : Rec) : Type 0 where
+  pub reached : IsReached mode records places i p
+  pub place_of : IsPlaceOf records p r
+  pub known : ¬ IsUnansweredGet r
+  pub fresh : ¬ IsNamed (take i places) p.rec
+
+-- the record's reply was heard before its own call, or before that of a place before i
+abbrev pub IsLate : List Rec → List Place → ℕ → Rec → Type 0
+IsLate records places i r =
+    IsHeardBefore r.heard r.call_at ⊎ ((j : ℕ) × (q : Place) × (s : Rec) × (slice_get (take i places) j ≡ Some q) × IsPlaceOf records q s × IsHeardBefore r.heard s.call_at)
+
+-- The fault holds, and none that is told before it: place by place stranger, twice, pair missing, pair given, late,
+-- illegal; last the least answered record that is absent.
+abbrev pub IsFirstFault : Conflicts → List Rec → List Place → Broken → Type 0
+IsFirstFault mode records places (Stranger i) = (p : Place) × IsReached mode records places i p × IsStranger records p
+IsFirstFault mode records places (Twice i) =
+    (p : Place) × (r : Rec) × IsReached mode records places i p × IsPlaceOf records p r × (¬ IsUnansweredGet r) × IsNamed (take i places) p.rec
+IsFirstFault mode records places (PairMissing i) =
+    (p : Place) × (r : Rec) × IsFresh mode records places i p r × (r.heard ≡ None) × (p.pair ≡ None)
+IsFirstFault mode records places (PairGiven i) =
+    (p : Place) × (r : Rec) × IsFresh mode records places i p r × IsSome r.heard × (¬ GivesAsMay mode r.heard p.pair)
+IsFirstFault mode records places (Late i) =
+    (p : Place) × (r : Rec) × IsFresh mode records places i p r × GivesAsMay mode r.heard p.pair × IsLate records places i r
+IsFirstFault mode records places (Illegal i) =
+    (p : Place) × (r : Rec) × IsFresh mode records places i p r × GivesAsMay mode r.heard p.pair × (¬ IsLate records places i r)
+    × ((s t : DocState) → IsPlaceRun records Never (take i places) s → ¬ StepsAt s r.op r.heard p.pair t)
+IsFirstFault mode records places (Absent k) =
+    (r : Rec) × AreRight mode records places × (slice_get records k ≡ Some r) × IsSome r.heard × (¬ IsNamed places k)
+    × ((j : ℕ) (s : Rec) → j < k → slice_get records j ≡ Some s → IsSome s.heard → IsNamed places j)
+IsFirstFault mode records places NoMemory = ⊥

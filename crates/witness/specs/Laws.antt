@@ -1,0 +1,61 @@
+-- Orders of one document's calls, what places tell of them, and the law that valid places are such orders.
+use Rattle.std.specs.Prelude.{◌≡◌, ℕ, List, [], ◌∷◌, Option, Some, None, IsSome, slice_get}
+use Rattle.version_pair.specs.declared.pair.Pair.{Pair}
+use Rattle.doc_register.specs.declared.op.Op.{Op}
+use Rattle.doc_register.specs.declared.reply.Reply.{Reply as Answer}
+use Rattle.doc_register.specs.declared.state.Conflicts.{Conflicts}
+use Rattle.doc_register.specs.declared.state.Conflicts.TheVariants.{Plain}
+use Rattle.doc_register.specs.Run.{Entry, IsLegalRun, pair_taken}
+use Rattle.doc_register.specs.Laws.{ChangesNothing}
+use Rattle.history.specs.declared.event.Event.{Event}
+use Rattle.history.specs.declared.record.Rec.{Rec}
+use Rattle.history.specs.Events.{IsCallAt, IsHistory, IsPending, IsReplyAt, records_of}
+use Rattle.history.specs.Order.{IsOfCall, Placed, Respects, run_of}
+use Rattle.witness.specs.declared.place.Place.{Place}
+use Rattle.witness.specs.Places.{AreValid, IsPlaceOf}
+
+-- The order explains the document of the history: it is an order of the document's calls, as one of the whole history
+-- would be, but of no other document's; it respects the history; and it is a legal run.
+pub record ExplainsDocument (mode : Conflicts) (events : List Event) (d : List ℕ) (order : List Placed) : Type 0 where
+  pub calls : (i : ℕ) (p : Placed) → slice_get order i ≡ Some p → IsOfCall events p × (p.entry.doc ≡ d)
+  pub once : (i j : ℕ) (p q : Placed) → slice_get order i ≡ Some p → slice_get order j ≡ Some q → p.no ≡ q.no → i ≡ j
+  pub answered : (k j n h : ℕ) (op : Op) (r : Answer) → IsReplyAt events k n r → IsCallAt events j n h d op
+      → (i : ℕ) × (p : Placed) × (slice_get order i ≡ Some p) × (p.no ≡ n) × (p.entry.reply ≡ r)
+  pub plain : mode ≡ Plain → (i : ℕ) (p : Placed) → slice_get order i ≡ Some p → p.entry.hidden ≡ None
+  pub respects : Respects events order
+  pub legal : IsLegalRun (run_of order)
+
+-- what a record and its place tell of the call in the run: the reply that was heard, with the pair that it hides; or,
+-- where none was heard, the pair that the call takes
+abbrev pub TellsOf : Option (ℕ × Answer) → Option Pair → Entry → Type 0
+TellsOf None pair e = IsSome pair × (pair_taken e.reply e.hidden ≡ pair)
+TellsOf (Some (at, reply)) pair e = (e.reply ≡ reply) × (e.hidden ≡ pair)
+
+-- the place tells of the call that stands in the order
+pub record IsPlacedBy (records : List Rec) (p : Place) (q : Placed) : Type 0 where
+  pub named : Rec
+  pub place_of : IsPlaceOf records p named
+  pub number : q.no ≡ named.no
+  pub operation : q.entry.op ≡ named.op
+  pub tells : TellsOf named.heard p.pair q.entry
+
+-- place by place
+abbrev pub ArePlacedBy : List Rec → List Place → List Placed → Type 0
+ArePlacedBy records [] [] = Unit {0}
+ArePlacedBy records [] (q ∷ qs) = ⊥
+ArePlacedBy records (p ∷ ps) [] = ⊥
+ArePlacedBy records (p ∷ ps) (q ∷ qs) = IsPlacedBy records p q × ArePlacedBy records ps qs
+
+-- no unanswered call stands in the order that changes nothing there
+abbrev pub AllChange : List Event → List Placed → Type 0
+AllChange events order = (i : ℕ) (p : Placed) → slice_get order i ≡ Some p → IsPending events p.no → ¬ ChangesNothing p.entry
+
+-- Valid places of a document's records are an order that explains the document; and an order that explains it, without
+-- unanswered calls that change nothing, is one of valid places.
+pub record PlacesAreOrders : Type 0 where
+  pub explains : (mode : Conflicts) (events : List Event) (d : List ℕ) (places : List Place) → IsHistory events
+      → AreValid mode (records_of events d) places
+      → (order : List Placed) × ExplainsDocument mode events d order × ArePlacedBy (records_of events d) places order
+  pub valid : (mode : Conflicts) (events : List Event) (d : List ℕ) (order : List Placed) → IsHistory events
+      → ExplainsDocument mode events d order → AllChange events order
+      → (places : List Place) × AreValid mode (records_of events d) places × ArePlacedBy (records_of events d) places order

@@ -1,0 +1,5 @@
+pub mod Places
+pub mod Faults
+pub mod Walks
+pub mod Witness
+pub mod Laws

@@ -1,0 +1,69 @@
+-- Valid places: which places are an order of a document's records that explains them.
+use Rattle.std.specs.Prelude.{◌≡◌, ℕ, ◌<◌, ◌≤◌, List, [], ◌∷◌, Option, Some, None, IsSome, slice_get}
+use Rattle.version_pair.specs.declared.pair.Pair.{Pair}
+use Rattle.doc_register.specs.declared.op.Op.{Op}
+use Rattle.doc_register.specs.declared.op.Op.TheVariants.{Get}
+use Rattle.doc_register.specs.declared.reply.Reply.{Reply}
+use Rattle.doc_register.specs.declared.reply.Reply.TheVariants.{Indexed, Deleted, Found, Missing, Conflict}
+use Rattle.doc_register.specs.declared.state.Conflicts.{Conflicts}
+use Rattle.doc_register.specs.declared.state.Conflicts.TheVariants.{Plain}
+use Rattle.doc_register.specs.declared.state.DocState.{DocState}
+use Rattle.doc_register.specs.declared.state.DocState.TheVariants.{Never}
+use Rattle.doc_register.specs.Register.{DocStep, performed_reply}
+use Rattle.history.specs.declared.record.Rec.{Rec}
+use Rattle.witness.specs.declared.place.Place.{Place}
+
+-- the place names the record
+abbrev pub IsPlaceOf : List Rec → Place → Rec → Type 0
+IsPlaceOf records p r = slice_get records p.rec ≡ Some r
+
+-- a get without a reply, of which nothing is known
+abbrev pub IsUnansweredGet : Rec → Type 0
+IsUnansweredGet r = (r.op ≡ Get) × (r.heard ≡ None)
+
+-- The place of an unanswered call gives a pair, and that of an answered one gives none, but that under Maybe the place
+-- of a conflict may give one.
+abbrev pub GivesAsMay : Conflicts → Option (ℕ × Reply) → Option Pair → Type 0
+GivesAsMay mode None pair = IsSome pair
+GivesAsMay mode (Some (at, Indexed q created)) pair = pair ≡ None
+GivesAsMay mode (Some (at, Deleted q found)) pair = pair ≡ None
+GivesAsMay mode (Some (at, Found q k)) pair = pair ≡ None
+GivesAsMay mode (Some (at, Missing)) pair = pair ≡ None
+GivesAsMay mode (Some (at, Conflict)) pair = mode ≡ Plain → pair ≡ None
+
+-- The call of a place is a step: with the reply that was heard, a pair given to it being hidden; or, unanswered, with
+-- the reply of a performed write that takes the pair given.
+abbrev pub StepsAt : DocState → Op → Option (ℕ × Reply) → Option Pair → DocState → Type 0
+StepsAt s op (Some (at, reply)) pair t = DocStep s op reply pair t
+StepsAt s op None (Some q) t = DocStep s op (performed_reply s op q) None t
+StepsAt s op None None t = ⊥
+
+-- a reply was heard, and before the place
+abbrev pub IsHeardBefore : Option (ℕ × Reply) → ℕ → Type 0
+IsHeardBefore None place = ⊥
+IsHeardBefore (Some (at, reply)) place = at < place
+
+-- the calls of the places are steps one after another, from s to t
+abbrev pub IsPlaceRun : List Rec → DocState → List Place → DocState → Type 0
+IsPlaceRun records s [] t = t ≡ s
+IsPlaceRun records s (p ∷ ps) t = (m : DocState) × (r : Rec) × IsPlaceOf records p r × StepsAt s r.op r.heard p.pair m × IsPlaceRun records m ps t
+
+-- All that valid places have, but that each answered call stands in them: each names a record, none an unanswered get and
+-- none a record twice; pairs are given as they may be; no place's reply was heard before the call of its own or of an
+-- earlier place; and the calls are steps one after another, from a document that was never written.
+pub record AreRight (mode : Conflicts) (records : List Rec) (places : List Place) : Type 0 where
+  pub known : (i : ℕ) (p : Place) → slice_get places i ≡ Some p → (r : Rec) × IsPlaceOf records p r × (¬ IsUnansweredGet r)
+  pub once : (i j : ℕ) (p q : Place) → slice_get places i ≡ Some p → slice_get places j ≡ Some q → p.rec ≡ q.rec → i ≡ j
+  pub pairs : (i : ℕ) (p : Place) (r : Rec) → slice_get places i ≡ Some p → IsPlaceOf records p r → GivesAsMay mode r.heard p.pair
+  pub in_time : (i j : ℕ) (p q : Place) (r s : Rec) → i ≤ j → slice_get places i ≡ Some p → slice_get places j ≡ Some q
+      → IsPlaceOf records p r → IsPlaceOf records q s → ¬ IsHeardBefore s.heard r.call_at
+  pub legal : (t : DocState) × IsPlaceRun records Never places t
+
+-- some place names the record with this number
+abbrev pub IsNamed : List Place → ℕ → Type 0
+IsNamed places k = (i : ℕ) × (p : Place) × (slice_get places i ≡ Some p) × (p.rec ≡ k)
+
+-- The places are valid: they are right, and each answered record is named.
+pub record AreValid (mode : Conflicts) (records : List Rec) (places : List Place) : Type 0 where
+  pub right : AreRight mode records places
+  pub answered : (k : ℕ) (r : Rec) → slice_get records k ≡ Some r → IsSome r.heard → IsNamed places k
