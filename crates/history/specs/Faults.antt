@@ -6,6 +6,7 @@ use Rattle.history.specs.declared.text_fault.LineFault.{LineFault}
 use Rattle.history.specs.declared.text_fault.LineFault.TheVariants as line
 use Rattle.history.specs.declared.text_fault.ReadFault.{ReadFault}
 use Rattle.history.specs.declared.text_fault.ReadFault.TheVariants as text
+use Rattle.history.specs.declared.text_fault.TextCause.{TextCause}
 use Rattle.history.specs.declared.text_fault.TextCause.TheVariants.{Shape, SecondCall, NoCall, Ended, Full, ShardMoved}
 
 -- the fault of a line whose event is refused; a reply of a kind that its call can't have is of another shape
@@ -22,3 +23,8 @@ line_fault event.ShardMoved = line.Told ShardMoved
 abbrev pub text_fault : ℕ → LineFault → ReadFault
 text_fault n (line.Told cause) = text.Text (record { line = n; cause = cause })
 text_fault n line.NoMemory = text.NoMemory
+
+-- P of the cause that is told; want of memory tells none
+abbrev pub IfTold : LineFault → (TextCause → Type 0) → Type 0
+IfTold (line.Told cause) P = P cause
+IfTold line.NoMemory P = Unit {0}

@@ -1,19 +1,18 @@
-ghost use Rattle.std.specs.Prelude.{◌≡◌, ◌<◌, ℕ, [], length, IfOk, codes};
+ghost use Rattle.std.specs.Prelude.{◌≡◌, ◌<◌, [], IfOk, codes};
 ghost use Rattle.serde_json.specs.Data.{Data};
 ghost use Rattle.serde_json.specs.View.{view};
 ghost use Rattle.history.specs.Fields.{AreOpFields, IsOptionalField};
 ghost use Rattle.history.specs.Text.{SpellsCondition, SpellsOp, SpellsShard, Spells};
 ghost use Rattle.history.specs.Events.{HasShard};
 ghost use Rattle.history.specs.Json.{HasText};
-ghost use Rattle.version_pair.specs.Id.{IsIdLength};
 
 use crate::event::Event;
-use crate::fields::{Number, optional_number, required_number, required_text};
+use crate::fields::{Number, document_id, optional_number, required_number, required_text};
 use crate::text_fault::{LineFault, TextCause};
 use doc_register::Op;
 use serde_json::Value;
 use std::alloc::Global;
-use version_pair::{DocId, IdFault, Pair};
+use version_pair::Pair;
 
 /// How many shards there are.
 const SHARDS: u64 = 1024;
@@ -103,17 +102,6 @@ fn shard(field: Option<Number>) -> Result<u32, TextCause>
     }
 }
 
-// The id of a document, else `Id`.
-fn id(alloc: Global, text: &str) -> Result<DocId, LineFault>
-    ensures { IfOk result (λ id. (id ≡ text.now) × IsIdLength (length text.now)) }
-{
-    match DocId::new(alloc, text) {
-        Ok(id) => Ok(id),
-        Err(IdFault::Empty | IdFault::TooLong) => Err(LineFault::Told(TextCause::Id)),
-        Err(IdFault::NoMemory) => Err(LineFault::NoMemory),
-    }
-}
-
 /// The call that a value spells. Faults in their order: `Shape` for any field, `Id`, `Half`, `Range`.
 pub fn call_event(alloc: Global, value: &Value) -> Result<Event, LineFault>
     requires { HasText (codes "e") (codes "call") (view value.now) }
@@ -124,7 +112,7 @@ pub fn call_event(alloc: Global, value: &Value) -> Result<Event, LineFault>
     let text = required_text(value, "id")?;
     let operation = op_fields(value)?;
     let named_shard = optional_number(value, "shard")?;
-    let id = id(alloc, text)?;
+    let id = document_id(alloc, text)?;
     if operation.is_half() {
         return Err(LineFault::Told(TextCause::Half));
     }

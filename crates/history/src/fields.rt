@@ -1,13 +1,17 @@
-ghost use Rattle.std.specs.Prelude.{◌≡◌, ◌≢◌, IsSome, MatchResult, Some};
+ghost use Rattle.std.specs.Prelude.{◌≡◌, IsSome, MatchResult, length};
 ghost use Rattle.serde_json.specs.View.{view};
+ghost use Rattle.version_pair.specs.Id.{IsIdLength};
+ghost use Rattle.history.specs.Faults.{IfTold};
 ghost use Rattle.history.specs.Fields.{IsNumberField, IsOptionalField, LacksNumber, LacksText};
 ghost use Rattle.history.specs.Json.{HasText};
 ghost use Rattle.history.specs.declared.fields.Number.TheVariants.{Whole, NotWhole};
-ghost use Rattle.history.specs.declared.text_fault.TextCause.TheVariants.{Shape, Range};
+ghost use Rattle.history.specs.declared.text_fault.TextCause.TheVariants.{Id, Shape, Range};
 ghost use Rattle.serde_json.specs.Find.{get};
 
-use crate::text_fault::TextCause;
+use crate::text_fault::{LineFault, TextCause};
 use serde_json::Value;
+use std::alloc::Global;
+use version_pair::{DocId, IdFault};
 
 /// A field that is a number: whole and below 2^64, spelled by digits alone, or not.
 #[derive(Clone, Copy, Debug, PartialEq, Eq)]
@@ -62,5 +66,17 @@ pub fn required_text<'v>(value: &'v Value, key: &str) -> Result<&'v str, TextCau
     match value.get(key).and_then(Value::as_str) {
         Some(text) => Ok(text),
         None => Err(TextCause::Shape),
+    }
+}
+
+/// The id of a document, else `Id`.
+pub fn document_id(alloc: Global, text: &str) -> Result<DocId, LineFault>
+    ensures { MatchResult result (λ id. (id ≡ text.now) × IsIdLength (length text.now))
+        (λ fault. IfTold fault (λ cause. (¬ IsIdLength (length text.now)) × (cause ≡ Id))) }
+{
+    match DocId::new(alloc, text) {
+        Ok(id) => Ok(id),
+        Err(IdFault::Empty | IdFault::TooLong) => Err(LineFault::Told(TextCause::Id)),
+        Err(IdFault::NoMemory) => Err(LineFault::NoMemory),
     }
 }

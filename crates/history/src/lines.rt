@@ -1,7 +1,20 @@
-ghost use Rattle.std.specs.Prelude.{◌≡◌, ◌<◌, ◌∷◌, length};
+ghost use Rattle.std.specs.Prelude.{◌≡◌, ◌<◌, ◌∷◌, MatchResult, length};
+ghost use Rattle.serde_json.specs.View.{view};
+ghost use Rattle.history.specs.Faults.{IfTold};
+ghost use Rattle.history.specs.Json.{IsJsonLine, IsNoJsonLine};
 ghost use Rattle.history.specs.Text.{is_blank as blank, is_space as space, lines_of};
+ghost use Rattle.history.specs.declared.text_fault.TextCause.TheVariants.{Json};
 
+use crate::text_fault::{LineFault, TextCause};
 use memchr::memchr;
+use serde_json::Value;
+use std::alloc::Global;
+
+/// The most bytes of a line, without its line feed.
+pub const LONGEST_LINE: usize = 65_536;
+
+/// The most lines of a text.
+pub const MOST_LINES: u64 = 4_194_304;
 
 // A space, a tab or a carriage return.
 fn is_space(byte: u8) -> bool
@@ -26,5 +39,17 @@ pub fn first_line(text: &[u8]) -> (&[u8], &[u8])
     match memchr(b'\n', text) {
         Some(end) => (&text[..end], &text[end + 1..]),
         None => (text, &text[text.len()..]),
+    }
+}
+
+/// The value that a line spells, else `Json`.
+pub fn line_value(alloc: Global, line: &[u8]) -> Result<Value, LineFault>
+    ensures { MatchResult result (λ value. IsJsonLine line.now (view value))
+        (λ fault. IfTold fault (λ cause. IsNoJsonLine line.now × (cause ≡ Json))) }
+{
+    match Value::from_slice(alloc, line) {
+        Ok(value) => Ok(value),
+        Err(error) if error.is_memory() => Err(LineFault::NoMemory),
+        Err(_) => Err(LineFault::Told(TextCause::Json)),
     }
 }

@@ -1,5 +1,4 @@
-ghost use Rattle.std.specs.Prelude.{◌≡◌, IfOk, IsUtf8, OnErr, OnOk, Some, length};
-ghost use Rattle.serde_json.specs.Read.{read as read_text};
+ghost use Rattle.std.specs.Prelude.{◌≡◌, IfOk, OnErr, OnOk};
 ghost use Rattle.history.specs.Events.{HasShard};
 ghost use Rattle.history.specs.Reading.{IsReadUpTo, TakesLine};
 ghost use Rattle.history.specs.Text.{IsHistoryText, Spells};
@@ -9,28 +8,11 @@ use crate::call_line::call_event;
 use crate::event::Event;
 use crate::events::History;
 use crate::fields::required_text;
-use crate::lines::{first_line, is_blank};
+use crate::lines::{LONGEST_LINE, MOST_LINES, first_line, is_blank, line_value};
 use crate::reply_line::reply_event;
 use crate::text_fault::{LineFault, ReadFault, TextCause, TextFault};
 use serde_json::Value;
 use std::alloc::Global;
-
-/// The most bytes of a line, without its line feed.
-pub const LONGEST_LINE: usize = 65_536;
-
-/// The most lines of a text.
-pub const MOST_LINES: u64 = 4_194_304;
-
-// The value of a line, else `Json`.
-fn line_value(alloc: Global, line: &[u8]) -> Result<Value, LineFault>
-    ensures { IfOk result (λ v. IsUtf8 line.now × (read_text line.now ≡ Some (view v))) }
-{
-    match Value::from_slice(alloc, line) {
-        Ok(value) => Ok(value),
-        Err(error) if error.is_memory() => Err(LineFault::NoMemory),
-        Err(_) => Err(LineFault::Told(TextCause::Json)),
-    }
-}
 
 // The event that a value spells after those of the history.
 fn spelled_event(alloc: Global, history: &History, value: &Value) -> Result<Event, LineFault>
