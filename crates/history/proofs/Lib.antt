@@ -13,3 +13,4 @@ pub mod RecordLaws
 pub mod LeavingLaws
 pub mod PrefixLaws
 pub mod TextLaws
+pub mod WrittenLines
