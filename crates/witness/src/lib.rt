@@ -1,4 +1,4 @@
-//! Witnesses: the order that was found for the calls of one document, checked by itself.
+//! Witnesses: the order that was found for the calls of one document, checked by itself, and the text of such orders.
 #![tactic(auto)]
 
 mod broken;
@@ -7,7 +7,12 @@ pub mod laws;
 mod place;
 mod place_check;
 mod walk;
+mod witness_line;
+mod witness_reader;
+mod witness_writer;
 
 pub use broken::Broken;
 pub use check::DocWitness;
 pub use place::Place;
+pub use witness_reader::{MOST_ENTRIES, read_witness};
+pub use witness_writer::write_witness;

@@ -1,0 +1,11 @@
+use Rattle.std.proofs.Common.{◌≡◌, ◌+◌, ◌≤◌, ◌<◌, arith, rules, map, sym, ap, ◌∙◌}
+use Rattle.witness.specs.Lines.{doc_places}
+use Rattle.witness.specs.Text.{entries_in, most_entries}
+use Rattle.witness.proofs.DocumentsLemmas.{begun_more, entries_in-begun}
+use Rattle.witness.proofs.witness_reader.Documents.begin.Goals as goal
+
+pub invariant_of-self : goal.invariant_of-self
+invariant_of-self c =
+    let more : map doc_places c.push.new.self.items ≡ _ = ap (map doc_places) c.in-Ok.ensures.items ∙ begun_more c.self.inside.documents.items _ c.new-places.result c.new-places.ensures.items in
+    let count : entries_in (map doc_places c.push.new.self.items) ≡ entries_in (map doc_places c.self.inside.documents.items) + 1 = ap entries_in more ∙ entries_in-begun _ _ in
+    (omega (arith, c.self.invariant.0), omega (arith, c.self.invariant.1, c.if-self-eq-MOST_ENTRIES.false))

@@ -1,0 +1,9 @@
+use Rattle.std.proofs.Common.{length}
+use Rattle.witness.proofs.ReadLemmas.{IsReadUpTo}
+use Rattle.witness.proofs.witness_reader.read_witness.Given as goal
+
+abbrev pub invariant-loop-rest : goal.invariant-loop-rest
+invariant-loop-rest l = IsReadUpTo l.text l.rest l.number l.documents
+
+abbrev pub decreases-loop-rest : goal.decreases-loop-rest
+decreases-loop-rest l = length l.rest

@@ -1,0 +1,103 @@
+ghost use Rattle.std.specs.Prelude.{◌≡◌, ◌≤◌, ◌++◌, ◌∷◌, [], ℕ, IfOk, OnOk, Ok, false, map, length};
+ghost use Rattle.serde_json.specs.Read.{max_depth};
+ghost use Rattle.serde_json.specs.Data.{depth};
+ghost use Rattle.serde_json.specs.View.{view};
+ghost use Rattle.serde_json.specs.Written.{compact_text, has_float};
+ghost use Rattle.version_pair.specs.Id.{IsIdLength};
+ghost use Rattle.history.specs.Json.{IsJsonLine};
+ghost use Rattle.witness.specs.Lines.{IsWrittenOn, witness_places};
+ghost use Rattle.witness.specs.Text.{AreWithinLimits, Said, document as begins, numbers_of, place as gives, said_by, value_of, witness_text, written};
+
+use crate::check::DocWitness;
+use crate::place::Place;
+use serde_json::{Value, json};
+use std::alloc::Global;
+use version_pair::{DocId, NoMemory};
+
+// The value of a document's line.
+fn document_value(alloc: Global, id: &DocId) -> Result<Value, NoMemory>
+    ensures value { IfOk result (λ value. view value ≡ value_of (begins id.now)) }
+    ensures id { IsIdLength (length id.now) }
+{
+    let name = id.as_str();
+    json!(in alloc; {"doc": name})
+}
+
+// The value of a place's line.
+fn place_value(alloc: Global, place: Place) -> Result<Value, NoMemory>
+    ensures { IfOk result (λ value. view value ≡ value_of (gives (numbers_of place))) }
+{
+    let rec = place.rec;
+    match place.pair {
+        None => json!(in alloc; {"rec": rec}),
+        Some(pair) => {
+            let seq = pair.seq();
+            let term = pair.term();
+            json!(in alloc; {"rec": rec, "seq": seq, "term": term})
+        }
+    }
+}
+
+// Adds the value as a line.
+fn write_value(alloc: Global, value: &Value, text: &mut Vec<u8>) -> Result<(), NoMemory>
+    requires { has_float (view value.now) ≡ false }
+    ensures added { OnOk result (text.new.items ≡ text.old.items ++ (compact_text (view value.now) ++ 10 ∷ [])) }
+    ensures json { OnOk result (depth (view value.now) ≤ max_depth → IsJsonLine (compact_text (view value.now)) (view value.now)) }
+{
+    let line = value.to_vec(alloc)?;
+    text.extend_from_slice(&line)?;
+    text.push(b'\n')?;
+    Ok(())
+}
+
+// Adds the line of a document.
+fn write_document(alloc: Global, id: &DocId, text: &mut Vec<u8>) -> Result<(), NoMemory>
+    ensures { OnOk result (IsWrittenOn text.old.items text.new.items (begins id.now ∷ [])) }
+{
+    let value = document_value(alloc, id)?;
+    write_value(alloc, &value, text)
+}
+
+// Adds the line of a place.
+fn write_place(alloc: Global, place: Place, text: &mut Vec<u8>) -> Result<(), NoMemory>
+    ensures { OnOk result (IsWrittenOn text.old.items text.new.items (gives (numbers_of place) ∷ [])) }
+{
+    let value = place_value(alloc, place)?;
+    write_value(alloc, &value, text)
+}
+
+// Adds the lines of the places.
+fn write_places(alloc: Global, places: &[Place], text: &mut Vec<u8>) -> Result<(), NoMemory>
+    ensures { OnOk result (IsWrittenOn text.old.items text.new.items (map (λ p. gives (numbers_of p)) places.now)) }
+{
+    for i in 0..places.len() {
+        write_place(alloc, places[i], text)?;
+    }
+    Ok(())
+}
+
+// Adds the lines of a witness.
+fn write_one(alloc: Global, witness: &DocWitness, text: &mut Vec<u8>) -> Result<(), NoMemory>
+    ensures { OnOk result (IsWrittenOn text.old.items text.new.items (said_by (witness_places witness.now ∷ []))) }
+{
+    write_document(alloc, witness.id(), text)?;
+    write_places(alloc, witness.places(), text)?;
+    Ok(())
+}
+
+/// The text of the witnesses: for each a line of its document, as `{"doc":"d"}`, and then a line for each of its places,
+/// as `{"rec":0}`, or, where the place gives a pair, `{"rec":1,"seq":2,"term":3}`.
+///
+/// What is written is read back, where there are at most 2,097,152 documents and places, and record numbers are below
+/// 2^32.
+pub fn write_witness(alloc: Global, witnesses: &[DocWitness]) -> Result<Vec<u8>, NoMemory>
+    ensures text { IfOk result (λ bytes. bytes.items ≡ written (said_by (map witness_places witnesses.now))) }
+    ensures reads_back { IfOk result (λ bytes. AreWithinLimits (map witness_places witnesses.now)
+        → witness_text bytes.items ≡ Ok (map witness_places witnesses.now)) }
+{
+    let mut text = Vec::new(alloc);
+    for i in 0..witnesses.len() {
+        write_one(alloc, &witnesses[i], &mut text)?;
+    }
+    Ok(text)
+}
