@@ -2,56 +2,70 @@
 #![tactic(auto)]
 
 mod cause;
+mod exit;
+mod files;
 mod input;
 mod output;
 mod reply_order;
 mod report;
+mod report_later;
+mod run;
 mod tally;
+mod words;
 
-use doc_register::Conflicts;
-use report::{Status, StreamFault, check_stream};
+use clap::error::ErrorKind;
+use exit::{WORDS_REFUSED, fault_code, status_code, words_code};
+use report::StreamFault;
+use run::run;
 use std::process::ExitCode;
+use std::rt::Env;
+use std::{env, io};
+use words::read_words;
 
-// The exit status of an answer.
-fn status_code(status: Status) -> u8 {
-    match status {
-        Status::Yes => 0,
-        Status::No => 1,
-        Status::Refused => 2,
-    }
+// Tells the fault on standard error and gives its exit status, also where standard error fails.
+fn tell_fault(rt: &impl Eprint, fault: StreamFault) -> u8 {
+    let _ = eprintln!(rt; "casbench: {fault}");
+    fault_code(fault)
 }
 
-// The exit status of a fault.
-fn fault_code(fault: StreamFault) -> u8 {
-    match fault {
-        StreamFault::NoMemory => 3,
-        StreamFault::Read | StreamFault::Write => 4,
+// Tells why no words are had: one is no text, or memory was refused.
+fn tell_no_words(rt: &impl Eprint, error: &io::Error) -> u8 {
+    if error.kind() == io::ErrorKind::OutOfMemory {
+        return tell_fault(rt, StreamFault::NoMemory);
     }
+    let _ = eprintln!(rt; "casbench: a word is not UTF-8");
+    WORDS_REFUSED
+}
+
+// Writes help or the version to standard output, or to standard error why the words are refused.
+fn tell_words<R: Print + Eprint>(rt: &R, error: &clap::Error) -> u8 {
+    if error.kind() == ErrorKind::OutOfMemory {
+        return tell_fault(rt, StreamFault::NoMemory);
+    }
+    if error.print(rt).is_err() && !error.use_stderr() {
+        return tell_fault(rt, StreamFault::Write);
+    }
+    words_code(error.kind())
+}
+
+// The words of the process, of which the first is the program's name.
+fn process_words<R: Env + AllocGlobal>(rt: &R) -> io::Result<Vec<String>> {
+    let words = env::args(rt)?.collect(rt.alloc())?;
+    Ok(words)
 }
 
 fn main(rt: HostRuntime) -> ExitCode {
-    let mut reader = rt.stdin();
-    let mut writer = rt.stdout();
-    match check_stream(rt.alloc(), &mut reader, &mut writer, 1, Conflicts::Plain) {
+    let alloc = rt.alloc();
+    let words = match process_words(&rt) {
+        Ok(words) => words,
+        Err(error) => return ExitCode::from(tell_no_words(&rt, &error)),
+    };
+    let asked = match read_words(alloc, words.as_slice()) {
+        Ok(asked) => asked,
+        Err(error) => return ExitCode::from(tell_words(&rt, &error)),
+    };
+    match run(alloc, &rt, rt.stdin(), &mut rt.stdout(), asked) {
         Ok(status) => ExitCode::from(status_code(status)),
-        Err(fault) => {
-            let _ = eprintln!(rt; "casbench: {fault}");
-            ExitCode::from(fault_code(fault))
-        }
-    }
-}
-
-#[cfg(test)]
-mod tests {
-    use super::*;
-
-    #[test]
-    fn exit_statuses(rt: HostRuntime) {
-        assert_eq!(rt; status_code(Status::Yes), 0);
-        assert_eq!(rt; status_code(Status::No), 1);
-        assert_eq!(rt; status_code(Status::Refused), 2);
-        assert_eq!(rt; fault_code(StreamFault::NoMemory), 3);
-        assert_eq!(rt; fault_code(StreamFault::Read), 4);
-        assert_eq!(rt; fault_code(StreamFault::Write), 4);
+        Err(fault) => ExitCode::from(tell_fault(&rt, fault)),
     }
 }

@@ -1,0 +1,24 @@
+use Rattle.std.proofs.Common.{◌≡◌, ◌∙◌, codes, refl, option_map}
+use Rattle.clap.proofs.WalkLemmas.{first_value-rows}
+use Rattle.clap.specs.Words.{first_of, found_of, rows_of}
+use Rattle.casbench.proofs.words.asked_of_command.Goals as goal
+
+pub returns-in-check : goal.returns-in-check
+returns-in-check c =
+    let file : option_map (λ f. f.now) c.get_str-file.result ≡ first_of (codes "history") (rows_of (found_of c.args.given.now)) =
+    c.get_str-file.ensures ∙ first_value-rows (found_of c.args.given.now) (codes "history") in
+    rw (c.in-check.is, file) refl
+
+pub returns-in-witness : goal.returns-in-witness
+returns-in-witness c =
+    let file : option_map (λ f. f.now) c.get_str-file.result ≡ first_of (codes "history") (rows_of (found_of c.args.given.now)) =
+    c.get_str-file.ensures ∙ first_value-rows (found_of c.args.given.now) (codes "history") in
+    rw (c.in-witness.is, file) refl
+
+pub returns-in-verify : goal.returns-in-verify
+returns-in-verify c =
+    let history : option_map (λ f. f.now) c.get_str-file.result ≡ first_of (codes "history") (rows_of (found_of c.args.given.now)) =
+    c.get_str-file.ensures ∙ first_value-rows (found_of c.args.given.now) (codes "history") in
+    let witness : option_map (λ f. f.now) c.get_str.result ≡ first_of (codes "witness") (rows_of (found_of c.args.given.now)) =
+    c.get_str.ensures ∙ first_value-rows (found_of c.args.given.now) (codes "witness") in
+    rw (c.in-verify.is, c.verify.ensures, history, witness) refl

@@ -1,0 +1,67 @@
+-- What the words of the command line ask for.
+use Rattle.std.specs.Prelude.{true, List, Option, Some, None, codes, if◌then◌else◌, option_map}
+use Rattle.std.specs.Str.{bytes_eq}
+use Rattle.clap.specs.Simple.{on_top}
+use Rattle.clap.specs.Words.{App, Kinds, Row, Rule, Text, first_of, fault_of, new_app, new_rule, subcommand_of, with_rule, with_subcommand}
+use Rattle.casbench.specs.declared.words.Words.{Words}
+use Rattle.casbench.specs.declared.words.Words.TheVariants as words
+
+-- a check of a history, a witness of one, both of standard input where no file is named, or a check of a witness
+-- against a history
+pub data Asked : Type 0 where
+  ToCheck : Option Text → Asked
+  ToWitness : Option Text → Asked
+  ToVerify : Text → Text → Asked
+
+abbrev pub asked_by : Words → Asked
+asked_by (words.Check file) = ToCheck (option_map (λ f. f.now) file)
+asked_by (words.Witness file) = ToWitness (option_map (λ f. f.now) file)
+asked_by (words.Verify history witness) = ToVerify history.now witness.now
+
+abbrev pub both_files : Option Text → Option Text → Option Asked
+both_files (Some history) (Some witness) = Some (ToVerify history witness)
+both_files _ _ = None
+
+-- what a command of this name asks for, which was given these files by the names of its arguments
+abbrev pub asked_of_command : Text → List Row → Option Asked
+asked_of_command name rows =
+    if bytes_eq name (codes "check") then Some (ToCheck (first_of (codes "history") rows))
+    else (if bytes_eq name (codes "witness") then Some (ToWitness (first_of (codes "history") rows))
+    else (if bytes_eq name (codes "verify") then both_files (first_of (codes "history") rows) (first_of (codes "witness") rows)
+    else None))
+
+-- no command asks for a check of standard input
+abbrev pub asked_of : Option (Text × List Row) → Option Asked
+asked_of None = Some (ToCheck None)
+asked_of (Some command) = asked_of_command command.0 command.1
+
+-- ---- the command line
+
+abbrev pub file_rule : Text → Rule
+file_rule name = record (new_rule name) { value_names = 1 }
+
+abbrev pub needed_rule : Text → Rule
+needed_rule name = record (file_rule name) { required = true }
+
+abbrev pub check_line : App
+check_line = with_rule (new_app (codes "check")) (file_rule (codes "history"))
+
+abbrev pub witness_line : App
+witness_line = with_rule (new_app (codes "witness")) (file_rule (codes "history"))
+
+abbrev pub verify_line : App
+verify_line = with_rule (with_rule (new_app (codes "verify")) (needed_rule (codes "history"))) (needed_rule (codes "witness"))
+
+-- `casbench`, which has a version, with its three commands
+abbrev pub command_line : App
+command_line =
+    let named : App = on_top (λ s. record s { has_version = true }) (new_app (codes "casbench")) in
+    with_subcommand (with_subcommand (with_subcommand named check_line.top) witness_line.top) verify_line.top
+
+-- what the words ask for, the first of which is the program's name
+unfoldable pub asked_on : List Text → Option Asked
+asked_on line = asked_of (subcommand_of command_line line)
+
+-- the fault of the words, as the kinds of error that they may be told with; none where they are taken
+unfoldable pub faults_on : List Text → Kinds
+faults_on line = fault_of command_line line

@@ -1,0 +1,25 @@
+-- The exit statuses.
+use Rattle.std.specs.Prelude.{ℕ}
+use Rattle.clap.specs.declared.error.kind.ErrorKind.{ErrorKind}
+use Rattle.clap.specs.declared.error.kind.ErrorKind.TheVariants.{DisplayHelp, DisplayVersion, OutOfMemory}
+use Rattle.casbench.specs.declared.report.Status.{Status}
+use Rattle.casbench.specs.declared.report.Status.TheVariants.{Yes, No, Refused}
+use Rattle.casbench.specs.declared.report.StreamFault.{StreamFault}
+use Rattle.casbench.specs.declared.report.StreamFault.TheVariants.{Read, Write, NoMemory}
+
+abbrev pub code_of_status : Status → ℕ
+code_of_status Yes = 0
+code_of_status No = 1
+code_of_status Refused = 2
+
+abbrev pub code_of_fault : StreamFault → ℕ
+code_of_fault NoMemory = 3
+code_of_fault Read = 4
+code_of_fault Write = 4
+
+-- help and the version are no refusal
+abbrev pub code_of_words : ErrorKind → ℕ
+code_of_words DisplayHelp = 0
+code_of_words DisplayVersion = 0
+code_of_words OutOfMemory = 3
+code_of_words _ = 64

@@ -1,0 +1,60 @@
+ghost use Rattle.std.specs.Prelude.{◌≡◌};
+ghost use Rattle.casbench.specs.Exit.{code_of_fault, code_of_status, code_of_words};
+
+use crate::report::{Status, StreamFault};
+use clap::error::ErrorKind;
+
+/// The exit status of words that are refused.
+pub const WORDS_REFUSED: u8 = 64;
+
+/// The exit status of an answer.
+pub fn status_code(status: Status) -> u8
+    ensures { result ≡ code_of_status status }
+{
+    match status {
+        Status::Yes => 0,
+        Status::No => 1,
+        Status::Refused => 2,
+    }
+}
+
+/// The exit status of a fault.
+pub fn fault_code(fault: StreamFault) -> u8
+    ensures { result ≡ code_of_fault fault }
+{
+    match fault {
+        StreamFault::NoMemory => 3,
+        StreamFault::Read | StreamFault::Write => 4,
+    }
+}
+
+/// The exit status of words that ask for nothing but help or the version, or are refused.
+pub fn words_code(kind: ErrorKind) -> u8
+    ensures { result ≡ code_of_words kind }
+{
+    match kind {
+        ErrorKind::DisplayHelp | ErrorKind::DisplayVersion => 0,
+        ErrorKind::OutOfMemory => fault_code(StreamFault::NoMemory),
+        _ => WORDS_REFUSED,
+    }
+}
+
+#[cfg(test)]
+mod tests {
+    use super::*;
+
+    #[test]
+    fn exit_statuses(rt: HostRuntime) {
+        assert_eq!(rt; status_code(Status::Yes), 0);
+        assert_eq!(rt; status_code(Status::No), 1);
+        assert_eq!(rt; status_code(Status::Refused), 2);
+        assert_eq!(rt; fault_code(StreamFault::NoMemory), 3);
+        assert_eq!(rt; fault_code(StreamFault::Read), 4);
+        assert_eq!(rt; fault_code(StreamFault::Write), 4);
+        assert_eq!(rt; words_code(ErrorKind::DisplayHelp), 0);
+        assert_eq!(rt; words_code(ErrorKind::DisplayVersion), 0);
+        assert_eq!(rt; words_code(ErrorKind::OutOfMemory), 3);
+        assert_eq!(rt; words_code(ErrorKind::UnknownArgument), 64);
+        assert_eq!(rt; words_code(ErrorKind::MissingRequiredArgument), 64);
+    }
+}

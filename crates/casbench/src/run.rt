@@ -1,0 +1,48 @@
+ghost use Rattle.std.specs.Prelude.{◌≡◌, None, IfOk, IsErrOf};
+ghost use Rattle.std.specs.Io.KnownBytes.{Keeps};
+ghost use Rattle.casbench.specs.Verdict.{IsAnswered};
+
+use crate::files::{open_both, open_or};
+use crate::report::{Status, StreamFault, check_stream};
+use crate::report_later::{verify_stream, witness_stream};
+use crate::words::Words;
+use doc_register::Conflicts;
+use std::alloc::Global;
+use std::io::{Read, Write};
+use std::rt::Files;
+
+/// Does what the words ask for: opens the files in the order in which they were named, then reads, and writes the
+/// answer.
+///
+/// A file that can't be opened is a read fault, and then nothing was read or written.
+pub fn run<R: Files, I: Read + Drop, W: Write>(
+    alloc: Global,
+    files: &R,
+    input: I,
+    writer: &mut W,
+    words: Words<'_>,
+) -> Result<Status, StreamFault>
+    // A check of the input answers it.
+    ensures checked { words.entry ≡ Words.Check None → IfOk result (IsAnswered Conflicts.Plain
+        (I.remaining input) (W.contents writer.old) (W.contents writer.new)) }
+    ensures unread { (file : _) → words.entry ≡ Words.Check file → IsErrOf result StreamFault.Read
+        → Keeps (W.contents writer.old) (W.contents writer.new) }
+{
+    match words {
+        Words::Check { file } => {
+            let mut history = open_or(files, file, input)?;
+            check_stream(alloc, &mut history, writer, 1, Conflicts::Plain)
+        }
+        Words::Witness { file } => {
+            let mut history = open_or(files, file, input)?;
+            witness_stream(alloc, &mut history, writer, Conflicts::Plain)
+        }
+        Words::Verify { history, witness } => {
+            let (mut history, mut witness) = open_both(files, history, witness)?;
+            verify_stream(alloc, &mut history, &mut witness, writer, Conflicts::Plain)
+        }
+    }
+}
+
+#[cfg(test)]
+mod tests;

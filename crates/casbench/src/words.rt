@@ -1,0 +1,171 @@
+ghost use Rattle.std.specs.Prelude.{◌≡◌, ◌⊎◌, [], Some, None, false, IfOk, IfErr, OnOk, codes, map, option_map};
+ghost use Rattle.clap.specs.Words.{FailsBy, HasKind, app_of, found_of, rows_of, rule_of, subcommand_rows_of};
+ghost use Rattle.clap.specs.declared.builder.command.Command.TheViews.{out-Command as fields_of};
+ghost use Rattle.casbench.specs.Asked.{asked_by, asked_of, asked_of_command, asked_on, both_files, faults_on};
+ghost use Rattle.casbench.specs.Asked.{check_line, command_line, file_rule, needed_rule, verify_line, witness_line};
+
+use clap::error::ErrorKind;
+use clap::{Arg, ArgMatches, Command, Error};
+use std::alloc::{AllocError, Global};
+use std::convert::AsStr;
+
+/// What the program is asked for.
+#[derive(Clone, Copy, Debug, PartialEq, Eq)]
+pub enum Words<'a> {
+    /// To check a history text: that of the file, or of standard input where none is named.
+    Check { file: Option<&'a str> },
+    /// To write the witness of a history text: that of the file, or of standard input where none is named.
+    Witness { file: Option<&'a str> },
+    /// To check the witness text of the one file against the history text of the other.
+    Verify { history: &'a str, witness: &'a str },
+}
+
+// The commands by their names.
+const CHECK: &str = "check";
+
+const WITNESS: &str = "witness";
+
+const VERIFY: &str = "verify";
+
+// The arguments by their ids.
+const HISTORY: &str = "history";
+
+// The file of the history text, which may be left out.
+fn history<'a>(alloc: Global) -> Arg<'a>
+    ensures rule { rule_of result ≡ file_rule (codes "history") }
+    ensures local { result.global ≡ false }
+{
+    Arg::new(alloc, HISTORY)
+        .value_name("FILE")
+        .help("The history text; standard input where it is left out")
+}
+
+// A file that may not be left out.
+fn needed<'a>(alloc: Global, id: &'a str, shown: &'a str, help: &'a str) -> Arg<'a>
+    ensures rule { rule_of result ≡ needed_rule id.entry.now }
+    ensures local { result.global ≡ false }
+{
+    Arg::new(alloc, id)
+        .value_name(shown)
+        .help(help)
+        .required(true)
+}
+
+fn check_command<'a>(alloc: Global) -> Result<Command<'a>, AllocError>
+    ensures line { IfOk result (λ command. app_of command ≡ check_line) }
+    ensures local { IfOk result (λ command. (fields_of command).has_globals ≡ false) }
+{
+    Command::new(alloc, CHECK)
+        .about("Check a history; no command at all does so too")
+        .after_help("Example:\n  casbench check history.ndjson")
+        .arg(history(alloc))
+}
+
+fn witness_command<'a>(alloc: Global) -> Result<Command<'a>, AllocError>
+    ensures line { IfOk result (λ command. app_of command ≡ witness_line) }
+    ensures local { IfOk result (λ command. (fields_of command).has_globals ≡ false) }
+{
+    Command::new(alloc, WITNESS)
+        .about("Write the witness of a history")
+        .after_help("Example:\n  casbench witness history.ndjson > history.witness")
+        .arg(history(alloc))
+}
+
+fn verify_command<'a>(alloc: Global) -> Result<Command<'a>, AllocError>
+    ensures line { IfOk result (λ command. app_of command ≡ verify_line) }
+    ensures local { IfOk result (λ command. (fields_of command).has_globals ≡ false) }
+{
+    Command::new(alloc, VERIFY)
+        .about("Check a witness against a history")
+        .after_help("Example:\n  casbench verify history.ndjson history.witness")
+        .arg(needed(alloc, HISTORY, "FILE", "The history text"))?
+        .arg(needed(alloc, WITNESS, "WITNESS", "The witness text"))
+}
+
+fn program<'a>(alloc: Global) -> Result<Command<'a>, AllocError>
+    ensures { IfOk result (λ program. app_of program ≡ command_line) }
+{
+    Command::new(alloc, "casbench")
+        .bin_name("casbench")?
+        .version("0.1.0")
+        .about(
+            "Tells whether a recorded history of an OpenSearch index keeps the compare-and-set promise",
+        )
+        .after_help(
+            "Examples:\n  casbench check history.ndjson\n  casbench witness history.ndjson > history.witness\n  casbench verify history.ndjson history.witness",
+        )
+        .subcommand(check_command(alloc)?)?
+        .subcommand(witness_command(alloc)?)?
+        .subcommand(verify_command(alloc)?)
+}
+
+// A check of a witness, where both files are named.
+fn verify<'a>(history: Option<&'a str>, witness: Option<&'a str>) -> Option<Words<'a>>
+    ensures { option_map asked_by result
+        ≡ both_files (option_map (λ f. f.now) history.entry) (option_map (λ f. f.now) witness.entry) }
+{
+    Some(Words::Verify {
+        history: history?,
+        witness: witness?,
+    })
+}
+
+// What the command of this name asks for.
+fn asked_of_command<'a>(name: &str, given: &ArgMatches<'a>) -> Option<Words<'a>>
+    ensures { option_map asked_by result ≡ asked_of_command name.now (rows_of (found_of given.now)) }
+{
+    let file = given.get_str(HISTORY);
+    match name {
+        CHECK => Some(Words::Check { file }),
+        WITNESS => Some(Words::Witness { file }),
+        VERIFY => verify(file, given.get_str(WITNESS)),
+        _ => None,
+    }
+}
+
+// What is asked for by the matches of the program.
+fn asked<'a>(matches: &ArgMatches<'a>) -> Option<Words<'a>>
+    ensures { option_map asked_by result ≡ asked_of (subcommand_rows_of matches.now) }
+{
+    match matches.subcommand() {
+        Some((name, given)) => asked_of_command(name, given),
+        None => Some(Words::Check { file: None }),
+    }
+}
+
+// The matches of the program on the words.
+fn parse<'a, S: AsStr>(alloc: Global, words: &'a [S]) -> Result<ArgMatches<'a>, Error>
+    ensures asked { IfOk result (λ matches. asked_of (subcommand_rows_of matches)
+        ≡ asked_on (map S.text words.entry.now)) }
+    ensures faults { FailsBy (faults_on (map S.text words.entry.now)) result }
+{
+    program(alloc)?.try_get_matches_from(words)
+}
+
+// The error of words that name no command of the program's, or not all its files. The parse refuses them before.
+fn no_command(alloc: Global) -> Result<Error, AllocError> {
+    program(alloc)?.error(
+        ErrorKind::MissingSubcommand,
+        "a command with its files is missing",
+    )
+}
+
+/// What the words ask for. The first is the program's name.
+///
+/// Words that are refused, and those that ask for help or the version, are an error with the text for the user.
+pub fn read_words<'a, S: AsStr>(alloc: Global, words: &'a [S]) -> Result<Words<'a>, Error>
+    ensures asked { IfOk result (λ asked. asked_on (map S.text words.entry.now) ≡ Some (asked_by asked)) }
+    ensures taken { OnOk result (faults_on (map S.text words.entry.now) ≡ []) }
+    // The words have that fault, or what they name is none of the commands.
+    ensures refused { IfErr result (λ error. HasKind (faults_on (map S.text words.entry.now)) error
+        ⊎ (asked_on (map S.text words.entry.now) ≡ None)) }
+{
+    let matches = parse(alloc, words)?;
+    match asked(&matches) {
+        Some(words) => Ok(words),
+        None => Err(no_command(alloc)?),
+    }
+}
+
+#[cfg(test)]
+mod tests;

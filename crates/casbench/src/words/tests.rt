@@ -1,0 +1,155 @@
+use super::*;
+use std::process::Abort;
+use std::test::Fail;
+
+// What the words ask for.
+fn reads(rt: &impl Abort, alloc: Global, words: &[&str], wanted: Words<'_>) -> Result<(), Fail> {
+    assert_eq!(rt; read_words(alloc, words)?, wanted, "{words:?}");
+    Ok(())
+}
+
+#[test]
+fn commands_and_their_files(rt: HostRuntime) -> Result<(), Fail> {
+    let alloc = rt.alloc();
+    let file = Some("h.ndjson");
+    let none: Option<&str> = None;
+    reads(&rt, alloc, &["casbench"], Words::Check { file: none })?;
+    reads(
+        &rt,
+        alloc,
+        &["casbench", "check"],
+        Words::Check { file: none },
+    )?;
+    reads(
+        &rt,
+        alloc,
+        &["casbench", "check", "h.ndjson"],
+        Words::Check { file },
+    )?;
+    reads(
+        &rt,
+        alloc,
+        &["casbench", "witness"],
+        Words::Witness { file: none },
+    )?;
+    reads(
+        &rt,
+        alloc,
+        &["casbench", "witness", "h.ndjson"],
+        Words::Witness { file },
+    )?;
+    let both = Words::Verify {
+        history: "h.ndjson",
+        witness: "w.witness",
+    };
+    reads(
+        &rt,
+        alloc,
+        &["casbench", "verify", "h.ndjson", "w.witness"],
+        both,
+    )
+}
+
+#[test]
+fn files_with_names_of_their_own(rt: HostRuntime) -> Result<(), Fail> {
+    let alloc = rt.alloc();
+    for name in ["check", "help", "-", "a b", ""] {
+        let wanted = Words::Check { file: Some(name) };
+        reads(&rt, alloc, &["casbench", "check", name], wanted)?;
+    }
+    let dashed = Words::Witness {
+        file: Some("--help"),
+    };
+    reads(&rt, alloc, &["casbench", "witness", "--", "--help"], dashed)?;
+    let one_twice = Words::Verify {
+        history: "verify",
+        witness: "verify",
+    };
+    reads(
+        &rt,
+        alloc,
+        &["casbench", "verify", "verify", "verify"],
+        one_twice,
+    )
+}
+
+// The kind and the text of the error that the words are.
+fn refusal(alloc: Global, words: &[&str]) -> Result<(ErrorKind, String), Fail> {
+    match read_words(alloc, words) {
+        Ok(_) => Err(Fail::new("the words are taken")),
+        Err(error) => Ok((error.kind(), error.to_string(alloc)?)),
+    }
+}
+
+fn refuses(rt: &impl Abort, alloc: Global, words: &[&str], wanted: ErrorKind) -> Result<(), Fail> {
+    let (kind, text) = refusal(alloc, words)?;
+    assert_eq!(rt; kind, wanted, "{words:?}");
+    assert!(rt; text.starts_with("error: "), "{words:?}");
+    Ok(())
+}
+
+#[test]
+fn refused_words(rt: HostRuntime) -> Result<(), Fail> {
+    let alloc = rt.alloc();
+    let unknown = ErrorKind::UnknownArgument;
+    let missing = ErrorKind::MissingRequiredArgument;
+    let command = ErrorKind::InvalidSubcommand;
+    refuses(&rt, alloc, &["casbench", "h.ndjson"], command)?;
+    refuses(&rt, alloc, &["casbench", "Check"], command)?;
+    refuses(&rt, alloc, &["casbench", ""], command)?;
+    refuses(&rt, alloc, &["casbench", "help", "nothing"], command)?;
+    refuses(&rt, alloc, &["casbench", "--workers"], unknown)?;
+    refuses(&rt, alloc, &["casbench", "check", "--file"], unknown)?;
+    refuses(&rt, alloc, &["casbench", "check", "-f"], unknown)?;
+    refuses(&rt, alloc, &["casbench", "check", "--version"], unknown)?;
+    refuses(&rt, alloc, &["casbench", "check", "a", "b"], unknown)?;
+    refuses(&rt, alloc, &["casbench", "witness", "a", "b"], unknown)?;
+    refuses(&rt, alloc, &["casbench", "verify"], missing)?;
+    refuses(&rt, alloc, &["casbench", "verify", "a"], missing)?;
+    refuses(&rt, alloc, &["casbench", "verify", "a", "b", "c"], unknown)
+}
+
+const CHECK_EXAMPLE: &str = "\n  casbench check history.ndjson\n";
+
+const WITNESS_EXAMPLE: &str = "\n  casbench witness history.ndjson > history.witness\n";
+
+const VERIFY_EXAMPLE: &str = "\n  casbench verify history.ndjson history.witness\n";
+
+// The words ask for help, and it has the example.
+fn helps(rt: &impl Abort, alloc: Global, words: &[&str], example: &str) -> Result<(), Fail> {
+    let (kind, text) = refusal(alloc, words)?;
+    assert_eq!(rt; kind, ErrorKind::DisplayHelp, "{words:?}");
+    assert!(rt; text.contains(example), "{words:?}");
+    Ok(())
+}
+
+#[test]
+fn help_has_the_examples(rt: HostRuntime) -> Result<(), Fail> {
+    let alloc = rt.alloc();
+    for asked in ["help", "--help", "-h"] {
+        helps(&rt, alloc, &["casbench", asked], CHECK_EXAMPLE)?;
+        helps(&rt, alloc, &["casbench", asked], WITNESS_EXAMPLE)?;
+        helps(&rt, alloc, &["casbench", asked], VERIFY_EXAMPLE)?;
+    }
+    for (name, example) in [
+        (CHECK, CHECK_EXAMPLE),
+        (WITNESS, WITNESS_EXAMPLE),
+        (VERIFY, VERIFY_EXAMPLE),
+    ] {
+        helps(&rt, alloc, &["casbench", "help", name], example)?;
+        helps(&rt, alloc, &["casbench", name, "--help"], example)?;
+        helps(&rt, alloc, &["casbench", name, "-h"], example)?;
+    }
+    Ok(())
+}
+
+#[test]
+fn version(rt: HostRuntime) -> Result<(), Fail> {
+    let alloc = rt.alloc();
+    for asked in ["--version", "-V"] {
+        let (kind, text) = refusal(alloc, &["casbench", asked])?;
+        assert_eq!(rt; kind, ErrorKind::DisplayVersion);
+        assert_eq!(rt; text.as_str(), "casbench 0.1.0\n");
+    }
+    Ok(())
+}
