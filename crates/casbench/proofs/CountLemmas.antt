@@ -1,18 +1,20 @@
--- A history has no more replies than calls, and its reply order has its replies.
-use Rattle.std.proofs.Common.{ℕ, zero, suc, ◌≡◌, ◌≤◌, ◌+◌, List, [], ◌∷◌, length, take, length-append, add-one, refl, sym, ap, subst, ◌∙◌, arith, Option, Some, None, Bool, true, false, ◌⊎◌, inl, inr, cond, slice_get, eq-eqb}
-use Rattle.std.specs.Prelude.{filter, filter_map}
+-- Counting: distinct numbers among others are not more, the records of a document are not more than the calls, and the
+-- calls of a history, place by place.
+use Rattle.std.proofs.Common.{ℕ, zero, suc, ◌≡◌, ◌<◌, ◌≤◌, ◌+◌, List, [], ◌∷◌, length, map, take, length-append, add-one, refl, sym, ap, subst, ◌∙◌, arith, Option, Some, None, Bool, true, false, ◌⊎◌, inl, inr, cond, slice_get}
+use Rattle.std.specs.Prelude.{filter, filter_map, if◌then◌else◌}
 use Rattle.std.specs.List.{cons_option}
 use Rattle.std.proofs.Math.Seq.{take-length}
-use Rattle.std.proofs.lemmas.Bool.{eqb-true}
 use Rattle.std.proofs.lemmas.List.Elements.{filter-append}
-use Rattle.doc_register.specs.declared.reply.Reply.{Reply as Answer}
+use Rattle.doc_register.specs.declared.state.Conflicts.{Conflicts}
 use Rattle.history.specs.declared.event.Event.{Event}
 use Rattle.history.specs.declared.event.Event.TheVariants.{Call, Reply, Lost}
-use Rattle.history.specs.Events.{IsHistory, IsReplyAt, PassesAt, is_any_call, is_call, is_ending}
-use Rattle.history.specs.Order.{Placed, answered_by, call_with, reply_order}
-use Rattle.history.proofs.OrderLemmas.{reply_placed}
+use Rattle.history.specs.declared.record.Rec.{Rec}
+use Rattle.history.specs.Events.{is_any_call, is_call_of, is_same, places_from, record_at, records_of}
+use Rattle.history.proofs.ListLemmas.{get_within}
 use Rattle.history.proofs.RecordLemmas.{take_next}
-use Rattle.casbench.specs.Counts.{calls_of, is_reply, replies_of}
+use Rattle.witness.specs.declared.place.Place.{Place}
+use Rattle.witness.specs.Places.{AreRight, IsPlaceOf}
+use Rattle.casbench.specs.Counts.{calls_of}
 
 -- ---- distinct numbers among others are not more
 
@@ -41,94 +43,95 @@ pigeonhole (n ∷ ns) ms distinct among =
     let later : length ns ≤ length r.0 = pigeonhole ns r.0 distinct.1 (λ k h. r.2 k (λ same. distinct.0 (subst (λ x. In x ns) same h)) (among k (inr h))) in
     let size : length ms ≡ suc (length r.0) = r.1 in omega arith
 
--- ---- the numbers of calls and of replies
+-- ---- the records that places name
 
-called : Event → Option ℕ
-called (Call n h d op) = Some n
-called (Reply n r) = None
-called (Lost n) = None
+up_to : ℕ → List ℕ
+up_to zero = []
+up_to (suc n) = n ∷ up_to n
 
-replied : Event → Option ℕ
-replied (Call n h d op) = None
-replied (Reply n r) = Some n
-replied (Lost n) = None
+up_to_count : (n : ℕ) → length (up_to n) ≡ n
+unfolding up_to
+up_to_count zero = refl
+up_to_count (suc n) = ap suc (up_to_count n)
 
-called_count : (xs : List Event) → length (filter_map called xs) ≡ length (filter is_any_call xs)
-unfolding called
-called_count [] = refl
-called_count (Call n h d op ∷ xs) = ap suc (called_count xs)
-called_count (Reply n r ∷ xs) = called_count xs
-called_count (Lost n ∷ xs) = called_count xs
+in_up_to : (n k : ℕ) → k < n → In k (up_to n)
+unfolding In up_to
+in_up_to zero k below = absurd (omega arith)
+in_up_to (suc n) k below = elim (same_or_below n k below) as (λ _. (k ≡ n) ⊎ In k (up_to n)) [ inl same ↦ inl same | inr less ↦ inr (in_up_to n k less) ] where
+  same_or_below : (n k : ℕ) → k < suc n → (k ≡ n) ⊎ (k < n)
+  same_or_below zero zero below = inl refl
+  same_or_below zero (suc k) below = absurd (omega arith)
+  same_or_below (suc n) zero below = inr (omega arith)
+  same_or_below (suc n) (suc k) below = elim (same_or_below n k (omega arith)) as (λ _. (suc k ≡ suc n) ⊎ (suc k < suc n)) [ inl same ↦ inl (ap suc same) | inr less ↦ inr (omega arith) ]
 
-replied_count : (xs : List Event) → length (filter_map replied xs) ≡ length (filter is_reply xs)
-unfolding replied
-replied_count [] = refl
-replied_count (Call n h d op ∷ xs) = replied_count xs
-replied_count (Reply n r ∷ xs) = ap suc (replied_count xs)
-replied_count (Lost n ∷ xs) = replied_count xs
+abbrev numbers : List Place → List ℕ
+numbers places = map (λ (p : Place). p.rec) places
 
-later_place : (t : Event → Bool) (x : Event) (xs : List Event) → (i : ℕ) × PassesAt t xs i → (i : ℕ) × PassesAt t (x ∷ xs) i
-later_place t x xs p = (suc p.0, p.1)
+in_numbers : (places : List Place) (k : ℕ) → In k (numbers places) → (i : ℕ) × (p : Place) × (slice_get places i ≡ Some p) × (p.rec ≡ k)
+unfolding In
+in_numbers [] k among = absurd among
+in_numbers (p ∷ places) k (inl same) = (0, p, refl, sym same)
+in_numbers (p ∷ places) k (inr among) = let rest = in_numbers places k among in (suc rest.0, rest.1, rest.2, rest.3)
 
-in_replied : (xs : List Event) (n : ℕ) → In n (filter_map replied xs) → (i : ℕ) × PassesAt (is_ending n) xs i
-unfolding In replied
-in_replied [] n h = absurd h
-in_replied (Call m g d op ∷ xs) n h = later_place (is_ending n) (Call m g d op) xs (in_replied xs n h)
-in_replied (Reply m r ∷ xs) n (inl e) = (0, ap (λ b. Some b) (eq-eqb m n (sym e)))
-in_replied (Reply m r ∷ xs) n (inr h) = later_place (is_ending n) (Reply m r) xs (in_replied xs n h)
-in_replied (Lost m ∷ xs) n h = later_place (is_ending n) (Lost m) xs (in_replied xs n h)
+OnceEach : List Place → Type 0
+OnceEach places = (i j : ℕ) (p q : Place) → slice_get places i ≡ Some p → slice_get places j ≡ Some q → p.rec ≡ q.rec → i ≡ j
 
-in_called : (xs : List Event) (n i : ℕ) → PassesAt (is_call n) xs i → In n (filter_map called xs)
-unfolding In called
-in_called [] n i h = let impossible : None ≡ Some true = h in absurd (cc)
-in_called (Call m g d op ∷ xs) n zero h = inl (sym (eqb-true m n (let same = h in cc)))
-in_called (Call m g d op ∷ xs) n (suc i) h = inr (in_called xs n i h)
-in_called (Reply m r ∷ xs) n zero h = let impossible : Some false ≡ Some true = h in absurd (cc)
-in_called (Reply m r ∷ xs) n (suc i) h = in_called xs n i h
-in_called (Lost m ∷ xs) n zero h = let impossible : Some false ≡ Some true = h in absurd (cc)
-in_called (Lost m ∷ xs) n (suc i) h = in_called xs n i h
-
-EndedOnce : List Event → Type 0
-EndedOnce xs = (n i j : ℕ) → PassesAt (is_ending n) xs i → PassesAt (is_ending n) xs j → i ≡ j
-
-once_later : (x : Event) (xs : List Event) → EndedOnce (x ∷ xs) → EndedOnce xs
-unfolding EndedOnce
-once_later x xs once n i j p q = let same : suc i ≡ suc j = once n (suc i) (suc j) p q in omega arith
-
-distinct_replied : (xs : List Event) → EndedOnce xs → AreDistinct (filter_map replied xs)
-unfolding In AreDistinct replied EndedOnce
-distinct_replied [] once = tt
-distinct_replied (Call m g d op ∷ xs) once = distinct_replied xs (once_later (Call m g d op) xs once)
-distinct_replied (Reply m r ∷ xs) once = (
-  λ h. let p = in_replied xs m h in
-      let same : 0 ≡ suc p.0 = once m 0 (suc p.0) (ap (λ b. Some b) (eq-eqb m m refl)) p.1 in omega arith,
-  distinct_replied xs (once_later (Reply m r) xs once),
+distinct_numbers : (places : List Place) → OnceEach places → AreDistinct (numbers places)
+unfolding OnceEach AreDistinct
+distinct_numbers [] once = tt
+distinct_numbers (p ∷ places) once = (
+  λ among. let q = in_numbers places p.rec among in
+      let same : 0 ≡ suc q.0 = once 0 (suc q.0) p q.1 refl q.2 (sym q.3) in omega arith,
+  distinct_numbers places (λ i j u v at bt same. let eq : suc i ≡ suc j = once (suc i) (suc j) u v at bt same in omega arith),
 )
-distinct_replied (Lost m ∷ xs) once = distinct_replied xs (once_later (Lost m) xs once)
 
-pub fewer_replies : (H : List Event) → IsHistory H → replies_of H ≤ calls_of H
-unfolding EndedOnce
-fewer_replies H history =
-    let few = pigeonhole (filter_map replied H) (filter_map called H) (distinct_replied H history.ended_once)
-    (λ n h. let p = in_replied H n h in let c = history.ended_after_call n p.0 p.1 in in_called H n c.0 c.2) in
-    let a = replied_count H in let b = called_count H in omega arith
+-- right places are not more than the records
+pub fewer_places : (mode : Conflicts) (records : List Rec) (places : List Place) → AreRight mode records places → length places ≤ length records
+unfolding OnceEach
+fewer_places mode records places right =
+    let few = pigeonhole (numbers places) (up_to (length records)) (distinct_numbers places right.once)
+    (λ k among. let p = in_numbers places k among in let known = right.known p.0 p.1 p.2 in
+    let within : p.1.rec < length records = get_within records p.1.rec known.0 known.1 in
+    subst (λ n. In n (up_to (length records))) p.3 (in_up_to (length records) p.1.rec within)) in
+    let many = up_to_count (length records) in
+    let count : length (numbers places) ≡ length places = length-map-rec places in
+    omega arith where
+      length-map-rec : (places : List Place) → length (numbers places) ≡ length places
+      length-map-rec [] = refl
+      length-map-rec (p ∷ places) = ap suc (length-map-rec places)
 
--- ---- the reply order
+-- ---- the records of a document
 
-Answered : List Event → List Event → Type 0
-Answered H xs = (i n : ℕ) (r : Answer) → IsReplyAt xs i n r → (p : Placed) × (call_with H n r ≡ Some p)
+-- the records are not more than the places that they are made of
+fewer_made : (f : ℕ → Option Rec) (is : List ℕ) → length (filter_map f is) ≤ length is
+fewer_made f [] = omega arith
+fewer_made f (i ∷ is) = by_made (f i) (fewer_made f is) where
+  by_made : (o : Option Rec) → length (filter_map f is) ≤ length is → length (cons_option o (filter_map f is)) ≤ suc (length is)
+  by_made None few = omega arith
+  by_made (Some r) few = omega arith
 
-order_count : (H xs : List Event) → Answered H xs → length (filter_map (answered_by H) xs) ≡ length (filter is_reply xs)
-unfolding Answered
-order_count H [] all = refl
-order_count H (Call n g d op ∷ xs) all = order_count H xs (λ i m s at. all (suc i) m s at)
-order_count H (Reply n r ∷ xs) all =
-    ap (λ o. length (cons_option o (filter_map (answered_by H) xs))) (all 0 n r refl).1 ∙ ap suc (order_count H xs (λ i m s at. all (suc i) m s at))
-order_count H (Lost n ∷ xs) all = order_count H xs (λ i m s at. all (suc i) m s at)
+-- the calls of a document are not more than all calls
+fewer_calls : (d : List ℕ) (k : ℕ) (xs : List Event) → length (places_from k (is_call_of d) xs) ≤ length (filter is_any_call xs)
+fewer_calls d k [] = omega arith
+fewer_calls d k (Call n h e op ∷ xs) = by_test (is_same e d) (fewer_calls d (suc k) xs) where
+  by_test : (b : Bool) → length (places_from (suc k) (is_call_of d) xs) ≤ length (filter is_any_call xs)
+      → length (if b then k ∷ places_from (suc k) (is_call_of d) xs else places_from (suc k) (is_call_of d) xs) ≤ suc (length (filter is_any_call xs))
+  by_test true few = omega arith
+  by_test false few = omega arith
+fewer_calls d k (Reply n r ∷ xs) = fewer_calls d (suc k) xs
+fewer_calls d k (Lost n ∷ xs) = fewer_calls d (suc k) xs
 
-pub order_is_replies : (H : List Event) → IsHistory H → length (reply_order H) ≡ replies_of H
-unfolding Answered
-order_is_replies H history = order_count H H (λ i n r at. let p = reply_placed H history i n r at in (p.0, p.1))
+pub fewer_records : (events : List Event) (d : List ℕ) → length (records_of events d) ≤ calls_of events
+fewer_records events d =
+    let made = fewer_made (record_at events) (places_from 0 (is_call_of d) events) in
+    let calls = fewer_calls d 0 events in
+    omega arith
+
+pub calls_within : (xs : List Event) → calls_of xs ≤ length xs
+calls_within [] = omega arith
+calls_within (Call n h d op ∷ xs) = let rest = calls_within xs in omega arith
+calls_within (Reply n r ∷ xs) = let rest = calls_within xs in omega arith
+calls_within (Lost n ∷ xs) = let rest = calls_within xs in omega arith
 
 -- ---- counting place by place
 
@@ -146,3 +149,7 @@ counted_next t H i x at =
 
 pub counted_all : (t : Event → Bool) (H : List Event) (n : ℕ) → n ≡ length H → length (filter t (take n H)) ≡ length (filter t H)
 counted_all t H n h = ap (λ xs. length (filter t xs)) (ap (λ k. take k H) h ∙ take-length H)
+
+pub one_at_most : (b : Bool) → cond b 1 0 ≤ 1
+one_at_most true = omega arith
+one_at_most false = omega arith

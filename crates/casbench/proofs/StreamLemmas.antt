@@ -1,5 +1,5 @@
 -- Bytes that are read and written piece by piece.
-use Rattle.std.proofs.Common.{ℕ, suc, ◌≡◌, ◌<◌, ◌≤◌, ◌+◌, ◌*◌, List, [], ◌∷◌, ◌++◌, length, take, drop, append_assoc, append-nil, refl, sym, ap, subst, ◌∙◌, arith, Option, Some, None, Bool, true, false, inl, inr}
+use Rattle.std.proofs.Common.{ℕ, suc, ◌≡◌, ◌<◌, ◌≤◌, ◌+◌, ◌*◌, List, [], ◌∷◌, ◌++◌, length, take, drop, append_assoc, append-nil, refl, sym, ap, subst, ◌∙◌, arith, Option, Some, None, Bool, true, false, inl, inr, All}
 use Rattle.std.specs.Prelude.{◌-◌, ◌==◌, if◌then◌else◌, IfSome}
 use Rattle.std.specs.Io.KnownBytes.{Appends, Consumes, IsAtEnd, Keeps}
 use Rattle.std.proofs.lemmas.List.{take_all}
@@ -121,12 +121,14 @@ few_bytes (l ∷ ls) h =
     let first : length l ≤ 65536 = h 0 [] (omega arith) in
     let later : line_bytes ls ≤ length ls * 65537 = few_bytes ls (λ k d below. h (suc k) d (omega arith)) in omega arith
 
-pub text_is_short : (text : List ℕ) (events : List Event) → IsHistoryText text events → length text ≤ most_bytes
-text_is_short text events is =
+pub text_within : (text : List ℕ) → length (lines_of text) ≤ 4194304 → All (λ line. length line ≤ longest_line) (lines_of text) → length text ≤ most_bytes
+text_within text few short =
     let a = text_bytes text in
-    let b = few_bytes (lines_of text) is.bytes_fit in
-    let c : length (lines_of text) ≤ 4194304 = is.lines_fit in
+    let b = few_bytes (lines_of text) short in
     omega arith
+
+pub text_is_short : (text : List ℕ) (events : List Event) → IsHistoryText text events → length text ≤ most_bytes
+text_is_short text events is = text_within text is.lines_fit is.bytes_fit
 
 -- enough bytes that are a history text are the whole input
 pub whole_input : (input : Option (List ℕ)) (bytes : List ℕ) (events : List Event) → IfSome input (AreEnough bytes) → IsHistoryText bytes events → IfSome input (λ xs. bytes ≡ xs)

@@ -1,7 +1,9 @@
 pub mod Lines
 pub mod Streams
 pub mod Counts
-pub mod Steps
+pub mod Witnesses
+pub mod ReplyOrder
+pub mod Explained
 pub mod Verdict
 pub mod Source
 pub mod Exit

@@ -1,45 +1,34 @@
-ghost use Rattle.std.specs.Prelude.{◌≡◌, ◌≤◌, IsTrue, IfSome, length};
-ghost use Rattle.doc_register.specs.Register.{DocStep};
-ghost use Rattle.history.specs.declared.event.Event.TheVariants.{Reply as Answered};
-ghost use Rattle.history.specs.Events.{IsHistory, documents_of};
-ghost use Rattle.history.specs.Order.{IsPlainlyRight};
-ghost use Rattle.casbench.specs.Steps.{StepsBy};
+ghost use Rattle.std.specs.Prelude.{◌≡◌, ◌++◌, IfOk, map, take, length};
+ghost use Rattle.casbench.specs.ReplyOrder.{IsReplyOrder, answered_records, place_of};
 
-use doc_register::{DocState, Reply, step};
-use history::{Event, History};
+use history::Rec;
+use std::alloc::Global;
+use version_pair::NoMemory;
+use witness::Place;
 
-// The state of the one document after the call with this number is answered so, in this state.
-fn answered(history: &History, state: DocState, no: u64, reply: &Reply) -> Option<DocState>
-    ensures { IfSome result (StepsBy history.now (Answered no reply.now) state) }
+// The answered records by their numbers, each with the place of its reply before it.
+fn answered(alloc: Global, records: &[Rec]) -> Result<Vec<(usize, usize)>, NoMemory>
+    ensures { IfOk result (λ answered. answered.items ≡ answered_records 0 records.now) }
 {
-    match history.event(history.call(no)?) {
-        Event::Call { op, .. } => step(state, op, reply, None),
-        Event::Reply { .. } | Event::Lost { .. } => None,
-    }
-}
-
-// The state of the one document after the event, in this state: only a reply is a step.
-fn after(history: &History, state: DocState, event: &Event) -> Option<DocState>
-    ensures { IfSome result (StepsBy history.now event.now state) }
-{
-    match event {
-        Event::Reply { no, reply } => answered(history, state, *no, reply),
-        Event::Call { .. } | Event::Lost { .. } => Some(state),
-    }
-}
-
-/// Whether the answered calls of a history of at most one document, in the order of their replies, are a legal run.
-pub fn is_plainly_right(history: &History) -> bool
-    requires history { IsHistory history.now }
-    requires one_at_most { length (documents_of history.now) ≤ 1 }
-    ensures { IsTrue result → IsPlainlyRight history.now }
-{
-    let mut state = DocState::Never;
-    for place in 0..history.len() {
-        match after(history, state, history.event(place)) {
-            Some(next) => state = next,
-            None => return false,
+    let mut answered = Vec::new(alloc);
+    for k in 0..records.len() {
+        if let Some(heard) = records[k].heard {
+            answered.push((heard.0, k))?;
         }
     }
-    true
+    Ok(answered)
+}
+
+/// The order of the replies: the answered records by place of reply, with no pair given.
+pub fn reply_order(alloc: Global, records: &[Rec]) -> Result<Vec<Place>, NoMemory>
+    ensures { IfOk result (λ places. IsReplyOrder records.now places.items) }
+{
+    let mut answered = answered(alloc, records)?;
+    answered.sort_unstable();
+    let mut places = Vec::with_capacity(alloc, answered.len())?;
+    for i in 0..answered.len() {
+        let (_, rec) = answered[i];
+        places.push(Place { rec, pair: None })?;
+    }
+    Ok(places)
 }

@@ -1,31 +1,24 @@
-ghost use Rattle.std.specs.Prelude.{◌≡◌, ◌≤◌, IfOk, IfSome, OnErr, IsErrOf, ℕ, List, length, string_bytes};
+ghost use Rattle.std.specs.Prelude.{◌≡◌, ◌≤◌, IfOk, IsErrOf};
 ghost use Rattle.std.specs.Io.KnownBytes.{Keeps};
-ghost use Rattle.history.specs.Events.{IsHistory};
-ghost use Rattle.history.specs.Text.{IsHistoryText};
-ghost use Rattle.casbench.specs.Lines.{no_line, refused_line, yes_line};
-ghost use Rattle.casbench.specs.Verdict.{HasOrder, IsAnswer, IsAnswered, IsCutOff};
-ghost use Rattle.doc_register.specs.declared.state.Conflicts.{Conflicts};
+ghost use Rattle.casbench.specs.Verdict.{AnswersInput, HasAnswer, HasFront, IsAnswered, IsCutOff, VerifiesInputs, WitnessesInput};
 
-use crate::cause::name;
+use crate::answer::{answer_to, witness_answer_to};
 use crate::input::{InputFault, read_enough};
 use crate::output::write_text;
-use crate::reply_order::is_plainly_right;
-use crate::tally::count;
+use crate::verify_answer::verify_answer_to;
 use doc_register::Conflicts;
-use history::{History, ReadFault, TextFault, read};
-use std::alloc::{AllocError, Global};
+use std::alloc::Global;
 use std::io::{Read, Write};
 use thiserror::Error;
-use version_pair::NoMemory;
 
 /// What was answered.
 #[derive(Clone, Copy, Debug, PartialEq, Eq)]
 pub enum Status {
-    /// One order explains the history.
+    /// One order explains the history; the witness covers it.
     Yes,
-    /// None was found.
+    /// None was found; the witness does not cover it.
     No,
-    /// The text was refused.
+    /// A text was refused.
     Refused,
 }
 
@@ -41,87 +34,6 @@ pub enum StreamFault {
     /// A growth was refused memory. Nothing was written.
     #[error("no memory")]
     NoMemory,
-}
-
-// A line, with the status that it tells.
-#[derive(Drop)]
-struct Answer {
-    status: Status,
-    line: String,
-}
-
-// The counts of a `yes`.
-#[derive(Clone, Copy, Debug, PartialEq, Eq)]
-struct Counts {
-    docs: usize,
-    calls: usize,
-    left_out: usize,
-}
-
-// The counts of a history of at most one document that the order of its replies explains.
-fn explained(history: &History, conflicts: Conflicts) -> Option<Counts>
-    requires { IsHistory history.now }
-    ensures { IfSome result (λ counts. HasOrder conflicts history.now counts.docs counts.calls counts.left_out) }
-{
-    let docs = history.docs();
-    if docs > 1 || !is_plainly_right(history) {
-        return None;
-    }
-    let tally = count(history);
-    Some(Counts {
-        docs,
-        calls: tally.calls,
-        left_out: tally.calls - tally.replies,
-    })
-}
-
-// The answer to a text that was read as this history.
-fn answer_for(alloc: Global, history: &History, conflicts: Conflicts) -> Result<Answer, NoMemory>
-    requires { IsHistory history.now }
-    ensures { IfOk result (λ answer. (input : List ℕ) → IsHistoryText input history.now
-        → IsAnswer conflicts input answer.status (string_bytes answer.line)) }
-{
-    let Some(counts) = explained(history, conflicts) else {
-        let line = String::from_str(alloc, "no\n")?;
-        return Ok(Answer {
-            status: Status::No,
-            line,
-        });
-    };
-    let docs = counts.docs;
-    let calls = counts.calls;
-    let left_out = counts.left_out;
-    let line = format!(in alloc; "yes docs={docs} calls={calls} left_out={left_out}\n")?;
-    Ok(Answer {
-        status: Status::Yes,
-        line,
-    })
-}
-
-// The answer to a text that was refused.
-fn refusal(alloc: Global, fault: TextFault) -> Result<Answer, NoMemory>
-    ensures told { IfOk result (λ answer. string_bytes answer.line ≡ refused_line fault.line fault.cause) }
-    ensures answers { IfOk result (λ answer. (mode : Conflicts) (input : List ℕ)
-        → IsAnswer mode input answer.status (string_bytes answer.line)) }
-{
-    let number = fault.line;
-    let cause = name(fault.cause);
-    let line = format!(in alloc; "refused line={number} cause={cause}\n")?;
-    Ok(Answer {
-        status: Status::Refused,
-        line,
-    })
-}
-
-// The answer to a text.
-fn answer_to(alloc: Global, text: &[u8], conflicts: Conflicts) -> Result<Answer, NoMemory>
-    ensures { IfOk result (λ answer. IsAnswer conflicts text.now answer.status (string_bytes answer.line)) }
-{
-    match read(alloc, text) {
-        Ok(history) => answer_for(alloc, &history, conflicts),
-        Err(ReadFault::Text(fault)) => refusal(alloc, fault),
-        Err(ReadFault::NoMemory) => Err(AllocError),
-    }
 }
 
 /// Reads a history text to its end and writes one line: `yes docs=D calls=C left_out=L` where one order of its
@@ -155,7 +67,74 @@ pub fn check_stream<R: Read, W: Write>(
     let Ok(answer) = answer_to(alloc, &bytes, conflicts) else {
         return Err(StreamFault::NoMemory);
     };
-    match write_text(writer, answer.line.as_bytes()) {
+    match write_text(writer, &answer.text) {
+        Ok(()) => Ok(answer.status),
+        Err(_) => Err(StreamFault::Write),
+    }
+}
+
+/// Reads a history text to its end and writes the text of its witness where `check_stream` says yes, and the line of
+/// `check_stream` where it does not.
+pub fn witness_stream<R: Read, W: Write>(
+    alloc: Global,
+    reader: &mut R,
+    writer: &mut W,
+    conflicts: Conflicts,
+) -> Result<Status, StreamFault>
+    // Where it answers yes, what it wrote reads as a witness of the history that the bytes are a text of.
+    ensures answered { IfOk result (λ status. HasAnswer (WitnessesInput conflicts (R.remaining reader.old) status)
+        (W.contents writer.old) (W.contents writer.new)) }
+    ensures cut_off { IsErrOf result StreamFault.Write
+        → HasFront (WitnessesInput conflicts (R.remaining reader.old)) (W.contents writer.old) (W.contents writer.new) }
+    ensures unread { IsErrOf result StreamFault.Read → Keeps (W.contents writer.old) (W.contents writer.new) }
+    ensures no_memory { IsErrOf result StreamFault.NoMemory → Keeps (W.contents writer.old) (W.contents writer.new) }
+{
+    let bytes = match read_enough(alloc, reader) {
+        Ok(bytes) => bytes,
+        Err(InputFault::Read) => return Err(StreamFault::Read),
+        Err(InputFault::NoMemory) => return Err(StreamFault::NoMemory),
+    };
+    let Ok(answer) = witness_answer_to(alloc, &bytes, conflicts) else {
+        return Err(StreamFault::NoMemory);
+    };
+    match write_text(writer, &answer.text) {
+        Ok(()) => Ok(answer.status),
+        Err(_) => Err(StreamFault::Write),
+    }
+}
+
+/// Reads a history text and then a witness text, each to its end, and writes one line: `verified docs=D calls=C
+/// left_out=L` where the witness covers the history; `broken` with the first fault where it does not;
+/// `refused file=history` or `refused file=witness` with the line and the cause where one of them is no such text.
+/// A witness is not read where the history's text is refused.
+///
+/// A history of two or more documents is answered `broken doc=1 cause=doc-missing`, for now, once both texts are read.
+pub fn verify_stream<R: Read, Q: Read, W: Write>(
+    alloc: Global,
+    history: &mut R,
+    witness: &mut Q,
+    writer: &mut W,
+    conflicts: Conflicts,
+) -> Result<Status, StreamFault>
+    // Where it answers yes, the one's bytes are a text of a history, and the other's read as entries that cover it.
+    ensures answered { IfOk result (λ status. HasAnswer (VerifiesInputs conflicts (R.remaining history.old) (Q.remaining witness.old) status)
+        (W.contents writer.old) (W.contents writer.new)) }
+    ensures cut_off { IsErrOf result StreamFault.Write
+        → HasFront (VerifiesInputs conflicts (R.remaining history.old) (Q.remaining witness.old)) (W.contents writer.old) (W.contents writer.new) }
+    ensures unread { IsErrOf result StreamFault.Read → Keeps (W.contents writer.old) (W.contents writer.new) }
+    ensures no_memory { IsErrOf result StreamFault.NoMemory → Keeps (W.contents writer.old) (W.contents writer.new) }
+{
+    let bytes = match read_enough(alloc, history) {
+        Ok(bytes) => bytes,
+        Err(InputFault::Read) => return Err(StreamFault::Read),
+        Err(InputFault::NoMemory) => return Err(StreamFault::NoMemory),
+    };
+    let answer = match verify_answer_to(alloc, &bytes, witness, conflicts) {
+        Ok(answer) => answer,
+        Err(InputFault::Read) => return Err(StreamFault::Read),
+        Err(InputFault::NoMemory) => return Err(StreamFault::NoMemory),
+    };
+    match write_text(writer, &answer.text) {
         Ok(()) => Ok(answer.status),
         Err(_) => Err(StreamFault::Write),
     }

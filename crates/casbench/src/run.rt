@@ -3,8 +3,7 @@ ghost use Rattle.std.specs.Io.KnownBytes.{Keeps};
 ghost use Rattle.casbench.specs.Verdict.{IsAnswered};
 
 use crate::files::{open_both, open_or};
-use crate::report::{Status, StreamFault, check_stream};
-use crate::report_later::{verify_stream, witness_stream};
+use crate::report::{Status, StreamFault, check_stream, verify_stream, witness_stream};
 use crate::words::Words;
 use doc_register::Conflicts;
 use std::alloc::Global;

@@ -16,7 +16,9 @@ use version_pair::{DocId, IdFault};
 /// A field that is a number: whole and below 2^64, spelled by digits alone, or not.
 #[derive(Clone, Copy, Debug, PartialEq, Eq)]
 pub enum Number {
+    /// It is this whole number.
     Whole(u64),
+    /// It is not whole, not below 2^64, or not spelled by digits alone.
     NotWhole,
 }
 
@@ -69,7 +71,7 @@ pub fn required_text<'v>(value: &'v Value, key: &str) -> Result<&'v str, TextCau
     }
 }
 
-/// The id of a document, else `Id`.
+/// The id of a document, else `Id`. `NoMemory` says nothing of the text.
 pub fn document_id(alloc: Global, text: &str) -> Result<DocId, LineFault>
     ensures { MatchResult result (λ id. (id ≡ text.now) × IsIdLength (length text.now))
         (λ fault. IfTold fault (λ cause. (¬ IsIdLength (length text.now)) × (cause ≡ Id))) }

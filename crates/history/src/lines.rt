@@ -42,7 +42,7 @@ pub fn first_line(text: &[u8]) -> (&[u8], &[u8])
     }
 }
 
-/// The value that a line spells, else `Json`.
+/// The value that a line spells, else `Json`. `NoMemory` says nothing of the line.
 pub fn line_value(alloc: Global, line: &[u8]) -> Result<Value, LineFault>
     ensures { MatchResult result (λ value. IsJsonLine line.now (view value))
         (λ fault. IfTold fault (λ cause. IsNoJsonLine line.now × (cause ≡ Json))) }

@@ -55,7 +55,9 @@ pub enum ReadFault {
 /// Why a line was not read.
 #[derive(Clone, Copy, Debug, PartialEq, Eq)]
 pub enum LineFault {
+    /// It was refused.
     Told(TextCause),
+    /// A growth was refused memory.
     NoMemory,
 }
 

@@ -151,3 +151,6 @@ impl DocWitness {
         self.conflicts
     }
 }
+
+#[cfg(test)]
+mod tests;

@@ -1,12 +1,36 @@
-ghost use Rattle.std.specs.Prelude.{◌<◌};
-
 use super::*;
-use std::test::Fail;
 use version_pair::Pair;
 
 const INDEX: Op = Op::Index { k: 1, cond: None };
 
-// What a history answers to a call.
+// An event as plain data.
+#[derive(Clone, Copy, Debug)]
+enum Step<'a> {
+    // The number, the shard, the document and the operation.
+    Call(u64, u32, &'a str, Op),
+    Reply(u64, Reply),
+    Lost(u64),
+}
+
+fn first_pair() -> Pair {
+    Pair::new(1, 0).unwrap()
+}
+
+fn created() -> Reply {
+    Reply::Indexed {
+        pair: first_pair(),
+        created: true,
+    }
+}
+
+fn found() -> Reply {
+    Reply::Found {
+        pair: first_pair(),
+        k: 1,
+    }
+}
+
+// What a history answers to a call; `None` where the shard or the id is none.
 fn push_call(
     alloc: Global,
     history: &mut History,
@@ -14,59 +38,104 @@ fn push_call(
     shard: u32,
     id: &str,
     op: Op,
-) -> Result<Result<(), HistFault>, Fail>
-    requires { shard < 1024 }
-{
-    let id = DocId::new(alloc, id)?;
-    Ok(history.push(Event::Call { no, shard, id, op }))
+) -> Option<Result<(), HistFault>> {
+    if shard >= 1024 {
+        return None;
+    }
+    let id = DocId::new(alloc, id).ok()?;
+    Some(history.push(Event::Call { no, shard, id, op }))
 }
 
-// What a history answers to a reply.
-fn push_reply(history: &mut History, no: u64, reply: Reply) -> Result<(), HistFault> {
-    history.push(Event::Reply { no, reply })
+// What a history answers to one more event.
+fn answer(alloc: Global, history: &mut History, step: Step) -> Option<Result<(), HistFault>> {
+    match step {
+        Step::Call(no, shard, id, op) => push_call(alloc, history, no, shard, id, op),
+        Step::Reply(no, reply) => Some(history.push(Event::Reply { no, reply })),
+        Step::Lost(no) => Some(history.push(Event::Lost { no })),
+    }
+}
+
+// Whether a history takes all of these events.
+fn takes(alloc: Global, history: &mut History, steps: &[Step]) -> bool {
+    for step in steps {
+        if answer(alloc, history, *step) != Some(Ok(())) {
+            return false;
+        }
+    }
+    true
+}
+
+// The history of these events.
+fn history_of(alloc: Global, steps: &[Step]) -> Option<History> {
+    let mut history = History::new(alloc);
+    if takes(alloc, &mut history, steps) {
+        Some(history)
+    } else {
+        None
+    }
 }
 
 // An index of "d" on shard 3 that was answered, a get of "d" that is pending, and a get of "e" that is lost.
-fn three_calls(alloc: Global) -> Result<History, Fail> {
-    let pair = Pair::new(1, 0).ok_or("a pair")?;
-    let created = Reply::Indexed {
-        pair,
-        created: true,
-    };
-    let mut history = History::new(alloc);
-    push_call(alloc, &mut history, 0, 3, "d", INDEX)??;
-    push_reply(&mut history, 0, created)?;
-    push_call(alloc, &mut history, 1, 3, "d", Op::Get)??;
-    push_call(alloc, &mut history, 2, 4, "e", Op::Get)??;
-    history.push(Event::Lost { no: 2 })?;
-    Ok(history)
+fn three_calls(alloc: Global) -> Option<History> {
+    history_of(
+        alloc,
+        &[
+            Step::Call(0, 3, "d", INDEX),
+            Step::Reply(0, created()),
+            Step::Call(1, 3, "d", Op::Get),
+            Step::Call(2, 4, "e", Op::Get),
+            Step::Lost(2),
+        ],
+    )
 }
 
-#[test]
-fn empty_history(rt: HostRuntime) {
-    let history = History::new(rt.alloc());
-    assert!(rt; history.is_empty());
-    assert_eq!(rt; history.len(), 0);
-    assert_eq!(rt; history.docs(), 0);
-    assert_eq!(rt; history.call(0), None);
-    assert_eq!(rt; history.ending(0), None);
+// What the three calls answer to one more event.
+fn one_more(alloc: Global, step: Step) -> Option<Result<(), HistFault>> {
+    answer(alloc, &mut three_calls(alloc)?, step)
 }
 
-#[test]
-fn calls_and_endings(rt: HostRuntime) -> Result<(), Fail> {
-    let history = three_calls(rt.alloc())?;
-    assert!(rt; !history.is_empty());
-    assert_eq!(rt; history.len(), 5);
-    for (no, call, ending) in [
-        (0, Some(0), Some(1)),
-        (1, Some(2), None),
-        (2, Some(3), Some(4)),
-        (3, None, None),
-    ] {
-        assert_eq!(rt; history.call(no), call, "{no}");
-        assert_eq!(rt; history.ending(no), ending, "{no}");
+// The three calls, after a second call of a number and a second ending, which they refuse.
+fn two_refused(alloc: Global) -> Option<History> {
+    let mut history = three_calls(alloc)?;
+    let second_call = answer(alloc, &mut history, Step::Call(1, 9, "g", INDEX));
+    let second_ending = answer(alloc, &mut history, Step::Reply(2, Reply::Missing));
+    let refused = [
+        Some(Err(HistFault::SecondCall)),
+        Some(Err(HistFault::Ended)),
+    ];
+    if [second_call, second_ending] == refused {
+        Some(history)
+    } else {
+        None
     }
-    assert!(rt;
+}
+
+// Whether a history is empty, how many events it has, and how many documents.
+fn size(history: &History) -> (bool, usize, usize) {
+    (history.is_empty(), history.len(), history.docs())
+}
+
+// The place of the call with a number, and of its ending.
+fn places(history: &History, no: u64) -> (Option<usize>, Option<usize>) {
+    (history.call(no), history.ending(no))
+}
+
+// The places of the calls 0 to 3 and of their endings.
+fn four_places(history: &History) -> [(Option<usize>, Option<usize>); 4] {
+    [
+        places(history, 0),
+        places(history, 1),
+        places(history, 2),
+        places(history, 3),
+    ]
+}
+
+// Whether the get numbered 1 stands on shard 3 at the place 2, and the loss of the call 2 at the place 4.
+fn get_and_loss(history: &History) -> (bool, bool) {
+    if history.len() < 5 {
+        return (false, false);
+    }
+    (
         matches!(
             history.event(2),
             Event::Call {
@@ -75,123 +144,112 @@ fn calls_and_endings(rt: HostRuntime) -> Result<(), Fail> {
                 op: Op::Get,
                 ..
             }
-        )
-    );
-    assert!(rt; matches!(history.event(4), Event::Lost { no: 2 }));
-    Ok(())
+        ),
+        matches!(history.event(4), Event::Lost { no: 2 }),
+    )
+}
+
+// Whether the document has this id and this shard.
+fn is_document(history: &History, doc: usize, id: &str, shard: u32) -> bool {
+    doc < history.docs() && history.doc(doc).as_str() == id && history.shard(doc) == shard
+}
+
+// How many documents there are, and whether the first three are "b", "a" and "c" on their shards.
+fn documents(history: &History) -> (usize, [bool; 3]) {
+    (
+        history.docs(),
+        [
+            is_document(history, 0, "b", 7),
+            is_document(history, 1, "a", 0),
+            is_document(history, 2, "c", 1023),
+        ],
+    )
+}
+
+// Whether the document has these records.
+fn has_records(history: &History, doc: usize, want: &[Rec]) -> bool {
+    if doc >= history.docs() {
+        return false;
+    }
+    match history.records(doc) {
+        Ok(records) => records.as_slice() == want,
+        Err(_) => false,
+    }
 }
 
 #[test]
-fn refused_calls(rt: HostRuntime) -> Result<(), Fail> {
-    for (no, shard, id, want) in [
-        (0, 3, "d", Err(HistFault::SecondCall)),
+fn empty_history(rt: HostRuntime) {
+    let said = history_of(rt.alloc(), &[]).map(|history| (size(&history), four_places(&history)));
+    assert_eq!(rt; said, Some(((true, 0, 0), [(None, None); 4])));
+}
+
+#[test]
+fn calls_and_endings(rt: HostRuntime) {
+    let want = [
+        (Some(0), Some(1)),
+        (Some(2), None),
+        (Some(3), Some(4)),
+        (None, None),
+    ];
+    // A refused event leaves the history as it was.
+    for history in [three_calls(rt.alloc()), two_refused(rt.alloc())] {
+        let history = history.as_ref();
+        assert_eq!(rt; history.map(size), Some((false, 5, 2)));
+        assert_eq!(rt; history.map(four_places), Some(want));
+        assert_eq!(rt; history.map(get_and_loss), Some((true, true)));
+    }
+}
+
+#[test]
+fn refused_events(rt: HostRuntime) {
+    for (step, want) in [
+        (Step::Call(0, 3, "d", Op::Get), Err(HistFault::SecondCall)),
         // The first cause is told where both hold.
-        (0, 5, "d", Err(HistFault::SecondCall)),
-        (3, 5, "d", Err(HistFault::ShardMoved)),
-        (3, 3, "d", Ok(())),
-        (3, 3, "f", Ok(())),
-        (3, 1023, "f", Ok(())),
-    ] {
-        let mut history = three_calls(rt.alloc())?;
-        let got = push_call(rt.alloc(), &mut history, no, shard, id, Op::Get)?;
-        assert_eq!(rt; got, want, "{no} {shard} {id}");
-    }
-    Ok(())
-}
-
-#[test]
-fn refused_endings(rt: HostRuntime) -> Result<(), Fail> {
-    let pair = Pair::new(1, 0).ok_or("a pair")?;
-    let found = Reply::Found { pair, k: 1 };
-    let created = Reply::Indexed {
-        pair,
-        created: true,
-    };
-    for (no, reply, want) in [
-        (3, created, Err(HistFault::NoCall)),
-        (0, created, Err(HistFault::Ended)),
+        (Step::Call(0, 5, "d", Op::Get), Err(HistFault::SecondCall)),
+        (Step::Call(3, 5, "d", Op::Get), Err(HistFault::ShardMoved)),
+        (Step::Call(3, 3, "d", Op::Get), Ok(())),
+        (Step::Call(3, 3, "f", Op::Get), Ok(())),
+        (Step::Call(3, 1023, "f", Op::Get), Ok(())),
+        (Step::Reply(3, created()), Err(HistFault::NoCall)),
+        (Step::Reply(0, created()), Err(HistFault::Ended)),
         // The first cause is told where both hold.
-        (0, found, Err(HistFault::Ended)),
-        (2, found, Err(HistFault::Ended)),
-        (1, created, Err(HistFault::Kind)),
-        (1, found, Ok(())),
-        (1, Reply::Missing, Ok(())),
+        (Step::Reply(0, found()), Err(HistFault::Ended)),
+        (Step::Reply(2, found()), Err(HistFault::Ended)),
+        (Step::Reply(1, created()), Err(HistFault::Kind)),
+        (Step::Reply(1, found()), Ok(())),
+        (Step::Reply(1, Reply::Missing), Ok(())),
+        (Step::Lost(3), Err(HistFault::NoCall)),
+        (Step::Lost(0), Err(HistFault::Ended)),
+        (Step::Lost(1), Ok(())),
     ] {
-        let mut history = three_calls(rt.alloc())?;
-        assert_eq!(rt; push_reply(&mut history, no, reply), want, "{no} {reply:?}");
+        assert_eq!(rt; one_more(rt.alloc(), step), Some(want), "{step:?}");
     }
-    for (no, want) in [
-        (3, Err(HistFault::NoCall)),
-        (0, Err(HistFault::Ended)),
-        (1, Ok(())),
-    ] {
-        let mut history = three_calls(rt.alloc())?;
-        assert_eq!(rt; history.push(Event::Lost { no }), want, "{no}");
-    }
-    Ok(())
 }
 
 #[test]
-fn refused_event_leaves_history(rt: HostRuntime) -> Result<(), Fail> {
-    let mut history = three_calls(rt.alloc())?;
-    let call = push_call(rt.alloc(), &mut history, 1, 9, "g", INDEX)?;
-    assert_eq!(rt; call, Err(HistFault::SecondCall));
+fn documents_in_order_of_first_calls(rt: HostRuntime) {
+    let steps = [
+        Step::Call(0, 7, "b", Op::Get),
+        Step::Call(1, 0, "a", Op::Get),
+        Step::Call(2, 7, "b", Op::Get),
+        Step::Call(3, 1023, "c", Op::Get),
+        Step::Call(4, 0, "a", Op::Get),
+    ];
+    let history = history_of(rt.alloc(), &steps);
     assert_eq!(rt;
-        push_reply(&mut history, 2, Reply::Missing),
-        Err(HistFault::Ended)
+        history.map(|history| documents(&history)),
+        Some((3, [true, true, true]))
     );
-    assert_eq!(rt; history.len(), 5);
-    assert_eq!(rt; history.docs(), 2);
-    assert_eq!(rt; history.call(1), Some(2));
-    assert!(rt;
-        matches!(
-            history.event(2),
-            Event::Call {
-                no: 1,
-                op: Op::Get,
-                ..
-            }
-        )
-    );
-    assert!(rt; matches!(history.event(4), Event::Lost { no: 2 }));
-    Ok(())
 }
 
 #[test]
-fn documents_in_order_of_first_calls(rt: HostRuntime) -> Result<(), Fail> {
-    let mut history = History::new(rt.alloc());
-    for (no, shard, id) in [
-        (0, 7, "b"),
-        (1, 0, "a"),
-        (2, 7, "b"),
-        (3, 1023, "c"),
-        (4, 0, "a"),
-    ] {
-        push_call(rt.alloc(), &mut history, no, shard, id, Op::Get)??;
-    }
-    assert_eq!(rt; history.docs(), 3);
-    for (doc, id, shard) in [(0, "b", 7), (1, "a", 0), (2, "c", 1023)] {
-        assert_eq!(rt; history.doc(doc).as_str(), id);
-        assert_eq!(rt; history.shard(doc), shard);
-    }
-    Ok(())
-}
-
-#[test]
-fn records_of_two_documents(rt: HostRuntime) -> Result<(), Fail> {
-    let history = three_calls(rt.alloc())?;
-    let pair = Pair::new(1, 0).ok_or("a pair")?;
-    let created = Reply::Indexed {
-        pair,
-        created: true,
-    };
-    assert_eq!(rt; history.docs(), 2);
+fn records_of_two_documents(rt: HostRuntime) {
     let first = [
         Rec {
             no: 0,
             op: INDEX,
             call_at: 0,
-            heard: Some((1, created)),
+            heard: Some((1, created())),
         },
         Rec {
             no: 1,
@@ -200,13 +258,15 @@ fn records_of_two_documents(rt: HostRuntime) -> Result<(), Fail> {
             heard: None,
         },
     ];
-    assert_eq!(rt; history.records(0)?.as_slice(), first.as_slice());
     let second = [Rec {
         no: 2,
         op: Op::Get,
         call_at: 3,
         heard: None,
     }];
-    assert_eq!(rt; history.records(1)?.as_slice(), second.as_slice());
-    Ok(())
+    let same = three_calls(rt.alloc()).map(|history| (
+        has_records(&history, 0, &first),
+        has_records(&history, 1, &second),
+    ));
+    assert_eq!(rt; same, Some((true, true)));
 }
