@@ -1,6 +1,6 @@
 -- Bytes that are read and written piece by piece.
-use Rattle.std.proofs.Common.{ℕ, suc, ◌≡◌, ◌<◌, ◌≤◌, ◌+◌, ◌*◌, List, [], ◌∷◌, ◌++◌, length, take, drop, append_assoc, append-nil, refl, sym, ap, subst, ◌∙◌, arith, Option, Some, None, Bool, true, false, inl, inr, All}
-use Rattle.std.specs.Prelude.{◌-◌, ◌==◌, if◌then◌else◌, IfSome}
+use Rattle.std.proofs.Common.{ℕ, suc, ◌≡◌, ◌<◌, ◌≤◌, ◌+◌, ◌*◌, List, [], ◌∷◌, ◌++◌, length, take, drop, append_assoc, append-nil, refl, sym, ap, subst, ◌∙◌, arith, Option, Some, None, Bool, true, false, inl, inr, All, Result, Ok, Err}
+use Rattle.std.specs.Prelude.{◌-◌, ◌==◌, if◌then◌else◌, IfSome, IfOk, IsErrOf, MatchResult}
 use Rattle.std.specs.Io.KnownBytes.{Appends, Consumes, IsAtEnd, Keeps}
 use Rattle.std.proofs.lemmas.List.{take_all}
 use Rattle.std.proofs.Common.{length-drop, take-append-drop}
@@ -9,9 +9,11 @@ use Rattle.history.specs.declared.event.Event.{Event}
 use Rattle.history.specs.Text.{IsHistoryText, lines_of, longest_line, onto_first}
 use Rattle.doc_register.specs.declared.state.Conflicts.{Conflicts}
 use Rattle.casbench.specs.Streams.{AreEnough, most_bytes}
-use Rattle.casbench.specs.Verdict.{IsAnswer}
+use Rattle.casbench.specs.Verdict.{HasAnswer, HasFront, IsAnswer}
 use Rattle.casbench.specs.declared.report.Status.{Status}
 use Rattle.casbench.specs.declared.report.Status.TheVariants.{Yes, No, Refused}
+use Rattle.casbench.specs.declared.report.StreamFault.{StreamFault}
+use Rattle.casbench.specs.declared.report.StreamFault.TheVariants.{Write}
 
 pub consumes_more : (old mid new : Option (List ℕ)) (bs cs : List ℕ) → Consumes old mid bs → Consumes mid new cs → Consumes old new (bs ++ cs)
 consumes_more None mid new bs cs a b = tt
@@ -144,3 +146,17 @@ answer_of_input mode (Some xs) bytes Yes line (inl same) is = subst (λ ys. IsAn
 answer_of_input mode (Some xs) bytes Yes line (inr long) is = let short = text_is_short bytes is.4.events is.4.is_text in absurd (omega arith)
 answer_of_input mode (Some xs) bytes No line enough is = is
 answer_of_input mode (Some xs) bytes Refused line enough is = is
+
+-- ---- an answer that was written, or a front of it
+
+pub wrote : (r : Result Status StreamFault) (P : Status → List ℕ → Type 0) (old new : Option (List ℕ)) (status : Status) (text : List ℕ)
+    → MatchResult r (λ s. (s ≡ status) × Appends old new text) (λ f. (f ≡ Write) × ((n : ℕ) × Appends old new (take n text))) → P status text
+    → IfOk r (λ s. HasAnswer (P s) old new)
+wrote (Ok s) P old new status text written is = (text, written.1, subst (λ k. P k text) (sym written.0) is)
+wrote (Err f) P old new status text written is = tt
+
+pub wrote_front : (r : Result Status StreamFault) (P : Status → List ℕ → Type 0) (old new : Option (List ℕ)) (status : Status) (text : List ℕ)
+    → MatchResult r (λ s. (s ≡ status) × Appends old new text) (λ f. (f ≡ Write) × ((n : ℕ) × Appends old new (take n text))) → P status text
+    → IsErrOf r Write → HasFront P old new
+wrote_front (Ok s) P old new status text written is cut = let impossible : Ok s ≡ Err Write = cut in absurd (cc)
+wrote_front (Err f) P old new status text written is cut = (status, text, written.1.0, written.1.1, is)

@@ -1,5 +1,7 @@
 -- The order of the replies of a document.
 use Rattle.std.specs.Prelude.{◌≡◌, ℕ, suc, List, [], ◌∷◌, Option, Some, None, map, IsPermutation, IsSorted}
+use Rattle.std.specs.declared.cmp.Ordering.{Ordering}
+use Rattle.std.specs.Ordering.{nat_cmp, ordering_then}
 use Rattle.doc_register.specs.declared.reply.Reply.{Reply}
 use Rattle.history.specs.declared.record.Rec.{Rec}
 use Rattle.witness.specs.declared.place.Place.{Place}
@@ -18,7 +20,11 @@ answered_records k (r ∷ rs) = answered_at k r.heard (answered_records (suc k) 
 abbrev pub place_of : ℕ × ℕ → Place
 place_of answered = record { rec = answered.1; pair = None }
 
+-- by place of reply, then by number
+abbrev pub by_reply : ℕ × ℕ → ℕ × ℕ → Ordering
+by_reply a b = ordering_then (nat_cmp a.0 b.0) (nat_cmp a.1 b.1)
+
 -- The places are the answered records by place of reply, ties by number, with no pair given.
 abbrev pub IsReplyOrder : List Rec → List Place → Type 0
 IsReplyOrder records places =
-    (sorted : List (ℕ × ℕ)) × IsPermutation (answered_records 0 records) sorted × (places ≡ map place_of sorted)
+    (sorted : List (ℕ × ℕ)) × IsPermutation (answered_records 0 records) sorted × IsSorted by_reply sorted × (places ≡ map place_of sorted)

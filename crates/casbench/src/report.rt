@@ -1,8 +1,8 @@
-ghost use Rattle.std.specs.Prelude.{◌≡◌, ◌≤◌, IfOk, IsErrOf};
-ghost use Rattle.std.specs.Io.KnownBytes.{Keeps};
+ghost use Rattle.std.specs.Prelude.{◌≡◌, ◌≢◌, ◌≤◌, ℕ, IfOk, IsErrOf, MatchResult, take};
+ghost use Rattle.std.specs.Io.KnownBytes.{Appends, Keeps};
 ghost use Rattle.casbench.specs.Verdict.{AnswersInput, HasAnswer, HasFront, IsAnswered, IsCutOff, VerifiesInputs, WitnessesInput};
 
-use crate::answer::{answer_to, witness_answer_to};
+use crate::answer::{Answer, answer_to, witness_answer_to};
 use crate::input::{InputFault, read_enough};
 use crate::output::write_text;
 use crate::verify_answer::verify_answer_to;
@@ -36,6 +36,28 @@ pub enum StreamFault {
     NoMemory,
 }
 
+// A fault of the input as one of a stream.
+fn fault_of(fault: InputFault) -> StreamFault
+    ensures { result ≢ StreamFault.Write }
+{
+    match fault {
+        InputFault::Read => StreamFault::Read,
+        InputFault::NoMemory => StreamFault::NoMemory,
+    }
+}
+
+// Writes the answer, and tells its status. After a write fault a front of its text is written.
+fn write_answer<W: Write>(writer: &mut W, answer: &Answer) -> Result<Status, StreamFault>
+    ensures { MatchResult result
+        (λ status. (status ≡ answer.now.status) × Appends (W.contents writer.old) (W.contents writer.new) answer.now.text.items)
+        (λ fault. (fault ≡ StreamFault.Write) × ((n : ℕ) × Appends (W.contents writer.old) (W.contents writer.new) (take n answer.now.text.items))) }
+{
+    match write_text(writer, &answer.text) {
+        Ok(()) => Ok(answer.status),
+        Err(_) => Err(StreamFault::Write),
+    }
+}
+
 /// Reads a history text to its end and writes one line: `yes docs=D calls=C left_out=L` where one order of its
 /// calls explains it, `no` where none was found, or `refused line=L cause=NAME` where it is no history text.
 ///
@@ -61,15 +83,11 @@ pub fn check_stream<R: Read, W: Write>(
 {
     let bytes = match read_enough(alloc, reader) {
         Ok(bytes) => bytes,
-        Err(InputFault::Read) => return Err(StreamFault::Read),
-        Err(InputFault::NoMemory) => return Err(StreamFault::NoMemory),
+        Err(fault) => return Err(fault_of(fault)),
     };
-    let Ok(answer) = answer_to(alloc, &bytes, conflicts) else {
-        return Err(StreamFault::NoMemory);
-    };
-    match write_text(writer, &answer.text) {
-        Ok(()) => Ok(answer.status),
-        Err(_) => Err(StreamFault::Write),
+    match answer_to(alloc, &bytes, conflicts) {
+        Ok(answer) => write_answer(writer, &answer),
+        Err(_) => Err(StreamFault::NoMemory),
     }
 }
 
@@ -91,15 +109,11 @@ pub fn witness_stream<R: Read, W: Write>(
 {
     let bytes = match read_enough(alloc, reader) {
         Ok(bytes) => bytes,
-        Err(InputFault::Read) => return Err(StreamFault::Read),
-        Err(InputFault::NoMemory) => return Err(StreamFault::NoMemory),
+        Err(fault) => return Err(fault_of(fault)),
     };
-    let Ok(answer) = witness_answer_to(alloc, &bytes, conflicts) else {
-        return Err(StreamFault::NoMemory);
-    };
-    match write_text(writer, &answer.text) {
-        Ok(()) => Ok(answer.status),
-        Err(_) => Err(StreamFault::Write),
+    match witness_answer_to(alloc, &bytes, conflicts) {
+        Ok(answer) => write_answer(writer, &answer),
+        Err(_) => Err(StreamFault::NoMemory),
     }
 }
 
@@ -126,17 +140,11 @@ pub fn verify_stream<R: Read, Q: Read, W: Write>(
 {
     let bytes = match read_enough(alloc, history) {
         Ok(bytes) => bytes,
-        Err(InputFault::Read) => return Err(StreamFault::Read),
-        Err(InputFault::NoMemory) => return Err(StreamFault::NoMemory),
+        Err(fault) => return Err(fault_of(fault)),
     };
-    let answer = match verify_answer_to(alloc, &bytes, witness, conflicts) {
-        Ok(answer) => answer,
-        Err(InputFault::Read) => return Err(StreamFault::Read),
-        Err(InputFault::NoMemory) => return Err(StreamFault::NoMemory),
-    };
-    match write_text(writer, &answer.text) {
-        Ok(()) => Ok(answer.status),
-        Err(_) => Err(StreamFault::Write),
+    match verify_answer_to(alloc, &bytes, witness, conflicts) {
+        Ok(answer) => write_answer(writer, &answer),
+        Err(fault) => Err(fault_of(fault)),
     }
 }
 

@@ -1,6 +1,6 @@
 ghost use Rattle.std.specs.Prelude.{◌≡◌, None, IfOk, IsErrOf};
 ghost use Rattle.std.specs.Io.KnownBytes.{Keeps};
-ghost use Rattle.casbench.specs.Verdict.{IsAnswered};
+ghost use Rattle.casbench.specs.Verdict.{HasAnswer, IsAnswered, WitnessesInput};
 
 use crate::files::{open_both, open_or};
 use crate::report::{Status, StreamFault, check_stream, verify_stream, witness_stream};
@@ -24,8 +24,11 @@ pub fn run<R: Files, I: Read + Drop, W: Write>(
     // A check of the input answers it.
     ensures checked { words.entry ≡ Words.Check None → IfOk result (IsAnswered Conflicts.Plain
         (I.remaining input) (W.contents writer.old) (W.contents writer.new)) }
-    ensures unread { (file : _) → words.entry ≡ Words.Check file → IsErrOf result StreamFault.Read
-        → Keeps (W.contents writer.old) (W.contents writer.new) }
+    // The witness of the input is written.
+    ensures witnessed { words.entry ≡ Words.Witness None → IfOk result (λ status. HasAnswer (WitnessesInput Conflicts.Plain
+        (I.remaining input) status) (W.contents writer.old) (W.contents writer.new)) }
+    ensures unread { IsErrOf result StreamFault.Read → Keeps (W.contents writer.old) (W.contents writer.new) }
+    ensures no_memory { IsErrOf result StreamFault.NoMemory → Keeps (W.contents writer.old) (W.contents writer.new) }
 {
     match words {
         Words::Check { file } => {
