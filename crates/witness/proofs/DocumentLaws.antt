@@ -1,5 +1,5 @@
 -- Valid places of a document's records are the orders that explain the document.
-use Rattle.std.proofs.Common.{ℕ, zero, suc, ◌≡◌, ◌<◌, ◌≤◌, ◌⊎◌, inl, inr, List, [], ◌∷◌, refl, sym, ap, subst, ◌∙◌, arith, Bool, true, false, Option, Some, None, slice_get}
+use Rattle.std.proofs.Common.{ℕ, zero, suc, ◌≡◌, ◌<◌, ◌≤◌, ◌⊎◌, inl, inr, List, [], ◌∷◌, refl, sym, ap, subst, ◌∙◌, arith, true, false, Option, Some, None, slice_get}
 use Rattle.std.specs.Prelude.{IsSome, ◌==◌, if◌then◌else◌}
 use Rattle.std.specs.Cmp.Lexicographic.{pointwise}
 use Rattle.version_pair.specs.declared.pair.Pair.{Pair}
@@ -13,7 +13,7 @@ use Rattle.doc_register.specs.declared.state.DocState.{DocState}
 use Rattle.doc_register.specs.declared.state.DocState.TheVariants.{Never}
 use Rattle.doc_register.specs.Laws.{ChangesNothing}
 use Rattle.doc_register.specs.Register.{DocStep, Performs, WriteStep, performed_reply}
-use Rattle.doc_register.specs.Run.{Entry, IsDocRun, IsLegalRun, pair_taken, part_of}
+use Rattle.doc_register.specs.Run.{Entry, IsDocRun, pair_taken, part_of}
 use Rattle.doc_register.proofs.RunLemmas.{legal_of_one, same_id, step_kind}
 use Rattle.doc_register.proofs.RunLaws.{locality, pair_performs}
 use Rattle.history.specs.declared.event.Event.{Event}
@@ -235,7 +235,7 @@ built_answered mode events d split places order valid placed k j n h op r reply 
     let heard : own.1.heard ≡ Some (k, r) = (split.heard d own.0 own.1 own.2 k r).1 (subst (λ m. IsReplyAt events k m r) (sym number) reply) in
     let named = valid.answered own.0 own.1 own.2 (some_heard own.1.heard k r heard) in
     let q = tells_of (records_of events d) places order named.0 named.1 placed named.2 in
-    let one : q.2.named ≡ own.1 = same_some q.2.named own.1 (sym q.2.place_of ∙ (ap (λ c. slice_get (records_of events d) c) named.3 ∙ own.2)) in
+    let one : q.2.named ≡ own.1 = same_record events d own.0 q.2.named own.1 (subst (λ k. IsRecordAt events d k q.2.named) named.3 q.2.place_of) own.2 in
     (named.0, q.0, q.1, q.2.number ∙ (ap (λ c. c.no) one ∙ number), tells_reply q.2.named.heard named.1.pair q.0.entry k r (ap (λ c. c.heard) one ∙ heard) q.2.tells)
 
 less_or_not : (i j : ℕ) → (i < j) ⊎ (j ≤ i)

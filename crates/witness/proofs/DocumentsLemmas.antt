@@ -1,13 +1,12 @@
 -- The documents that are read: one more document, or one more place of the last of them.
-use Rattle.std.proofs.Common.{ℕ, zero, suc, ◌≡◌, ◌<◌, ◌≤◌, ◌+◌, List, [], ◌∷◌, ◌++◌, length, length-append, map, refl, sym, ap, subst, ◌∙◌, arith, Bool, true, false, get_or, Vec, Global, Ok, Err, Result}
-use Rattle.std.specs.Prelude.{if◌then◌else◌, set, nat_lt}
-use Rattle.std.proofs.lemmas.Bool.{lt-ltb, ltb-true}
+use Rattle.std.proofs.Common.{ℕ, zero, suc, ◌≡◌, ◌<◌, ◌+◌, List, [], ◌∷◌, ◌++◌, length, length-append, map, refl, ap, ◌∙◌, arith, get_or, Vec, Global, Ok, Err}
+use Rattle.std.specs.Prelude.{if◌then◌else◌, set}
+use Rattle.std.proofs.lemmas.Bool.{lt-ltb}
 use Rattle.std.proofs.lemmas.List.{map-append}
-use Rattle.history.specs.declared.text_fault.TextCause.{TextCause}
 use Rattle.history.specs.declared.text_fault.TextCause.TheVariants.{Full}
 use Rattle.witness.specs.declared.place.Place.{Place}
 use Rattle.witness.specs.Lines.{doc_places}
-use Rattle.witness.specs.Text.{DocPlaces, Said, document, entries_in, is_begun, most_entries, numbers_of, place, takes, with_said}
+use Rattle.witness.specs.Text.{DocPlaces, Said, document, entries_in, most_entries, numbers_of, place, takes, with_said}
 
 -- ---- room
 

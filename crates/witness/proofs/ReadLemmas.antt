@@ -1,8 +1,8 @@
 -- Reading witness texts: a line, and the lines after it.
-use Rattle.std.proofs.Common.{ℕ, suc, ◌≡◌, ◌<◌, ◌≤◌, ◌+◌, List, [], ◌∷◌, length, refl, sym, ap, subst, ◌∙◌, arith, Bool, true, false, Option, Some, None, Ok, Err, Result, add-one}
-use Rattle.std.specs.Prelude.{IsUtf8, if◌then◌else◌, nat_lt}
+use Rattle.std.proofs.Common.{ℕ, suc, ◌≡◌, ◌<◌, ◌≤◌, ◌+◌, List, [], ◌∷◌, length, refl, sym, ap, ◌∙◌, arith, Bool, true, false, Option, Some, None, Ok, Err, add-one}
+use Rattle.std.specs.Prelude.{if◌then◌else◌, nat_lt}
 use Rattle.std.specs.Str.{is_utf8}
-use Rattle.std.proofs.lemmas.Bool.{ltb-true, true≢false}
+use Rattle.std.proofs.lemmas.Bool.{ltb-true}
 use Rattle.std.proofs.lemmas.Str.{IsUtf8-from_is_utf8, is_utf8-from_IsUtf8}
 use Rattle.serde_json.specs.Data.{Data}
 use Rattle.serde_json.specs.Read.{read}
@@ -12,8 +12,7 @@ use Rattle.history.specs.Text.{is_blank, lines_of, longest_line, most_lines}
 use Rattle.history.specs.declared.text_fault.LineFault.{LineFault}
 use Rattle.history.specs.declared.text_fault.LineFault.TheVariants.{Told, NoMemory}
 use Rattle.history.specs.declared.text_fault.TextCause.{TextCause}
-use Rattle.history.specs.declared.text_fault.TextCause.TheVariants.{Lines, Long, Json}
-use Rattle.history.specs.declared.text_fault.TextFault.{TextFault}
+use Rattle.history.specs.declared.text_fault.TextCause.TheVariants.{Lines, Long}
 use Rattle.witness.specs.Lines.{IfTextTold}
 use Rattle.witness.specs.Text.{DocPlaces, line_value, read_line, read_lines, read_on, takes_value, witness_text}
 

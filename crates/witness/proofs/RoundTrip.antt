@@ -1,22 +1,18 @@
 -- What is written of documents and their places is read back.
-use Rattle.std.proofs.Common.{ℕ, suc, ◌≡◌, ◌<◌, ◌≤◌, ◌+◌, ◌*◌, ◌^◌, List, [], ◌∷◌, ◌++◌, length, length-append, map, All, refl, sym, ap, subst, ◌∙◌, arith, Bool, true, false, Option, Some, None, Ok, Err, append_assoc, append-nil, decimal, codes}
-use Rattle.std.specs.Prelude.{flat_map, if◌then◌else◌, IfSome, ◌&&◌, nat_le, nat_lt}
+use Rattle.std.proofs.Common.{ℕ, suc, ◌≡◌, ◌<◌, ◌≤◌, ◌+◌, ◌*◌, ◌^◌, List, [], ◌∷◌, ◌++◌, length, length-append, map, All, refl, sym, ap, ◌∙◌, arith, Bool, true, false, Option, Some, None, Ok, Err, append_assoc, append-nil, decimal, codes}
+use Rattle.std.specs.Prelude.{if◌then◌else◌, IfSome, ◌&&◌, nat_le, nat_lt}
 use Rattle.std.proofs.lemmas.Bool.{and_from, lt-ltb, le-leb}
 use Rattle.std.proofs.lemmas.List.{map-append}
 use Rattle.std.proofs.lemmas.List.Elements.{All-cons, All-head, All-nil, All-tail}
 use Rattle.json.specs.Print.{quoted}
-use Rattle.serde_json.specs.Data.{Data, number, unsigned}
-use Rattle.serde_json.specs.Find.{get}
 use Rattle.serde_json.specs.Written.{compact_text}
 use Rattle.version_pair.specs.Id.{IsIdLength}
-use Rattle.history.specs.Json.{IsJsonLine}
 use Rattle.history.specs.Text.{is_blank, lines_of, longest_line, most_lines}
 use Rattle.history.specs.declared.fields.Number.TheVariants.{Whole}
 use Rattle.history.specs.declared.text_fault.TextCause.TheVariants.{Id, Range}
-use Rattle.history.specs.declared.text_fault.TextFault.{TextFault}
 use Rattle.history.proofs.WrittenLines.{decimal_length, no_line_feed-compact_text, one_line, quoted_length}
 use Rattle.witness.specs.Lines.{HasId, IsReadable}
-use Rattle.witness.specs.Text.{AreWithinLimits, DocPlaces, Numbers, Said, document, entries_in, is_begun, line_value, most_entries, place, place_value, read_line, read_lines, said_by, says, says_numbers, takes, takes_value, value_of, with_said, witness_text, written}
+use Rattle.witness.specs.Text.{AreWithinLimits, DocPlaces, Numbers, Said, document, entries_in, is_begun, most_entries, place, place_value, read_line, read_lines, said_by, says, says_numbers, takes, takes_value, value_of, with_said, witness_text, written}
 use Rattle.witness.proofs.DocumentsLemmas.{entries_in-append, takes_room}
 use Rattle.witness.proofs.ReadLemmas.{line_read, line_value_is, lines_on}
 

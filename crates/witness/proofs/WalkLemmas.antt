@@ -1,5 +1,5 @@
 -- The check's walk over places: what is late, what steps, and what holds after one place more.
-use Rattle.std.proofs.Common.{ℕ, zero, suc, ◌≡◌, ◌≢◌, ◌<◌, ◌≤◌, ◌↔◌, ◌⊎◌, inl, inr, List, [], ◌∷◌, ◌++◌, length, take, refl, sym, ap, subst, ◌∙◌, arith, Bool, true, false, Option, Some, None, slice_get}
+use Rattle.std.proofs.Common.{ℕ, zero, suc, ◌≡◌, ◌<◌, ◌≤◌, ◌↔◌, ◌⊎◌, inl, inr, List, [], ◌∷◌, ◌++◌, length, take, refl, sym, ap, subst, ◌∙◌, arith, Bool, true, false, Option, Some, None, slice_get}
 use Rattle.std.specs.Prelude.{IsSome, MatchOption, set}
 use Rattle.std.proofs.Math.Seq.{take-length}
 use Rattle.version_pair.specs.declared.pair.Pair.{Pair}
@@ -11,12 +11,12 @@ use Rattle.doc_register.specs.declared.state.DocState.TheVariants.{Never}
 use Rattle.doc_register.specs.Register.{performed_reply}
 use Rattle.doc_register.proofs.RunLaws.{step_decided}
 use Rattle.history.specs.declared.record.Rec.{Rec}
-use Rattle.history.proofs.ListLemmas.{compare, get_front, get_last, get_snoc, get_within, none_is_not_some, same_some}
+use Rattle.history.proofs.ListLemmas.{get_front, get_last, get_snoc, get_within, none_is_not_some, same_some}
 use Rattle.witness.specs.declared.broken.Broken.{Broken}
 use Rattle.witness.specs.declared.broken.Broken.TheVariants.{Stranger, Twice, Absent, Late, PairMissing, PairGiven, Illegal, NoMemory}
 use Rattle.witness.specs.declared.place.Place.{Place}
 use Rattle.witness.specs.Places.{AreRight, AreValid, GivesAsMay, IsHeardBefore, IsNamed, IsPlaceOf, IsPlaceRun, IsUnansweredGet, StepsAt}
-use Rattle.witness.specs.Faults.{IsFirstFault, IsFresh, IsLate, IsReached, IsStranger}
+use Rattle.witness.specs.Faults.{IsFirstFault, IsFresh, IsLate, IsReached}
 use Rattle.witness.specs.Walks.{AllNamedBelow, IsAbsent, IsNextStep, IsWalked}
 
 -- ---- late

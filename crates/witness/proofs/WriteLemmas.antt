@@ -1,12 +1,11 @@
 -- Writing witness texts: the lines of documents and places, one after another.
-use Rattle.std.proofs.Common.{ℕ, suc, ◌≡◌, ◌<◌, ◌≤◌, ◌+◌, List, [], ◌∷◌, ◌++◌, length, map, take, All, refl, sym, ap, subst, ◌∙◌, arith, Some, slice_get, append_assoc, append-nil, add-one}
-use Rattle.std.specs.Prelude.{flat_map}
+use Rattle.std.proofs.Common.{ℕ, ◌≡◌, ◌+◌, List, [], ◌∷◌, ◌++◌, length, map, take, refl, sym, ap, subst, ◌∙◌, Some, slice_get, append_assoc, append-nil, add-one}
 use Rattle.std.proofs.Math.Seq.{take-length}
 use Rattle.std.proofs.lemmas.Grind.{flat_map-append}
 use Rattle.std.proofs.lemmas.List.Elements.{All-append, All-nil}
 use Rattle.std.proofs.lemmas.List.{map-append}
 use Rattle.serde_json.specs.Written.{compact_text}
-use Rattle.witness.specs.Lines.{HasId, IsReadable, IsWrittenOn, witness_places}
+use Rattle.witness.specs.Lines.{IsReadable, IsWrittenOn, witness_places}
 use Rattle.witness.specs.Text.{DocPlaces, Said, document, numbers_of, place, said_by, value_of, written}
 use Rattle.witness.specs.Witness.{Witness}
 use Rattle.witness.specs.declared.place.Place.{Place}

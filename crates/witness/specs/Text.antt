@@ -1,5 +1,5 @@
 -- Witness texts: what each line says, how a text is read, and how it is written.
-use Rattle.std.specs.Prelude.{ℕ, suc, ◌<◌, ◌≤◌, All, ◌+◌, ◌^◌, ◌&&◌, List, [], ◌∷◌, ◌++◌, Bool, true, false, nat_le, nat_lt, if◌then◌else◌, Option, Some, None, option_map, map, flat_map, fold, length, codes, Result, Ok, Err}
+use Rattle.std.specs.Prelude.{ℕ, suc, ◌<◌, ◌≤◌, All, ◌+◌, ◌^◌, ◌&&◌, List, [], ◌∷◌, ◌++◌, Bool, true, false, nat_le, nat_lt, if◌then◌else◌, Option, Some, None, option_map, map, flat_map, length, codes, Result, Ok, Err}
 use Rattle.std.specs.Str.{is_utf8}
 use Rattle.serde_json.specs.Data.{Data, Num, unsigned, number, string, object, member, no_members}
 use Rattle.serde_json.specs.Find.{as_number, as_str, get}

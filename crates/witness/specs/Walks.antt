@@ -1,11 +1,11 @@
 -- What the check has done after some places: aids of its contracts.
-use Rattle.std.specs.Prelude.{◌≡◌, ℕ, ◌<◌, ◌≤◌, ◌⊎◌, ◌↔◌, List, Bool, true, Option, Some, None, IsSome, length, slice_get, take}
+use Rattle.std.specs.Prelude.{◌≡◌, ℕ, ◌<◌, ◌≤◌, ◌⊎◌, ◌↔◌, List, Bool, true, Some, IsSome, length, slice_get}
 use Rattle.doc_register.specs.declared.state.Conflicts.{Conflicts}
 use Rattle.doc_register.specs.declared.state.DocState.{DocState}
 use Rattle.doc_register.specs.declared.state.DocState.TheVariants.{Never}
 use Rattle.history.specs.declared.record.Rec.{Rec}
 use Rattle.witness.specs.declared.place.Place.{Place}
-use Rattle.witness.specs.Places.{AreRight, GivesAsMay, IsNamed, IsPlaceOf, IsPlaceRun, IsUnansweredGet, StepsAt}
+use Rattle.witness.specs.Places.{AreRight, GivesAsMay, IsNamed, IsPlaceOf, IsPlaceRun, StepsAt}
 use Rattle.witness.specs.Faults.{IsFresh, IsLate}
 
 -- The places at the front are right and end in the state; the marks tell which records they name; and no call among

@@ -1,4 +1,4 @@
-use Rattle.std.proofs.Common.{arith, rules, ◌≡◌, ◌+◌, length, add-one, ap, sym, subst, refl, Some, slice_get, take}
+use Rattle.std.proofs.Common.{arith, ◌≡◌, length, add-one, sym, subst, refl, take}
 use Rattle.std.proofs.lemmas.Option.{slice_get_read}
 use Rattle.witness.specs.Walks.{AllNamedBelow, IsAbsent, IsWalked}
 use Rattle.witness.proofs.WalkLemmas.{all_valid, one_absent, walked_all, walked_next, within_marks}

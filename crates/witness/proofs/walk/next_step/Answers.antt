@@ -1,6 +1,5 @@
 use Rattle.std.proofs.Common.{rules, ◌≡◌, refl, sym, ◌∙◌, Some, slice_get, ◌⊎◌}
 use Rattle.std.proofs.lemmas.Option.{slice_get_read}
-use Rattle.witness.specs.Faults.{IsFresh}
 use Rattle.witness.specs.Places.{GivesAsMay, IsHeardBefore, IsUnansweredGet}
 use Rattle.witness.proofs.WalkLemmas.{fresh_at, late_is, late_not, pair_fault_is, stuck_along}
 use Rattle.witness.proofs.walk.next_step.Goals as goal

@@ -1,4 +1,4 @@
-use Rattle.std.proofs.Common.{◌≡◌, ◌≤◌, ◌+◌, arith, rules, length, sym, ap, subst, ◌∙◌, Ok, Err, Fits, w64}
+use Rattle.std.proofs.Common.{◌≡◌, ◌≤◌, ◌+◌, arith, rules, length, sym, ap, subst, ◌∙◌, Ok, Err}
 use Rattle.history.specs.Text.{most_lines}
 use Rattle.witness.specs.Lines.{IfTextTold}
 use Rattle.witness.specs.Text.{read_line, witness_text}

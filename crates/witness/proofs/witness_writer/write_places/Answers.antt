@@ -1,4 +1,4 @@
-use Rattle.std.proofs.Common.{arith, refl, Some, ◌≡◌, slice_get}
+use Rattle.std.proofs.Common.{arith, refl}
 use Rattle.std.proofs.lemmas.Option.{slice_get_read}
 use Rattle.witness.proofs.WriteLemmas.{written_none, written_place}
 use Rattle.witness.proofs.witness_writer.write_places.Goals as goal

@@ -1,4 +1,4 @@
-use Rattle.std.proofs.Common.{arith, refl, [], Some, ◌≡◌, ◌∙◌, ap, length, slice_get, map}
+use Rattle.std.proofs.Common.{arith, refl, [], ◌≡◌, ◌∙◌, ap, length, map}
 use Rattle.std.proofs.lemmas.Option.{slice_get_read}
 use Rattle.witness.specs.Lines.{IsWrittenOn, witness_places}
 use Rattle.witness.specs.Text.{said_by, witness_text}

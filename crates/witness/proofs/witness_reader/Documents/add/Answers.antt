@@ -1,6 +1,6 @@
-use Rattle.std.proofs.Common.{◌≡◌, ◌+◌, ◌≤◌, ◌<◌, ◌-◌, suc, length, arith, rules, map, sym, ap, ◌∙◌, Ok, set, List, subst}
+use Rattle.std.proofs.Common.{◌≡◌, ◌+◌, ◌<◌, ◌-◌, length, arith, rules, map, sym, ap, ◌∙◌, Ok, set, subst}
 use Rattle.witness.specs.Lines.{doc_places}
-use Rattle.witness.specs.Text.{DocPlaces, entries_in, most_entries, with_said, numbers_of, place}
+use Rattle.witness.specs.Text.{entries_in, most_entries, with_said, numbers_of, place}
 use Rattle.witness.proofs.DocumentsLemmas.{doc_count, entries_in-placed, placed_more, placed_same, takes_room}
 use Rattle.witness.proofs.witness_reader.Documents.add.Goals as goal
 

@@ -1,6 +1,6 @@
-use Rattle.std.proofs.Common.{◌≡◌, ◌+◌, ◌≤◌, ◌<◌, arith, rules, map, sym, ap, ◌∙◌}
+use Rattle.std.proofs.Common.{◌≡◌, ◌+◌, arith, map, ap, ◌∙◌}
 use Rattle.witness.specs.Lines.{doc_places}
-use Rattle.witness.specs.Text.{entries_in, most_entries}
+use Rattle.witness.specs.Text.{entries_in}
 use Rattle.witness.proofs.DocumentsLemmas.{begun_more, entries_in-begun}
 use Rattle.witness.proofs.witness_reader.Documents.begin.Goals as goal
 

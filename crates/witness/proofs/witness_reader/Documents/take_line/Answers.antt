@@ -1,9 +1,9 @@
-use Rattle.std.proofs.Common.{◌≡◌, ◌≤◌, arith, rules, length, sym, ap, subst, ◌∙◌, Ok, Err, false, Some, None}
+use Rattle.std.proofs.Common.{◌≡◌, arith, rules, sym, ap, subst, ◌∙◌, Ok, Err, false, Some}
 use Rattle.std.specs.Prelude.{OnOk, IfErr}
 use Rattle.serde_json.specs.View.{view}
 use Rattle.history.specs.Faults.{IfTold}
-use Rattle.history.specs.Text.{is_blank, longest_line, most_lines}
-use Rattle.witness.specs.Text.{line_value, read_line, takes_value}
+use Rattle.history.specs.Text.{is_blank}
+use Rattle.witness.specs.Text.{read_line, takes_value}
 use Rattle.witness.proofs.ReadLemmas.{line_read, line_value_is, line_value_none, told_so}
 use Rattle.witness.proofs.witness_reader.Documents.take_line.Goals as goal
 
