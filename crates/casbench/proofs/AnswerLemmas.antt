@@ -9,7 +9,7 @@ use Rattle.history.specs.declared.event.Event.{Event}
 use Rattle.history.specs.declared.text_fault.TextCause.{TextCause}
 use Rattle.history.specs.declared.text_fault.TextCause.TheVariants.{Lines, Long}
 use Rattle.history.specs.declared.text_fault.TextFault.{TextFault}
-use Rattle.history.specs.Events.{IsHistory, documents_of}
+use Rattle.history.specs.Events.{documents_of}
 use Rattle.history.specs.Text.{IsHistoryText, is_blank, lines_of, longest_line, most_lines}
 use Rattle.witness.specs.Lines.{doc_places, witness_places}
 use Rattle.witness.specs.declared.place.Place.{Place}

@@ -13,7 +13,7 @@ use Rattle.history.specs.Events.{is_any_call, is_call_of, is_same, places_from, 
 use Rattle.history.proofs.ListLemmas.{get_within}
 use Rattle.history.proofs.RecordLemmas.{take_next}
 use Rattle.witness.specs.declared.place.Place.{Place}
-use Rattle.witness.specs.Places.{AreRight, IsPlaceOf}
+use Rattle.witness.specs.Places.{AreRight}
 use Rattle.casbench.specs.Counts.{calls_of}
 
 -- ---- distinct numbers among others are not more

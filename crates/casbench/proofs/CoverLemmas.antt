@@ -1,5 +1,5 @@
 -- Entries of a witness text against a history of one document: its faults, and when they cover it.
-use Rattle.std.proofs.Common.{ℕ, zero, suc, ◌≡◌, ◌≢◌, ◌<◌, ◌≤◌, List, [], ◌∷◌, ◌++◌, length, map, take, refl, sym, ap, subst, ◌∙◌, arith, Option, Some, None, slice_get, ◌⊎◌, inl, inr, Vec, Global}
+use Rattle.std.proofs.Common.{ℕ, zero, suc, ◌≡◌, ◌<◌, ◌≤◌, List, [], ◌∷◌, length, map, refl, sym, ap, subst, ◌∙◌, arith, Some, slice_get, inl, inr, Vec, Global}
 use Rattle.std.specs.Prelude.{option_map}
 use Rattle.doc_register.specs.declared.state.Conflicts.{Conflicts}
 use Rattle.history.specs.declared.event.Event.{Event}
@@ -13,7 +13,7 @@ use Rattle.witness.specs.Places.{AreValid}
 use Rattle.witness.specs.Witness.{Witness}
 use Rattle.casbench.specs.declared.verify.VerifyFault.{VerifyFault}
 use Rattle.casbench.specs.declared.verify.VerifyFault.TheVariants as fault
-use Rattle.casbench.specs.Witnesses.{AreCover, AreFine, Entry, IsAtEntry, IsEntered, IsFaultOfFirst, IsFaultOfPlaces, IsFaultOfSecond, IsFirstOf, IsFirstVerifyFault, IsKnown, IsWitnessOf, IsWitnessOfFirst, entry_of}
+use Rattle.casbench.specs.Witnesses.{AreCover, AreFine, Entry, IsEntered, IsFaultOfFirst, IsFaultOfPlaces, IsFaultOfSecond, IsFirstOf, IsFirstVerifyFault, IsKnown, IsWitnessOf, IsWitnessOfFirst, entry_of}
 
 -- ---- entries
 

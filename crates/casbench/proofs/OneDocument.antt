@@ -1,5 +1,5 @@
 -- A history of at most one document: a witness of it is an order that explains it.
-use Rattle.std.proofs.Common.{ℕ, zero, suc, ◌≡◌, ◌<◌, ◌≤◌, ◌+◌, ◌-◌, ◌^◌, List, [], ◌∷◌, ◌++◌, length, All, refl, sym, ap, subst, ◌∙◌, arith, Option, Some, None, Bool, true, false, cond, slice_get, map, Ok}
+use Rattle.std.proofs.Common.{ℕ, zero, suc, ◌≡◌, ◌<◌, ◌≤◌, ◌-◌, ◌^◌, List, [], ◌∷◌, length, All, refl, sym, ap, subst, ◌∙◌, arith, Option, Some, None, Bool, true, false, cond, slice_get, map}
 use Rattle.std.specs.Prelude.{fold, if◌then◌else◌, is_some}
 use Rattle.std.specs.Option.{option_to_list}
 use Rattle.std.specs.Map.{lookup}
@@ -23,7 +23,7 @@ use Rattle.witness.specs.declared.place.Place.{Place}
 use Rattle.witness.specs.Laws.{ArePlacedBy, ExplainsDocument}
 use Rattle.witness.specs.Lines.{witness_places}
 use Rattle.witness.specs.Places.{AreValid}
-use Rattle.witness.specs.Text.{AreWithinLimits, DocPlaces, Numbers, entries_in, most_entries, numbers_of}
+use Rattle.witness.specs.Text.{AreWithinLimits, DocPlaces, Numbers, numbers_of}
 use Rattle.witness.specs.Witness.{Witness}
 use Rattle.witness.proofs.DocumentLaws.{places_are_orders}
 use Rattle.casbench.specs.Counts.{calls_of}

@@ -1,5 +1,5 @@
 -- The witness of a history of at most one document, and covers: the entries of a witness text that are one.
-use Rattle.std.specs.Prelude.{◌≡◌, ◌≢◌, ◌<◌, ◌⊎◌, ℕ, List, [], ◌∷◌, Option, Some, None, IfSome, map, slice_get, take, Vec}
+use Rattle.std.specs.Prelude.{◌≡◌, ◌≢◌, ◌<◌, ◌⊎◌, ℕ, List, [], ◌∷◌, Option, Some, None, map, slice_get, take, Vec}
 use Rattle.std.specs.declared.alloc.Global.{Global}
 use Rattle.doc_register.specs.declared.state.Conflicts.{Conflicts}
 use Rattle.history.specs.declared.event.Event.{Event}

@@ -1,4 +1,4 @@
-use Rattle.std.proofs.Common.{Some, ◌≡◌, ◌∙◌, ap, sym, refl}
+use Rattle.std.proofs.Common.{Some, ◌∙◌, ap, sym, refl}
 use Rattle.casbench.proofs.CoverLemmas.{explained_one}
 use Rattle.casbench.proofs.explanation.explain_document.Goals as goal
 

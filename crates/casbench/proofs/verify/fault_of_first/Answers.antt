@@ -1,4 +1,4 @@
-use Rattle.std.proofs.Common.{◌≡◌, false, true, refl, arith, rules, Some, slice_get, sym, ap, ◌∙◌}
+use Rattle.std.proofs.Common.{◌≡◌, false, true, refl, rules, Some, slice_get, sym, ap, ◌∙◌}
 use Rattle.std.proofs.lemmas.Option.{slice_get_read}
 use Rattle.casbench.proofs.CoverLemmas.{first_of, fault_other}
 use Rattle.casbench.proofs.verify.fault_of_first.Goals as goal

@@ -1,4 +1,4 @@
-use Rattle.std.proofs.Common.{◌≡◌, ◌<◌, ◌∙◌, length, map, rules, subst, sym, arith}
+use Rattle.std.proofs.Common.{◌≡◌, ◌<◌, length, map, rules, subst, sym}
 use Rattle.history.specs.Events.{documents_of}
 use Rattle.casbench.specs.Witnesses.{IsFirstVerifyFault, entry_of}
 use Rattle.casbench.proofs.CoverLemmas.{stranger_of_none}

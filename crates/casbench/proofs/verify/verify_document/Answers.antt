@@ -1,6 +1,6 @@
-use Rattle.std.proofs.Common.{◌≡◌, ◌≤◌, ◌≢◌, length, map, rules, subst, sym, ◌∙◌}
-use Rattle.casbench.specs.Witnesses.{IsFaultOfFirst, IsFaultOfPlaces, IsFaultOfSecond, IsFirstOf, IsFirstVerifyFault, IsWitnessOfFirst, entry_of}
-use Rattle.casbench.proofs.CoverLemmas.{covers, entry_count, told_first, told_places, told_second}
+use Rattle.std.proofs.Common.{◌≤◌, length, map, subst, sym}
+use Rattle.casbench.specs.Witnesses.{IsFaultOfSecond, IsFirstOf, entry_of}
+use Rattle.casbench.proofs.CoverLemmas.{covers, entry_count, told_places, told_second}
 use Rattle.casbench.proofs.verify.verify_document.Goals as goal
 
 pub returns-in-Some-later : goal.returns-in-Some-later

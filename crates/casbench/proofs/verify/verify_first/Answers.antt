@@ -1,4 +1,4 @@
-use Rattle.std.proofs.Common.{◌≡◌, refl, rules, Some, slice_get}
+use Rattle.std.proofs.Common.{◌≡◌, refl, Some, slice_get}
 use Rattle.std.proofs.lemmas.Option.{slice_get_read}
 use Rattle.casbench.proofs.CoverLemmas.{first_is, first_wrong}
 use Rattle.casbench.proofs.verify.verify_first.Goals as goal

@@ -1,4 +1,4 @@
-use Rattle.std.proofs.Common.{arith, sym, ◌≤◌, ◌≡◌}
+use Rattle.std.proofs.Common.{arith, ◌≤◌}
 use Rattle.casbench.specs.Counts.{calls_of}
 use Rattle.casbench.specs.Explained.{placed_in}
 use Rattle.casbench.proofs.OneDocument.{has_order, placed_few}
