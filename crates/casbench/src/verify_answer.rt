@@ -223,3 +223,6 @@ pub fn verify_answer_to<Q: Read>(
         Err(ReadFault::NoMemory) => Err(InputFault::NoMemory),
     }
 }
+
+#[cfg(test)]
+mod tests;

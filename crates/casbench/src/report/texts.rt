@@ -132,3 +132,186 @@ pub const SECOND_REPLY: &str = r#"{"e":"call","n":0,"id":"d","op":"index","k":1}
 pub const SHARD_MOVED: &str = r#"{"e":"call","n":0,"id":"d","op":"index","k":1}
 {"e":"call","n":1,"id":"d","op":"get","shard":1}
 "#;
+
+pub const DOCUMENTS_INTERLEAVED: &str = r#"{"e":"call","n":0,"id":"a","op":"index","k":1}
+{"e":"call","n":1,"id":"b","op":"index","k":2}
+{"e":"reply","n":0,"status":201,"body":{"_index":"i","_id":"a","_version":1,"result":"created","_shards":{"total":2,"successful":1,"failed":0},"_seq_no":0,"_primary_term":1}}
+{"e":"reply","n":1,"status":201,"body":{"_index":"i","_id":"b","_version":1,"result":"created","_shards":{"total":2,"successful":1,"failed":0},"_seq_no":1,"_primary_term":1}}
+{"e":"call","n":2,"id":"a","op":"get"}
+{"e":"call","n":3,"id":"b","op":"get"}
+{"e":"reply","n":2,"status":200,"body":{"_index":"i","_id":"a","_version":1,"_seq_no":0,"_primary_term":1,"found":true,"_source":{"k":1}}}
+{"e":"reply","n":3,"status":200,"body":{"_index":"i","_id":"b","_version":1,"_seq_no":1,"_primary_term":1,"found":true,"_source":{"k":2}}}
+"#;
+
+pub const VERIFY_GOOD_ORDER: &str = r#"{"e":"call","n":0,"id":"d","op":"index","k":1}
+{"e":"reply","n":0,"status":201,"body":{"_index":"i","_id":"d","_version":1,"result":"created","_shards":{"total":2,"successful":1,"failed":0},"_seq_no":0,"_primary_term":1}}
+{"e":"call","n":1,"id":"d","op":"index","k":2,"if_primary_term":1,"if_seq_no":0}
+{"e":"call","n":2,"id":"d","op":"get"}
+{"e":"call","n":3,"id":"d","op":"get"}
+{"e":"reply","n":2,"status":200,"body":{"_index":"i","_id":"d","_version":1,"_seq_no":1,"_primary_term":1,"found":true,"_source":{"k":2}}}
+{"e":"reply","n":3,"status":200,"body":{"_index":"i","_id":"d","_version":1,"_seq_no":0,"_primary_term":1,"found":true,"_source":{"k":1}}}
+{"e":"reply","n":1,"status":200,"body":{"_index":"i","_id":"d","_version":1,"result":"updated","_shards":{"total":2,"successful":1,"failed":0},"_seq_no":1,"_primary_term":1}}
+"#;
+
+pub const VERIFY_LATE: &str = r#"{"e":"call","n":0,"id":"d","op":"index","k":1}
+{"e":"reply","n":0,"status":201,"body":{"_index":"i","_id":"d","_version":1,"result":"created","_shards":{"total":2,"successful":1,"failed":0},"_seq_no":0,"_primary_term":1}}
+{"e":"call","n":1,"id":"d","op":"index","k":2,"if_primary_term":1,"if_seq_no":0}
+{"e":"call","n":2,"id":"d","op":"get"}
+{"e":"reply","n":2,"status":200,"body":{"_index":"i","_id":"d","_version":1,"_seq_no":1,"_primary_term":1,"found":true,"_source":{"k":2}}}
+{"e":"call","n":3,"id":"d","op":"get"}
+{"e":"reply","n":3,"status":200,"body":{"_index":"i","_id":"d","_version":1,"_seq_no":0,"_primary_term":1,"found":true,"_source":{"k":1}}}
+{"e":"reply","n":1,"status":200,"body":{"_index":"i","_id":"d","_version":1,"result":"updated","_shards":{"total":2,"successful":1,"failed":0},"_seq_no":1,"_primary_term":1}}
+"#;
+
+pub const LATE_NOT_NEIGHBOURS: &str = r#"{"e":"call","n":0,"id":"d","op":"get"}
+{"e":"call","n":1,"id":"d","op":"get"}
+{"e":"reply","n":1,"status":404,"body":{"_index":"i","_id":"d","found":false}}
+{"e":"call","n":2,"id":"d","op":"get"}
+{"e":"reply","n":2,"status":404,"body":{"_index":"i","_id":"d","found":false}}
+{"e":"reply","n":0,"status":404,"body":{"_index":"i","_id":"d","found":false}}
+"#;
+
+pub const PENDING_INDEX: &str = r#"{"e":"call","n":0,"id":"d","op":"index","k":1}
+"#;
+
+pub const SHOWN_WHILE_PENDING: &str = r#"{"e":"call","n":0,"id":"d","op":"index","k":1}
+{"e":"call","n":1,"id":"d","op":"get"}
+{"e":"reply","n":1,"status":200,"body":{"_index":"i","_id":"d","_version":1,"_seq_no":4,"_primary_term":2,"found":true,"_source":{"k":1}}}
+"#;
+
+pub const PENDING_GET: &str = r#"{"e":"call","n":0,"id":"d","op":"get"}
+"#;
+
+pub const VERIFY_ILLEGAL_WITNESS: &str = r#"{"doc":"d"}
+{"rec":0}
+{"rec":2}
+{"rec":1}
+{"rec":3}
+"#;
+
+pub const VERIFY_ABSENT_WITNESS: &str = r#"{"doc":"d"}
+{"rec":0}
+{"rec":3}
+{"rec":1}
+"#;
+
+pub const LATE_NOT_NEIGHBOURS_MENDED_WITNESS: &str = r#"{"doc":"d"}
+{"rec":1}
+{"rec":0}
+{"rec":2}
+"#;
+
+pub const PLACE_FIRST_WITNESS: &str = r#"{"rec":0}
+"#;
+
+pub const EMPTY_ID_WITNESS: &str = r#"{"doc":""}
+"#;
+
+pub const HALF_PAIR_WITNESS: &str = r#"{"doc":"d"}
+{"rec":0,"seq":1}
+"#;
+
+pub const RECORD_PAST_RANGE_WITNESS: &str = r#"{"doc":"d"}
+{"rec":4294967296}
+"#;
+
+pub const TERM_ZERO_WITNESS: &str = r#"{"doc":"d"}
+{"rec":0,"seq":0,"term":0}
+"#;
+
+pub const VERIFY_DOCUMENT_STRANGER_WITNESS: &str = r#"{"doc":"x"}
+{"doc":"a"}
+{"rec":0}
+{"rec":1}
+{"doc":"b"}
+{"rec":0}
+{"rec":1}
+"#;
+
+pub const VERIFY_DOCUMENT_TWICE_WITNESS: &str = r#"{"doc":"a"}
+{"rec":0}
+{"rec":1}
+{"doc":"a"}
+{"rec":0}
+{"rec":1}
+"#;
+
+pub const VERIFY_DOCUMENT_MISSING_WITNESS: &str = r#"{"doc":"a"}
+{"rec":0}
+{"rec":1}
+"#;
+
+pub const VERIFY_GOOD_ORDER_WITNESS: &str = r#"{"doc":"d"}
+{"rec":0}
+{"rec":3}
+{"rec":1}
+{"rec":2}
+"#;
+
+pub const LATE_NOT_NEIGHBOURS_WITNESS: &str = r#"{"doc":"d"}
+{"rec":2}
+{"rec":0}
+{"rec":1}
+"#;
+
+pub const INDEX_THEN_GET_WITNESS: &str = r#"{"doc":"d"}
+{"rec":0}
+{"rec":1}
+"#;
+
+pub const DOCUMENT_ALONE_WITNESS: &str = r#"{"doc":"d"}
+"#;
+
+pub const OTHER_DOCUMENT_FIRST_WITNESS: &str = r#"{"doc":"x"}
+{"doc":"d"}
+{"rec":0}
+{"rec":1}
+"#;
+
+pub const OTHER_DOCUMENT_SECOND_WITNESS: &str = r#"{"doc":"d"}
+{"rec":0}
+{"rec":1}
+{"doc":"x"}
+"#;
+
+pub const DOCUMENT_TWICE_WITNESS: &str = r#"{"doc":"d"}
+{"rec":0}
+{"rec":1}
+{"doc":"d"}
+{"rec":0}
+{"rec":1}
+"#;
+
+pub const LATER_ENTRY_AFTER_A_FAULT_WITNESS: &str = r#"{"doc":"d"}
+{"rec":1}
+{"doc":"x"}
+"#;
+
+pub const STRANGE_PLACE_WITNESS: &str = r#"{"doc":"d"}
+{"rec":0}
+{"rec":2}
+"#;
+
+pub const PLACE_TWICE_WITNESS: &str = r#"{"doc":"d"}
+{"rec":0}
+{"rec":0}
+"#;
+
+pub const PLACE_ALONE_WITNESS: &str = r#"{"doc":"d"}
+{"rec":0}
+"#;
+
+pub const PAIR_GIVEN_WITNESS: &str = r#"{"doc":"d"}
+{"rec":0,"seq":0,"term":1}
+{"rec":1}
+"#;
+
+pub const SHOWN_PAIR_WITNESS: &str = r#"{"doc":"d"}
+{"rec":0,"seq":4,"term":2}
+{"rec":1}
+"#;
+
+pub const OTHER_PAIR_WITNESS: &str = r#"{"doc":"d"}
+{"rec":0,"seq":2,"term":4}
+{"rec":1}
+"#;

@@ -145,6 +145,7 @@ fn runs(
     alloc: Global,
     words: Words<'_>,
     wanted: Result<Status, StreamFault>,
+    text: &str,
     steps: &str,
 ) -> Result<(), Fail> {
     let done = RefCell::new(String::new(alloc));
@@ -154,51 +155,72 @@ fn runs(
     let got = run(alloc, &shelf, input, &mut written, words);
     assert_eq!(rt; got, wanted, "{words:?}");
     assert_eq!(rt; done.try_borrow()?.as_str(), steps, "{words:?}");
-    assert_eq!(rt; written.is_empty(), wanted.is_err(), "{words:?}");
+    assert_eq!(rt; str::from_utf8(written.as_slice())?, text, "{words:?}");
     Ok(())
 }
 
 #[test]
 fn files_of_a_check(rt: HostRuntime) -> Result<(), Fail> {
-    let alloc = rt.alloc();
-    let check = |file| Words::Check { file };
-    runs(&rt, alloc, check(None), Ok(Status::Yes), "")?;
-    runs(
-        &rt,
-        alloc,
-        check(Some("h")),
-        Ok(Status::Yes),
-        "open h;read h;",
-    )?;
+    let line = "yes docs=0 calls=0 left_out=0\n";
     let fault = Err(StreamFault::Read);
-    runs(
-        &rt,
-        alloc,
-        check(Some("broken")),
-        fault,
-        "open broken;read broken;",
-    )?;
-    runs(&rt, alloc, check(Some("absent")), fault, "open absent;")
+    for (file, wanted, text, steps) in [
+        (None, Ok(Status::Yes), line, ""),
+        (Some("h"), Ok(Status::Yes), line, "open h;read h;"),
+        (Some("broken"), fault, "", "open broken;read broken;"),
+        (Some("absent"), fault, "", "open absent;"),
+    ] {
+        runs(&rt, rt.alloc(), Words::Check { file }, wanted, text, steps)?;
+    }
+    Ok(())
 }
 
+// The witness of an empty text is an empty text.
 #[test]
 fn files_of_a_witness(rt: HostRuntime) -> Result<(), Fail> {
-    let alloc = rt.alloc();
-    let file = Some("absent");
     let fault = Err(StreamFault::Read);
-    runs(&rt, alloc, Words::Witness { file }, fault, "open absent;")
+    for (file, wanted, steps) in [
+        (None, Ok(Status::Yes), ""),
+        (Some("h"), Ok(Status::Yes), "open h;read h;"),
+        (Some("broken"), fault, "open broken;read broken;"),
+        (Some("absent"), fault, "open absent;"),
+    ] {
+        runs(&rt, rt.alloc(), Words::Witness { file }, wanted, "", steps)?;
+    }
+    Ok(())
 }
 
 #[test]
 fn files_of_a_verify(rt: HostRuntime) -> Result<(), Fail> {
-    let alloc = rt.alloc();
+    let line = "verified docs=0 calls=0 left_out=0\n";
     let fault = Err(StreamFault::Read);
-    for (history, witness, steps) in [
-        ("absent", "w", "open absent;"),
-        ("h", "absent", "open h;open absent;"),
-        ("w", "lost", "open w;open lost;"),
+    for (history, witness, wanted, text, steps) in [
+        (
+            "h",
+            "w",
+            Ok(Status::Yes),
+            line,
+            "open h;open w;read h;read w;",
+        ),
+        ("broken", "w", fault, "", "open broken;open w;read broken;"),
+        (
+            "h",
+            "broken",
+            fault,
+            "",
+            "open h;open broken;read h;read broken;",
+        ),
+        ("absent", "w", fault, "", "open absent;"),
+        ("h", "absent", fault, "", "open h;open absent;"),
+        ("w", "lost", fault, "", "open w;open lost;"),
     ] {
-        runs(&rt, alloc, Words::Verify { history, witness }, fault, steps)?;
+        runs(
+            &rt,
+            rt.alloc(),
+            Words::Verify { history, witness },
+            wanted,
+            text,
+            steps,
+        )?;
     }
     Ok(())
 }
