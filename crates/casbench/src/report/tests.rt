@@ -4,8 +4,8 @@ use std::io::{self, ErrorKind};
 use std::process::Abort;
 use std::test::Fail;
 
-mod verify;
-mod witness;
+mod verifying;
+mod witnesses;
 
 // A reader that gives its bytes in one read, or a byte each time, and then ends or fails.
 #[derive(Drop)]

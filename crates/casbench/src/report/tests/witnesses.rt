@@ -17,7 +17,7 @@ fn witness_text(
 }
 
 #[test]
-fn witnesses(rt: HostRuntime) -> Result<(), Fail> {
+fn written_witnesses(rt: HostRuntime) -> Result<(), Fail> {
     for (case, text, conflicts, status, witness) in [
         (
             "index-then-get",
