@@ -172,3 +172,6 @@ pub fn read_witness(alloc: Global, text: &[u8]) -> Result<Vec<(DocId, Vec<Place>
     }
     Ok(documents.into_list())
 }
+
+#[cfg(test)]
+mod tests;

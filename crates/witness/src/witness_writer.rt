@@ -101,3 +101,6 @@ pub fn write_witness(alloc: Global, witnesses: &[DocWitness]) -> Result<Vec<u8>,
     }
     Ok(text)
 }
+
+#[cfg(test)]
+mod tests;
