@@ -1,16 +1,28 @@
 -- What is found for a history.
-use Rattle.std.specs.Prelude.{ℕ, List, Option, Some, None, length}
+use Rattle.std.specs.Prelude.{◌≡◌, ◌≤◌, ◌⊎◌, ℕ, List, Option, Some, None, length, option_map, slice_get}
 use Rattle.doc_register.specs.declared.state.Conflicts.{Conflicts}
 use Rattle.history.specs.declared.event.Event.{Event}
+use Rattle.history.specs.declared.record.Rec.{Rec}
+use Rattle.history.specs.Events.{documents_of, records_of}
+use Rattle.witness.specs.declared.place.Place.{Place}
+use Rattle.witness.specs.Places.{AreValid}
 use Rattle.witness.specs.Witness.{Witness}
+use Rattle.casbench.specs.ReplyOrder.{IsReplyOrder}
 use Rattle.casbench.specs.Witnesses.{IsWitnessOf}
 use Rattle.casbench.specs.declared.explanation.Explanation.{Explanation}
 use Rattle.casbench.specs.declared.explanation.Explanation.TheVariants.{Found, NotFound}
 
--- what is found is a witness of the history; that nothing is found says nothing
+-- the order of the replies of the first document is not valid
+abbrev pub IsUnexplained : Conflicts → List Event → Type 0
+IsUnexplained mode events =
+    (records : List Rec) × (places : List Place) × (option_map (λ d. records_of events d.0) (slice_get (documents_of events) 0) ≡ Some records)
+    × IsReplyOrder records places × (¬ AreValid mode records places)
+
+-- What is found is a witness of the history. That nothing is found says that it has more than one document, or that the
+-- order of its replies is not valid.
 abbrev pub IsExplanation : Conflicts → List Event → Explanation → Type 0
 IsExplanation mode events (Found witness) = IsWitnessOf mode events witness
-IsExplanation mode events NotFound = Unit {0}
+IsExplanation mode events NotFound = (2 ≤ length (documents_of events)) ⊎ IsUnexplained mode events
 
 -- how many calls stand in the order
 abbrev pub placed_in : Option Witness → ℕ

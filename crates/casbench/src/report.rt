@@ -1,5 +1,6 @@
 ghost use Rattle.std.specs.Prelude.{◌≡◌, ◌≢◌, ◌≤◌, ℕ, IfOk, IsErrOf, MatchResult, take};
 ghost use Rattle.std.specs.Io.KnownBytes.{Appends, Keeps};
+ghost use Rattle.casbench.specs.Streams.{stream_fault};
 ghost use Rattle.casbench.specs.Verdict.{AnswersInput, HasAnswer, HasFront, IsAnswered, IsCutOff, VerifiesInputs, WitnessesInput};
 
 use crate::answer::{Answer, answer_to, witness_answer_to};
@@ -38,7 +39,7 @@ pub enum StreamFault {
 
 // A fault of the input as one of a stream.
 fn fault_of(fault: InputFault) -> StreamFault
-    ensures { result ≢ StreamFault.Write }
+    ensures { result ≡ stream_fault fault }
 {
     match fault {
         InputFault::Read => StreamFault::Read,

@@ -1,10 +1,10 @@
-ghost use Rattle.std.specs.Prelude.{◌≡◌, IfOk, IfSome, ℕ, List, Ok, map, string_bytes};
+ghost use Rattle.std.specs.Prelude.{◌≡◌, IfOk, IfSome, ℕ, List, Ok, codes, map, string_bytes};
 ghost use Rattle.witness.specs.Lines.{doc_places};
 ghost use Rattle.witness.specs.Text.{witness_text};
 ghost use Rattle.doc_register.specs.declared.state.Conflicts.{Conflicts as Mode};
 ghost use Rattle.history.specs.Events.{IsHistory};
 ghost use Rattle.history.specs.Text.{IsHistoryText};
-ghost use Rattle.casbench.specs.Lines.{broken_entry_line, broken_line as told_line, broken_place_line, broken_places_line, shard_end as told_shard, verified_line};
+ghost use Rattle.casbench.specs.Lines.{broken_entry_line, broken_line as told_line, broken_place_line, broken_places_line, refused_file_line, shard_end as told_shard, verified_line};
 ghost use Rattle.casbench.specs.Verdict.{IsVerifyAnswer};
 
 use crate::answer::Answer;
@@ -115,7 +115,8 @@ fn broken(alloc: Global, fault: VerifyFault) -> Result<Answer, NoMemory>
 
 // The answer to a history's text that was refused.
 fn refused_history(alloc: Global, fault: TextFault) -> Result<Answer, NoMemory>
-    ensures { IfOk result (λ answer. (mode : Mode) (history witness : List ℕ) → IsVerifyAnswer mode history witness answer.status answer.text.items) }
+    ensures line { IfOk result (λ answer. answer.text.items ≡ refused_file_line (codes "history") fault.line fault.cause) }
+    ensures answers { IfOk result (λ answer. (mode : Mode) (history witness : List ℕ) → IsVerifyAnswer mode history witness answer.status answer.text.items) }
 {
     let number = fault.line;
     let cause = name(fault.cause);
@@ -125,7 +126,8 @@ fn refused_history(alloc: Global, fault: TextFault) -> Result<Answer, NoMemory>
 
 // The answer to a witness text that was refused.
 fn refused_witness(alloc: Global, fault: TextFault) -> Result<Answer, NoMemory>
-    ensures { IfOk result (λ answer. (mode : Mode) (history witness : List ℕ) → IsVerifyAnswer mode history witness answer.status answer.text.items) }
+    ensures line { IfOk result (λ answer. answer.text.items ≡ refused_file_line (codes "witness") fault.line fault.cause) }
+    ensures answers { IfOk result (λ answer. (mode : Mode) (history witness : List ℕ) → IsVerifyAnswer mode history witness answer.status answer.text.items) }
 {
     let number = fault.line;
     let cause = name(fault.cause);
