@@ -2,10 +2,10 @@
 use Rattle.std.specs.Prelude.{ℕ}
 use Rattle.clap.specs.declared.error.kind.ErrorKind.{ErrorKind}
 use Rattle.clap.specs.declared.error.kind.ErrorKind.TheVariants.{DisplayHelp, DisplayVersion, OutOfMemory}
-use Rattle.casbench.specs.declared.report.Status.{Status}
-use Rattle.casbench.specs.declared.report.Status.TheVariants.{Yes, No, Refused}
-use Rattle.casbench.specs.declared.report.StreamFault.{StreamFault}
-use Rattle.casbench.specs.declared.report.StreamFault.TheVariants.{Read, Write, NoMemory}
+use Rattle.report.specs.declared.status.Status.{Status}
+use Rattle.report.specs.declared.status.Status.TheVariants.{Yes, No, Refused}
+use Rattle.report.specs.declared.stream_fault.StreamFault.{StreamFault}
+use Rattle.report.specs.declared.stream_fault.StreamFault.TheVariants.{Read, Write, NoMemory}
 
 abbrev pub code_of_status : Status → ℕ
 code_of_status Yes = 0

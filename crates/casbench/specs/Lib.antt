@@ -1,10 +1,3 @@
-pub mod Lines
-pub mod Streams
-pub mod Counts
-pub mod Witnesses
-pub mod ReplyOrder
-pub mod Explained
-pub mod Verdict
-pub mod Source
-pub mod Exit
 pub mod Asked
+pub mod Exit
+pub mod aids

@@ -1,8 +1,8 @@
 ghost use Rattle.std.specs.Prelude.{◌≡◌};
 ghost use Rattle.casbench.specs.Exit.{code_of_fault, code_of_status, code_of_words};
 
-use crate::report::{Status, StreamFault};
 use clap::error::ErrorKind;
+use report::{Status, StreamFault};
 
 /// The exit status of words that are refused.
 pub const WORDS_REFUSED: u8 = 64;

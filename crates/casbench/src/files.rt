@@ -1,10 +1,10 @@
 ghost use Rattle.std.specs.Prelude.{◌≡◌, None, Ok, IfErr};
-ghost use Rattle.casbench.specs.Source.{remaining_of};
+ghost use Rattle.casbench.specs.aids.Source.{remaining_of};
 ghost use Rattle.casbench.specs.declared.files.Source.TheVariants.{Input};
 
-use crate::report::StreamFault;
+use report::StreamFault;
 use std::fs;
-use std::io::{self, Read};
+use std::io::{self, ErrorKind, Read};
 use std::rt::Files;
 
 /// Where a text is read from: a file that was named, or the input where none was.
@@ -25,16 +25,31 @@ impl<F: Read, I: Read> Read for Source<F, I> {
     }
 }
 
-/// The file, open to be read from its start. That it can't be opened is a read fault.
-pub fn open<R: Files>(files: &R, path: &str) -> Result<R::File, StreamFault>
+// Tells on standard error which file can't be opened, and why; also where standard error fails.
+fn tell_unopened(rt: &impl Eprint, path: &str, error: &io::Error) {
+    let _ = match error.kind() {
+        ErrorKind::NotFound => eprintln!(rt; "casbench: {path}: no such file"),
+        _ => eprintln!(rt; "casbench: {path}: {error}"),
+    };
+}
+
+/// The file, open to be read from its start. That it can't be opened is told on standard error by its name, and is a
+/// read fault.
+pub fn open<R: Files + Eprint>(rt: &R, path: &str) -> Result<R::File, StreamFault>
     ensures { IfErr result (λ fault. fault ≡ StreamFault.Read) }
 {
-    fs::open(files, path).map_err(|_| StreamFault::Read)
+    match fs::open(rt, path) {
+        Ok(file) => Ok(file),
+        Err(error) => {
+            tell_unopened(rt, path, &error);
+            Err(StreamFault::Read)
+        }
+    }
 }
 
 /// The file that is named, open as by `open`, or the input where none is.
-pub fn open_or<R: Files, I: Drop>(
-    files: &R,
+pub fn open_or<R: Files + Eprint, I: Drop>(
+    rt: &R,
     path: Option<&str>,
     input: I,
 ) -> Result<Source<R::File, I>, StreamFault>
@@ -42,20 +57,20 @@ pub fn open_or<R: Files, I: Drop>(
     ensures err { IfErr result (λ fault. fault ≡ StreamFault.Read) }
 {
     match path {
-        Some(path) => Ok(Source::File(open(files, path)?)),
+        Some(path) => Ok(Source::File(open(rt, path)?)),
         None => Ok(Source::Input(input)),
     }
 }
 
 /// Both files, open as by `open`, the first before the second. Where the first can't be opened the second isn't tried.
-pub fn open_both<R: Files>(
-    files: &R,
+pub fn open_both<R: Files + Eprint>(
+    rt: &R,
     first: &str,
     second: &str,
 ) -> Result<(R::File, R::File), StreamFault>
     ensures { IfErr result (λ fault. fault ≡ StreamFault.Read) }
 {
-    let first = open(files, first)?;
-    let second = open(files, second)?;
+    let first = open(rt, first)?;
+    let second = open(rt, second)?;
     Ok((first, second))
 }

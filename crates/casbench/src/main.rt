@@ -1,19 +1,9 @@
 //! casbench: tells whether a recorded history of an OpenSearch index keeps the compare-and-set promise.
 #![tactic(auto)]
 
-mod answer;
-mod cause;
 mod exit;
-mod explanation;
 mod files;
-mod input;
-mod output;
-mod reply_order;
-mod report;
 mod run;
-mod tally;
-mod verify;
-mod verify_answer;
 mod words;
 
 use clap::error::ErrorKind;

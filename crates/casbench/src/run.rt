@@ -1,11 +1,11 @@
 ghost use Rattle.std.specs.Prelude.{◌≡◌, None, IfOk, IsErrOf};
 ghost use Rattle.std.specs.Io.KnownBytes.{Keeps};
-ghost use Rattle.casbench.specs.Verdict.{HasAnswer, IsAnswered, WitnessesInput};
+ghost use Rattle.report.specs.Verdict.{HasAnswer, IsAnswered, WitnessesInput};
 
 use crate::files::{open_both, open_or};
-use crate::report::{Status, StreamFault, check_stream, verify_stream, witness_stream};
 use crate::words::Words;
 use doc_register::Conflicts;
+use report::{Status, StreamFault, check_stream, verify_stream, witness_stream};
 use std::alloc::Global;
 use std::io::{Read, Write};
 use std::rt::Files;
@@ -13,34 +13,40 @@ use std::rt::Files;
 /// Does what the words ask for: opens the files in the order in which they were named, then reads, and writes the
 /// answer.
 ///
-/// A file that can't be opened is a read fault, and then nothing was read or written.
-pub fn run<R: Files, I: Read + Drop, W: Write>(
+/// A file that can't be opened is told on standard error by its name, and is a read fault: then nothing was read, nor
+/// written to the writer.
+pub fn run<R: Files + Eprint, I: Read + Drop, W: Write>(
     alloc: Global,
-    files: &R,
+    rt: &R,
     input: I,
     writer: &mut W,
     words: Words<'_>,
 ) -> Result<Status, StreamFault>
     // A check of the input answers it.
-    ensures checked { words.entry ≡ Words.Check None → IfOk result (IsAnswered Conflicts.Plain
-        (I.remaining input) (W.contents writer.old) (W.contents writer.new)) }
+    ensures checked { words.entry ≡ Words.Check None
+        → IfOk result (IsAnswered Conflicts.Plain (I.remaining input) (W.contents writer.old)
+        (W.contents writer.new)) }
     // The witness of the input is written.
-    ensures witnessed { words.entry ≡ Words.Witness None → IfOk result (λ status. HasAnswer (WitnessesInput Conflicts.Plain
-        (I.remaining input) status) (W.contents writer.old) (W.contents writer.new)) }
-    ensures unread { IsErrOf result StreamFault.Read → Keeps (W.contents writer.old) (W.contents writer.new) }
-    ensures no_memory { IsErrOf result StreamFault.NoMemory → Keeps (W.contents writer.old) (W.contents writer.new) }
+    ensures witnessed { words.entry ≡ Words.Witness None
+        → IfOk result (λ status. HasAnswer (WitnessesInput Conflicts.Plain
+        (I.remaining input) status)
+        (W.contents writer.old) (W.contents writer.new)) }
+    ensures unread { IsErrOf result StreamFault.Read → Keeps (W.contents writer.old)
+        (W.contents writer.new) }
+    ensures no_memory { IsErrOf result StreamFault.NoMemory → Keeps (W.contents writer.old)
+        (W.contents writer.new) }
 {
     match words {
         Words::Check { file } => {
-            let mut history = open_or(files, file, input)?;
+            let mut history = open_or(rt, file, input)?;
             check_stream(alloc, &mut history, writer, 1, Conflicts::Plain)
         }
         Words::Witness { file } => {
-            let mut history = open_or(files, file, input)?;
+            let mut history = open_or(rt, file, input)?;
             witness_stream(alloc, &mut history, writer, Conflicts::Plain)
         }
         Words::Verify { history, witness } => {
-            let (mut history, mut witness) = open_both(files, history, witness)?;
+            let (mut history, mut witness) = open_both(rt, history, witness)?;
             verify_stream(alloc, &mut history, &mut witness, writer, Conflicts::Plain)
         }
     }

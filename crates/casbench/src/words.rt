@@ -100,9 +100,10 @@ fn program<'a>(alloc: Global) -> Result<Command<'a>, AllocError>
 }
 
 // A check of a witness, where both files are named.
-fn verify<'a>(history: Option<&'a str>, witness: Option<&'a str>) -> Option<Words<'a>>
+fn verify_words<'a>(history: Option<&'a str>, witness: Option<&'a str>) -> Option<Words<'a>>
     ensures { option_map asked_by result
-        ≡ both_files (option_map (λ f. f.now) history.entry) (option_map (λ f. f.now) witness.entry) }
+        ≡ both_files (option_map (λ f. f.now) history.entry) (option_map
+        (λ f. f.now) witness.entry) }
 {
     Some(Words::Verify {
         history: history?,
@@ -112,13 +113,14 @@ fn verify<'a>(history: Option<&'a str>, witness: Option<&'a str>) -> Option<Word
 
 // What the command of this name asks for.
 fn asked_of_command<'a>(name: &str, given: &ArgMatches<'a>) -> Option<Words<'a>>
-    ensures { option_map asked_by result ≡ asked_of_command name.now (rows_of (found_of given.now)) }
+    ensures { option_map asked_by result
+        ≡ asked_of_command name.now (rows_of (found_of given.now)) }
 {
     let file = given.get_str(HISTORY);
     match name {
         CHECK => Some(Words::Check { file }),
         WITNESS => Some(Words::Witness { file }),
-        VERIFY => verify(file, given.get_str(WITNESS)),
+        VERIFY => verify_words(file, given.get_str(WITNESS)),
         _ => None,
     }
 }
@@ -154,7 +156,8 @@ fn no_command(alloc: Global) -> Result<Error, AllocError> {
 ///
 /// Words that are refused, and those that ask for help or the version, are an error with the text for the user.
 pub fn read_words<'a, S: AsStr>(alloc: Global, words: &'a [S]) -> Result<Words<'a>, Error>
-    ensures asked { IfOk result (λ asked. asked_on (map S.text words.entry.now) ≡ Some (asked_by asked)) }
+    ensures asked { IfOk result (λ asked. asked_on (map S.text words.entry.now)
+        ≡ Some (asked_by asked)) }
     ensures taken { OnOk result (faults_on (map S.text words.entry.now) ≡ []) }
     // The words have that fault, or what they name is none of the commands.
     ensures refused { IfErr result (λ error. HasKind (faults_on (map S.text words.entry.now)) error

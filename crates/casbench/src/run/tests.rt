@@ -3,6 +3,7 @@ ghost use Rattle.std.specs.Prelude.{IsErr};
 use super::*;
 use std::alloc::Allocator;
 use std::cell::RefCell;
+use std::fmt::Display;
 use std::fs::{FileTimes, Metadata, OpenFile, OpenOptions};
 use std::io::{self, ErrorKind, Seek, SeekFrom};
 use std::process::Abort;
@@ -139,6 +140,20 @@ impl<'a> Files for Shelf<'a> {
     }
 }
 
+impl Eprint for Shelf<'_> {
+    fn eprint<D: Display + Drop>(&self, _value: D) -> io::Result<()> {
+        unsupported()
+    }
+
+    fn eprintln<D: Display + Drop>(&self, value: D) -> io::Result<()> {
+        let Ok(mut steps) = self.steps.try_borrow_mut() else {
+            return Err(io::Error::from(ErrorKind::Other));
+        };
+        write!(steps, "tell {value};")?;
+        Ok(())
+    }
+}
+
 // What `run` answers to the words, and what it did to the files, in turn. The input is an empty text.
 fn runs(
     rt: &impl Abort,
@@ -167,7 +182,7 @@ fn files_of_a_check(rt: HostRuntime) -> Result<(), Fail> {
         (None, Ok(Status::Yes), line, ""),
         (Some("h"), Ok(Status::Yes), line, "open h;read h;"),
         (Some("broken"), fault, "", "open broken;read broken;"),
-        (Some("absent"), fault, "", "open absent;"),
+        (Some("absent"), fault, "", "open absent;tell casbench: absent: no such file;"),
     ] {
         runs(&rt, rt.alloc(), Words::Check { file }, wanted, text, steps)?;
     }
@@ -182,7 +197,7 @@ fn files_of_a_witness(rt: HostRuntime) -> Result<(), Fail> {
         (None, Ok(Status::Yes), ""),
         (Some("h"), Ok(Status::Yes), "open h;read h;"),
         (Some("broken"), fault, "open broken;read broken;"),
-        (Some("absent"), fault, "open absent;"),
+        (Some("absent"), fault, "open absent;tell casbench: absent: no such file;"),
     ] {
         runs(&rt, rt.alloc(), Words::Witness { file }, wanted, "", steps)?;
     }
@@ -209,9 +224,9 @@ fn files_of_a_verify(rt: HostRuntime) -> Result<(), Fail> {
             "",
             "open h;open broken;read h;read broken;",
         ),
-        ("absent", "w", fault, "", "open absent;"),
-        ("h", "absent", fault, "", "open h;open absent;"),
-        ("w", "lost", fault, "", "open w;open lost;"),
+        ("absent", "w", fault, "", "open absent;tell casbench: absent: no such file;"),
+        ("h", "absent", fault, "", "open h;open absent;tell casbench: absent: no such file;"),
+        ("w", "lost", fault, "", "open w;open lost;tell casbench: lost: no such file;"),
     ] {
         runs(
             &rt,

@@ -21,4 +21,4 @@ returns-in-verify c =
     c.get_str-file.ensures ∙ first_value-rows (found_of c.args.given.now) (codes "history") in
     let witness : option_map (λ f. f.now) c.get_str.result ≡ first_of (codes "witness") (rows_of (found_of c.args.given.now)) =
     c.get_str.ensures ∙ first_value-rows (found_of c.args.given.now) (codes "witness") in
-    rw (c.in-verify.is, c.verify.ensures, history, witness) refl
+    rw (c.in-verify.is, c.verify_words.ensures, history, witness) refl

@@ -1,9 +1,0 @@
-use Rattle.std.proofs.Common.{◌≡◌, rules, refl, inl, codes}
-use Rattle.casbench.specs.Lines.{refused_file_line}
-use Rattle.casbench.proofs.AnswerLemmas.{verify_refused}
-use Rattle.casbench.proofs.verify_answer.refused_history.Goals as goal
-
-pub returns-clause-answers : goal.returns-clause-answers
-returns-clause-answers c = λ mode history witness.
-    let line : c.of.result.text.items ≡ refused_file_line (codes "history") c.args.fault.line c.args.fault.cause = search rules in
-    verify_refused mode history witness c.of.result.status c.of.result.text.items (codes "history") c.args.fault.line c.args.fault.cause c.of.ensures.status (inl refl) line

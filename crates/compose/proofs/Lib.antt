@@ -1,0 +1,3 @@
+mod CountLemmas
+mod CoverLemmas
+pub mod OneDocument

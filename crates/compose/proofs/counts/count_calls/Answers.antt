@@ -1,0 +1,17 @@
+use Rattle.std.proofs.Common.{arith, ◌≡◌, ◌+◌, ◌≤◌, length, ap, sym, ◌∙◌, cond}
+use Rattle.history.specs.Events.{is_any_call}
+use Rattle.compose.proofs.CountLemmas.{counted_all, counted_next, one_at_most}
+use Rattle.compose.proofs.counts.count_calls.Goals as goal
+
+pub loop-place-preserved : goal.loop-place-preserved
+loop-place-preserved c =
+    let one : cond (is_any_call c.event.result.now) 1 0 ≤ 1 = one_at_most (is_any_call c.event.result.now) in (
+      ap (λ n. c.loop-place.calls + n) c.calls_in-calls.ensures ∙ (ap (λ n. n + cond (is_any_call c.event.result.now) 1 0) c.loop-place.invariant.0
+          ∙ sym (counted_next is_any_call c.args.history.now c.loop-place.place c.event.result.now c.event.ensures)),
+      omega (arith, one, c.calls_in-calls.ensures, c.loop-place.invariant.1),
+    )
+
+pub returns : goal.returns
+returns c =
+    let end : c.loop-place.place ≡ length c.args.history.now = omega arith in
+    c.loop-place.invariant.0 ∙ counted_all is_any_call c.args.history.now c.loop-place.place end

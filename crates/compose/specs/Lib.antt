@@ -1,0 +1,6 @@
+pub mod Counts
+pub mod ReplyOrder
+pub mod Covers
+pub mod VerifyFaults
+pub mod Explained
+pub mod aids

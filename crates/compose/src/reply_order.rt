@@ -1,0 +1,34 @@
+ghost use Rattle.std.specs.Prelude.{◌≡◌, ◌++◌, IfOk, map, take, length};
+ghost use Rattle.compose.specs.ReplyOrder.{IsReplyOrder, answered_records, unpaired_place};
+
+use history::Rec;
+use std::alloc::Global;
+use version_pair::NoMemory;
+use witness::Place;
+
+// The answered records by their numbers, each with the place of its reply before it.
+fn answered(alloc: Global, records: &[Rec]) -> Result<Vec<(usize, usize)>, NoMemory>
+    ensures { IfOk result (λ answered. answered.items ≡ answered_records 0 records.now) }
+{
+    let mut answered = Vec::new(alloc);
+    for k in 0..records.len() {
+        if let Some(heard) = records[k].heard {
+            answered.push((heard.0, k))?;
+        }
+    }
+    Ok(answered)
+}
+
+/// The order of the replies: the answered records by place of reply, with no pair given.
+pub fn reply_order(alloc: Global, records: &[Rec]) -> Result<Vec<Place>, NoMemory>
+    ensures { IfOk result (λ places. IsReplyOrder records.now places.items) }
+{
+    let mut answered = answered(alloc, records)?;
+    answered.sort_unstable();
+    let mut places = Vec::with_capacity(alloc, answered.len())?;
+    for i in 0..answered.len() {
+        let (_, rec) = answered[i];
+        places.push(Place { rec, pair: None })?;
+    }
+    Ok(places)
+}

@@ -1,0 +1,14 @@
+use Rattle.std.proofs.Common.{◌≡◌, rules}
+use Rattle.report.specs.Lines.{refused_line}
+use Rattle.report.proofs.AnswerLemmas.{is_refusal, is_witness_refusal}
+use Rattle.report.proofs.check_answer.refusal.Goals as goal
+
+pub returns-clause-answers : goal.returns-clause-answers
+returns-clause-answers c = λ mode input.
+    let line : c.of.result.text.items ≡ refused_line c.args.fault.line c.args.fault.cause = search rules in
+    is_refusal mode input c.of.result.status c.of.result.text.items c.args.fault.line c.args.fault.cause c.of.ensures.status line
+
+pub returns-clause-witness : goal.returns-clause-witness
+returns-clause-witness c = λ mode input.
+    let line : c.of.result.text.items ≡ refused_line c.args.fault.line c.args.fault.cause = search rules in
+    is_witness_refusal mode input c.of.result.status c.of.result.text.items c.args.fault.line c.args.fault.cause c.of.ensures.status line

@@ -1,0 +1,78 @@
+-- The lines that are written.
+use Rattle.std.specs.Prelude.{ℕ, List, [], ◌++◌, ◌==◌, codes, decimal, if◌then◌else◌}
+use Rattle.history.specs.declared.text_fault.TextCause.{TextCause}
+use Rattle.history.specs.declared.text_fault.TextCause.TheVariants.{Long, Lines, Json, Shape, Id, Range, Half, Stranger, SecondCall, NoCall, Ended, Full, ShardMoved}
+use Rattle.witness.specs.declared.broken.Broken.{Broken}
+use Rattle.witness.specs.declared.broken.Broken.TheVariants.{Stranger as StrangePlace, Twice, Absent, Late, PairMissing, PairGiven, Illegal, NoMemory}
+use Rattle.compose.specs.declared.verify_fault.VerifyFault.{VerifyFault}
+use Rattle.compose.specs.declared.verify_fault.VerifyFault.TheVariants as fault
+
+-- the printed name of a cause
+abbrev pub cause_name : TextCause → List ℕ
+cause_name Long = codes "long"
+cause_name Lines = codes "lines"
+cause_name Json = codes "json"
+cause_name Shape = codes "shape"
+cause_name Id = codes "id"
+cause_name Range = codes "range"
+cause_name Half = codes "half"
+cause_name Stranger = codes "stranger"
+cause_name SecondCall = codes "second-call"
+cause_name NoCall = codes "no-call"
+cause_name Ended = codes "ended"
+cause_name Full = codes "full"
+cause_name ShardMoved = codes "shard-moved"
+
+abbrev pub yes_line : ℕ → ℕ → ℕ → List ℕ
+yes_line docs calls left_out =
+    codes "yes docs=" ++ (decimal docs ++ (codes " calls=" ++ (decimal calls ++ (codes " left_out=" ++ (decimal left_out ++ codes "\n")))))
+
+abbrev pub no_line : List ℕ
+no_line = codes "no\n"
+
+abbrev pub refused_line : ℕ → TextCause → List ℕ
+refused_line line cause = codes "refused line=" ++ (decimal line ++ (codes " cause=" ++ (cause_name cause ++ codes "\n")))
+
+abbrev pub verified_line : ℕ → ℕ → ℕ → List ℕ
+verified_line docs calls left_out =
+    codes "verified docs=" ++ (decimal docs ++ (codes " calls=" ++ (decimal calls ++ (codes " left_out=" ++ (decimal left_out ++ codes "\n")))))
+
+-- a refused line of one of the two texts, the history's or the witness's
+abbrev pub refused_file_line : List ℕ → ℕ → TextCause → List ℕ
+refused_file_line file line cause =
+    codes "refused file=" ++ (file ++ (codes " line=" ++ (decimal line ++ (codes " cause=" ++ (cause_name cause ++ codes "\n")))))
+
+-- an entry with a fault at one of its places
+abbrev pub broken_place_line : ℕ → List ℕ → ℕ → List ℕ
+broken_place_line entry name i =
+    codes "broken entry=" ++ (decimal entry ++ (codes " cause=" ++ (name ++ (codes " place=" ++ (decimal i ++ codes "\n")))))
+
+-- an entry with a fault of its own
+abbrev pub broken_entry_line : ℕ → List ℕ → List ℕ
+broken_entry_line entry name = codes "broken entry=" ++ (decimal entry ++ (codes " cause=" ++ (name ++ codes "\n")))
+
+-- the fault of an entry's places; want of memory has no line
+abbrev pub broken_places_line : ℕ → Broken → List ℕ
+broken_places_line entry (StrangePlace i) = broken_place_line entry (codes "stranger") i
+broken_places_line entry (Twice i) = broken_place_line entry (codes "twice") i
+broken_places_line entry (Late i) = broken_place_line entry (codes "late") i
+broken_places_line entry (PairMissing i) = broken_place_line entry (codes "pair-missing") i
+broken_places_line entry (PairGiven i) = broken_place_line entry (codes "pair-given") i
+broken_places_line entry (Illegal i) = broken_place_line entry (codes "illegal") i
+broken_places_line entry (Absent k) =
+    codes "broken entry=" ++ (decimal entry ++ (codes " cause=absent rec=" ++ (decimal k ++ codes "\n")))
+broken_places_line entry NoMemory = []
+
+-- the shard of a pair, where it isn't 0
+abbrev pub shard_end : ℕ → List ℕ
+shard_end h = if h == 0 then codes "\n" else codes " shard=" ++ (decimal h ++ codes "\n")
+
+-- what is told of a witness that doesn't cover its history; want of memory has no line
+abbrev pub broken_line : VerifyFault → List ℕ
+broken_line (fault.DocMissing k) = codes "broken doc=" ++ (decimal k ++ codes " cause=doc-missing\n")
+broken_line (fault.DocTwice i) = broken_entry_line i (codes "doc-twice")
+broken_line (fault.DocStranger i) = broken_entry_line i (codes "doc-stranger")
+broken_line (fault.Broken i broken) = broken_places_line i broken
+broken_line (fault.PairTwice shard pair) =
+    codes "broken term=" ++ (decimal pair.term ++ (codes " seq=" ++ (decimal pair.seq ++ (codes " cause=pair-twice" ++ shard_end shard))))
+broken_line fault.NoMemory = []

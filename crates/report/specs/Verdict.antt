@@ -1,0 +1,114 @@
+-- What a line that is written says of the bytes that were read.
+use Rattle.std.specs.Prelude.{◌≡◌, ℕ, ◌+◌, ◌≤◌, ◌⊎◌, List, codes, length, map, Ok, Option, IfSome, take}
+use Rattle.std.specs.Option.{option_to_list}
+use Rattle.std.specs.Io.KnownBytes.{Appends}
+use Rattle.doc_register.specs.declared.state.Conflicts.{Conflicts}
+use Rattle.history.specs.declared.event.Event.{Event}
+use Rattle.history.specs.declared.text_fault.TextCause.{TextCause}
+use Rattle.history.specs.Events.{documents_of}
+use Rattle.history.specs.Order.{Explains, IsLinearizable, Placed}
+use Rattle.history.specs.Text.{IsHistoryText}
+use Rattle.compose.specs.Counts.{calls_of}
+use Rattle.witness.specs.Lines.{witness_places}
+use Rattle.witness.specs.Text.{witness_text}
+use Rattle.witness.specs.Witness.{Witness}
+use Rattle.report.specs.Lines.{broken_line, no_line, refused_file_line, refused_line, verified_line, yes_line}
+use Rattle.compose.specs.Explained.{HasOrder}
+use Rattle.compose.specs.Covers.{AreCover, WitnessEntry, IsWitnessOf, spelled}
+use Rattle.compose.specs.VerifyFaults.{IsFirstVerifyFault}
+use Rattle.compose.specs.declared.verify_fault.VerifyFault.{VerifyFault}
+use Rattle.compose.specs.declared.verify_fault.VerifyFault.TheVariants.{DocMissing}
+use Rattle.report.specs.declared.status.Status.{Status}
+use Rattle.report.specs.declared.status.Status.TheVariants.{Yes, No, Refused}
+
+-- The input is a text of a history with so many documents, one at most, and so many calls, and there is an order that
+-- explains it, in which so many of its calls do not stand.
+pub record IsExplained (mode : Conflicts) (input : List ℕ) (docs calls left_out : ℕ) : Type 0 where
+  pub events : List Event
+  pub is_text : IsHistoryText input events
+  pub documents : length (documents_of events) ≡ docs
+  pub one_at_most : docs ≤ 1
+  pub all_calls : calls_of events ≡ calls
+  pub order : List Placed
+  pub explains : Explains mode events order
+  pub the_rest : length order + left_out ≡ calls
+
+-- the line, and what it says of the input: `yes` says that the input is explained
+abbrev pub IsAnswer : Conflicts → List ℕ → Status → List ℕ → Type 0
+IsAnswer mode input Yes line = (docs calls left_out : ℕ) × (line ≡ yes_line docs calls left_out) × IsExplained mode input docs calls left_out
+IsAnswer mode input No line = line ≡ no_line
+IsAnswer mode input Refused line = (n : ℕ) × (cause : TextCause) × (line ≡ refused_line n cause)
+
+-- The witness of the history that the input is a text of, as a text: it reads as this witness, or as none where there is
+-- no document; and its places are an order that explains the history.
+pub record IsWitnessed (mode : Conflicts) (input text : List ℕ) : Type 0 where
+  pub events : List Event
+  pub is_text : IsHistoryText input events
+  pub witness : Option Witness
+  pub is_witness : IsWitnessOf mode events witness
+  pub reads : witness_text text ≡ Ok (map witness_places (option_to_list witness))
+  pub explained : IsLinearizable mode events
+
+-- what is written where a witness is asked for: the text of one, or the line of a check
+abbrev pub IsWitnessAnswer : Conflicts → List ℕ → Status → List ℕ → Type 0
+IsWitnessAnswer mode input Yes text = IsWitnessed mode input text
+IsWitnessAnswer mode input No text = text ≡ no_line
+IsWitnessAnswer mode input Refused text = (n : ℕ) × (cause : TextCause) × (text ≡ refused_line n cause)
+
+-- The one input is a text of a history, and the other reads as entries that cover it; there is an order that explains it,
+-- in which so many of its calls do not stand.
+pub record IsVerified (mode : Conflicts) (history witness : List ℕ) (docs calls left_out : ℕ) : Type 0 where
+  pub events : List Event
+  pub is_text : IsHistoryText history events
+  pub entries : List WitnessEntry
+  pub reads : witness_text witness ≡ Ok (map spelled entries)
+  pub cover : AreCover mode events entries
+  pub explained : HasOrder mode events docs calls left_out
+
+-- The one input is a text of a history, and the other reads as entries of which this is the first fault; a history of more
+-- than one document is told to lack an entry for its second one, unread.
+pub record IsBroken (mode : Conflicts) (history witness : List ℕ) (fault : VerifyFault) : Type 0 where
+  pub events : List Event
+  pub is_text : IsHistoryText history events
+  pub entries : List WitnessEntry
+  pub reads : witness_text witness ≡ Ok (map spelled entries)
+  pub one : length (documents_of events) ≤ 1 → IsFirstVerifyFault mode events entries fault
+  pub many : 2 ≤ length (documents_of events) → fault ≡ DocMissing 1
+
+-- the line, and what it says of both inputs
+abbrev pub IsVerifyAnswer : Conflicts → List ℕ → List ℕ → Status → List ℕ → Type 0
+IsVerifyAnswer mode history witness Yes line =
+    (docs calls left_out : ℕ) × (line ≡ verified_line docs calls left_out) × IsVerified mode history witness docs calls left_out
+IsVerifyAnswer mode history witness No line = (fault : VerifyFault) × (line ≡ broken_line fault) × IsBroken mode history witness fault
+IsVerifyAnswer mode history witness Refused line =
+    (file : List ℕ) × (n : ℕ) × (cause : TextCause) × ((file ≡ codes "history") ⊎ (file ≡ codes "witness")) × (line ≡ refused_file_line file n cause)
+
+-- ---- what the writer holds
+
+-- the writer holds a text beside what it held, of which this is true
+abbrev pub HasAnswer : (List ℕ → Type 0) → Option (List ℕ) → Option (List ℕ) → Type 0
+HasAnswer P old new = (text : List ℕ) × Appends old new text × P text
+
+-- the writer holds a front of a text beside what it held; this is true of the text, with some status
+abbrev pub HasFront : (Status → List ℕ → Type 0) → Option (List ℕ) → Option (List ℕ) → Type 0
+HasFront P old new = (status : Status) × (text : List ℕ) × (n : ℕ) × Appends old new (take n text) × P status text
+
+-- an answer to the bytes that the reader had
+abbrev pub AnswersInput : Conflicts → Option (List ℕ) → Status → List ℕ → Type 0
+AnswersInput mode input status line = IfSome input (λ bytes. IsAnswer mode bytes status line)
+
+-- a witness of the history whose text the reader had, or the line of a check
+abbrev pub WitnessesInput : Conflicts → Option (List ℕ) → Status → List ℕ → Type 0
+WitnessesInput mode input status text = IfSome input (λ bytes. IsWitnessAnswer mode bytes status text)
+
+-- an answer to the bytes that the two readers had
+abbrev pub VerifiesInputs : Conflicts → Option (List ℕ) → Option (List ℕ) → Status → List ℕ → Type 0
+VerifiesInputs mode history witness status line = IfSome history (λ h. IfSome witness (λ w. IsVerifyAnswer mode h w status line))
+
+-- The writer holds the line beside what it held, and the line is an answer to the bytes that the reader had.
+abbrev pub IsAnswered : Conflicts → Option (List ℕ) → Option (List ℕ) → Option (List ℕ) → Status → Type 0
+IsAnswered mode input old new status = HasAnswer (AnswersInput mode input status) old new
+
+-- The writer holds a front of such a line beside what it held.
+abbrev pub IsCutOff : Conflicts → Option (List ℕ) → Option (List ℕ) → Option (List ℕ) → Type 0
+IsCutOff mode input old new = HasFront (AnswersInput mode input) old new

@@ -1,0 +1,86 @@
+ghost use Rattle.std.specs.Prelude.{◌≡◌, IfOk, ℕ, List};
+ghost use Rattle.doc_register.specs.declared.state.Conflicts.{Conflicts as Mode};
+ghost use Rattle.history.specs.Events.{IsHistory};
+ghost use Rattle.history.specs.Text.{IsHistoryText};
+ghost use Rattle.report.specs.Lines.{no_line, refused_line, yes_line};
+ghost use Rattle.report.specs.Verdict.{IsAnswer, IsWitnessAnswer};
+
+use crate::answer::Answer;
+use crate::cause_name::cause_name;
+use crate::status::Status;
+use compose::{Counts, Explanation, explain};
+use doc_register::Conflicts;
+use history::{History, ReadFault, TextFault, read};
+use std::alloc::{AllocError, Global};
+use version_pair::NoMemory;
+
+// The answer that an order explains the history.
+fn yes(alloc: Global, counts: Counts) -> Result<Answer, NoMemory>
+    ensures status { IfOk result (λ answer. answer.status ≡ Status.Yes) }
+    ensures line { IfOk result (λ answer. answer.text.items
+        ≡ yes_line counts.docs counts.calls counts.left_out) }
+{
+    let Counts {
+        docs,
+        calls,
+        left_out,
+    } = counts;
+    let line = format!(in alloc; "yes docs={docs} calls={calls} left_out={left_out}\n")?;
+    Ok(Answer::of(Status::Yes, line))
+}
+
+/// The answer that no order was found.
+pub fn no(alloc: Global) -> Result<Answer, NoMemory>
+    ensures status { IfOk result (λ answer. answer.status ≡ Status.No) }
+    ensures line { IfOk result (λ answer. answer.text.items ≡ no_line) }
+{
+    let line = String::from_str(alloc, "no\n")?;
+    Ok(Answer::of(Status::No, line))
+}
+
+/// The answer to a text that was refused.
+pub fn refusal(alloc: Global, fault: TextFault) -> Result<Answer, NoMemory>
+    ensures status { IfOk result (λ answer. answer.status ≡ Status.Refused) }
+    ensures line { IfOk result (λ answer. answer.text.items ≡ refused_line fault.line fault.cause) }
+    ensures answers { IfOk result (λ answer. (mode : Mode) (input : List ℕ)
+        → IsAnswer mode input answer.status answer.text.items) }
+    ensures witness { IfOk result (λ answer. (mode : Mode) (input : List ℕ)
+        → IsWitnessAnswer mode input answer.status answer.text.items) }
+{
+    let number = fault.line;
+    let cause = cause_name(fault.cause);
+    let line = format!(in alloc; "refused line={number} cause={cause}\n")?;
+    Ok(Answer::of(Status::Refused, line))
+}
+
+// The answer to a text that was read as this history.
+fn history_answer(alloc: Global, history: &History, conflicts: Conflicts) -> Result<Answer, NoMemory>
+    requires { IsHistory history.now }
+    ensures { IfOk result (λ answer. (input : List ℕ) → IsHistoryText input history.now
+        → IsAnswer conflicts input answer.status answer.text.items) }
+{
+    match explain(alloc, history, conflicts)? {
+        Explanation::Found(witness) => {
+            let answer = yes(alloc, Counts::of(history, &witness))?;
+            Ok(answer)
+        }
+        Explanation::NotFound => {
+            let answer = no(alloc)?;
+            Ok(answer)
+        }
+    }
+}
+
+/// The answer to a text: whether an order explains its history.
+pub fn check_answer(alloc: Global, text: &[u8], conflicts: Conflicts) -> Result<Answer, NoMemory>
+    ensures { IfOk result (λ answer. IsAnswer conflicts text.now answer.status answer.text.items) }
+{
+    match read(alloc, text) {
+        Ok(history) => history_answer(alloc, &history, conflicts),
+        Err(ReadFault::Text(fault)) => {
+            let answer = refusal(alloc, fault)?;
+            Ok(answer)
+        }
+        Err(ReadFault::NoMemory) => Err(AllocError),
+    }
+}

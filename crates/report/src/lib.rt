@@ -1,0 +1,19 @@
+//! Bytes in, a line or a text out: a history checked, its witness written, a witness verified.
+#![tactic(auto)]
+
+mod answer;
+mod broken_line;
+mod cause_name;
+mod check_answer;
+mod input;
+mod output;
+mod status;
+mod stream_fault;
+mod streams;
+mod verify_answer;
+mod verify_input;
+mod witness_answer;
+
+pub use status::Status;
+pub use stream_fault::StreamFault;
+pub use streams::{check_stream, verify_stream, witness_stream};

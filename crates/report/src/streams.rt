@@ -1,0 +1,147 @@
+ghost use Rattle.std.specs.Prelude.{◌≡◌, ◌≢◌, ◌≤◌, ℕ, IfOk, IsErrOf, MatchResult, take};
+ghost use Rattle.std.specs.Io.KnownBytes.{Appends, Keeps};
+ghost use Rattle.report.specs.aids.Enough.{stream_fault};
+ghost use Rattle.report.specs.Verdict.{AnswersInput, HasAnswer, HasFront, IsAnswered, IsCutOff, VerifiesInputs, WitnessesInput};
+
+use crate::answer::Answer;
+use crate::check_answer::check_answer;
+use crate::input::{InputFault, read_enough};
+use crate::output::write_text;
+use crate::status::Status;
+use crate::stream_fault::StreamFault;
+use crate::verify_input::verify_input;
+use crate::witness_answer::witness_answer;
+use doc_register::Conflicts;
+use std::alloc::Global;
+use std::io::{Read, Write};
+
+// A fault of the input as one of a stream.
+fn fault_of(fault: InputFault) -> StreamFault
+    ensures { result ≡ stream_fault fault }
+{
+    match fault {
+        InputFault::Read => StreamFault::Read,
+        InputFault::NoMemory => StreamFault::NoMemory,
+    }
+}
+
+// Writes the answer, and tells its status. After a write fault a front of its text is written.
+fn write_answer<W: Write>(writer: &mut W, answer: &Answer) -> Result<Status, StreamFault>
+    ensures { MatchResult result
+        (λ status. (status ≡ answer.now.status) × Appends (W.contents writer.old)
+        (W.contents writer.new) answer.now.text.items)
+        (λ fault. (fault ≡ StreamFault.Write) × ((n : ℕ) × Appends (W.contents writer.old)
+        (W.contents writer.new) (take n answer.now.text.items))) }
+{
+    match write_text(writer, &answer.text) {
+        Ok(()) => Ok(answer.status),
+        Err(_) => Err(StreamFault::Write),
+    }
+}
+
+/// Reads a history text to its end and writes one line: `yes docs=D calls=C left_out=L` where one order of its
+/// calls explains it, `no` where none was found, or `refused line=L cause=NAME` where it is no history text.
+///
+/// Tried is the order of the replies alone, for a history of at most one document; unanswered calls are left out,
+/// and a conflict is read as not performed. `workers` is 1 to 16 and not used yet.
+pub fn check_stream<R: Read, W: Write>(
+    alloc: Global,
+    reader: &mut R,
+    writer: &mut W,
+    workers: usize,
+    conflicts: Conflicts,
+) -> Result<Status, StreamFault>
+    requires some_workers { 1 ≤ workers }
+    requires few_workers { workers ≤ 16 }
+    // Where `yes` is answered, the bytes of the reader to its end are a text of a history that an order explains.
+    ensures answered { IfOk result (IsAnswered conflicts (R.remaining reader.old)
+        (W.contents writer.old) (W.contents writer.new)) }
+    // After a write fault a front of such a line is written.
+    ensures cut_off { IsErrOf result StreamFault.Write
+        → IsCutOff conflicts (R.remaining reader.old) (W.contents writer.old)
+        (W.contents writer.new) }
+    // After any other fault nothing is.
+    ensures unread { IsErrOf result StreamFault.Read → Keeps (W.contents writer.old)
+        (W.contents writer.new) }
+    ensures no_memory { IsErrOf result StreamFault.NoMemory → Keeps (W.contents writer.old)
+        (W.contents writer.new) }
+{
+    let bytes = match read_enough(alloc, reader) {
+        Ok(bytes) => bytes,
+        Err(fault) => return Err(fault_of(fault)),
+    };
+    match check_answer(alloc, &bytes, conflicts) {
+        Ok(answer) => write_answer(writer, &answer),
+        Err(_) => Err(StreamFault::NoMemory),
+    }
+}
+
+/// Reads a history text to its end and writes the text of its witness where `check_stream` says yes, and the line of
+/// `check_stream` where it does not.
+pub fn witness_stream<R: Read, W: Write>(
+    alloc: Global,
+    reader: &mut R,
+    writer: &mut W,
+    conflicts: Conflicts,
+) -> Result<Status, StreamFault>
+    // Where it answers yes, what it wrote reads as a witness of the history that the bytes are a text of.
+    ensures answered { IfOk result (λ status. HasAnswer (WitnessesInput conflicts
+        (R.remaining reader.old) status)
+        (W.contents writer.old) (W.contents writer.new)) }
+    ensures cut_off { IsErrOf result StreamFault.Write
+        → HasFront (WitnessesInput conflicts (R.remaining reader.old)) (W.contents writer.old)
+        (W.contents writer.new) }
+    ensures unread { IsErrOf result StreamFault.Read → Keeps (W.contents writer.old)
+        (W.contents writer.new) }
+    ensures no_memory { IsErrOf result StreamFault.NoMemory → Keeps (W.contents writer.old)
+        (W.contents writer.new) }
+{
+    let bytes = match read_enough(alloc, reader) {
+        Ok(bytes) => bytes,
+        Err(fault) => return Err(fault_of(fault)),
+    };
+    match witness_answer(alloc, &bytes, conflicts) {
+        Ok(answer) => write_answer(writer, &answer),
+        Err(_) => Err(StreamFault::NoMemory),
+    }
+}
+
+/// Reads a history text and then a witness text, each to its end, and writes one line: `verified docs=D calls=C
+/// left_out=L` where the witness covers the history; `broken` with the first fault where it does not;
+/// `refused file=history` or `refused file=witness` with the line and the cause where one of them is no such text.
+/// A witness is not read where the history's text is refused.
+///
+/// A history of two or more documents is answered `broken doc=1 cause=doc-missing`, for now, once both texts are read.
+pub fn verify_stream<R: Read, Q: Read, W: Write>(
+    alloc: Global,
+    history: &mut R,
+    witness: &mut Q,
+    writer: &mut W,
+    conflicts: Conflicts,
+) -> Result<Status, StreamFault>
+    // Where it answers yes, the one's bytes are a text of a history, and the other's read as entries that cover it.
+    ensures answered { IfOk result (λ status. HasAnswer (VerifiesInputs conflicts
+        (R.remaining history.old) (Q.remaining witness.old) status)
+        (W.contents writer.old) (W.contents writer.new)) }
+    ensures cut_off { IsErrOf result StreamFault.Write
+        → HasFront (VerifiesInputs conflicts (R.remaining history.old) (Q.remaining witness.old))
+        (W.contents writer.old) (W.contents writer.new) }
+    ensures unread { IsErrOf result StreamFault.Read → Keeps (W.contents writer.old)
+        (W.contents writer.new) }
+    ensures no_memory { IsErrOf result StreamFault.NoMemory → Keeps (W.contents writer.old)
+        (W.contents writer.new) }
+{
+    let bytes = match read_enough(alloc, history) {
+        Ok(bytes) => bytes,
+        Err(fault) => return Err(fault_of(fault)),
+    };
+    match verify_input(alloc, &bytes, witness, conflicts) {
+        Ok(answer) => write_answer(writer, &answer),
+        Err(fault) => Err(fault_of(fault)),
+    }
+}
+
+#[cfg(test)]
+mod tests;
+#[cfg(test)]
+mod texts;

@@ -1,0 +1,120 @@
+ghost use Rattle.std.specs.Prelude.{◌≡◌, IfOk, ℕ, List, Ok, codes, map};
+ghost use Rattle.witness.specs.Lines.{doc_places};
+ghost use Rattle.witness.specs.Text.{witness_text};
+ghost use Rattle.doc_register.specs.declared.state.Conflicts.{Conflicts as Mode};
+ghost use Rattle.history.specs.Events.{IsHistory};
+ghost use Rattle.history.specs.Text.{IsHistoryText};
+ghost use Rattle.report.specs.Lines.{broken_line as told_line, refused_file_line, verified_line};
+ghost use Rattle.report.specs.Verdict.{IsVerifyAnswer};
+
+use crate::answer::Answer;
+use crate::broken_line::fault_line;
+use crate::cause_name::cause_name;
+use crate::status::Status;
+use compose::{Counts, VerifyFault, verify};
+use doc_register::Conflicts;
+use history::{History, ReadFault, TextFault};
+use std::alloc::{AllocError, Global};
+use version_pair::{DocId, NoMemory};
+use witness::{Place, read_witness};
+
+// The answer that a witness covers a history with these counts.
+fn verified(alloc: Global, counts: Counts) -> Result<Answer, NoMemory>
+    ensures status { IfOk result (λ answer. answer.status ≡ Status.Yes) }
+    ensures line { IfOk result (λ answer. answer.text.items
+        ≡ verified_line counts.docs counts.calls counts.left_out) }
+{
+    let Counts {
+        docs,
+        calls,
+        left_out,
+    } = counts;
+    let line = format!(in alloc; "verified docs={docs} calls={calls} left_out={left_out}\n")?;
+    Ok(Answer::of(Status::Yes, line))
+}
+
+// The answer that a witness does not cover a history.
+fn broken(alloc: Global, fault: VerifyFault) -> Result<Answer, NoMemory>
+    ensures status { IfOk result (λ answer. answer.status ≡ Status.No) }
+    ensures line { IfOk result (λ answer. answer.text.items ≡ told_line fault) }
+{
+    let line = fault_line(alloc, fault)?;
+    Ok(Answer::of(Status::No, line))
+}
+
+/// The answer to a history's text that was refused.
+pub fn refused_history(alloc: Global, fault: TextFault) -> Result<Answer, NoMemory>
+    ensures line { IfOk result (λ answer. answer.text.items
+        ≡ refused_file_line (codes "history") fault.line fault.cause) }
+    ensures answers { IfOk result (λ answer. (mode : Mode) (history witness : List ℕ)
+        → IsVerifyAnswer mode history witness answer.status answer.text.items) }
+{
+    let number = fault.line;
+    let cause = cause_name(fault.cause);
+    let line = format!(in alloc; "refused file=history line={number} cause={cause}\n")?;
+    Ok(Answer::of(Status::Refused, line))
+}
+
+// The answer to a witness text that was refused.
+fn refused_witness(alloc: Global, fault: TextFault) -> Result<Answer, NoMemory>
+    ensures line { IfOk result (λ answer. answer.text.items
+        ≡ refused_file_line (codes "witness") fault.line fault.cause) }
+    ensures answers { IfOk result (λ answer. (mode : Mode) (history witness : List ℕ)
+        → IsVerifyAnswer mode history witness answer.status answer.text.items) }
+{
+    let number = fault.line;
+    let cause = cause_name(fault.cause);
+    let line = format!(in alloc; "refused file=witness line={number} cause={cause}\n")?;
+    Ok(Answer::of(Status::Refused, line))
+}
+
+// The answer to entries that were read, for this history.
+fn entries_answer(
+    alloc: Global,
+    history: &History,
+    entries: Vec<(DocId, Vec<Place>)>,
+    conflicts: Conflicts,
+) -> Result<Answer, NoMemory>
+    requires { IsHistory history.now }
+    ensures { IfOk result (λ answer. (input witness : List ℕ) → IsHistoryText input history.now
+        → witness_text witness ≡ Ok (map doc_places entries.items)
+        → IsVerifyAnswer conflicts input witness answer.status answer.text.items) }
+{
+    match verify(alloc, history, entries, conflicts) {
+        Ok(witness) => {
+            let answer = verified(alloc, Counts::of(history, &witness))?;
+            Ok(answer)
+        }
+        Err(fault) => match fault {
+            VerifyFault::NoMemory => Err(AllocError),
+            told => {
+                let answer = broken(alloc, told)?;
+                Ok(answer)
+            }
+        },
+    }
+}
+
+/// The answer to a witness text, for this history.
+pub fn verify_answer(
+    alloc: Global,
+    history: &History,
+    text: &[u8],
+    conflicts: Conflicts,
+) -> Result<Answer, NoMemory>
+    requires { IsHistory history.now }
+    ensures { IfOk result (λ answer. (input : List ℕ) → IsHistoryText input history.now
+        → IsVerifyAnswer conflicts input text.now answer.status answer.text.items) }
+{
+    match read_witness(alloc, text) {
+        Ok(entries) => {
+            let answer = entries_answer(alloc, history, entries, conflicts)?;
+            Ok(answer)
+        }
+        Err(ReadFault::Text(fault)) => {
+            let answer = refused_witness(alloc, fault)?;
+            Ok(answer)
+        }
+        Err(ReadFault::NoMemory) => Err(AllocError),
+    }
+}
