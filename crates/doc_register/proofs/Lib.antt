@@ -1,3 +1,4 @@
-pub mod WorkedSteps
+mod WorkedSteps
 pub mod RunLemmas
 pub mod RunLaws
+pub mod DocumentLemmas

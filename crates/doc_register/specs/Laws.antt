@@ -2,6 +2,7 @@
 use Rattle.std.specs.Prelude.{◌≡◌, ◌⊎◌, ◌↔◌, ◌<◌, ◌++◌, ℕ, List, ◌∷◌, Option, Some, None, slice_get}
 use Rattle.version_pair.specs.declared.pair.Pair.{Pair}
 use Rattle.version_pair.specs.PairOrder.{IsBelow}
+use Rattle.doc_register.specs.Documents.{AreAnswered, Call, Documents, accepted, no_documents}
 use Rattle.doc_register.specs.Register.{DocStep}
 use Rattle.doc_register.specs.Run.{Entry, IsDocRun, IsLegalRun, IsRun, PairsDistinct, State, pair_taken, part_of, start}
 use Rattle.doc_register.specs.declared.op.Op.{Op}
@@ -15,7 +16,8 @@ use Rattle.doc_register.specs.declared.state.DocState.TheVariants.{Never}
 
 -- the state, the operation, the reply and the pair that it hides leave at most one state
 abbrev pub StepIsDecided : Type 0
-StepIsDecided = (s : DocState) (op : Op) (r : Reply) (h : Option Pair) (t u : DocState) → DocStep s op r h t → DocStep s op r h u → t ≡ u
+StepIsDecided = (s : DocState) (op : Op) (r : Reply) (h : Option Pair) (t u : DocState) → DocStep s op r h t
+    → DocStep s op r h u → t ≡ u
 
 -- the pair that the entry at the place takes
 abbrev pub IsPairAt : List Entry → ℕ → Pair → Type 0
@@ -23,17 +25,21 @@ IsPairAt es i p = (e : Entry) × (slice_get es i ≡ Some e) × (pair_taken e.re
 
 -- in a run of one document each pair that is taken is below those that are taken later
 abbrev pub PairsRise : Type 0
-PairsRise = (s t : DocState) (es : List Entry) → IsDocRun s es t → (i j : ℕ) (p q : Pair) → i < j → IsPairAt es i p → IsPairAt es j q → IsBelow p q
+PairsRise = (s t : DocState) (es : List Entry) → IsDocRun s es t → (i j : ℕ) (p q : Pair) → i < j → IsPairAt es i p
+    → IsPairAt es j q → IsBelow p q
 
 -- entries of one document, of one shard, that are a run of it alone are a legal run: its pairs rise, so none comes twice
 abbrev pub OneDocument : Type 0
-OneDocument = (d : List ℕ) (h : ℕ) (es : List Entry) → ((i : ℕ) (e : Entry) → slice_get es i ≡ Some e → (e.doc ≡ d) × (e.shard ≡ h)) → ((t : DocState) × IsDocRun Never es t) → IsLegalRun es
+OneDocument = (d : List ℕ) (h : ℕ) (es : List Entry)
+    → ((i : ℕ) (e : Entry) → slice_get es i ≡ Some e → (e.doc ≡ d) × (e.shard ≡ h))
+    → ((t : DocState) × IsDocRun Never es t) → IsLegalRun es
 
 -- ---- all documents
 
 -- a run determines what each document is after it, and which pairs are used
 abbrev pub RunIsDecided : Type 0
-RunIsDecided = (es : List Entry) (t u : State) → IsRun start es t → IsRun start es u → ((d : List ℕ) → t.document d ≡ u.document d) × (t.used ≡ u.used)
+RunIsDecided = (es : List Entry) (t u : State) → IsRun start es t → IsRun start es u
+    → ((d : List ℕ) → t.document d ≡ u.document d) × (t.used ≡ u.used)
 
 -- in a legal run no two performed entries of a shard carry the same pair, whether their replies show it or hide it
 abbrev pub NoPairTwice : Type 0
@@ -49,4 +55,11 @@ LeavingOut = (es fs : List Entry) (e : Entry) → ChangesNothing e → IsLegalRu
 
 -- entries are a legal run exactly where each document's part of them is a run of it alone, and no pair of a shard is taken twice
 abbrev pub Locality : Type 0
-Locality = (es : List Entry) → IsLegalRun es ↔ (((d : List ℕ) → (t : DocState) × IsDocRun Never (part_of d es) t) × PairsDistinct es)
+Locality = (es : List Entry) → IsLegalRun es
+    ↔ (((d : List ℕ) → (t : DocState) × IsDocRun Never (part_of d es) t) × PairsDistinct es)
+
+-- ---- a map of documents
+
+-- over any list of calls on a map of documents, those that it accepts are a legal run of one shard
+abbrev pub AcceptedAreLegal : Type 0
+AcceptedAreLegal = (n : Documents) (cs : List Call) → AreAnswered no_documents cs n → IsLegalRun (accepted cs)

@@ -1,6 +1,6 @@
 //! Laws of the definitions, each the contract of a function that does nothing.
 
-ghost use Rattle.doc_register.specs.Laws.{LeavingOut, Locality, NoPairTwice, OneDocument, PairsRise, RunIsDecided, StepIsDecided};
+ghost use Rattle.doc_register.specs.Laws.{AcceptedAreLegal, LeavingOut, Locality, NoPairTwice, OneDocument, PairsRise, RunIsDecided, StepIsDecided};
 ghost use Rattle.doc_register.specs.WorkedSteps.{WorkedSteps};
 
 /// Shows that the definitions of a step and of a legal run allow and refuse what they should, by worked cases: each
@@ -49,4 +49,10 @@ pub fn leaving_out()
 /// shard is taken twice.
 pub fn locality()
     ensures { Locality }
+{}
+
+/// Shows that over any list of calls on a `DocMap` the accepted ones are a legal run of one shard.
+#[tactic(auto, using(crate::proofs::DocumentLemmas::accepted_legal))]
+pub fn accepted_are_legal()
+    ensures { AcceptedAreLegal }
 {}

@@ -1,12 +1,16 @@
 //! The register of versions that a document is: operations, replies, and the step of one document.
 #![tactic(auto)]
 
+mod doc_map;
 pub mod laws;
+mod map_fault;
 mod op;
 mod reply;
 mod state;
 mod transition;
 
+pub use doc_map::DocMap;
+pub use map_fault::MapFault;
 pub use op::Op;
 pub use reply::Reply;
 pub use state::{Conflicts, DocState};

@@ -24,8 +24,8 @@ fn is_live(state: DocState) -> bool
     matches!(state, DocState::Here(..))
 }
 
-// Whether the pair is greater than that of the document's last change.
-fn exceeds(pair: Pair, state: DocState) -> bool
+/// Whether the pair is greater than that of the document's last change.
+pub fn exceeds(pair: Pair, state: DocState) -> bool
     ensures { IsTrue result ↔ Exceeds pair state }
 {
     match state {
@@ -45,8 +45,8 @@ fn is_met(state: DocState, cond: Option<Pair>) -> bool
     }
 }
 
-// Whether the operation is a write that is performed.
-fn is_performed(state: DocState, op: Op) -> bool
+/// Whether the operation is a write that is performed.
+pub fn is_performed(state: DocState, op: Op) -> bool
     ensures { IsTrue result ↔ IsPerformed state op }
 {
     match op {

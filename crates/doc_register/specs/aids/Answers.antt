@@ -1,0 +1,14 @@
+-- What a map of documents answers: an aid of its contracts.
+use Rattle.doc_register.specs.Register.{shown}
+use Rattle.doc_register.specs.declared.op.Op.{Op}
+use Rattle.doc_register.specs.declared.op.Op.TheVariants.{Get, Index, Delete, Create}
+use Rattle.doc_register.specs.declared.reply.Reply.{Reply}
+use Rattle.doc_register.specs.declared.reply.Reply.TheVariants.{Conflict}
+use Rattle.doc_register.specs.declared.state.DocState.{DocState}
+
+-- the answer to a call that is no performed write
+abbrev pub unperformed_reply : DocState → Op → Reply
+unperformed_reply s Get = shown s
+unperformed_reply s (Index k c) = Conflict
+unperformed_reply s (Delete c) = Conflict
+unperformed_reply s (Create k) = Conflict
