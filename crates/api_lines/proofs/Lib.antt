@@ -1,0 +1,11 @@
+pub mod LineLemmas
+pub mod JsonLemmas
+pub mod PairLemmas
+pub mod TableLaws
+pub mod ActionLemmas
+pub mod BulkLemmas
+pub mod BulkReplyLemmas
+pub mod BulkLaws
+pub mod WrittenReplies
+pub mod WrittenLines
+pub mod ReadingLemmas

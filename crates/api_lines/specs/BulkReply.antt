@@ -1,0 +1,88 @@
+-- The reply to a bulk request: what is heard of each item, or the first fault.
+use Rattle.std.specs.Prelude.{ℕ, suc, ◌==◌, ◌^◌, Bool, true, false, List, [], ◌∷◌, ◌++◌, length, map, nat_lt, is_some, Option, Some, None, option_and_then, option_map, Result, Ok, Err, codes, if◌then◌else◌}
+use Rattle.doc_register.specs.declared.op.Op.{Op}
+use Rattle.doc_register.specs.declared.op.Op.TheVariants.{Get, Index, Delete, Create}
+use Rattle.serde_json.specs.Data.{Data, Items, no_items, item}
+use Rattle.serde_json.specs.Find.{as_array, as_object, get}
+use Rattle.api_lines.specs.Bulk.{only_member}
+use Rattle.api_lines.specs.Faults.{◌>>=◌}
+use Rattle.api_lines.specs.Fields.{BodyValues, body_values}
+use Rattle.api_lines.specs.Json.{FieldValue, absent, whole, not_whole, text, truth, other, field, json_value}
+use Rattle.api_lines.specs.Kinds.{is_other_text}
+use Rattle.api_lines.specs.ReplyTable.{heard}
+use Rattle.api_lines.specs.declared.bulk_fault.BulkFault.{BulkFault}
+use Rattle.api_lines.specs.declared.bulk_fault.BulkFault.TheVariants.{Syntax, Count, Kind}
+use Rattle.api_lines.specs.declared.reply_table.Heard.{Heard}
+use Rattle.api_lines.specs.declared.reply_table.Heard.TheVariants.{Unknown, Stranger}
+
+-- ---- an item
+
+abbrev pub is_write : Op → Bool
+is_write Get = false
+is_write (Index k c) = true
+is_write (Delete c) = true
+is_write (Create k) = true
+
+-- the name of a write's action
+abbrev pub action_name : Op → List ℕ
+action_name Get = []
+action_name (Index k c) = codes "index"
+action_name (Delete c) = codes "delete"
+action_name (Create k) = codes "create"
+
+-- a body that the reply table isn't asked about
+abbrev pub heard_unread : List ℕ → BodyValues → Heard
+heard_unread d body = if is_other_text d body.id then Stranger else Unknown
+
+-- what is heard by an item's status and its body
+abbrev pub heard_by : List ℕ → Op → FieldValue → BodyValues → Heard
+heard_by d op absent body = heard_unread d body
+heard_by d op (whole s) body = if nat_lt s (2 ^ 16) then heard op d s body else heard_unread d body
+heard_by d op not_whole body = heard_unread d body
+heard_by d op (text t) body = heard_unread d body
+heard_by d op (truth b) body = heard_unread d body
+heard_by d op other body = heard_unread d body
+
+abbrev pub heard_of_held : List ℕ → Op → Data → Heard
+heard_of_held d op held = heard_by d op (field (codes "status") held) (body_values held)
+
+-- what an item's one key holds, where it is an object
+abbrev pub heard_of_object : ℕ → List ℕ → Op → Option Data → Result Heard BulkFault
+heard_of_object i d op None = Err (Kind i)
+heard_of_object i d op (Some held) = if is_some (as_object held) then Ok (heard_of_held d op held) else Err (Kind i)
+
+-- what is heard by the item at the place i, or its fault
+abbrev pub heard_item : ℕ → List ℕ × Op → Data → Result Heard BulkFault
+heard_item i call v = heard_of_object i call.0 call.1 (only_member (action_name call.1) v)
+
+-- ---- the reply
+
+abbrev pub items_list : Items → List Data
+items_list no_items = []
+items_list (item d ds) = d ∷ items_list ds
+
+-- What is heard by the items from the place i on, after what is heard so far. There are as many items as calls.
+abbrev pub heard_items : ℕ → List Heard → List (List ℕ × Op) → List Data → Result (List Heard) BulkFault
+heard_items i so_far [] vs = Ok so_far
+heard_items i so_far (call ∷ calls) [] = Err Count
+heard_items i so_far (call ∷ calls) (v ∷ vs) = heard_item i call v >>= (λ h. heard_items (suc i) (so_far ++ h ∷ []) calls vs)
+
+abbrev pub heard_counted : List (List ℕ × Op) → List Data → Result (List Heard) BulkFault
+heard_counted calls vs = if length vs == length calls then heard_items 0 [] calls vs else Err Count
+
+-- the items of a reply, where it has them
+abbrev pub items_in : Data → Option (List Data)
+items_in v = option_map items_list (option_and_then as_array (get (codes "items") v))
+
+abbrev pub heard_array : List (List ℕ × Op) → Option (List Data) → Result (List Heard) BulkFault
+heard_array calls None = Err Count
+heard_array calls (Some vs) = heard_counted calls vs
+
+abbrev pub heard_json : List (List ℕ × Op) → Option Data → Result (List Heard) BulkFault
+heard_json calls None = Err (Syntax 1)
+heard_json calls (Some v) = heard_array calls (items_in v)
+
+-- What the reply to a bulk request tells of each of its calls, or the first fault. With a status other than 200 it isn't
+-- read, and the outcome of each is unknown.
+abbrev pub bulk_reply : List (List ℕ × Op) → ℕ → List ℕ → Result (List Heard) BulkFault
+bulk_reply calls status body = if status == 200 then heard_json calls (json_value body) else Ok (map (λ call. Unknown) calls)

@@ -1,0 +1,100 @@
+-- The fields that a line names, taken out of its value.
+use Rattle.std.specs.Prelude.{ℕ, List, option_and_then, unwrap_or, codes}
+use Rattle.serde_json.specs.Data.{Data, null}
+use Rattle.serde_json.specs.Find.{get}
+use Rattle.api_lines.specs.Json.{FieldValue, absent, whole, not_whole, text, truth, other, field, field_value}
+use Rattle.api_lines.specs.declared.field.Field.{Field}
+use Rattle.api_lines.specs.declared.field.Field.TheVariants as field
+use Rattle.api_lines.specs.declared.fields.BodyFields.{BodyFields}
+use Rattle.api_lines.specs.declared.fields.LineFields.{LineFields}
+
+-- what the reply table looks at in a reply's body
+pub record BodyValues : Type 0 where
+  pub id : FieldValue
+  pub outcome : FieldValue
+  pub seq_no : FieldValue
+  pub primary_term : FieldValue
+  pub found : FieldValue
+  pub source_k : FieldValue
+  pub error_type : FieldValue
+
+-- the field of a field
+abbrev pub inner_field : List ℕ → List ℕ → Data → FieldValue
+inner_field outer key v = field_value (option_and_then (get key) (get outer v))
+
+abbrev pub body_values : Data → BodyValues
+body_values body = record {
+  id = field (codes "_id") body;
+  outcome = field (codes "result") body;
+  seq_no = field (codes "_seq_no") body;
+  primary_term = field (codes "_primary_term") body;
+  found = field (codes "found") body;
+  source_k = inner_field (codes "_source") (codes "k") body;
+  error_type = inner_field (codes "error") (codes "type") body;
+}
+
+-- what any line of a history text names
+pub record LineValues : Type 0 where
+  pub e : FieldValue
+  pub n : FieldValue
+  pub id : FieldValue
+  pub op : FieldValue
+  pub k : FieldValue
+  pub if_seq_no : FieldValue
+  pub if_primary_term : FieldValue
+  pub shard : FieldValue
+  pub status : FieldValue
+  pub body : BodyValues
+
+-- the body of a reply line, null where it is absent
+abbrev pub body_of : Data → Data
+body_of v = unwrap_or (get (codes "body") v) null
+
+abbrev pub line_values : Data → LineValues
+line_values v = record {
+  e = field (codes "e") v;
+  n = field (codes "n") v;
+  id = field (codes "id") v;
+  op = field (codes "op") v;
+  k = field (codes "k") v;
+  if_seq_no = field (codes "if_seq_no") v;
+  if_primary_term = field (codes "if_primary_term") v;
+  shard = field (codes "shard") v;
+  status = field (codes "status") v;
+  body = body_values (body_of v);
+}
+
+-- ---- the code's fields as the definitions see them
+
+abbrev pub value_of : Field → FieldValue
+value_of field.Absent = absent
+value_of (field.Whole n) = whole n
+value_of field.NotWhole = not_whole
+value_of (field.Text t) = text t.now
+value_of (field.Bool b) = truth b
+value_of field.Other = other
+
+abbrev pub body_seen : BodyFields → BodyValues
+body_seen b = record {
+  id = value_of b.id;
+  outcome = value_of b.outcome;
+  seq_no = value_of b.seq_no;
+  primary_term = value_of b.primary_term;
+  found = value_of b.found;
+  source_k = value_of b.source_k;
+  error_type = value_of b.error_type;
+}
+
+abbrev pub line_seen : LineFields → LineValues
+line_seen l = record {
+  e = value_of l.e;
+  n = value_of l.n;
+  id = value_of l.id;
+  op = value_of l.op;
+  k = value_of l.k;
+  if_seq_no = value_of l.if_seq_no;
+  if_primary_term = value_of l.if_primary_term;
+  shard = value_of l.shard;
+  status = value_of l.status;
+  body = body_seen l.body;
+}

@@ -1,0 +1,120 @@
+-- What a line of a history text says by itself, or the first cause to refuse it.
+use Rattle.std.specs.Prelude.{ℕ, ◌^◌, List, Option, Some, None, nat_lt, codes, Result, Ok, Err, if◌then◌else◌}
+use Rattle.std.specs.Str.{bytes_eq}
+use Rattle.doc_register.specs.declared.op.Op.{Op}
+use Rattle.doc_register.specs.declared.op.Op.TheVariants.{Get, Index, Delete, Create}
+use Rattle.api_lines.specs.Faults.{◌>>=◌}
+use Rattle.api_lines.specs.Fields.{LineValues}
+use Rattle.api_lines.specs.Ids.{id_told}
+use Rattle.api_lines.specs.Kinds.{optional_number, required_number, required_text}
+use Rattle.api_lines.specs.Pairs.{pair_told, whole_told}
+use Rattle.api_lines.specs.declared.history_line.OpNumbers.{OpNumbers}
+use Rattle.api_lines.specs.declared.history_line.OpNumbers.TheVariants as numbers
+use Rattle.api_lines.specs.declared.history_line.LineSaid.{LineSaid}
+use Rattle.api_lines.specs.declared.history_line.LineSaid.TheVariants.{Call, Reply, Lost}
+use Rattle.api_lines.specs.declared.number.Number.{Number}
+use Rattle.api_lines.specs.declared.history_line.TheConstants.{SHARDS}
+use Rattle.api_lines.specs.declared.text_fault.TextCause.{TextCause}
+use Rattle.api_lines.specs.declared.text_fault.TextCause.TheVariants.{Range, Shape}
+
+-- ---- kinds
+
+-- The numbers of an operation, of the kind that they have to be. Those that the operation doesn't take aren't looked at.
+abbrev pub index_numbers : LineValues → Result OpNumbers TextCause
+index_numbers line = do
+  k ← required_number line.k
+  seq ← optional_number line.if_seq_no
+  term ← optional_number line.if_primary_term
+  Ok (numbers.Index k seq term)
+
+abbrev pub delete_numbers : LineValues → Result OpNumbers TextCause
+delete_numbers line = do
+  seq ← optional_number line.if_seq_no
+  term ← optional_number line.if_primary_term
+  Ok (numbers.Delete seq term)
+
+abbrev pub create_numbers : LineValues → Result OpNumbers TextCause
+create_numbers line = do
+  k ← required_number line.k
+  Ok (numbers.Create k)
+
+-- the numbers of the operation with this name
+abbrev pub numbers_named : LineValues → List ℕ → Result OpNumbers TextCause
+numbers_named line name =
+    if bytes_eq name (codes "get") then Ok numbers.Get
+    else (if bytes_eq name (codes "index") then index_numbers line
+    else (if bytes_eq name (codes "delete") then delete_numbers line
+    else (if bytes_eq name (codes "create") then create_numbers line
+    else Err Shape)))
+
+abbrev pub op_numbers : LineValues → Result OpNumbers TextCause
+op_numbers line = required_text line.op >>= numbers_named line
+
+-- ---- values
+
+-- the operation of these numbers: first its condition, then the number that it writes
+abbrev pub op_told : OpNumbers → Result Op TextCause
+op_told numbers.Get = Ok Get
+op_told (numbers.Index k seq term) = do
+  cond ← pair_told seq term
+  n ← whole_told k
+  Ok (Index n cond)
+op_told (numbers.Delete seq term) = do
+  cond ← pair_told seq term
+  Ok (Delete cond)
+op_told (numbers.Create k) = do
+  n ← whole_told k
+  Ok (Create n)
+
+abbrev pub below_limit : ℕ → ℕ → Result ℕ TextCause
+below_limit limit n = if nat_lt n limit then Ok n else Err Range
+
+-- the shard: 0 where it isn't named
+abbrev pub shard_told : Option Number → Result ℕ TextCause
+shard_told None = Ok 0
+shard_told (Some number) = whole_told number >>= below_limit SHARDS
+
+abbrev pub status_told : Number → Result ℕ TextCause
+status_told number = whole_told number >>= below_limit (2 ^ 16)
+
+-- ---- lines
+
+-- a call: all kinds, then the id, then the condition's halves, then the ranges
+abbrev pub call_told : LineValues → Result LineSaid TextCause
+call_told line = do
+  number ← required_number line.n
+  name ← required_text line.id
+  numbers ← op_numbers line
+  shard ← optional_number line.shard
+  id ← id_told name
+  op ← op_told numbers
+  n ← whole_told number
+  h ← shard_told shard
+  Ok (Call n h id op)
+
+-- a reply, whose body is looked at where its call is known
+abbrev pub reply_told : LineValues → Result LineSaid TextCause
+reply_told line = do
+  number ← required_number line.n
+  status ← required_number line.status
+  n ← whole_told number
+  s ← status_told status
+  Ok (Reply n s)
+
+-- an end without a reply
+abbrev pub lost_told : LineValues → Result LineSaid TextCause
+lost_told line = do
+  number ← required_number line.n
+  n ← whole_told number
+  Ok (Lost n)
+
+-- the line of this name
+abbrev pub line_named : LineValues → List ℕ → Result LineSaid TextCause
+line_named line name =
+    if bytes_eq name (codes "call") then call_told line
+    else (if bytes_eq name (codes "reply") then reply_told line
+    else (if bytes_eq name (codes "lost") then lost_told line
+    else Err Shape))
+
+abbrev pub line_told : LineValues → Result LineSaid TextCause
+line_told line = required_text line.e >>= line_named line

@@ -1,0 +1,58 @@
+-- JSON: the value of a line, and the fields of an object.
+use Rattle.std.specs.Prelude.{◌≡◌, ℕ, List, Bool, Option, Some, None, if◌then◌else◌}
+use Rattle.std.specs.Str.{is_utf8}
+use Rattle.serde_json.specs.Data.{Num, unsigned, negative, float, Data, null, boolean, number, string, array, object}
+use Rattle.serde_json.specs.Find.{get}
+use Rattle.serde_json.specs.Read.{read}
+
+-- ---- the value of a line
+
+-- the value of a line, or of any bytes, that are JSON
+abbrev pub json_value : List ℕ → Option Data
+json_value line = if is_utf8 line then read line else None
+
+-- ---- fields
+
+-- What a field is: absent, a whole number below 2^64 that is spelled by digits alone, another number, a text, true or
+-- false, or of another kind, as null is.
+pub data FieldValue : Type 0 where
+  absent : FieldValue
+  whole : ℕ → FieldValue
+  not_whole : FieldValue
+  text : List ℕ → FieldValue
+  truth : Bool → FieldValue
+  other : FieldValue
+
+abbrev pub number_value : Num → FieldValue
+number_value (unsigned n) = whole n
+number_value (negative z) = not_whole
+number_value (float x) = not_whole
+
+abbrev pub field_value : Option Data → FieldValue
+field_value None = absent
+field_value (Some null) = other
+field_value (Some (boolean b)) = truth b
+field_value (Some (number n)) = number_value n
+field_value (Some (string s)) = text s
+field_value (Some (array ds)) = other
+field_value (Some (object ms)) = other
+
+-- the field of a value; a value that is no object has none
+abbrev pub field : List ℕ → Data → FieldValue
+field key v = field_value (get key v)
+
+-- the field is not there
+abbrev pub Lacks : List ℕ → Data → Type 0
+Lacks key v = field key v ≡ absent
+
+-- the field holds the number
+abbrev pub HasNumber : List ℕ → ℕ → Data → Type 0
+HasNumber key n v = field key v ≡ whole n
+
+-- the field holds the text
+abbrev pub HasText : List ℕ → List ℕ → Data → Type 0
+HasText key t v = field key v ≡ text t
+
+-- the field holds true, or false
+abbrev pub HasBool : List ℕ → Bool → Data → Type 0
+HasBool key b v = field key v ≡ truth b

@@ -1,0 +1,15 @@
+pub mod Lines
+pub mod Texts
+pub mod Json
+pub mod Fields
+pub mod Faults
+pub mod Kinds
+pub mod Pairs
+pub mod ReplyTable
+pub mod Ids
+pub mod Written
+pub mod Laws
+pub mod aids
+pub mod HistoryLines
+pub mod Bulk
+pub mod BulkReply

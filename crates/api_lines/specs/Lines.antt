@@ -1,0 +1,33 @@
+-- The lines of a text.
+use Rattle.std.specs.Prelude.{ℕ, ◌==◌, Bool, not, ◌||◌, List, [], ◌∷◌, if◌then◌else◌}
+use Rattle.std.specs.List.{list_all}
+use Rattle.api_lines.specs.declared.lines.TheConstants.{LONGEST_LINE, MOST_LINES}
+
+-- the lines, with b at the front of the first
+abbrev pub onto_first : ℕ → List (List ℕ) → List (List ℕ)
+onto_first b [] = (b ∷ []) ∷ []
+onto_first b (line ∷ lines) = (b ∷ line) ∷ lines
+
+-- the lines of a text: each ends at a line feed or at the end of the text
+abbrev pub lines_of : List ℕ → List (List ℕ)
+lines_of [] = []
+lines_of (b ∷ bytes) = if b == 10 then [] ∷ lines_of bytes else onto_first b (lines_of bytes)
+
+-- a space, a tab or a carriage return
+abbrev pub is_space : ℕ → Bool
+is_space b = (b == 32) || (b == 9) || (b == 13)
+
+-- a line of such bytes alone
+abbrev pub is_blank : List ℕ → Bool
+is_blank line = list_all is_space line
+
+abbrev pub is_written : List ℕ → Bool
+is_written line = not (is_blank line)
+
+-- the most lines of a text
+abbrev pub most_lines : ℕ
+most_lines = MOST_LINES
+
+-- the most bytes of a line, without its line feed
+abbrev pub longest_line : ℕ
+longest_line = LONGEST_LINE

@@ -1,0 +1,20 @@
+/// Why the body of a bulk request, or of its reply, is refused. Lines are counted from 1 and items from 0.
+#[derive(Clone, Copy, Debug, PartialEq, Eq)]
+pub enum BulkFault {
+    /// The line has more than 65,536 bytes or is no JSON; line 1 for the body of a reply.
+    Syntax(u64),
+    /// The line is no action: an object with the one key `index`, `delete` or `create`, holding an object with an id.
+    Action(u64),
+    /// The line is no source: an object with a whole number `k`. Past the last line, where it is missing.
+    Source(u64),
+    /// One of the action's two conditions is there without the other.
+    Half(u64),
+    /// A number of the action's condition is not whole or outside its range.
+    Range(u64),
+    /// The reply has another number of items than the request.
+    Count,
+    /// The item is no reply to its action.
+    Kind(usize),
+    /// A growth was refused memory.
+    NoMemory,
+}

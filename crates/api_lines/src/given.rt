@@ -1,0 +1,31 @@
+ghost use Rattle.std.specs.Prelude.{◌≡◌, MatchResult, Ok, Err, option_map};
+ghost use Rattle.serde_json.specs.View.{view};
+ghost use Rattle.api_lines.specs.Faults.{IfTold};
+ghost use Rattle.api_lines.specs.Texts.{line_given};
+
+use crate::lines::{LONGEST_LINE, MOST_LINES, is_blank, line_value};
+use crate::text_fault::{LineFault, TextCause};
+use serde_json::Value;
+use std::alloc::Global;
+
+/// What the line of a text with this number, from 1, gives: nothing where it is blank, else its value. Causes in their
+/// order: `Lines`, `Long`, `Json`. `NoMemory` says nothing of the line.
+pub fn given_line(alloc: Global, number: u64, line: &[u8]) -> Result<Option<Value>, LineFault>
+    ensures { MatchResult result
+        (λ given. line_given number line.now ≡ Ok (option_map view given))
+        (λ fault. IfTold fault (λ cause. line_given number line.now ≡ Err cause)) }
+{
+    if number > MOST_LINES {
+        return Err(LineFault::Told(TextCause::Lines));
+    }
+    if line.len() > LONGEST_LINE {
+        return Err(LineFault::Told(TextCause::Long));
+    }
+    if is_blank(line) {
+        return Ok(None);
+    }
+    match line_value(alloc, line) {
+        Ok(value) => Ok(Some(value)),
+        Err(fault) => Err(fault),
+    }
+}

@@ -1,0 +1,179 @@
+ghost use Rattle.std.specs.Prelude.{◌≡◌};
+ghost use Rattle.api_lines.specs.Faults.{Gives};
+ghost use Rattle.api_lines.specs.Fields.{line_seen};
+ghost use Rattle.api_lines.specs.HistoryLines.{call_told, line_told, lost_told, op_numbers as numbers_of_line, op_told, reply_told, shard_told, status_told};
+
+use crate::fields::LineFields;
+use crate::ids::document_id;
+use crate::number::{Number, pair_of_numbers};
+use crate::text_fault::{LineFault, TextCause};
+use doc_register::Op;
+use std::alloc::Global;
+use version_pair::DocId;
+
+/// How many shards there are: they are numbered from 0.
+pub const SHARDS: u64 = 1024;
+
+/// The numbers of a call's operation, before their ranges are looked at.
+#[derive(Clone, Copy, Debug, PartialEq, Eq)]
+pub enum OpNumbers {
+    Get,
+    Index {
+        k: Number,
+        seq: Option<Number>,
+        term: Option<Number>,
+    },
+    Delete {
+        seq: Option<Number>,
+        term: Option<Number>,
+    },
+    Create {
+        k: Number,
+    },
+}
+
+/// What a line of a history text says by itself.
+#[derive(Debug, Drop)]
+pub enum LineSaid {
+    /// A call with its number, its shard below 1,024, the document's id and the operation.
+    Call {
+        no: u64,
+        shard: u32,
+        id: DocId,
+        op: Op,
+    },
+    /// A reply to the call with this number, with its status. What it tells is told by its body and its call.
+    Reply {
+        no: u64,
+        status: u16,
+    },
+    /// The call with this number got no reply.
+    Lost {
+        no: u64,
+    },
+}
+
+impl OpNumbers {
+    // The operation: first `Half` of its condition, then `Range`.
+    fn op(self) -> Result<Op, TextCause>
+        ensures { result ≡ op_told self }
+    {
+        match self {
+            OpNumbers::Get => Ok(Op::Get),
+            OpNumbers::Index { k, seq, term } => {
+                let cond = pair_of_numbers(seq, term)?;
+                let k = k.whole()?;
+                Ok(Op::Index { k, cond })
+            }
+            OpNumbers::Delete { seq, term } => {
+                let cond = pair_of_numbers(seq, term)?;
+                Ok(Op::Delete { cond })
+            }
+            OpNumbers::Create { k } => {
+                let k = k.whole()?;
+                Ok(Op::Create { k })
+            }
+        }
+    }
+}
+
+// The numbers of the operation of a call, all of their kinds, else `Shape`.
+fn op_numbers(line: &LineFields<'_>) -> Result<OpNumbers, TextCause>
+    ensures { result ≡ numbers_of_line (line_seen line.now) }
+{
+    match line.op.required_text()? {
+        "get" => Ok(OpNumbers::Get),
+        "index" => Ok(OpNumbers::Index {
+            k: line.k.required_number()?,
+            seq: line.if_seq_no.optional_number()?,
+            term: line.if_primary_term.optional_number()?,
+        }),
+        "delete" => Ok(OpNumbers::Delete {
+            seq: line.if_seq_no.optional_number()?,
+            term: line.if_primary_term.optional_number()?,
+        }),
+        "create" => Ok(OpNumbers::Create {
+            k: line.k.required_number()?,
+        }),
+        _ => Err(TextCause::Shape),
+    }
+}
+
+// The shard of a call: 0 where it is not named, `Range` from 1,024 on.
+fn shard(field: Option<Number>) -> Result<u32, TextCause>
+    ensures { result ≡ shard_told field }
+{
+    let Some(number) = field else {
+        return Ok(0);
+    };
+    let shard = number.whole()?;
+    if shard < SHARDS {
+        Ok(shard as u32)
+    } else {
+        Err(TextCause::Range)
+    }
+}
+
+// The status of a reply, else `Range` from 65,536 on.
+fn status(number: Number) -> Result<u16, TextCause>
+    ensures { result ≡ status_told number }
+{
+    let status = number.whole()?;
+    if status < 65_536 {
+        Ok(status as u16)
+    } else {
+        Err(TextCause::Range)
+    }
+}
+
+/// The call that a line says. Causes in their order: `Shape` for all fields that count, `Id`, `Half`, `Range`.
+/// `NoMemory` says nothing of the line.
+pub fn call_of(alloc: Global, line: &LineFields<'_>) -> Result<LineSaid, LineFault>
+    ensures { Gives result (call_told (line_seen line.now)) }
+{
+    let number = line.n.required_number()?;
+    let name = line.id.required_text()?;
+    let numbers = op_numbers(line)?;
+    let named_shard = line.shard.optional_number()?;
+    let id = document_id(alloc, name)?;
+    let op = numbers.op()?;
+    let no = number.whole()?;
+    let shard = shard(named_shard)?;
+    Ok(LineSaid::Call { no, shard, id, op })
+}
+
+/// The reply that a line says. Causes in their order: `Shape`, `Range`.
+pub fn reply_of(line: &LineFields<'_>) -> Result<LineSaid, TextCause>
+    ensures { result ≡ reply_told (line_seen line.now) }
+{
+    let number = line.n.required_number()?;
+    let status_number = line.status.required_number()?;
+    let no = number.whole()?;
+    let status = status(status_number)?;
+    Ok(LineSaid::Reply { no, status })
+}
+
+/// The end without a reply that a line says. Causes in their order: `Shape`, `Range`.
+pub fn lost_of(line: &LineFields<'_>) -> Result<LineSaid, TextCause>
+    ensures { result ≡ lost_told (line_seen line.now) }
+{
+    let number = line.n.required_number()?;
+    let no = number.whole()?;
+    Ok(LineSaid::Lost { no })
+}
+
+/// What a line of a history text says by itself. Causes in their order: `Shape` for all fields that count, also for an
+/// `e` or an `op` of an unknown text; `Id`, `Half`, `Range`. `NoMemory` says nothing of the line.
+pub fn line_said(alloc: Global, line: &LineFields<'_>) -> Result<LineSaid, LineFault>
+    ensures { Gives result (line_told (line_seen line.now)) }
+{
+    match line.e.required_text()? {
+        "call" => call_of(alloc, line),
+        "reply" => Ok(reply_of(line)?),
+        "lost" => Ok(lost_of(line)?),
+        _ => Err(LineFault::Told(TextCause::Shape)),
+    }
+}
+
+#[cfg(test)]
+mod tests;

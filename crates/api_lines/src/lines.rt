@@ -1,0 +1,89 @@
+ghost use Rattle.std.specs.Prelude.{◌≡◌, ◌<◌, ◌∷◌, MatchResult, Some, None, length};
+ghost use Rattle.serde_json.specs.View.{view};
+ghost use Rattle.api_lines.specs.Faults.{IfTold};
+ghost use Rattle.api_lines.specs.Json.{json_value};
+ghost use Rattle.api_lines.specs.Lines.{is_blank as blank, is_space as space, lines_of};
+ghost use Rattle.api_lines.specs.declared.text_fault.TextCause.TheVariants.{Json};
+
+use crate::text_fault::{LineFault, TextCause};
+use memchr::memchr;
+use serde_json::Value;
+use std::alloc::Global;
+
+/// The most bytes of a line, without its line feed.
+pub const LONGEST_LINE: usize = 65_536;
+
+/// The most lines of a text.
+pub const MOST_LINES: u64 = 4_194_304;
+
+// A space, a tab or a carriage return.
+fn is_space(byte: u8) -> bool
+    ensures { result ≡ space byte }
+{
+    byte == b' ' || byte == b'\t' || byte == b'\r'
+}
+
+/// Whether a line has only spaces, tabs and carriage returns.
+pub fn is_blank(line: &[u8]) -> bool
+    ensures { result ≡ blank line.now }
+{
+    line.iter().all(|byte| is_space(*byte))
+}
+
+/// The first line of a text that is not empty, and the text after it.
+pub fn first_line(text: &[u8]) -> (&[u8], &[u8])
+    requires { 0 < length text.now }
+    ensures lines { lines_of text.now ≡ result.0.now ∷ lines_of result.1.now }
+    ensures shorter { length result.1.now < length text.now }
+{
+    match memchr(b'\n', text) {
+        Some(end) => (&text[..end], &text[end + 1..]),
+        None => (text, &text[text.len()..]),
+    }
+}
+
+/// The value that a line spells, else `Json`. `NoMemory` says nothing of the line.
+pub fn line_value(alloc: Global, line: &[u8]) -> Result<Value, LineFault>
+    ensures { MatchResult result (λ value. json_value line.now ≡ Some (view value))
+        (λ fault. IfTold fault (λ cause. (json_value line.now ≡ None) × (cause ≡ Json))) }
+{
+    match Value::from_slice(alloc, line) {
+        Ok(value) => Ok(value),
+        Err(error) if error.is_memory() => Err(LineFault::NoMemory),
+        Err(_) => Err(LineFault::Told(TextCause::Json)),
+    }
+}
+
+#[cfg(test)]
+mod tests {
+    use super::*;
+    use std::test::Fail;
+
+    #[test]
+    fn lines_taken_one_by_one(rt: HostRuntime) -> Result<(), Fail> {
+        let (first, rest) = first_line(b"{}\r\n\n\t x");
+        assert_eq!(rt; str::from_utf8(first)?, "{}\r");
+        let (second, rest) = first_line(rest);
+        assert_eq!(rt; second.len(), 0);
+        assert!(rt; is_blank(second));
+        let (third, rest) = first_line(rest);
+        assert_eq!(rt; str::from_utf8(third)?, "\t x");
+        assert!(rt; !is_blank(third));
+        assert!(rt; rest.is_empty());
+        Ok(())
+    }
+
+    #[test]
+    fn lines_that_are_no_json(rt: HostRuntime) {
+        for line in [
+            "{\"e\":",
+            "{} {}",
+            "1e999",
+            "\u{feff}{}",
+            "{\"e\":\"\\ud800\"}",
+        ] {
+            let fault = line_value(rt.alloc(), line.as_bytes()).err();
+            assert_eq!(rt; fault, Some(LineFault::Told(TextCause::Json)), "{line}");
+        }
+    }
+}

@@ -1,0 +1,89 @@
+ghost use Rattle.std.specs.Prelude.{◌≡◌};
+ghost use Rattle.api_lines.specs.declared.text_fault.LineFault.TheVariants.{NoMemory as Unread, Told};
+ghost use Rattle.api_lines.specs.Faults.{text_fault};
+
+use std::alloc::AllocError;
+
+/// Why a line was refused.
+#[derive(Clone, Copy, Debug, PartialEq, Eq)]
+pub enum TextCause {
+    /// It has more than 65,536 bytes.
+    Long,
+    /// It is past the 4,194,304th line.
+    Lines,
+    /// It is no JSON.
+    Json,
+    /// It is no object, a required field is missing, a field is of another kind, or its `e` or `op` is unknown.
+    Shape,
+    /// The document's id is empty or has more than 512 bytes.
+    Id,
+    /// A number is not whole or outside its range.
+    Range,
+    /// One of the two conditions is there without the other.
+    Half,
+    /// The body of a reply names another document.
+    Stranger,
+    /// A call has this number already.
+    SecondCall,
+    /// No call has this number.
+    NoCall,
+    /// The call of this number has an ending already.
+    Ended,
+    /// The history has its most events.
+    Full,
+    /// The document was called before on another shard.
+    ShardMoved,
+}
+
+/// The first line that was refused, counted from 1, and why.
+#[derive(Clone, Copy, Debug, PartialEq, Eq)]
+pub struct TextFault {
+    pub line: u64,
+    pub cause: TextCause,
+}
+
+/// Why a text was not read.
+#[derive(Clone, Copy, Debug, PartialEq, Eq)]
+pub enum ReadFault {
+    /// A line was refused.
+    Text(TextFault),
+    /// A growth was refused memory.
+    NoMemory,
+}
+
+/// Why a line was not read.
+#[derive(Clone, Copy, Debug, PartialEq, Eq)]
+pub enum LineFault {
+    /// It was refused.
+    Told(TextCause),
+    /// A growth was refused memory.
+    NoMemory,
+}
+
+impl LineFault {
+    /// The fault as one of the text's line with this number.
+    pub fn at(self, line: u64) -> ReadFault
+        ensures { result ≡ text_fault line self }
+    {
+        match self {
+            LineFault::Told(cause) => ReadFault::Text(TextFault { line, cause }),
+            LineFault::NoMemory => ReadFault::NoMemory,
+        }
+    }
+}
+
+impl From<TextCause> for LineFault {
+    ghost from_gives = { λ cause fault. fault ≡ Told cause };
+
+    fn from(cause: TextCause) -> LineFault {
+        LineFault::Told(cause)
+    }
+}
+
+impl From<AllocError> for LineFault {
+    ghost from_gives = { λ _ fault. fault ≡ Unread };
+
+    fn from(_: AllocError) -> LineFault {
+        LineFault::NoMemory
+    }
+}
