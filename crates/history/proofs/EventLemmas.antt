@@ -1,9 +1,10 @@
 -- Places of events, and what one more event does to them.
 use Rattle.std.proofs.Common.{ℕ, zero, suc, ◌≡◌, ◌<◌, List, [], ◌∷◌, ◌++◌, length, refl, sym, ap, subst, ◌∙◌, inl, inr, Option, Some, None, slice_get, ◌⊎◌, Bool, true, false}
 use Rattle.std.specs.Prelude.{option_map, if◌then◌else◌, IfSome}
+use Rattle.std.proofs.lemmas.Option.{slice_get_within}
 use Rattle.history.specs.declared.event.Event.{Event}
 use Rattle.history.specs.Events.{PassesAt, place_of}
-use Rattle.history.proofs.ListLemmas.{get_front, get_last, get_within, get_snoc}
+use Rattle.history.proofs.ListLemmas.{get_front, get_last, get_snoc}
 
 -- ---- events that pass a test
 
@@ -17,7 +18,7 @@ pub element_passes : (t : Event → Bool) (xs : List Event) (i : ℕ) (e : Event
 element_passes t xs i e at p = ap (option_map t) at ∙ ap (λ b. Some b) p
 
 pub passes_within : (t : Event → Bool) (xs : List Event) (i : ℕ) → PassesAt t xs i → i < length xs
-passes_within t xs i h = let e = passes_element t xs i h in get_within xs i e.0 e.1
+passes_within t xs i h = let e = passes_element t xs i h in slice_get_within xs i e.0 e.1
 
 pub passes_front : (t : Event → Bool) (xs ys : List Event) (i : ℕ) → PassesAt t xs i → PassesAt t (xs ++ ys) i
 passes_front t xs ys i h = let e = passes_element t xs i h in element_passes t (xs ++ ys) i e.0 (get_front xs ys i e.0 e.1) e.2

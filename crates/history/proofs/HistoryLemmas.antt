@@ -9,7 +9,7 @@ use Rattle.history.specs.declared.event.Event.{Event}
 use Rattle.history.specs.declared.event.Event.TheVariants.{Call, Reply, Lost}
 use Rattle.history.specs.Events.{IsCallAt, IsReplyAt, IsHistory, PassesAt, is_call, is_ending}
 use Rattle.history.proofs.ListLemmas.{get_snoc}
-use Rattle.history.proofs.EventLemmas.{element_passes, passes_within, passes_front, passes_snoc}
+use Rattle.history.proofs.EventLemmas.{element_passes, passes_element, passes_within, passes_front, passes_snoc}
 
 -- a call is an event that is that call
 pub call_passes : (H : List Event) (i n h : ℕ) (d : List ℕ) (op : Op) → IsCallAt H i n h d op → PassesAt (is_call n) H i
@@ -129,3 +129,33 @@ history_after_lost H n c h d op old call fresh =
     history_after_ending H (Lost n) n c h d op old
     (record { no_call = λ m. refl; ends = λ m. refl; other = λ m g e o p. cc }) call fresh
     (λ m s p. let impossible : Lost n ≡ Reply m s = p in absurd (cc))
+
+-- ---- calls and their replies
+
+-- the call that has the number
+pub call_at : (H : List Event) (j n : ℕ) → PassesAt (is_call n) H j → (h : ℕ) × (d : List ℕ) × (op : Op) × IsCallAt H j n h d op
+call_at H j n passes = let e = passes_element (is_call n) H j passes in by_event e.0 e.1 e.2 where
+  by_event : (e : Event) → slice_get H j ≡ Some e → is_call n e ≡ true → (h : ℕ) × (d : List ℕ) × (op : Op) × IsCallAt H j n h d op
+  by_event (Call m h d op) at is = (h, d, op, at ∙ ap (λ k. Some (Call k h d op)) (eqb-true m n is))
+  by_event (Reply m r) at is = let impossible : false ≡ true = is in absurd (cc)
+  by_event (Lost m) at is = let impossible : false ≡ true = is in absurd (cc)
+
+-- the call that a reply answers
+pub answered_call : (H : List Event) → IsHistory H → (k n : ℕ) (r : Answer) → IsReplyAt H k n r → (j : ℕ) × (h : ℕ) × (d : List ℕ) × (op : Op) × IsCallAt H j n h d op
+answered_call H history k n r at =
+    let c = history.ended_after_call n k (reply_passes H k n r at) in
+    let call = call_at H c.0 n c.2 in
+    (c.0, call.0, call.1, call.2, call.3)
+
+-- no event is a history
+pub empty_history : IsHistory []
+empty_history = record {
+  called_once = λ n i j a b. absurd (passes_none (is_call n) i a);
+  ended_once = λ n i j a b. absurd (passes_none (is_ending n) i a);
+  ended_after_call = λ n i a. absurd (passes_none (is_ending n) i a);
+  replies_fit = λ n i j h d op r a b. absurd (passes_none (is_ending n) i (reply_passes [] i n r a));
+  one_shard = λ i j n m h g d op o a b. absurd (passes_none (is_call n) i (call_passes [] i n h d op a));
+  shards = λ i n h d op a. absurd (passes_none (is_call n) i (call_passes [] i n h d op a));
+} where
+  passes_none : (t : Event → Bool) (i : ℕ) → PassesAt t [] i → ⊥
+  passes_none t i p = let within : i < length {A = Event} [] = passes_within t [] i p in omega arith

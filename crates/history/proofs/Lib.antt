@@ -1,16 +1,24 @@
 pub mod ListLemmas
-pub mod EventLemmas
+mod EventLemmas
 pub mod HistoryLemmas
-pub mod IndexLemmas
-pub mod PushLemmas
-pub mod LineLemmas
-pub mod ReadLemmas
-pub mod TextLemmas
-pub mod RecordLemmas
+mod IndexLemmas
+pub mod DocumentLemmas
+mod PushLemmas
+mod TextLemmas
+mod RecordLemmas
 pub mod OrderLemmas
-pub mod OrderLaws
+mod OrderLaws
 pub mod RecordLaws
-pub mod LeavingLaws
-pub mod PrefixLaws
-pub mod TextLaws
-pub mod WrittenLines
+mod LeavingLaws
+mod PrefixLaws
+pub mod CountLemmas
+pub mod TextLengths
+mod SaidLines
+mod TextReading
+mod AcceptedEvents
+mod TextLaws
+mod ListedLemmas
+mod OpenCalls
+mod PlaceLemmas
+mod WrittenText
+mod BulkTextLemmas

@@ -1,7 +1,8 @@
 -- Places in lists.
-use Rattle.std.proofs.Common.{ℕ, zero, suc, ◌≡◌, ◌<◌, List, [], ◌∷◌, ◌++◌, length, refl, inl, inr, arith, Some, None, slice_get, ◌⊎◌, Option, ap, ◌∙◌}
+use Rattle.std.proofs.Common.{ℕ, zero, suc, ◌≡◌, ◌<◌, List, [], ◌∷◌, ◌++◌, length, take, refl, inl, inr, arith, Some, None, slice_get, ◌⊎◌, Option, ap, ◌∙◌}
 use Rattle.std.specs.Prelude.{filter_map}
 use Rattle.std.specs.List.{cons_option}
+use Rattle.std.proofs.lemmas.Bool.{cases_lt}
 
 pub none_is_not_some : {X : Type 0} (x : X) → None ≡ Some x → ⊥
 none_is_not_some x h = cc
@@ -11,13 +12,7 @@ same_some x y h = cc
 
 -- two places neither of which is below the other
 pub compare : (i j : ℕ) → (i < j → ⊥) → (j < i → ⊥) → i ≡ j
-compare i j f g = elim (tri i j) as (λ _. i ≡ j) [ inl a ↦ absurd (f a) | inr b ↦ elim b as (λ _. i ≡ j) [ inl c ↦ absurd (g c) | inr e ↦ e ] ] where
-  tri : (i j : ℕ) → (i < j) ⊎ ((j < i) ⊎ (i ≡ j))
-  tri zero zero = inr (inr refl)
-  tri zero (suc j) = inl (omega arith)
-  tri (suc i) zero = inr (inl (omega arith))
-  tri (suc i) (suc j) = elim (tri i j) as (λ _. (suc i < suc j) ⊎ ((suc j < suc i) ⊎ (suc i ≡ suc j)))
-      [ inl a ↦ inl (omega arith) | inr b ↦ elim b as (λ _. (suc i < suc j) ⊎ ((suc j < suc i) ⊎ (suc i ≡ suc j))) [ inl c ↦ inr (inl (omega arith)) | inr e ↦ inr (inr (ap suc e)) ] ]
+compare i j f g = elim (cases_lt i j) as (λ _. i ≡ j) [ inl below ↦ absurd (f below) | inr b ↦ elim (cases_lt j i) as (λ _. i ≡ j) [ inl below ↦ absurd (g below) | inr e ↦ (omega arith) ] ]
 
 -- what stands at a place stands there still when the list goes on
 pub get_front : {X : Type 0} (xs ys : List X) (i : ℕ) (y : X) → slice_get xs i ≡ Some y → slice_get (xs ++ ys) i ≡ Some y
@@ -41,17 +36,34 @@ get_of_front [] ys i x below at = absurd (omega arith)
 get_of_front (y ∷ xs) ys zero x below at = at
 get_of_front (y ∷ xs) ys (suc i) x below at = get_of_front xs ys i x (omega arith) at
 
-pub get_within : {X : Type 0} (xs : List X) (i : ℕ) (y : X) → slice_get xs i ≡ Some y → i < length xs
-get_within [] i y h = let impossible : None ≡ Some y = h in cc
-get_within (x ∷ xs) zero y h = omega arith
-get_within (x ∷ xs) (suc i) y h = let below : i < length xs = get_within xs i y h in omega arith
-
 -- what stands in a list with one more element is an old element or the last
 pub get_snoc : {X : Type 0} (xs : List X) (x y : X) (i : ℕ) → slice_get (xs ++ x ∷ []) i ≡ Some y → (slice_get xs i ≡ Some y) ⊎ ((i ≡ length xs) × (x ≡ y))
 get_snoc [] x y zero h = inr (refl, (let same : Some x ≡ Some y = h in cc))
 get_snoc [] x y (suc i) h = let impossible : None ≡ Some y = h in cc
 get_snoc (z ∷ xs) x y zero h = inl h
 get_snoc (z ∷ xs) x y (suc i) h = elim (get_snoc xs x y i h) [ inl old ↦ inl old | inr new ↦ inr ((let e : i ≡ length xs = new.0 in omega arith), new.1) ]
+
+-- ---- the first elements
+
+-- what stands at a place of the first n elements stands there in the list, below n
+pub get_take : {X : Type 0} (xs : List X) (n i : ℕ) (x : X) → slice_get (take n xs) i ≡ Some x → (slice_get xs i ≡ Some x) × (i < n)
+get_take [] zero i x at = absurd (none_is_not_some x at)
+get_take [] (suc n) i x at = absurd (none_is_not_some x at)
+get_take (y ∷ xs) zero i x at = absurd (none_is_not_some x at)
+get_take (y ∷ xs) (suc n) zero x at = (at, omega arith)
+get_take (y ∷ xs) (suc n) (suc i) x at = let rest = get_take xs n i x at in (rest.0, let less : i < n = rest.1 in omega arith)
+
+pub take_get : {X : Type 0} (xs : List X) (n i : ℕ) (x : X) → i < n → slice_get xs i ≡ Some x → slice_get (take n xs) i ≡ Some x
+take_get xs zero i x below at = absurd (omega arith)
+take_get [] (suc n) i x below at = at
+take_get (y ∷ xs) (suc n) zero x below at = at
+take_get (y ∷ xs) (suc n) (suc i) x below at = take_get xs n i x (omega arith) at
+
+-- the first elements, with the next one
+pub take_one_more : {X : Type 0} (xs : List X) (i : ℕ) (x : X) → slice_get xs i ≡ Some x → take (suc i) xs ≡ take i xs ++ x ∷ []
+take_one_more [] i x at = absurd (none_is_not_some x at)
+take_one_more (y ∷ xs) zero x at = ap (λ z. z ∷ []) (same_some y x at)
+take_one_more (y ∷ xs) (suc i) x at = ap (λ ys. y ∷ ys) (take_one_more xs i x at)
 
 -- ---- places among what a test keeps
 

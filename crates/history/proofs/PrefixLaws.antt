@@ -1,7 +1,7 @@
 -- A prefix of a linearizable history is one.
 use Rattle.std.proofs.Common.{ℕ, zero, suc, ◌≡◌, ◌<◌, ◌≤◌, List, [], ◌∷◌, ◌++◌, take, refl, sym, ap, subst, ◌∙◌, inl, inr, arith, Option, Some, None, slice_get, ◌⊎◌, Bool, true, false, eq-eqb}
 use Rattle.std.specs.Prelude.{◌==◌, is_some}
-use Rattle.std.proofs.lemmas.Bool.{eqb-true}
+use Rattle.std.proofs.lemmas.Bool.{both_ways, cases_lt, eqb-true}
 use Rattle.std.proofs.lemmas.List.{map-append}
 use Rattle.doc_register.specs.declared.reply.Reply.{Reply as Answer}
 use Rattle.doc_register.specs.declared.state.Conflicts.{Conflicts}
@@ -11,34 +11,20 @@ use Rattle.history.specs.declared.event.Event.TheVariants.{Call, Reply, Lost}
 use Rattle.history.specs.Events.{IsHistory, IsReplyAt, PassesAt, Precedes, place_of}
 use Rattle.history.specs.Order.{Explains, IsOfCall, Placed, run_of}
 use Rattle.history.specs.Laws.{PrefixesStay}
-use Rattle.history.proofs.ListLemmas.{get_front, none_is_not_some, same_some}
+use Rattle.history.proofs.ListLemmas.{get_front, get_take, none_is_not_some, same_some, take_get}
 use Rattle.history.proofs.EventLemmas.{passes_element, element_passes, place_of-passes, place_of-some}
 use Rattle.history.proofs.HistoryLemmas.{call_passes}
 
 -- ---- the first elements
 
--- what stands among the first n stands in the list, below n
-first_get : {X : Type 0} (n : ℕ) (xs : List X) (i : ℕ) (x : X) → slice_get (take n xs) i ≡ Some x → (i < n) × (slice_get xs i ≡ Some x)
-first_get zero [] i x at = absurd (none_is_not_some x at)
-first_get zero (y ∷ xs) i x at = absurd (none_is_not_some x at)
-first_get (suc n) [] i x at = absurd (none_is_not_some x at)
-first_get (suc n) (y ∷ xs) zero x at = ((omega arith), at)
-first_get (suc n) (y ∷ xs) (suc i) x at = let r = first_get n xs i x at in let below : i < n = r.0 in ((omega arith), r.1)
-
-get_first : {X : Type 0} (n : ℕ) (xs : List X) (i : ℕ) (x : X) → i < n → slice_get xs i ≡ Some x → slice_get (take n xs) i ≡ Some x
-get_first zero xs i x below at = absurd (omega arith)
-get_first (suc n) [] i x below at = at
-get_first (suc n) (y ∷ xs) zero x below at = at
-get_first (suc n) (y ∷ xs) (suc i) x below at = get_first n xs i x (omega arith) at
-
 first_passes : (n : ℕ) (t : Event → Bool) (H : List Event) (i : ℕ) → PassesAt t (take n H) i → (i < n) × PassesAt t H i
 first_passes n t H i p =
     let e = passes_element t (take n H) i p in
-    let g = first_get n H i e.0 e.1 in
-    (g.0, element_passes t H i e.0 g.1 e.2)
+    let g = get_take H n i e.0 e.1 in
+    (g.1, element_passes t H i e.0 g.0 e.2)
 
 passes_first : (n : ℕ) (t : Event → Bool) (H : List Event) (i : ℕ) → i < n → PassesAt t H i → PassesAt t (take n H) i
-passes_first n t H i below p = let e = passes_element t H i p in element_passes t (take n H) i e.0 (get_first n H i e.0 below e.1) e.2
+passes_first n t H i below p = let e = passes_element t H i p in element_passes t (take n H) i e.0 (take_get H n i e.0 below e.1) e.2
 
 -- ---- a prefix is a history
 
@@ -52,9 +38,9 @@ prefix_history H n history = record {
       let ending : i < n = e.0 in
       let early : c.0 < i = c.1 in
       (c.0, c.1, passes_first n _ H c.0 (omega arith) c.2);
-  replies_fit = λ m i j h d op r reply call. history.replies_fit m i j h d op r (first_get n H i (Reply m r) reply).1 (first_get n H j (Call m h d op) call).1;
-  one_shard = λ i j m k h g d op o a b. history.one_shard i j m k h g d op o (first_get n H i (Call m h d op) a).1 (first_get n H j (Call k g d o) b).1;
-  shards = λ i m h d op at. history.shards i m h d op (first_get n H i (Call m h d op) at).1;
+  replies_fit = λ m i j h d op r reply call. history.replies_fit m i j h d op r (get_take H n i (Reply m r) reply).0 (get_take H n j (Call m h d op) call).0;
+  one_shard = λ i j m k h g d op o a b. history.one_shard i j m k h g d op o (get_take H n i (Call m h d op) a).0 (get_take H n j (Call k g d o) b).0;
+  shards = λ i m h d op at. history.shards i m h d op (get_take H n i (Call m h d op) at).0;
 }
 
 -- ---- the part of an order up to its last call that is answered in the prefix
@@ -67,9 +53,6 @@ record Cut {X : Type 0} (t : X → Bool) (xs : List X) : Type 0 where
   pub none : (i : ℕ) (x : X) → slice_get back i ≡ Some x → t x ≡ true → ⊥
   pub covered : (i : ℕ) (x : X) → slice_get front i ≡ Some x → (j : ℕ) × (y : X) × (i ≤ j) × (slice_get front j ≡ Some y) × (t y ≡ true)
 
-true_is_not_false : (b : Bool) → b ≡ true → b ≡ false → ⊥
-true_is_not_false b h k = let impossible : true ≡ false = sym h ∙ k in cc
-
 cut_more : {X : Type 0} (t : X → Bool) (x : X) (xs : List X) → Cut t xs → Cut t (x ∷ xs)
 cut_more {X} t x xs c = by_front c.front refl (t x) refl where
   nothing_before : c.front ≡ [] → xs ≡ c.back
@@ -80,7 +63,7 @@ cut_more {X} t x xs c = by_front c.front refl (t x) refl where
   alone e (suc i) z at = absurd (none_is_not_some z at)
 
   none_more : t x ≡ false → (i : ℕ) (z : X) → slice_get (x ∷ c.back) i ≡ Some z → t z ≡ true → ⊥
-  none_more e zero z at passes = true_is_not_false (t x) (ap t (same_some x z at) ∙ passes) e
+  none_more e zero z at passes = both_ways (t x) e (ap t (same_some x z at) ∙ passes)
   none_more e (suc i) z at passes = c.none i z at passes
 
   covered_more : (y : X) → slice_get c.front 0 ≡ Some y → (i : ℕ) (z : X) → slice_get (x ∷ c.front) i ≡ Some z
@@ -161,12 +144,6 @@ legal_front front back legal =
 
 -- ---- the law
 
-below_or_not : (a b : ℕ) → (a < b) ⊎ (b ≤ a)
-below_or_not zero zero = inr (omega arith)
-below_or_not zero (suc b) = inl (omega arith)
-below_or_not (suc a) zero = inr (omega arith)
-below_or_not (suc a) (suc b) = elim (below_or_not a b) as (λ _. (suc a < suc b) ⊎ (suc b ≤ suc a)) [ inl h ↦ inl (omega arith) | inr h ↦ inr (omega arith) ]
-
 in_front_or_back : {X : Type 0} (xs ys : List X) (i : ℕ) (z : X) → slice_get (xs ++ ys) i ≡ Some z → (slice_get xs i ≡ Some z) ⊎ ((j : ℕ) × (slice_get ys j ≡ Some z))
 in_front_or_back [] ys i z at = inr (i, at)
 in_front_or_back (x ∷ xs) ys zero z at = inl at
@@ -177,7 +154,7 @@ precedes_still H n a b p = record {
   answered = p.answered;
   called = p.called;
   before = p.before;
-  reply = (p.reply.0, (first_get n H p.answered (Reply a p.reply.0) p.reply.1).1);
+  reply = (p.reply.0, (get_take H n p.answered (Reply a p.reply.0) p.reply.1).0);
   call = (first_passes n _ H p.called p.call).1;
 }
 
@@ -187,7 +164,7 @@ front_explains mode H n order c explains = record {
   is_order = record {
     calls = λ i p at. called i p at (explains.is_order.calls i p (whole i p at));
     once = λ i j p q at bt same. explains.is_order.once i j p q (whole i p at) (whole j q bt) same;
-    answered = λ k m r at. found k m r at (explains.is_order.answered k m r (first_get n H k (Reply m r) at).1);
+    answered = λ k m r at. found k m r at (explains.is_order.answered k m r (get_take H n k (Reply m r) at).0);
     plain = λ mode_is i p at. explains.is_order.plain mode_is i p (whole i p at);
   };
   respects = λ i j p q at bt first. explains.respects i j p q (whole i p at) (whole j q bt) (precedes_still H n p.no q.no first);
@@ -199,17 +176,17 @@ front_explains mode H n order c explains = record {
   -- a call that stands before one that is answered in the prefix is called in it
   called : (i : ℕ) (p : Placed) → slice_get c.front i ≡ Some p → IsOfCall H p → IsOfCall (take n H) p
   called i p at (k, call) =
-      elim (below_or_not k n) as (λ _. IsOfCall (take n H) p) [
-        | inl below ↦ (k, get_first n H k (Call p.no p.entry.shard p.entry.doc p.entry.op) below call)
+      elim (cases_lt k n) as (λ _. IsOfCall (take n H) p) [
+        | inl below ↦ (k, take_get H n k (Call p.no p.entry.shard p.entry.doc p.entry.op) below call)
         | inr late ↦ (let a = c.covered i p at in
             let r = answered_at (take n H) a.1 a.4 in
-            let g = first_get n H r.0 (Reply a.1.no r.1) r.2 in
-            let early : r.0 < n = g.0 in
+            let g = get_take H n r.0 (Reply a.1.no r.1) r.2 in
+            let early : r.0 < n = g.1 in
             let first : Precedes H a.1.no p.no = record {
               answered = r.0;
               called = k;
               before = omega arith;
-              reply = (r.1, g.1);
+              reply = (r.1, g.0);
               call = call_passes H k p.no p.entry.shard p.entry.doc p.entry.op call;
             } in
             let before : a.0 < i = explains.respects a.0 i a.1 p (whole a.0 a.1 a.3) (whole i p at) first in

@@ -1,30 +1,34 @@
 -- The indexes stay right where an event is added that is not refused.
-use Rattle.std.proofs.Common.{ℕ, ◌≡◌, ◌<◌, ◌≤◌, List, [], ◌∷◌, ◌++◌, length, refl, sym, ap, subst, ◌∙◌, arith, Option, Some, None, slice_get, Bool, true, false, cond, length-append}
-use Rattle.std.specs.Prelude.{◌==◌, not, option_and_then, if◌then◌else◌, is_some, nat_lt}
+use Rattle.std.proofs.Common.{ℕ, zero, suc, inl, inr, ◌≡◌, ◌<◌, ◌≤◌, List, [], ◌∷◌, ◌++◌, length, refl, sym, ap, subst, ◌∙◌, arith, Option, Some, None, slice_get, Bool, true, false, length-append}
+use Rattle.std.specs.Prelude.{◌==◌, not, option_and_then, if◌then◌else◌, is_some, nat_lt, slice_set}
 use Rattle.std.specs.Option.{option_map_or}
+use Rattle.std.specs.Cmp.Lexicographic.{bytes_decides}
 use Rattle.std.specs.Map.{lookup}
 use Rattle.std.proofs.lemmas.Bool.{eqb-true, ltb-true}
 use Rattle.std.proofs.lemmas.List.Sums.{fold-append}
 use Rattle.doc_register.specs.declared.op.Op.{Op}
-use Rattle.doc_register.specs.declared.reply.Reply.{Reply as Answer}
 use Rattle.doc_register.specs.Register.{fits}
 use Rattle.history.specs.declared.event.Event.{Event}
 use Rattle.history.specs.declared.event.Event.TheVariants.{Call, Reply, Lost}
 use Rattle.history.specs.declared.fault.HistFault.{HistFault}
 use Rattle.history.specs.declared.fault.HistFault.TheVariants.{SecondCall, NoCall, Ended, Kind, Full, ShardMoved}
-use Rattle.history.specs.Events.{HasShard, IsCallAt, IsHistory, documents_of, is_call, is_call_of, is_ending, is_same, place_of, with_document, with_event}
-use Rattle.history.specs.Indexes.{AreIndexed, IsNoted}
+use Rattle.history.specs.Events.{IsCallAt, IsHistory, PassesAt, documents_of, is_call, is_call_of, is_ending, is_same, place_of, places_from, with_document, with_event}
+use Rattle.api_lines.specs.declared.history_line.TheConstants.{SHARDS}
+use Rattle.history.specs.aids.Indexes.{AreIndexed, IsEndingOf, IsNotedAt, calls_at, with_listed}
 use Rattle.history.specs.Refusal.{is_moved, most_events, op_named, op_of, refusal_of, shard_named, shard_of, when_ended, when_full}
 use Rattle.history.proofs.EventLemmas.{passes_element, element_passes, place_of-passes, place_of-none, place_of-some}
 use Rattle.history.proofs.HistoryLemmas.{history_after_call, history_after_reply, history_after_lost}
-use Rattle.history.proofs.IndexLemmas.{found_after, found_still, first_front, first_last, first_none, lookup_with, same_equal, same_refl}
+use Rattle.history.proofs.IndexLemmas.{found_after, found_still, first_front, first_last, first_none}
+use Rattle.history.proofs.DocumentLemmas.{lookup_with}
+use Rattle.history.proofs.ListLemmas.{get_snoc, none_is_not_some}
+use Rattle.history.proofs.ListedLemmas.{AreDistinct, documents_distinct, endings_after_call, endings_after_ending, lists_after, lists_still}
 
 -- ---- what the refusals rule out
 
 some_not_none : {X : Type 0} (x : X) → Some x ≡ None → ⊥
 some_not_none x h = cc
 
-chosen : {X : Type 0} (b : Bool) (f : X) (r : Option X) → (if b then Some f else r) ≡ None → (b ≡ false) × (r ≡ None)
+pub chosen : {X : Type 0} (b : Bool) (f : X) (r : Option X) → (if b then Some f else r) ≡ None → (b ≡ false) × (r ≡ None)
 chosen true f r h = absurd (some_not_none f h)
 chosen false f r h = (refl, h)
 
@@ -35,7 +39,7 @@ room false h = absurd (some_not_none Full h)
 pub when_full_room : (H : List Event) → when_full H ≡ None → length H < most_events
 when_full_room H h = ltb-true (length H) most_events (room (nat_lt (length H) most_events) h)
 
-missing : {X : Type 0} (o : Option X) → is_some o ≡ false → o ≡ None
+pub missing : {X : Type 0} (o : Option X) → is_some o ≡ false → o ≡ None
 missing None h = refl
 missing (Some x) h = let impossible : true ≡ false = h in cc
 
@@ -98,10 +102,10 @@ shards_still H x docs found fails q = by_place (place_of (is_call_of q) H) refl 
 
 -- the shard of a document is that of each of its calls
 pub shard_of-call : (H : List Event) → IsHistory H → (i m g : ℕ) (d : List ℕ) (o : Op) → IsCallAt H i m g d o → shard_of H d ≡ Some g
-shard_of-call H history i m g d o at = by_place (place_of-some (is_call_of d) H i (element_passes (is_call_of d) H i (Call m g d o) at (same_refl d))) where
+shard_of-call H history i m g d o at = by_place (place_of-some (is_call_of d) H i (element_passes (is_call_of d) H i (Call m g d o) at ((bytes_decides d d).1 refl))) where
   by_event : (j : ℕ) (e : Event) → slice_get H j ≡ Some e → is_call_of d e ≡ true → shard_named e ≡ Some g
   by_event j (Call k f e q) here passes =
-      let doc : e ≡ d = same_equal e d passes in
+      let doc : e ≡ d = (bytes_decides e d).0 passes in
       let shard : f ≡ g = history.one_shard j i k m f g d q o (subst (λ c. IsCallAt H j k f c q) doc here) at in
       ap (λ s. Some s) shard
   by_event j (Reply k r) here passes = let impossible : false ≡ true = passes in absurd (cc)
@@ -112,91 +116,155 @@ shard_of-call H history i m g d o at = by_place (place_of-some (is_call_of d) H 
       let e = passes_element (is_call_of d) H p.0 (place_of-passes (is_call_of d) H p.0 p.1) in
       ap (option_and_then shard_named) (ap (option_and_then (slice_get H)) p.1 ∙ e.1) ∙ by_event p.0 e.0 e.1 e.2
 
-not_false : (b : Bool) → not b ≡ false → b ≡ true
+pub not_false : (b : Bool) → not b ≡ false → b ≡ true
 not_false true h = refl
 not_false false h = let impossible : true ≡ false = h in cc
 
 documents_after : (H : List Event) (x : Event) (docs : List (List ℕ × ℕ)) → docs ≡ documents_of H → with_event docs x ≡ documents_of (H ++ x ∷ [])
 documents_after H x docs h = ap (λ ds. with_event ds x) h ∙ sym (fold-append with_event [] H (x ∷ []))
 
-longer : (H : List Event) (x : Event) → length H < most_events → length (H ++ x ∷ []) ≤ most_events
+pub longer : (H : List Event) (x : Event) → length H < most_events → length (H ++ x ∷ []) ≤ most_events
 longer H x h = simp length-append (omega arith)
 
--- ---- the three kinds of events
+-- ---- the kinds of events
 
-pub indexed_after_call : (H : List Event) (calls endings fs : List (ℕ × ℕ)) (docs : List (List ℕ × ℕ)) (n h : ℕ) (d : List ℕ) (op : Op)
-    → AreIndexed H calls endings docs → refusal_of H (Call n h d op) ≡ None → h < 1024
-    → ((q : ℕ) → lookup (◌==◌ q) fs ≡ cond (n == q) (Some (length H)) (lookup (◌==◌ q) calls))
-    → AreIndexed (H ++ Call n h d op ∷ []) fs endings (with_document docs d h)
-indexed_after_call H calls endings fs docs n h d op old accepted within updated =
+-- no call of a document that isn't there
+no_calls : (H : List Event) (d : List ℕ) → shard_of H d ≡ None → calls_at H d ≡ []
+no_calls H d none = empty H 0 (by_place (place_of (is_call_of d) H) refl) where
+  by_place : (o : Option ℕ) → place_of (is_call_of d) H ≡ o → (i : ℕ) → PassesAt (is_call_of d) H i → ⊥
+  by_place None found i passes = place_of-none (is_call_of d) H found i passes
+  by_place (Some j) found i passes =
+      let x = passes_element (is_call_of d) H j (place_of-passes (is_call_of d) H j found) in
+      let s = call_names_shard d x.0 x.2 in
+      some_not_none s.0 (sym (ap (option_and_then shard_named) (ap (option_and_then (slice_get H)) found ∙ x.1) ∙ s.1) ∙ none)
+
+  empty : (xs : List Event) (k : ℕ) → ((i : ℕ) → PassesAt (is_call_of d) xs i → ⊥) → places_from k (is_call_of d) xs ≡ []
+  empty [] k nowhere = refl
+  empty (x ∷ xs) k nowhere = by_test (is_call_of d x) refl (empty xs (suc k) (λ i passes. nowhere (suc i) passes)) where
+    by_test : (b : Bool) → is_call_of d x ≡ b → places_from (suc k) (is_call_of d) xs ≡ []
+        → (if b then k ∷ places_from (suc k) (is_call_of d) xs else places_from (suc k) (is_call_of d) xs) ≡ []
+    by_test true is later = absurd (nowhere 0 (element_passes (is_call_of d) (x ∷ xs) 0 x refl is))
+    by_test false is later = later
+
+within_more : (es : List (Option ℕ)) (H : List Event) (x : Event) → ((i j : ℕ) → slice_get es i ≡ Some (Some j) → j < length H)
+    → (i j : ℕ) → slice_get (es ++ None ∷ []) i ≡ Some (Some j) → j < length (H ++ x ∷ [])
+within_more es H x within i j at =
+    elim (get_snoc es None (Some j) i at) as (λ _. j < length (H ++ x ∷ [])) [
+      | inl old ↦ (let below : j < length H = within i j old in simp length-append (omega arith))
+      | inr new ↦ (let impossible : None ≡ Some j = new.1 in absurd (cc))
+    ]
+
+pub indexed_after_call : (H : List Event) (calls fs : List (ℕ × ℕ)) (es : List (Option ℕ)) (docs : List (List ℕ × ℕ)) (ls : List (List ℕ)) (n h : ℕ) (d : List ℕ) (op : Op)
+    → AreIndexed H calls es docs ls → refusal_of H (Call n h d op) ≡ None → h < SHARDS → IsNotedAt n (length H) calls fs
+    → AreIndexed (H ++ Call n h d op ∷ []) fs (es ++ None ∷ []) (with_document docs d h) (with_listed docs ls d (length H))
+indexed_after_call H calls fs es docs ls n h d op old accepted within updated =
     let first = chosen (is_some (place_of (is_call n) H)) SecondCall (if is_moved H d h then Some ShardMoved else when_full H) accepted in
     let second = chosen (is_moved H d h) ShardMoved (when_full H) first.1 in
     let fresh : place_of (is_call n) H ≡ None = missing (place_of (is_call n) H) first.0 in
     let stays : (i m g : ℕ) (o : Op) → IsCallAt H i m g d o → g ≡ h = λ i m g o at.
     eqb-true g h (not_false (g == h) (sym (ap (λ s. option_map_or (λ k. not (k == h)) s false) (shard_of-call H old.history i m g d o at)) ∙ second.0)) in
+    let distinct = subst AreDistinct (sym old.in_order) (documents_distinct H) in
+    let lists = lists_after H n h d op docs ls old.lists_size distinct (λ none. no_calls H d (sym (old.shards_found d) ∙ none)) old.lists_found in
     record {
       history = history_after_call H n h d op old.history (place_of-none (is_call n) H fresh) stays within;
       few = longer H (Call n h d op) (when_full_room H second.1);
       calls_found = found_after is_call H (Call n h d op) n calls fs old.calls_found fresh (λ q. refl) updated;
-      endings_found = found_still is_ending H (Call n h d op) endings old.endings_found (λ q. refl);
+      endings_size = (let size : length es ≡ length H = old.endings_size in simp length-append (omega arith));
+      endings_found = endings_after_call H n h d op es old.history fresh old.endings_size old.endings_found;
+      endings_within = within_more es H (Call n h d op) old.endings_within;
       shards_found = shards_after H n h d op docs old.shards_found;
       in_order = documents_after H (Call n h d op) docs old.in_order;
+      lists_size = lists.0;
+      lists_found = lists.1;
     }
 
-told : (o : Option Op) (f : Op → Option HistFault) → option_map_or f o (Some NoCall) ≡ None → (op : Op) × (o ≡ Some op) × (f op ≡ None)
+pub told : (o : Option Op) (f : Op → Option HistFault) → option_map_or f o (Some NoCall) ≡ None → (op : Op) × (o ≡ Some op) × (f op ≡ None)
 told None f h = absurd (some_not_none NoCall h)
 told (Some op) f h = (op, refl, h)
 
-fitting : (b : Bool) (r : Option HistFault) → (if b then r else Some Kind) ≡ None → (b ≡ true) × (r ≡ None)
+pub fitting : (b : Bool) (r : Option HistFault) → (if b then r else Some Kind) ≡ None → (b ≡ true) × (r ≡ None)
 fitting true r h = (refl, h)
 fitting false r h = absurd (some_not_none Kind h)
 
-pub indexed_after_reply : (H : List Event) (calls endings fs : List (ℕ × ℕ)) (docs : List (List ℕ × ℕ)) (n : ℕ) (r : Answer)
-    → AreIndexed H calls endings docs → refusal_of H (Reply n r) ≡ None
-    → ((q : ℕ) → lookup (◌==◌ q) fs ≡ cond (n == q) (Some (length H)) (lookup (◌==◌ q) endings))
-    → AreIndexed (H ++ Reply n r ∷ []) calls fs docs
-indexed_after_reply H calls endings fs docs n r old accepted updated =
+set_within : (es : List (Option ℕ)) (c k : ℕ) (H : List Event) (x : Event) → k ≡ length H → ((i j : ℕ) → slice_get es i ≡ Some (Some j) → j < length H)
+    → (i j : ℕ) → slice_get (slice_set es c (Some k)) i ≡ Some (Some j) → j < length (H ++ x ∷ [])
+set_within [] c k H x size within i j at = absurd (none_is_not_some (Some j) at)
+set_within (e ∷ es) zero k H x size within zero j at =
+    let same : k ≡ j = (let eq : Some (Some k) ≡ Some (Some j) = at in cc) in simp length-append (omega arith)
+set_within (e ∷ es) zero k H x size within (suc i) j at = let below : j < length H = within (suc i) j at in simp length-append (omega arith)
+set_within (e ∷ es) (suc c) k H x size within zero j at = let below : j < length H = within zero j at in simp length-append (omega arith)
+set_within (e ∷ es) (suc c) k H x size within (suc i) j at = set_within es c k H x size (λ a b here. within (suc a) b here) i j at
+
+-- the endings with one more
+set_within_more : (es : List (Option ℕ)) (c : ℕ) (H : List Event) (x : Event) → ((i j : ℕ) → slice_get es i ≡ Some (Some j) → j < length H)
+    → (i j : ℕ) → slice_get (slice_set es c (Some (length H)) ++ None ∷ []) i ≡ Some (Some j) → j < length (H ++ x ∷ [])
+set_within_more es c H x within i j at =
+    elim (get_snoc (slice_set es c (Some (length H))) None (Some j) i at) as (λ _. j < length (H ++ x ∷ [])) [
+      | inl old ↦ set_within es c (length H) H x refl within i j old
+      | inr new ↦ (let impossible : None ≡ Some j = new.1 in absurd (cc))
+    ]
+
+set_length : (es : List (Option ℕ)) (c : ℕ) (v : Option ℕ) → length (slice_set es c v) ≡ length es
+set_length [] c v = refl
+set_length (e ∷ es) zero v = refl
+set_length (e ∷ es) (suc c) v = ap suc (set_length es c v)
+
+-- what stays and what comes with an ending of the call at the place
+after_ending : (H : List Event) (x : Event) (n c : ℕ) (calls : List (ℕ × ℕ)) (es : List (Option ℕ)) (docs : List (List ℕ × ℕ)) (ls : List (List ℕ)) → AreIndexed H calls es docs ls
+    → PassesAt (is_call n) H c → place_of (is_ending n) H ≡ None → ((m : ℕ) → is_call m x ≡ false) → ((m : ℕ) → is_ending m x ≡ (n == m)) → ((d : List ℕ) → is_call_of d x ≡ false)
+    → with_event docs x ≡ docs → IsHistory (H ++ x ∷ []) → length (H ++ x ∷ []) ≤ most_events
+    → AreIndexed (H ++ x ∷ []) calls (slice_set es c (Some (length H)) ++ None ∷ []) docs ls
+after_ending H x n c calls es docs ls old call fresh no_call ends no_document kept history few = record {
+  history = history;
+  few = few;
+  calls_found = found_still is_call H x calls old.calls_found no_call;
+  endings_size = (let size : length es ≡ length H = old.endings_size in let same : length (slice_set es c (Some (length H))) ≡ length es = set_length es c (Some (length H)) in
+      simp length-append (omega arith));
+  endings_found = endings_after_ending H x n c es old.history call fresh no_call ends old.endings_size old.endings_found;
+  endings_within = set_within_more es c H x old.endings_within;
+  shards_found = shards_still H x docs old.shards_found no_document;
+  in_order = sym kept ∙ documents_after H x docs old.in_order;
+  lists_size = old.lists_size;
+  lists_found = lists_still H x docs ls no_document old.lists_found;
+}
+
+pub indexed_after_ending : (H : List Event) (x : Event) (c : ℕ) (calls : List (ℕ × ℕ)) (es : List (Option ℕ)) (docs : List (List ℕ × ℕ)) (ls : List (List ℕ))
+    → AreIndexed H calls es docs ls → IsEndingOf H c x → refusal_of H x ≡ None
+    → AreIndexed (H ++ x ∷ []) calls (slice_set es c (Some (length H)) ++ None ∷ []) docs ls
+indexed_after_ending H (Call n h d op) c calls es docs ls old ends accepted = absurd ends
+indexed_after_ending H (Reply n r) c calls es docs ls old ends accepted =
     let known = told (op_of H n) (λ op. when_ended H n (if fits op r then when_full H else Some Kind)) accepted in
     let first = chosen (is_some (place_of (is_ending n) H)) Ended (if fits known.0 r then when_full H else Some Kind) known.2 in
     let second = fitting (fits known.0 r) (when_full H) first.1 in
     let fresh : place_of (is_ending n) H ≡ None = missing (place_of (is_ending n) H) first.0 in
     let call = op_of-call H n known.0 known.1 in
-    record {
-      history = history_after_reply H n call.0 call.1 call.2 known.0 r old.history call.3 (place_of-none (is_ending n) H fresh) second.0;
-      few = longer H (Reply n r) (when_full_room H second.1);
-      calls_found = found_still is_call H (Reply n r) calls old.calls_found (λ q. refl);
-      endings_found = found_after is_ending H (Reply n r) n endings fs old.endings_found fresh (λ q. refl) updated;
-      shards_found = shards_still H (Reply n r) docs old.shards_found (λ q. refl);
-      in_order = documents_after H (Reply n r) docs old.in_order;
-    }
-
-pub indexed_after_lost : (H : List Event) (calls endings fs : List (ℕ × ℕ)) (docs : List (List ℕ × ℕ)) (n : ℕ)
-    → AreIndexed H calls endings docs → refusal_of H (Lost n) ≡ None
-    → ((q : ℕ) → lookup (◌==◌ q) fs ≡ cond (n == q) (Some (length H)) (lookup (◌==◌ q) endings))
-    → AreIndexed (H ++ Lost n ∷ []) calls fs docs
-indexed_after_lost H calls endings fs docs n old accepted updated =
+    after_ending H (Reply n r) n c calls es docs ls old ends fresh (λ m. refl) (λ m. refl) (λ d. refl) refl
+    (history_after_reply H n call.0 call.1 call.2 known.0 r old.history call.3 (place_of-none (is_ending n) H fresh) second.0)
+    (longer H (Reply n r) (when_full_room H second.1))
+indexed_after_ending H (Lost n) c calls es docs ls old ends accepted =
     let known = told (op_of H n) (λ op. when_ended H n (when_full H)) accepted in
     let first = chosen (is_some (place_of (is_ending n) H)) Ended (when_full H) known.2 in
     let fresh : place_of (is_ending n) H ≡ None = missing (place_of (is_ending n) H) first.0 in
     let call = op_of-call H n known.0 known.1 in
-    record {
-      history = history_after_lost H n call.0 call.1 call.2 known.0 old.history call.3 (place_of-none (is_ending n) H fresh);
-      few = longer H (Lost n) (when_full_room H first.1);
-      calls_found = found_still is_call H (Lost n) calls old.calls_found (λ q. refl);
-      endings_found = found_after is_ending H (Lost n) n endings fs old.endings_found fresh (λ q. refl) updated;
-      shards_found = shards_still H (Lost n) docs old.shards_found (λ q. refl);
-      in_order = documents_after H (Lost n) docs old.in_order;
-    }
+    after_ending H (Lost n) n c calls es docs ls old ends fresh (λ m. refl) (λ m. refl) (λ d. refl) refl
+    (history_after_lost H n call.0 call.1 call.2 known.0 old.history call.3 (place_of-none (is_ending n) H fresh))
+    (longer H (Lost n) (when_full_room H first.1))
 
--- an event that is not refused and is noted
-pub indexed_after : (H : List Event) (x : Event) (c c' e e' : List (ℕ × ℕ)) (d d' : List (List ℕ × ℕ))
-    → AreIndexed H c e d → refusal_of H x ≡ None → HasShard x → IsNoted (length H) x c c' e e' d d' → AreIndexed (H ++ x ∷ []) c' e' d'
-indexed_after H (Call n h i op) c c' e e' d d' old accepted shard noted =
-    subst (λ f. AreIndexed (H ++ Call n h i op ∷ []) c' f d') (sym noted.1)
-    (subst (λ f. AreIndexed (H ++ Call n h i op ∷ []) c' e f) (sym noted.2) (indexed_after_call H c e c' d n h i op old accepted shard noted.0))
-indexed_after H (Reply n r) c c' e e' d d' old accepted shard noted =
-    subst (λ f. AreIndexed (H ++ Reply n r ∷ []) f e' d') (sym noted.0)
-    (subst (λ f. AreIndexed (H ++ Reply n r ∷ []) c e' f) (sym noted.2) (indexed_after_reply H c e e' d n r old accepted noted.1))
-indexed_after H (Lost n) c c' e e' d d' old accepted shard noted =
-    subst (λ f. AreIndexed (H ++ Lost n ∷ []) f e' d') (sym noted.0)
-    (subst (λ f. AreIndexed (H ++ Lost n ∷ []) c e' f) (sym noted.2) (indexed_after_lost H c e e' d n old accepted noted.1))
+-- the same as the code meets it: the parts after the event, by what they are
+pub indexed_by_call : (H : List Event) (calls : List (ℕ × ℕ)) (es : List (Option ℕ)) (docs : List (List ℕ × ℕ)) (ls : List (List ℕ)) (n h : ℕ) (d : List ℕ) (op : Op)
+    (G : List Event) (fs : List (ℕ × ℕ)) (es' : List (Option ℕ)) (docs' : List (List ℕ × ℕ)) (ls' : List (List ℕ)) → AreIndexed H calls es docs ls
+    → refusal_of H (Call n h d op) ≡ None → h < SHARDS → IsNotedAt n (length H) calls fs → G ≡ H ++ Call n h d op ∷ [] → es' ≡ es ++ None ∷ []
+    → docs' ≡ with_document docs d h → ls' ≡ with_listed docs ls d (length H) → AreIndexed G fs es' docs' ls'
+indexed_by_call H calls es docs ls n h d op G fs es' docs' ls' old accepted within updated grown ended documented listed =
+    subst (λ x. AreIndexed x fs es' docs' ls') (sym grown)
+    (subst (λ x. AreIndexed (H ++ Call n h d op ∷ []) fs x docs' ls') (sym ended)
+    (subst (λ x. AreIndexed (H ++ Call n h d op ∷ []) fs (es ++ None ∷ []) x ls') (sym documented)
+    (subst (λ x. AreIndexed (H ++ Call n h d op ∷ []) fs (es ++ None ∷ []) (with_document docs d h) x) (sym listed)
+    (indexed_after_call H calls fs es docs ls n h d op old accepted within updated))))
+
+pub indexed_by_ending : (H : List Event) (x : Event) (c : ℕ) (calls : List (ℕ × ℕ)) (es : List (Option ℕ)) (docs : List (List ℕ × ℕ)) (ls : List (List ℕ))
+    (G : List Event) (es' : List (Option ℕ)) → AreIndexed H calls es docs ls → IsEndingOf H c x → refusal_of H x ≡ None
+    → G ≡ H ++ x ∷ [] → es' ≡ slice_set es c (Some (length H)) ++ None ∷ [] → AreIndexed G calls es' docs ls
+indexed_by_ending H x c calls es docs ls G es' old ends accepted grown ended =
+    subst (λ y. AreIndexed y calls es' docs ls) (sym grown)
+    (subst (λ y. AreIndexed (H ++ x ∷ []) calls y docs ls) (sym ended) (indexed_after_ending H x c calls es docs ls old ends accepted))

@@ -1,6 +1,7 @@
 -- A history is split into the records of its documents.
 use Rattle.std.proofs.Common.{ℕ, zero, suc, ◌≡◌, ◌<◌, ◌+◌, List, [], ◌∷◌, refl, sym, ap, subst, ◌∙◌, arith, Option, Some, None, slice_get, Bool, true, false}
 use Rattle.std.specs.Prelude.{option_and_then, if◌then◌else◌}
+use Rattle.std.specs.Cmp.Lexicographic.{bytes_decides}
 use Rattle.std.proofs.lemmas.Bool.{eqb-true}
 use Rattle.doc_register.specs.declared.op.Op.{Op}
 use Rattle.doc_register.specs.declared.reply.Reply.{Reply as Answer}
@@ -12,7 +13,6 @@ use Rattle.history.specs.Laws.{IsRecordAt, SplitByDocument}
 use Rattle.history.proofs.ListLemmas.{IsMadeAt, compare, kept_at, made_in_order, made_of, none_is_not_some, same_some}
 use Rattle.history.proofs.EventLemmas.{passes_element, element_passes, place_of-passes, place_of-some}
 use Rattle.history.proofs.HistoryLemmas.{call_passes, reply_passes}
-use Rattle.history.proofs.IndexLemmas.{same_equal, same_refl}
 
 -- ---- the places of a test
 
@@ -69,7 +69,7 @@ record IsRecordOf (H : List Event) (d : List ℕ) (r : Rec) : Type 0 where
 record_is : (H : List Event) (d : List ℕ) (i : ℕ) (e : Event) (r : Rec) → slice_get H i ≡ Some e → is_call_of d e ≡ true → record_from H i e ≡ Some r → (r.call_at ≡ i) × IsRecordOf H d r
 record_is H d i (Call n h e op) r at passes made =
     subst (λ s. (s.call_at ≡ i) × IsRecordOf H d s) (same_some (record { no = n; op = op; call_at = i; heard = heard_of H n }) r made)
-    (refl, record { call = (h, at ∙ ap (λ c. Some (Call n h c op)) (same_equal e d passes)); told = refl })
+    (refl, record { call = (h, at ∙ ap (λ c. Some (Call n h c op)) ((bytes_decides e d).0 passes)); told = refl })
 record_is H d i (Reply n s) r at passes made = absurd (none_is_not_some r made)
 record_is H d i (Lost n) r at passes made = absurd (none_is_not_some r made)
 
@@ -99,7 +99,7 @@ in_order H d j k r s at bt below =
 
 recorded : (H : List Event) (i n h : ℕ) (d : List ℕ) (op : Op) → IsCallAt H i n h d op → (j : ℕ) × (r : Rec) × IsRecordAt H d j r × (r.call_at ≡ i)
 recorded H i n h d op at =
-    let p = place_listed 0 (is_call_of d) H i (element_passes (is_call_of d) H i (Call n h d op) at (same_refl d)) in
+    let p = place_listed 0 (is_call_of d) H i (element_passes (is_call_of d) H i (Call n h d op) at ((bytes_decides d d).1 refl)) in
     let here : 0 + i ≡ i = omega arith in
     let r : Rec = record { no = n; op = op; call_at = i; heard = heard_of H n } in
     let k = kept_at (record_at H) (places_from 0 (is_call_of d) H) p.0 i r (p.1 ∙ ap (λ x. Some x) here) (ap (option_and_then (record_from H i)) at) in

@@ -4,6 +4,7 @@ use Rattle.std.specs.Cmp.Lexicographic.{pointwise}
 use Rattle.doc_register.specs.declared.op.Op.{Op}
 use Rattle.doc_register.specs.declared.reply.Reply.{Reply as Answer}
 use Rattle.doc_register.specs.Register.{fits}
+use Rattle.api_lines.specs.declared.history_line.TheConstants.{SHARDS}
 use Rattle.history.specs.declared.event.Event.{Event}
 use Rattle.history.specs.declared.event.Event.TheVariants.{Call, Reply, Lost}
 use Rattle.history.specs.declared.record.Rec.{Rec}
@@ -51,7 +52,7 @@ is_any_call (Lost m) = false
 
 -- a call's shard is one of the 1,024 that there can be
 abbrev pub HasShard : Event → Type 0
-HasShard (Call n h d op) = h < 1024
+HasShard (Call n h d op) = h < SHARDS
 HasShard (Reply n r) = Unit {0}
 HasShard (Lost n) = Unit {0}
 
@@ -62,10 +63,13 @@ HasShard (Lost n) = Unit {0}
 pub record IsHistory (events : List Event) : Type 0 where
   pub called_once : (n i j : ℕ) → PassesAt (is_call n) events i → PassesAt (is_call n) events j → i ≡ j
   pub ended_once : (n i j : ℕ) → PassesAt (is_ending n) events i → PassesAt (is_ending n) events j → i ≡ j
-  pub ended_after_call : (n i : ℕ) → PassesAt (is_ending n) events i → (j : ℕ) × (j < i) × PassesAt (is_call n) events j
-  pub replies_fit : (n i j h : ℕ) (d : List ℕ) (op : Op) (r : Answer) → IsReplyAt events i n r → IsCallAt events j n h d op → fits op r ≡ true
-  pub one_shard : (i j n m h g : ℕ) (d : List ℕ) (op o : Op) → IsCallAt events i n h d op → IsCallAt events j m g d o → h ≡ g
-  pub shards : (i n h : ℕ) (d : List ℕ) (op : Op) → IsCallAt events i n h d op → h < 1024
+  pub ended_after_call : (n i : ℕ) → PassesAt (is_ending n) events i → (j : ℕ) × (j < i)
+      × PassesAt (is_call n) events j
+  pub replies_fit : (n i j h : ℕ) (d : List ℕ) (op : Op) (r : Answer) → IsReplyAt events i n r
+      → IsCallAt events j n h d op → fits op r ≡ true
+  pub one_shard : (i j n m h g : ℕ) (d : List ℕ) (op o : Op) → IsCallAt events i n h d op → IsCallAt events j m g d o
+      → h ≡ g
+  pub shards : (i n h : ℕ) (d : List ℕ) (op : Op) → IsCallAt events i n h d op → h < SHARDS
 
 -- the call numbered a precedes the call numbered b: a's reply stands before b's call
 pub record Precedes (events : List Event) (a b : ℕ) : Type 0 where
@@ -120,7 +124,8 @@ heard_at i (Lost n) = None
 
 -- what was heard of the call numbered n: the place of its reply, and the reply
 abbrev pub heard_of : List Event → ℕ → Option (ℕ × Answer)
-heard_of events n = option_and_then (λ i. option_and_then (heard_at i) (slice_get events i)) (place_of (is_ending n) events)
+heard_of events n =
+    option_and_then (λ i. option_and_then (heard_at i) (slice_get events i)) (place_of (is_ending n) events)
 
 -- the call at a place as a record
 abbrev pub record_from : List Event → ℕ → Event → Option Rec

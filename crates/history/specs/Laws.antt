@@ -1,5 +1,7 @@
 -- Laws of histories: precedence, linearizable histories, the records of documents, texts.
-use Rattle.std.specs.Prelude.{◌≡◌, ◌↔◌, ◌<◌, ◌++◌, ℕ, List, ◌∷◌, Some, slice_get}
+use Rattle.std.specs.Prelude.{◌≡◌, ◌↔◌, ◌<◌, ◌++◌, ℕ, List, ◌∷◌, Some, slice_get, ◌≤◌, Ok, Err, take}
+use Rattle.api_lines.specs.Lines.{lines_of}
+use Rattle.api_lines.specs.declared.text_fault.TextFault.{TextFault}
 use Rattle.doc_register.specs.declared.op.Op.{Op}
 use Rattle.doc_register.specs.declared.reply.Reply.{Reply as Answer}
 use Rattle.doc_register.specs.declared.state.Conflicts.{Conflicts}
@@ -7,6 +9,7 @@ use Rattle.doc_register.specs.Laws.{ChangesNothing}
 use Rattle.history.specs.declared.event.Event.{Event}
 use Rattle.history.specs.declared.record.Rec.{Rec}
 use Rattle.history.specs.Events.{IsCallAt, IsHistory, IsPending, IsReplyAt, Precedes, prefix, records_of}
+use Rattle.history.specs.Reading.{history_text}
 use Rattle.history.specs.Text.{IsHistoryText}
 use Rattle.history.specs.Order.{Explains, IsLinearizable, IsPlainlyRight, Placed}
 
@@ -15,24 +18,29 @@ use Rattle.history.specs.Order.{Explains, IsLinearizable, IsPlainlyRight, Placed
 -- no call of a history precedes itself, precedence passes on, and a pending call precedes none
 pub record PrecedenceIsStrict : Type 0 where
   pub never_itself : (events : List Event) (a : ℕ) → IsHistory events → ¬ Precedes events a a
-  pub passes_on : (events : List Event) (a b c : ℕ) → IsHistory events → Precedes events a b → Precedes events b c → Precedes events a c
-  pub pending_before_none : (events : List Event) (a b : ℕ) → IsHistory events → IsPending events a → ¬ Precedes events a b
+  pub passes_on : (events : List Event) (a b c : ℕ) → IsHistory events → Precedes events a b → Precedes events b c
+      → Precedes events a c
+  pub pending_before_none : (events : List Event) (a b : ℕ) → IsHistory events → IsPending events a
+      → ¬ Precedes events a b
 
 -- ---- linearizable histories
 
 -- a history whose answered calls are a legal run by place of reply is linearizable, whatever conflicts may mean
 abbrev pub PlainlyRightIsLinearizable : Type 0
-PlainlyRightIsLinearizable = (mode : Conflicts) (events : List Event) → IsHistory events → IsPlainlyRight events → IsLinearizable mode events
+PlainlyRightIsLinearizable = (mode : Conflicts) (events : List Event) → IsHistory events → IsPlainlyRight events
+    → IsLinearizable mode events
 
 -- an order that explains a history explains it without a pending call that changes nothing
 abbrev pub UnansweredLeftOut : Type 0
 UnansweredLeftOut = (mode : Conflicts) (events : List Event) (front back : List Placed) (p : Placed)
-    → IsPending events p.no → ChangesNothing p.entry → Explains mode events (front ++ p ∷ back) → Explains mode events (front ++ back)
+    → IsPending events p.no → ChangesNothing p.entry → Explains mode events (front ++ p ∷ back)
+    → Explains mode events (front ++ back)
 
 -- A prefix of a history is a history, and linearizable where the whole is: calls whose replies are cut off are pending.
 pub record PrefixesStay : Type 0 where
   pub history : (events : List Event) (n : ℕ) → IsHistory events → IsHistory (prefix events n)
-  pub linearizable : (mode : Conflicts) (events : List Event) (n : ℕ) → IsLinearizable mode events → IsLinearizable mode (prefix events n)
+  pub linearizable : (mode : Conflicts) (events : List Event) (n : ℕ) → IsLinearizable mode events
+      → IsLinearizable mode (prefix events n)
 
 -- ---- the records of documents
 
@@ -43,11 +51,16 @@ IsRecordAt events d j r = slice_get (records_of events d) j ≡ Some r
 -- Each call has its record among those of its document, and nowhere else. A record tells what was heard of its call.
 -- Whether one call of a document precedes another shows in their records.
 pub record IsSplitByDocument (events : List Event) : Type 0 where
-  pub recorded : (i n h : ℕ) (d : List ℕ) (op : Op) → IsCallAt events i n h d op → (j : ℕ) × (r : Rec) × IsRecordAt events d j r × (r.call_at ≡ i)
-  pub of_call : (d : List ℕ) (j : ℕ) (r : Rec) → IsRecordAt events d j r → (h : ℕ) × IsCallAt events r.call_at r.no h d r.op
-  pub once : (d e : List ℕ) (j k : ℕ) (r s : Rec) → IsRecordAt events d j r → IsRecordAt events e k s → r.call_at ≡ s.call_at → (d ≡ e) × (j ≡ k)
-  pub in_order : (d : List ℕ) (j k : ℕ) (r s : Rec) → IsRecordAt events d j r → IsRecordAt events d k s → j < k → r.call_at < s.call_at
-  pub heard : (d : List ℕ) (j : ℕ) (r : Rec) → IsRecordAt events d j r → (p : ℕ) (a : Answer) → (r.heard ≡ Some (p, a)) ↔ IsReplyAt events p r.no a
+  pub recorded : (i n h : ℕ) (d : List ℕ) (op : Op) → IsCallAt events i n h d op → (j : ℕ) × (r : Rec)
+      × IsRecordAt events d j r × (r.call_at ≡ i)
+  pub of_call : (d : List ℕ) (j : ℕ) (r : Rec) → IsRecordAt events d j r → (h : ℕ)
+      × IsCallAt events r.call_at r.no h d r.op
+  pub once : (d e : List ℕ) (j k : ℕ) (r s : Rec) → IsRecordAt events d j r → IsRecordAt events e k s
+      → r.call_at ≡ s.call_at → (d ≡ e) × (j ≡ k)
+  pub in_order : (d : List ℕ) (j k : ℕ) (r s : Rec) → IsRecordAt events d j r → IsRecordAt events d k s → j < k
+      → r.call_at < s.call_at
+  pub heard : (d : List ℕ) (j : ℕ) (r : Rec) → IsRecordAt events d j r → (p : ℕ) (a : Answer)
+      → (r.heard ≡ Some (p, a)) ↔ IsReplyAt events p r.no a
   pub precedes : (d : List ℕ) (j k : ℕ) (r s : Rec) → IsRecordAt events d j r → IsRecordAt events d k s
       → Precedes events r.no s.no ↔ ((p : ℕ) × (a : Answer) × (r.heard ≡ Some (p, a)) × (p < s.call_at))
 
@@ -59,4 +72,21 @@ SplitByDocument = (events : List Event) → IsHistory events → IsSplitByDocume
 
 -- a text is the text of one history
 abbrev pub TextOfOneHistory : Type 0
-TextOfOneHistory = (bytes : List ℕ) (events others : List Event) → IsHistoryText bytes events → IsHistoryText bytes others → events ≡ others
+TextOfOneHistory = (bytes : List ℕ) (events others : List Event) → IsHistoryText bytes events
+    → IsHistoryText bytes others → events ≡ others
+
+-- The line that is told is the first at which the text is none: the text of its lines before is a text of some history,
+-- and with this line, and with any lines after it, it is a text of none.
+pub record IsFirstRefused (bytes : List ℕ) (told : TextFault) : Type 0 where
+  pub line_from_one : 1 ≤ told.line
+  pub before : (front : List ℕ) (n : ℕ) → lines_of front ≡ take n (lines_of bytes) → n < told.line
+      → (events : List Event) × IsHistoryText front events
+  pub with_it : (front : List ℕ) (n : ℕ) → lines_of front ≡ take n (lines_of bytes) → told.line ≤ n
+      → (events : List Event) → ¬ IsHistoryText front events
+
+-- The two definitions of a text agree: a text is read as the history that it is a text of, and as no other; and where it is
+-- refused, the line is the first at which it is none.
+pub record TextsAreRead : Type 0 where
+  pub read : (bytes : List ℕ) (events : List Event) → history_text bytes ≡ Ok events → IsHistoryText bytes events
+  pub is_read : (bytes : List ℕ) (events : List Event) → IsHistoryText bytes events → history_text bytes ≡ Ok events
+  pub refused : (bytes : List ℕ) (told : TextFault) → history_text bytes ≡ Err told → IsFirstRefused bytes told

@@ -1,12 +1,11 @@
 pub mod Events
 pub mod Refusal
-pub mod Indexes
-pub mod Records
 pub mod Order
-pub mod Json
-pub mod ReplyTable
 pub mod Text
-pub mod Fields
-pub mod Reading
 pub mod Faults
+pub mod Reading
+pub mod Seen
+pub mod Written
+pub mod BulkText
 pub mod Laws
+pub mod aids

@@ -25,12 +25,14 @@ IsOfCall events p = (i : ℕ) × IsCallAt events i p.no p.entry.shard p.entry.do
 pub record IsOrder (mode : Conflicts) (events : List Event) (order : List Placed) : Type 0 where
   pub calls : (i : ℕ) (p : Placed) → slice_get order i ≡ Some p → IsOfCall events p
   pub once : (i j : ℕ) (p q : Placed) → slice_get order i ≡ Some p → slice_get order j ≡ Some q → p.no ≡ q.no → i ≡ j
-  pub answered : (k n : ℕ) (r : Answer) → IsReplyAt events k n r → (i : ℕ) × (p : Placed) × (slice_get order i ≡ Some p) × (p.no ≡ n) × (p.entry.reply ≡ r)
+  pub answered : (k n : ℕ) (r : Answer) → IsReplyAt events k n r → (i : ℕ) × (p : Placed)
+      × (slice_get order i ≡ Some p) × (p.no ≡ n) × (p.entry.reply ≡ r)
   pub plain : mode ≡ Plain → (i : ℕ) (p : Placed) → slice_get order i ≡ Some p → p.entry.hidden ≡ None
 
 -- where one call precedes another and both stand in the order, it stands first
 abbrev pub Respects : List Event → List Placed → Type 0
-Respects events order = (i j : ℕ) (p q : Placed) → slice_get order i ≡ Some p → slice_get order j ≡ Some q → Precedes events p.no q.no → i < j
+Respects events order = (i j : ℕ) (p q : Placed) → slice_get order i ≡ Some p → slice_get order j ≡ Some q
+    → Precedes events p.no q.no → i < j
 
 -- the order explains the history: it is an order of it, respects it, and is a legal run
 pub record Explains (mode : Conflicts) (events : List Event) (order : List Placed) : Type 0 where
@@ -52,7 +54,8 @@ placed_with r (Lost n) = None
 
 -- the call numbered n, with the reply r to it
 abbrev pub call_with : List Event → ℕ → Answer → Option Placed
-call_with events n r = option_and_then (λ i. option_and_then (placed_with r) (slice_get events i)) (place_of (is_call n) events)
+call_with events n r =
+    option_and_then (λ i. option_and_then (placed_with r) (slice_get events i)) (place_of (is_call n) events)
 
 -- the call that a reply answers
 abbrev pub answered_by : List Event → Event → Option Placed

@@ -1,29 +1,70 @@
--- What the reader has done after some lines of a text.
-use Rattle.std.specs.Prelude.{◌≡◌, ℕ, ◌≤◌, List, [], ◌∷◌, ◌++◌, All, MatchBool, filter, length}
+-- How a history text is read: the event that each line tells after the events so far, or the first cause to refuse it.
+use Rattle.std.specs.Prelude.{ℕ, List, [], ◌∷◌, ◌++◌, Option, Some, None, Result, Ok, Err}
+use Rattle.serde_json.specs.Data.{Data}
+use Rattle.api_lines.specs.Faults.{◌>>=◌}
+use Rattle.api_lines.specs.Fields.{BodyValues, LineValues, line_values}
+use Rattle.api_lines.specs.HistoryLines.{line_told}
+use Rattle.api_lines.specs.Lines.{lines_of}
+use Rattle.api_lines.specs.ReplyTable.{heard}
+use Rattle.api_lines.specs.Texts.{read_lines}
+use Rattle.api_lines.specs.declared.history_line.LineSaid.{LineSaid}
+use Rattle.api_lines.specs.declared.history_line.LineSaid.TheVariants as said
+use Rattle.api_lines.specs.declared.reply_table.Heard.{Heard}
+use Rattle.api_lines.specs.declared.reply_table.Heard.TheVariants as heard
+use Rattle.api_lines.specs.declared.text_fault.TextCause.{TextCause}
+use Rattle.api_lines.specs.declared.text_fault.TextCause.TheVariants.{Ended, NoCall, Stranger}
+use Rattle.api_lines.specs.declared.text_fault.TextFault.{TextFault}
 use Rattle.history.specs.declared.event.Event.{Event}
-use Rattle.history.specs.Events.{IsHistory}
-use Rattle.history.specs.Refusal.{most_events}
-use Rattle.history.specs.Text.{AreLinesOf, IsLineOf, is_blank, is_written, lines_of, longest_line}
+use Rattle.history.specs.declared.event.Event.TheVariants.{Call, Reply, Lost}
+use Rattle.history.specs.declared.fault.HistFault.{HistFault}
+use Rattle.history.specs.Events.{is_call, is_ending, place_of}
+use Rattle.history.specs.Faults.{cause_of}
+use Rattle.history.specs.Refusal.{first_event, refusal_of}
 
--- the events with one more, which the line spells
-pub record Spelled (old : List Event) (line : List ℕ) (new : List Event) : Type 0 where
-  pub event : Event
-  pub added : new ≡ old ++ event ∷ []
-  pub line_of : IsLineOf old line event
-  pub history : IsHistory new
-  pub few : length new ≤ most_events
+-- ---- the event of a line
 
--- the line is short enough; a blank one changes nothing, and another one spells one more event
-pub record TakesLine (old : List Event) (line : List ℕ) (new : List Event) : Type 0 where
-  pub short : length line ≤ longest_line
-  pub taken : MatchBool (is_blank line) (new ≡ old) (Spelled old line new)
+-- what is heard of a call by a status and a body; of no other event anything is
+abbrev pub heard_of_call : Event → ℕ → BodyValues → Heard
+heard_of_call (Call n h d op) status body = heard op d status body
+heard_of_call (Reply n r) status body = heard.Unknown
+heard_of_call (Lost n) status body = heard.Unknown
 
--- of the text, all lines up to the rest are read, count of them, and they spell the events
-pub record IsReadUpTo (text rest : List ℕ) (count : ℕ) (events : List Event) : Type 0 where
-  pub done : List (List ℕ)
-  pub split : lines_of text ≡ done ++ lines_of rest
-  pub counted : length done ≡ count
-  pub short : All (λ line. length line ≤ longest_line) done
-  pub spelled : AreLinesOf events (filter is_written done) events
-  pub history : IsHistory events
-  pub few : length events ≤ most_events
+-- a reply of unknown outcome is a loss
+abbrev pub event_heard : ℕ → Heard → Result Event TextCause
+event_heard n (heard.Reply r) = Ok (Reply n r)
+event_heard n heard.Unknown = Ok (Lost n)
+event_heard n heard.Stranger = Err Stranger
+
+-- the event of a reply line, by the call of its number and by the ending that this call has
+abbrev pub ending_told : ℕ → ℕ → BodyValues → Option Event → Option ℕ → Result Event TextCause
+ending_told n status body None ending = Err NoCall
+ending_told n status body (Some call) (Some place) = Err Ended
+ending_told n status body (Some call) None = event_heard n (heard_of_call call status body)
+
+-- the event of what a line says
+abbrev pub event_said : List Event → BodyValues → LineSaid → Result Event TextCause
+event_said events body (said.Call n h d op) = Ok (Call n h d op)
+event_said events body (said.Reply n status) =
+    ending_told n status body (first_event (is_call n) events) (place_of (is_ending n) events)
+event_said events body (said.Lost n) = Ok (Lost n)
+
+abbrev pub event_told : List Event → LineValues → Result Event TextCause
+event_told events line = line_told line >>= event_said events line.body
+
+-- ---- the whole text
+
+abbrev pub with_more : List Event → Event → Option HistFault → Result (List Event) TextCause
+with_more events e None = Ok (events ++ e ∷ [])
+with_more events e (Some fault) = Err (cause_of fault)
+
+-- the events with one more, where the history doesn't refuse it
+abbrev pub adds : List Event → Event → Result (List Event) TextCause
+adds events e = with_more events e (refusal_of events e)
+
+-- the events after the value of a line
+abbrev pub takes_value : List Event → Data → Result (List Event) TextCause
+takes_value events v = event_told events (line_values v) >>= adds events
+
+-- the events of a history text; or the first line that is refused, with its first cause
+abbrev pub history_text : List ℕ → Result (List Event) TextFault
+history_text bytes = read_lines takes_value 1 [] (lines_of bytes)

@@ -5,13 +5,14 @@ use Rattle.doc_register.specs.declared.op.Op.{Op}
 use Rattle.doc_register.specs.Register.{fits}
 use Rattle.history.specs.declared.event.Event.{Event}
 use Rattle.history.specs.declared.event.Event.TheVariants.{Call, Reply, Lost}
+use Rattle.history.specs.declared.history.TheConstants.{MOST_EVENTS}
 use Rattle.history.specs.declared.fault.HistFault.{HistFault}
 use Rattle.history.specs.declared.fault.HistFault.TheVariants.{SecondCall, NoCall, Ended, Kind, Full, NoMemory, ShardMoved}
 use Rattle.history.specs.Events.{is_call, is_call_of, is_ending, place_of}
 
 -- the most events that a history is kept with, or read from a text
 abbrev pub most_events : ℕ
-most_events = 1048576
+most_events = MOST_EVENTS
 
 -- the first event that passes the test
 abbrev pub first_event : (Event → Bool) → List Event → Option Event
@@ -50,9 +51,11 @@ when_ended events n later = if is_some (place_of (is_ending n) events) then Some
 -- the first reason to refuse an event, if there is one
 abbrev pub refusal_of : List Event → Event → Option HistFault
 refusal_of events (Call n h d op) =
-    if is_some (place_of (is_call n) events) then Some SecondCall else (if is_moved events d h then Some ShardMoved else when_full events)
+    if is_some (place_of (is_call n) events) then Some SecondCall
+    else (if is_moved events d h then Some ShardMoved else when_full events)
 refusal_of events (Reply n r) =
-    option_map_or (λ op. when_ended events n (if fits op r then when_full events else Some Kind)) (op_of events n) (Some NoCall)
+    option_map_or (λ op. when_ended events n (if fits op r then when_full events else Some Kind))
+    (op_of events n) (Some NoCall)
 refusal_of events (Lost n) =
     option_map_or (λ op. when_ended events n (when_full events)) (op_of events n) (Some NoCall)
 

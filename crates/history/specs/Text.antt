@@ -1,42 +1,20 @@
 -- History texts: which bytes are the text of a history.
-use Rattle.std.specs.Prelude.{◌≡◌, ℕ, ◌<◌, ◌≤◌, ◌==◌, ◌⊎◌, Bool, not, ◌||◌, List, [], ◌∷◌, Option, Some, None, All, filter, length, unwrap_or, ◌^◌, codes, IsUtf8, if◌then◌else◌}
-use Rattle.std.specs.List.{list_all}
+use Rattle.std.specs.Prelude.{◌≡◌, ℕ, ◌<◌, ◌≤◌, ◌⊎◌, List, [], ◌∷◌, Option, Some, None, All, filter, length, ◌^◌, codes, IsUtf8}
 use Rattle.version_pair.specs.Id.{IsIdLength}
 use Rattle.version_pair.specs.declared.pair.Pair.{Pair}
 use Rattle.doc_register.specs.declared.op.Op.{Op}
 use Rattle.doc_register.specs.declared.op.Op.TheVariants.{Get, Index, Delete, Create}
-use Rattle.serde_json.specs.Data.{Data, null}
-use Rattle.serde_json.specs.Find.{get}
+use Rattle.serde_json.specs.Data.{Data}
 use Rattle.serde_json.specs.Read.{read}
+use Rattle.api_lines.specs.declared.history_line.TheConstants.{SHARDS}
+use Rattle.api_lines.specs.Fields.{body_of}
+use Rattle.api_lines.specs.Json.{HasNumber, HasText, Lacks}
+use Rattle.api_lines.specs.Lines.{is_written, lines_of, longest_line, most_lines}
+use Rattle.api_lines.specs.ReplyTable.{IsStranger, IsUnknown, Tells}
 use Rattle.history.specs.declared.event.Event.{Event}
 use Rattle.history.specs.declared.event.Event.TheVariants.{Call, Reply, Lost}
 use Rattle.history.specs.Events.{IsCallAt, IsHistory}
 use Rattle.history.specs.Refusal.{most_events}
-use Rattle.history.specs.Json.{HasNumber, HasText, Lacks}
-use Rattle.history.specs.ReplyTable.{IsStranger, IsUnknown, Tells}
-
--- ---- lines
-
--- the lines, with b at the front of the first
-abbrev pub onto_first : ℕ → List (List ℕ) → List (List ℕ)
-onto_first b [] = (b ∷ []) ∷ []
-onto_first b (line ∷ lines) = (b ∷ line) ∷ lines
-
--- the lines of a text: each ends at a line feed or at the end of the text
-abbrev pub lines_of : List ℕ → List (List ℕ)
-lines_of [] = []
-lines_of (b ∷ bytes) = if b == 10 then [] ∷ lines_of bytes else onto_first b (lines_of bytes)
-
--- a space, a tab or a carriage return
-abbrev pub is_space : ℕ → Bool
-is_space b = (b == 32) || (b == 9) || (b == 13)
-
--- a line of such bytes alone
-abbrev pub is_blank : List ℕ → Bool
-is_blank line = list_all is_space line
-
-abbrev pub is_written : List ℕ → Bool
-is_written line = not (is_blank line)
 
 -- ---- what a line spells
 
@@ -53,7 +31,7 @@ SpellsOp v (Create k) = HasText (codes "op") (codes "create") v × HasNumber (co
 
 -- the shard of a call, 0 where it isn't named
 abbrev pub SpellsShard : Data → ℕ → Type 0
-SpellsShard v h = (Lacks (codes "shard") v × (h ≡ 0)) ⊎ (HasNumber (codes "shard") h v × (h < 1024))
+SpellsShard v h = (Lacks (codes "shard") v × (h ≡ 0)) ⊎ (HasNumber (codes "shard") h v × (h < SHARDS))
 
 pub record SpellsCall (v : Data) (n h : ℕ) (d : List ℕ) (op : Op) : Type 0 where
   pub kind : HasText (codes "e") (codes "call") v
@@ -62,10 +40,6 @@ pub record SpellsCall (v : Data) (n h : ℕ) (d : List ℕ) (op : Op) : Type 0 w
   pub id_length : IsIdLength (length d)
   pub operation : SpellsOp v op
   pub shard : SpellsShard v h
-
--- the body of a reply line, null where it is absent
-abbrev pub body_of : Data → Data
-body_of v = unwrap_or (get (codes "body") v) null
 
 -- A reply line for the call numbered n, which is one of the history: its document, operation and status. The body names no other document.
 pub record SpellsReply (events : List Event) (v : Data) (n : ℕ) (op : Op) (status : ℕ) : Type 0 where
@@ -82,8 +56,10 @@ pub record SpellsLost (v : Data) (n : ℕ) : Type 0 where
 -- The event that a value spells. A reply that the table doesn't know is of unknown outcome, as a lost line is.
 abbrev pub Spells : List Event → Data → Event → Type 0
 Spells events v (Call n h d op) = SpellsCall v n h d op
-Spells events v (Reply n r) = (op : Op) × (status : ℕ) × SpellsReply events v n op status × Tells op status (body_of v) r
-Spells events v (Lost n) = SpellsLost v n ⊎ ((op : Op) × (status : ℕ) × SpellsReply events v n op status × IsUnknown op status (body_of v))
+Spells events v (Reply n r) = (op : Op) × (status : ℕ) × SpellsReply events v n op status
+    × Tells op status (body_of v) r
+Spells events v (Lost n) = SpellsLost v n
+    ⊎ ((op : Op) × (status : ℕ) × SpellsReply events v n op status × IsUnknown op status (body_of v))
 
 -- the line is JSON, and its value spells the event
 abbrev pub IsLineOf : List Event → List ℕ → Event → Type 0
@@ -97,12 +73,6 @@ AreLinesOf events [] [] = Unit {0}
 AreLinesOf events [] (e ∷ es) = ⊥
 AreLinesOf events (line ∷ lines) [] = ⊥
 AreLinesOf events (line ∷ lines) (e ∷ es) = IsLineOf events line e × AreLinesOf events lines es
-
-abbrev pub most_lines : ℕ
-most_lines = 4194304
-
-abbrev pub longest_line : ℕ
-longest_line = 65536
 
 -- The bytes are a text of the history: within the limits, its lines that aren't blank spell the events of the history
 -- one to one, in order.

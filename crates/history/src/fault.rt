@@ -1,3 +1,8 @@
+ghost use Rattle.std.specs.Prelude.{◌≡◌};
+ghost use Rattle.history.specs.Faults.{line_fault};
+
+use api_lines::{LineFault, TextCause};
+
 /// Why an event was refused.
 #[derive(Clone, Copy, Debug, PartialEq, Eq)]
 pub enum HistFault {
@@ -15,4 +20,20 @@ pub enum HistFault {
     NoMemory,
     /// The document was called before on another shard.
     ShardMoved,
+}
+
+impl From<HistFault> for LineFault {
+    ghost from_gives = { λ event fault. fault ≡ line_fault event };
+
+    fn from(fault: HistFault) -> LineFault {
+        match fault {
+            HistFault::SecondCall => LineFault::Told(TextCause::SecondCall),
+            HistFault::NoCall => LineFault::Told(TextCause::NoCall),
+            HistFault::Ended => LineFault::Told(TextCause::Ended),
+            HistFault::Kind => LineFault::Told(TextCause::Shape),
+            HistFault::Full => LineFault::Told(TextCause::Full),
+            HistFault::NoMemory => LineFault::NoMemory,
+            HistFault::ShardMoved => LineFault::Told(TextCause::ShardMoved),
+        }
+    }
 }

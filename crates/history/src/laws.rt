@@ -1,6 +1,6 @@
 //! Laws of the definitions, each the contract of a function that does nothing.
 
-ghost use Rattle.history.specs.Laws.{PlainlyRightIsLinearizable, PrecedenceIsStrict, PrefixesStay, SplitByDocument, TextOfOneHistory, UnansweredLeftOut};
+ghost use Rattle.history.specs.Laws.{PlainlyRightIsLinearizable, PrecedenceIsStrict, PrefixesStay, SplitByDocument, TextOfOneHistory, TextsAreRead, UnansweredLeftOut};
 
 /// Shows that no call of a history precedes itself, that precedence passes on, and that a pending call precedes none.
 #[tactic(auto, using(crate::proofs::OrderLaws::precedence_is_strict))]
@@ -38,4 +38,11 @@ pub fn split_by_document()
 #[tactic(auto, using(crate::proofs::TextLaws::text_of_one_history))]
 pub fn one_history()
     ensures { TextOfOneHistory }
+{}
+
+/// Shows that a text is read as the history that it is a text of, and as no other; and that the line of a refused text is
+/// the first at which it is none.
+#[tactic(auto, using(crate::proofs::TextLaws::texts_are_read))]
+pub fn texts_are_read()
+    ensures { TextsAreRead }
 {}

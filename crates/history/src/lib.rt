@@ -1,23 +1,28 @@
 //! Histories of calls and replies: events, well-formed histories, and the text that they are read from.
 #![tactic(auto)]
 
-mod call_line;
+mod bulk_writer;
 mod event;
-mod events;
 mod fault;
-pub mod fields;
+mod history;
 pub mod laws;
-pub mod lines;
+mod line_event;
+mod noting;
+mod prefix;
+mod pushing;
 mod reader;
 mod record;
-mod reply_line;
-mod reply_table;
-mod text_fault;
+mod records;
+mod refusal;
+mod seen;
+mod writer;
+mod written_line;
 
+pub use bulk_writer::bulk_text;
 pub use event::Event;
-pub use events::{History, MOST_EVENTS};
 pub use fault::HistFault;
-pub use lines::{LONGEST_LINE, MOST_LINES};
+pub use history::{History, MOST_EVENTS};
 pub use reader::read;
 pub use record::Rec;
-pub use text_fault::{LineFault, ReadFault, TextCause, TextFault};
+pub use seen::Seen;
+pub use writer::write;

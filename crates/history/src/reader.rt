@@ -1,72 +1,70 @@
-ghost use Rattle.std.specs.Prelude.{◌≡◌, IfOk, OnErr, OnOk};
-ghost use Rattle.history.specs.Events.{HasShard};
-ghost use Rattle.history.specs.Reading.{IsReadUpTo, TakesLine};
-ghost use Rattle.history.specs.Text.{IsHistoryText, Spells};
+ghost use Rattle.std.specs.Prelude.{◌≡◌, ◌≤◌, IfErr, IfOk, OnErr, OnOk, Ok, Err};
 ghost use Rattle.serde_json.specs.View.{view};
+ghost use Rattle.api_lines.specs.Faults.{IfTextTold, IfTold};
+ghost use Rattle.api_lines.specs.Lines.{most_lines};
+ghost use Rattle.api_lines.specs.Texts.{read_line};
+ghost use Rattle.history.specs.Reading.{history_text, takes_value};
+ghost use Rattle.history.specs.Text.{IsHistoryText};
 
-use crate::call_line::call_event;
-use crate::event::Event;
-use crate::events::History;
-use crate::fields::required_text;
-use crate::lines::{LONGEST_LINE, MOST_LINES, first_line, is_blank, line_value};
-use crate::reply_line::reply_event;
-use crate::text_fault::{LineFault, ReadFault, TextCause, TextFault};
+use crate::history::History;
+use crate::line_event::take_said;
+use api_lines::lines::first_line;
+use api_lines::{LineFault, ReadFault, given_line, line_fields, line_said};
 use serde_json::Value;
 use std::alloc::Global;
 
-// The event that a value spells after those of the history.
-fn spelled_event(alloc: Global, history: &History, value: &Value) -> Result<Event, LineFault>
-    ensures shard { IfOk result HasShard }
-    ensures spelled { IfOk result (Spells history.now (view value.now)) }
+// Takes the value of one more line. A line that is refused leaves the history as it was.
+fn take_value(alloc: Global, history: &mut History, value: &Value) -> Result<(), LineFault>
+    ensures ok { OnOk result (takes_value history.old (view value.now) ≡ Ok history.new) }
+    ensures err { IfErr result (λ fault. IfTold fault
+        (λ cause. takes_value history.old (view value.now) ≡ Err cause)) }
+    ensures unchanged { OnErr result (history.new ≡ history.old) }
 {
-    match required_text(value, "e")? {
-        "call" => call_event(alloc, value),
-        "reply" => reply_event(history, value),
-        _ => Err(LineFault::Told(TextCause::Shape)),
+    let line = line_fields(value);
+    match line_said(alloc, &line) {
+        Ok(said) => take_said(history, said, &line.body),
+        Err(fault) => Err(fault),
     }
 }
 
-// Reads one more line. A line that is refused leaves the history as it was.
-fn read_line(alloc: Global, history: &mut History, line: &[u8]) -> Result<(), LineFault>
-    ensures ok { OnOk result (TakesLine history.old line.now history.new) }
-    ensures err { OnErr result (history.new ≡ history.old) }
+// Takes the line with this number. A line that is refused leaves the history as it was.
+fn take_line(
+    alloc: Global,
+    history: &mut History,
+    number: u64,
+    line: &[u8],
+) -> Result<(), LineFault>
+    ensures ok { OnOk result (read_line takes_value number history.old line.now ≡ Ok history.new) }
+    ensures within { OnOk result (number ≤ most_lines) }
+    ensures err { IfErr result (λ fault. IfTold fault
+        (λ cause. read_line takes_value number history.old line.now ≡ Err cause)) }
+    ensures unchanged { OnErr result (history.new ≡ history.old) }
 {
-    if line.len() > LONGEST_LINE {
-        return Err(LineFault::Told(TextCause::Long));
-    }
-    if is_blank(line) {
-        return Ok(());
-    }
-    let value = line_value(alloc, line)?;
-    let event = spelled_event(alloc, history, &value)?;
-    match history.push(event) {
-        Ok(()) => Ok(()),
-        Err(fault) => Err(LineFault::from(fault)),
+    match given_line(alloc, number, line) {
+        Ok(Some(value)) => take_value(alloc, history, &value),
+        Ok(None) => Ok(()),
+        Err(fault) => Err(fault),
     }
 }
 
 /// The history that a text spells, or the first line that is refused with its first cause.
 ///
 /// Causes are told in this order: `Lines` and `Long`; a blank line is then passed over; `Json`, `Shape`, `Id`,
-/// `Half`, `Range`; for a call `SecondCall`, `ShardMoved`, `Full`; for a reply `NoCall`, `Ended`, `Stranger`, for
-/// now `Shape` for one that is not read yet, `Full`. `NoMemory` is told where a growth was refused.
-///
-/// Read are calls of gets and of indexes, and the replies to them that tell their outcome; for now every other
-/// line that a history text may have is refused as `Shape`.
+/// `Half`, `Range`; for a call `SecondCall`, `ShardMoved`, `Full`; for a reply `NoCall`, `Ended`, `Stranger`, `Full`;
+/// for a lost line `NoCall`, `Ended`, `Full`. `NoMemory` is told where a growth was refused.
 pub fn read(alloc: Global, text: &[u8]) -> Result<History, ReadFault>
-    ensures { IfOk result (IsHistoryText text.now) }
+    ensures ok { IfOk result (λ history. history_text text.now ≡ Ok history) }
+    ensures text { IfOk result (IsHistoryText text.now) }
+    ensures fault { IfErr result (λ fault. IfTextTold fault (λ told. history_text text.now ≡ Err told)) }
 {
     let mut history = History::new(alloc);
-    let mut count = 0;
+    let mut number = 0;
     let mut rest = text;
     while !rest.is_empty() {
-        if count == MOST_LINES {
-            return Err(LineFault::Told(TextCause::Lines).at(count + 1));
-        }
-        count += 1;
+        number += 1;
         let (line, after) = first_line(rest);
-        if let Err(fault) = read_line(alloc, &mut history, line) {
-            return Err(fault.at(count));
+        if let Err(fault) = take_line(alloc, &mut history, number, line) {
+            return Err(fault.at(number));
         }
         rest = after;
     }

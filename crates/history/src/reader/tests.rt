@@ -1,6 +1,6 @@
 use super::*;
 use crate::record::Rec;
-use crate::text_fault::TextFault;
+use api_lines::{LONGEST_LINE, TextCause, TextFault};
 use doc_register::{Op, Reply};
 use version_pair::Pair;
 
@@ -157,6 +157,7 @@ fn texts_refused(rt: HostRuntime) {
 fn lines_taken(rt: HostRuntime) {
     for (text, events) in [
         (r#"{"e":"call","n":0,"id":"d","op":"get","shard":1023}"#, 1),
+        (r#"{"e":"call","n":0,"id":"d","op":"delete"}"#, 1),
         (
             r#"{"e":"call","n":18446744073709551615,"id":"d","op":"get","at":[1,{}]}"#,
             1,
@@ -196,12 +197,7 @@ fn lines_refused(rt: HostRuntime) {
         ),
         (r#"{"e":"call","id":"d","op":"get"}"#, 1, TextCause::Shape),
         (r#"["e","call"]"#, 1, TextCause::Shape),
-        (
-            r#"{"e":"call","n":0,"id":"d","op":"delete"}"#,
-            1,
-            TextCause::Shape,
-        ),
-        (r#"{"e":"lost","n":0}"#, 1, TextCause::Shape),
+        (r#"{"e":"lost","n":0}"#, 1, TextCause::NoCall),
     ] {
         assert_eq!(rt; count(rt.alloc(), text), refused(line, cause), "{text}");
     }

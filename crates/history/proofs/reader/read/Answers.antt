@@ -1,15 +1,40 @@
-use Rattle.std.proofs.Common.{arith, rules, ◌≡◌, length}
-use Rattle.history.proofs.TextLemmas.{read_all, read_more}
+use Rattle.std.proofs.Common.{[], ◌≡◌, ◌≤◌, ◌+◌, arith, rules, length, sym, subst, Ok, Err}
+use Rattle.api_lines.specs.Faults.{IfTextTold}
+use Rattle.api_lines.specs.Lines.{most_lines}
+use Rattle.api_lines.specs.Texts.{read_line}
+use Rattle.api_lines.proofs.ReadingLemmas.{IsReadUpTo, read_all, read_few, read_more, read_none, read_stops}
+use Rattle.history.specs.Reading.{history_text, takes_value}
+use Rattle.history.proofs.TextLaws.{read_is_text}
 use Rattle.history.proofs.reader.read.Goals as goal
 
-pub loop-rest-preserved : goal.loop-rest-preserved
-loop-rest-preserved c = (
-  read_more c.args.text.now c.loop-rest.rest.now c.first_line.result.1.now c.first_line.result.0.now c.loop-rest.count c.loop-rest.history
-      c.read_line.new.history c.loop-rest.invariant.0 c.first_line.ensures.lines c.in_default.ensures.ok,
-  omega arith,
-)
+pub loop-rest-init : goal.loop-rest-init
+loop-rest-init c = subst (IsReadUpTo takes_value [] c.args.text.now c.args.text.now 0) (sym c.new-history.ensures.empty) (read_none takes_value [] c.args.text.now)
 
-pub returns : goal.returns
-returns c =
-    let empty : length c.loop-rest.rest.now ≡ 0 = search rules in
-    read_all c.args.text.now c.loop-rest.rest.now c.loop-rest.count c.loop-rest.history empty c.loop-rest.invariant.1 c.loop-rest.invariant.0
+pub overflow_add-number : goal.overflow_add-number
+overflow_add-number c =
+    let few : c.loop-rest.number ≤ 4194304 = read_few takes_value [] c.args.text.now c.loop-rest.rest.now c.loop-rest.number c.loop-rest.history c.loop-rest.invariant in
+    omega arith
+
+pub returns-in-Err-clause-fault : goal.returns-in-Err-clause-fault
+returns-in-Err-clause-fault c =
+    subst (λ told. IfTextTold told (λ told. history_text c.args.text.now ≡ Err told)) (sym c.at.ensures)
+    (read_stops takes_value [] c.args.text.now c.loop-rest.rest.now c.first_line.result.1.now c.first_line.result.0.now c.loop-rest.number c.loop-rest.history c.in-Err.fault
+    c.loop-rest.invariant c.first_line.ensures.lines c.in-Err.ensures.err)
+
+pub loop-rest-preserved : goal.loop-rest-preserved
+loop-rest-preserved c =
+    let ok : read_line takes_value (c.loop-rest.number + 1) c.loop-rest.history c.first_line.result.0.now ≡ Ok c.take_line.new.history = search rules in
+    let few : c.loop-rest.number + 1 ≤ most_lines = search rules in
+    read_more takes_value [] c.args.text.now c.loop-rest.rest.now c.first_line.result.1.now c.first_line.result.0.now c.loop-rest.number c.loop-rest.history
+    c.take_line.new.history c.loop-rest.invariant c.first_line.ensures.lines ok few
+
+pub returns-clause-ok : goal.returns-clause-ok
+returns-clause-ok c =
+    let end : length c.loop-rest.rest.now ≡ 0 = search rules in
+    read_all takes_value [] c.args.text.now c.loop-rest.rest.now c.loop-rest.number c.loop-rest.history c.loop-rest.invariant end
+
+pub returns-clause-text : goal.returns-clause-text
+returns-clause-text c =
+    let end : length c.loop-rest.rest.now ≡ 0 = search rules in
+    read_is_text c.args.text.now c.loop-rest.history
+    (read_all takes_value [] c.args.text.now c.loop-rest.rest.now c.loop-rest.number c.loop-rest.history c.loop-rest.invariant end)

@@ -1,10 +1,10 @@
-use Rattle.std.proofs.Common.{◌≤◌, length}
-use Rattle.history.specs.Reading.{IsReadUpTo}
-use Rattle.history.specs.Text.{most_lines}
+use Rattle.std.proofs.Common.{[], length}
+use Rattle.api_lines.proofs.ReadingLemmas.{IsReadUpTo}
+use Rattle.history.specs.Reading.{takes_value}
 use Rattle.history.proofs.reader.read.Given as goal
 
 abbrev pub invariant-loop-rest : goal.invariant-loop-rest
-invariant-loop-rest l = IsReadUpTo l.fn.text l.rest l.count l.history × (l.count ≤ most_lines)
+invariant-loop-rest l = IsReadUpTo takes_value [] l.text l.rest l.number l.history
 
 abbrev pub decreases-loop-rest : goal.decreases-loop-rest
 decreases-loop-rest l = length l.rest

@@ -1,0 +1,137 @@
+-- The documents of a history, and the calls of each.
+use Rattle.std.proofs.Common.{ℕ, zero, suc, ◌≡◌, ◌≤◌, List, [], ◌∷◌, length, refl, sym, ap, subst, ◌∙◌, arith, Option, Some, None, Bool, true, false, cond, ◌+◌, nat_lt}
+use Rattle.std.specs.Prelude.{fold, map, not, position, if◌then◌else◌, is_some}
+use Rattle.std.specs.Cmp.Lexicographic.{bytes_decides}
+use Rattle.std.specs.List.{position_or_len}
+use Rattle.std.specs.Map.{lookup}
+use Rattle.indexmap.specs.IndexMap.{insert_entry}
+use Rattle.doc_register.specs.declared.op.Op.{Op}
+use Rattle.history.specs.declared.event.Event.{Event}
+use Rattle.history.specs.declared.event.Event.TheVariants.{Call, Reply, Lost}
+use Rattle.history.specs.Events.{IsCallAt, documents_of, is_same, with_document, with_event}
+
+-- ---- ids
+
+same_sym : (a b : List ℕ) → is_same a b ≡ is_same b a
+same_sym a b = by_tests (is_same a b) refl (is_same b a) refl where
+  by_tests : (p : Bool) → is_same a b ≡ p → (q : Bool) → is_same b a ≡ q → p ≡ q
+  by_tests true e true f = refl
+  by_tests false e false f = refl
+  by_tests true e false f = sym ((bytes_decides b a).1 (sym ((bytes_decides a b).0 e))) ∙ f
+  by_tests false e true f = sym e ∙ (bytes_decides a b).1 (sym ((bytes_decides b a).0 f))
+
+-- ---- one more document
+
+-- what a look-up finds among the documents with one more
+pub lookup_with : (ds : List (List ℕ × ℕ)) (d : List ℕ) (h : ℕ) (q : List ℕ)
+    → lookup (is_same q) (with_document ds d h) ≡ (if is_some (lookup (is_same q) ds) then lookup (is_same q) ds else (if is_same d q then Some h else None))
+lookup_with [] d h q = ap (λ b. cond b (Some h) None) (same_sym q d)
+lookup_with (e ∷ es) d h q = by_tests (is_same d e.0) refl (is_same q e.0) refl (lookup_with es d h q) where
+  found : (o : Option ℕ) → (if is_some o then o else None) ≡ o
+  found (Some s) = refl
+  found None = refl
+
+  by_tests : (a : Bool) → is_same d e.0 ≡ a → (b : Bool) → is_same q e.0 ≡ b
+      → lookup (is_same q) (with_document es d h) ≡ (if is_some (lookup (is_same q) es) then lookup (is_same q) es else (if is_same d q then Some h else None))
+      → lookup (is_same q) (if a then e ∷ es else e ∷ with_document es d h)
+      ≡ (if is_some (cond b (Some e.1) (lookup (is_same q) es)) then cond b (Some e.1) (lookup (is_same q) es) else (if is_same d q then Some h else None))
+  by_tests true p true r later = ap (λ b. cond b (Some e.1) (lookup (is_same q) es)) r
+  by_tests true p false r later =
+      let other : is_same d q ≡ false = same_sym d q ∙ (ap (is_same q) ((bytes_decides d e.0).0 p) ∙ r) in
+      ap (λ b. cond b (Some e.1) (lookup (is_same q) es)) r
+      ∙ sym (ap (λ b. if is_some (lookup (is_same q) es) then lookup (is_same q) es else (if b then Some h else None)) other ∙ found (lookup (is_same q) es))
+  by_tests false p true r later = ap (λ b. cond b (Some e.1) (lookup (is_same q) (with_document es d h))) r
+  by_tests false p false r later = ap (λ b. cond b (Some e.1) (lookup (is_same q) (with_document es d h))) r ∙ later
+
+-- a document that is there stays where it is
+pub with_known : (ds : List (List ℕ × ℕ)) (d : List ℕ) (h : ℕ) → is_some (lookup (is_same d) ds) ≡ true → with_document ds d h ≡ ds
+with_known [] d h known = let impossible : false ≡ true = known in absurd (cc)
+with_known (e ∷ es) d h known = by_test (is_same d e.0) known (with_known es d h) where
+  by_test : (b : Bool) → is_some (cond b (Some e.1) (lookup (is_same d) es)) ≡ true
+      → (is_some (lookup (is_same d) es) ≡ true → with_document es d h ≡ es) → (if b then e ∷ es else e ∷ with_document es d h) ≡ e ∷ es
+  by_test true known later = refl
+  by_test false known later = ap (λ fs. e ∷ fs) (later known)
+
+-- a new document goes last, as the map puts it
+pub with_new : (ds : List (List ℕ × ℕ)) (d : List ℕ) (h : ℕ) → is_some (lookup (is_same d) ds) ≡ false → insert_entry is_same ds d h ≡ with_document ds d h
+with_new [] d h new = refl
+with_new (e ∷ es) d h new = by_test (is_same d e.0) new (with_new es d h) where
+  by_test : (b : Bool) → is_some (cond b (Some e.1) (lookup (is_same d) es)) ≡ false
+      → (is_some (lookup (is_same d) es) ≡ false → insert_entry is_same es d h ≡ with_document es d h)
+      → (if b then (e.0, h) ∷ es else e ∷ insert_entry is_same es d h) ≡ (if b then e ∷ es else e ∷ with_document es d h)
+  by_test true new later = let impossible : true ≡ false = new in absurd (cc)
+  by_test false new later = ap (λ fs. e ∷ fs) (later new)
+
+-- ---- the documents of calls
+
+-- the document is among these
+pub IsAmong : List ℕ → List (List ℕ × ℕ) → Type 0
+IsAmong d ds = is_some (lookup (is_same d) ds) ≡ true
+
+stays : (o : Option ℕ) (r : Option ℕ) → is_some o ≡ true → is_some (if is_some o then o else r) ≡ true
+stays (Some s) r h = h
+stays None r h = let impossible : false ≡ true = h in absurd (cc)
+
+among_more : (d : List ℕ) (ds : List (List ℕ × ℕ)) (e : Event) → IsAmong d ds → IsAmong d (with_event ds e)
+unfolding IsAmong
+among_more d ds (Call n h c op) among = ap is_some (lookup_with ds c h d) ∙ stays (lookup (is_same d) ds) (if is_same c d then Some h else None) among
+among_more d ds (Reply n r) among = among
+among_more d ds (Lost n) among = among
+
+comes : (o : Option ℕ) (h : ℕ) (b : Bool) → b ≡ true → is_some (if is_some o then o else (if b then Some h else None)) ≡ true
+comes (Some s) h b is = refl
+comes None h true is = refl
+comes None h false is = is
+
+among_called : (d : List ℕ) (ds : List (List ℕ × ℕ)) (n h : ℕ) (op : Op) → IsAmong d (with_event ds (Call n h d op))
+unfolding IsAmong
+among_called d ds n h op = ap is_some (lookup_with ds d h d) ∙ comes (lookup (is_same d) ds) h (is_same d d) ((bytes_decides d d).1 refl)
+
+among_all : (d : List ℕ) (xs : List Event) (ds : List (List ℕ × ℕ)) → IsAmong d ds → IsAmong d (fold with_event ds xs)
+among_all d [] ds among = among
+among_all d (x ∷ xs) ds among = among_all d xs (with_event ds x) (among_more d ds x among)
+
+pub call_among : (xs : List Event) (ds : List (List ℕ × ℕ)) (i n h : ℕ) (d : List ℕ) (op : Op) → IsCallAt xs i n h d op → IsAmong d (fold with_event ds xs)
+call_among [] ds i n h d op at = let impossible : None ≡ Some (Call n h d op) = at in absurd (cc)
+call_among (x ∷ xs) ds zero n h d op at =
+    let same : x ≡ Call n h d op = (let eq : Some x ≡ Some (Call n h d op) = at in cc) in
+    among_all d xs (with_event ds x) (subst (λ e. IsAmong d (with_event ds e)) (sym same) (among_called d ds n h op))
+call_among (x ∷ xs) ds (suc i) n h d op at = call_among xs (with_event ds x) i n h d op at
+
+-- a document among at most one is that one
+pub only : (d : List ℕ) (ds : List (List ℕ × ℕ)) → length ds ≤ 1 → IsAmong d ds → (e : List ℕ × ℕ) × (ds ≡ e ∷ []) × (d ≡ e.0)
+unfolding IsAmong
+only d [] few among = let impossible : false ≡ true = among in absurd (cc)
+only d (e ∷ []) few among = (e, refl, (bytes_decides d e.0).0 (by_test (is_same d e.0) among)) where
+  by_test : (b : Bool) → is_some (cond b (Some e.1) None) ≡ true → b ≡ true
+  by_test true h = refl
+  by_test false h = h
+only d (e ∷ f ∷ ds) few among = absurd (omega arith)
+
+-- a history without a document has no call
+pub no_call : (H : List Event) → documents_of H ≡ [] → (i n h : ℕ) (d : List ℕ) (op : Op) → IsCallAt H i n h d op → ⊥
+unfolding IsAmong
+no_call H none i n h d op at =
+    let impossible : false ≡ true = subst (λ ds. IsAmong d ds) none (call_among H [] i n h d op at) in cc
+
+-- the calls of a history of one document are of that one
+pub own_call : (H : List Event) (d : List ℕ) (g : ℕ) → documents_of H ≡ (d, g) ∷ [] → (i n h : ℕ) (e : List ℕ) (op : Op) → IsCallAt H i n h e op → e ≡ d
+own_call H d g one i n h e op at =
+    let found = only e (documents_of H) (subst (λ ds. length ds ≤ 1) (sym one) (omega arith)) (call_among H [] i n h e op at) in
+    let same : (d, g) ∷ [] ≡ found.0 ∷ [] = sym one ∙ found.1 in
+    let entry : (d, g) ≡ found.0 = cc in
+    found.2 ∙ ap (λ x. x.0) (sym entry)
+
+-- a document's place among the ids is its place among the documents
+ids_before : (test : List ℕ → Bool) (ds : List (List ℕ × ℕ)) → position_or_len test (map (λ d. d.0) ds) ≡ position_or_len (λ d. test d.0) ds
+ids_before test [] = refl
+ids_before test (d ∷ ds) = ap (λ k. cond (not (test d.0)) (1 + k) 0) (ids_before test ds)
+
+count_of_ids : (ds : List (List ℕ × ℕ)) → length (map (λ d. d.0) ds) ≡ length ds
+count_of_ids [] = refl
+count_of_ids (d ∷ ds) = ap suc (count_of_ids ds)
+
+pub position_of_id : (test : List ℕ → Bool) (ds : List (List ℕ × ℕ)) → position test (map (λ d. d.0) ds) ≡ position (λ d. test d.0) ds
+position_of_id test ds =
+    ap (λ k. cond (nat_lt k (length (map (λ d. d.0) ds))) (Some k) None) (ids_before test ds)
+    ∙ ap (λ n. cond (nat_lt (position_or_len (λ d. test d.0) ds) n) (Some (position_or_len (λ d. test d.0) ds)) None) (count_of_ids ds)

@@ -1,0 +1,253 @@
+ghost use Rattle.std.specs.Prelude.{◌≡◌, ℕ, ◌<◌, ◌≤◌, ◌↔◌, List, [], ◌∷◌, ◌++◌, length, IsTrue, IfSome, OnOk, OnErr, None, Some, option_map, position, slice_get};
+ghost use Rattle.history.specs.declared.event.Event.TheVariants.{Call};
+ghost use Rattle.history.specs.Events.{HasShard, IsHistory, PassesAt, documents_of, is_call, is_ending, is_same, place_of};
+ghost use Rattle.history.specs.Refusal.{most_events as limit, refusal_of, refusal_told, shard_of};
+ghost use Rattle.history.specs.aids.Indexes.{IsEndingOf, calls_at};
+
+use crate::event::Event;
+use crate::fault::HistFault;
+use crate::noting::{note_document_call, note_place_in_room};
+use api_lines::SHARDS;
+use doc_register::Op;
+use indexmap::IndexMap;
+use std::alloc::Global;
+use std::marker::Model;
+use version_pair::{DocId, NoMemory};
+
+/// The most events that a history has.
+pub const MOST_EVENTS: usize = 1_048_576;
+
+/// A history: events in the order in which they were recorded.
+///
+/// Its type keeps that call numbers are distinct, that each call has at most one ending, after it and of a kind
+/// that fits its operation, and that the calls of a document name one shard, 0 to 1,023.
+#[derive(Debug, Drop)]
+pub struct History {
+    events: Vec<Event>,
+    // The place of each call, by its number.
+    calls: IndexMap<u64, usize>,
+    // For each event the place of the ending of the call that stands there, where it is one and has one.
+    endings: Vec<Option<usize>>,
+    // The shard of each document, in the order of the first calls.
+    documents: IndexMap<DocId, u32>,
+    // The places of each document's calls, the documents in the same order.
+    document_calls: Vec<Vec<usize>>,
+}
+
+impl Model for History {
+    ghost use Rattle.std.specs.Prelude.{List};
+    ghost use Rattle.history.specs.declared.event.Event.{Event};
+
+    ghost Value = { List Event };
+
+    ghost use Rattle.history.specs.aids.Indexes.{AreIndexed, lists_in};
+
+    ghost view = { λ h. h.events.items };
+
+    ghost invariant = { λ h. AreIndexed h.events.items h.calls.entries h.endings.items h.documents.entries
+        (lists_in h.document_calls.items) };
+}
+
+impl History {
+    /// The history without events. It allocates nothing.
+    pub fn new(alloc: Global) -> History
+        ensures empty { result ≡ [] }
+        ensures history { IsHistory result }
+    {
+        History {
+            events: Vec::new(alloc),
+            calls: IndexMap::new(alloc),
+            endings: Vec::new(alloc),
+            documents: IndexMap::new(alloc),
+            document_calls: Vec::new(alloc),
+        }
+    }
+
+    /// How many events there are, at most 1,048,576.
+    pub fn len(&self) -> usize
+        ensures count { result ≡ length self.now }
+        ensures within { length self.now ≤ limit }
+        ensures history { IsHistory self.now }
+    {
+        self.events.len()
+    }
+
+    /// Whether there is no event.
+    pub fn is_empty(&self) -> bool
+        ensures { IsTrue result ↔ (self.now ≡ []) }
+    {
+        self.events.is_empty()
+    }
+
+    /// The event at a place, from 0.
+    pub fn event(&self, place: usize) -> &Event
+        requires { place < length self.now }
+        ensures { slice_get self.now place ≡ Some result.now }
+    {
+        &self.events[place]
+    }
+
+    /// The place of the call with this number.
+    pub fn call(&self, no: u64) -> Option<usize>
+        ensures place { result ≡ place_of (is_call no) self.now }
+        ensures within { IfSome result (λ place. place < length self.now) }
+    {
+        self.calls.get(&no).copied()
+    }
+
+    /// The place of the ending of the call that stands at this place.
+    pub(crate) fn ending_of_call(&self, place: usize) -> Option<usize>
+        requires { place < length self.now }
+        ensures ending { (n : ℕ) → PassesAt (is_call n) self.now place
+            → result ≡ place_of (is_ending n) self.now }
+        ensures within { IfSome result (λ ending. ending < length self.now) }
+    {
+        self.endings[place]
+    }
+
+    /// The place of the ending of the call with this number: of its reply, or of the news that it is lost.
+    pub fn ending(&self, no: u64) -> Option<usize>
+        ensures place { result ≡ place_of (is_ending no) self.now }
+        ensures within { IfSome result (λ place. place < length self.now) }
+    {
+        // A look at a field: what the type keeps is known, that a call which isn't there has no ending.
+        let _ = &self.events;
+        match self.call(no) {
+            Some(place) => self.ending_of_call(place),
+            None => None,
+        }
+    }
+
+    /// The shard of the document, where it was called before.
+    pub(crate) fn known_shard(&self, id: &DocId) -> Option<u32>
+        ensures { result ≡ shard_of self.now id.now }
+    {
+        self.documents.get(id).copied()
+    }
+
+    /// Adds a call that is not refused, unless memory is.
+    #[tactic(auto, using(crate::proofs::PushLemmas::indexed_after_call))]
+    pub(crate) fn append_call(
+        &mut self,
+        no: u64,
+        shard: u32,
+        id: DocId,
+        op: Op,
+    ) -> Result<(), NoMemory>
+        requires accepted { refusal_of self.old (Call no shard id op) ≡ None }
+        requires shard { shard < SHARDS }
+        ensures ok { OnOk result (self.new ≡ self.old ++ Call no shard id op ∷ []) }
+        ensures err { OnErr result (self.new ≡ self.old) }
+        ensures history { IsHistory self.new }
+        ensures within { length self.new ≤ limit }
+    {
+        let place = self.events.len();
+        self.events.reserve(1)?;
+        self.endings.reserve(1)?;
+        self.calls.reserve(1)?;
+        note_document_call(
+            &mut self.documents,
+            &mut self.document_calls,
+            &id,
+            shard,
+            place,
+        )?;
+        note_place_in_room(&mut self.calls, no, place);
+        self.endings.push_reserved(None);
+        self.events.push_reserved(Event::Call { no, shard, id, op });
+        Ok(())
+    }
+
+    /// Adds an ending of the call at the place, which is not refused, unless memory is.
+    #[tactic(auto, using(crate::proofs::PushLemmas::indexed_after_ending))]
+    pub(crate) fn append_ending(&mut self, call: usize, event: Event) -> Result<(), NoMemory>
+        requires ends { IsEndingOf self.old call event }
+        requires accepted { refusal_of self.old event ≡ None }
+        ensures ok { OnOk result (self.new ≡ self.old ++ event ∷ []) }
+        ensures err { OnErr result (self.new ≡ self.old) }
+        ensures history { IsHistory self.new }
+        ensures within { length self.new ≤ limit }
+    {
+        let place = self.events.len();
+        self.events.reserve(1)?;
+        self.endings.reserve(1)?;
+        self.endings[call] = Some(place);
+        self.endings.push_reserved(None);
+        self.events.push_reserved(event);
+        Ok(())
+    }
+
+    /// Adds an event at the end, or refuses it with the first reason that holds: for a call `SecondCall`,
+    /// `ShardMoved`, `Full`; for a reply `NoCall`, `Ended`, `Kind`, `Full`; for a lost call `NoCall`, `Ended`,
+    /// `Full`; last `NoMemory`. A refusal leaves the history as it was. A call names one of the 1,024 shards.
+    pub fn push(&mut self, event: Event) -> Result<(), HistFault>
+        requires { HasShard event }
+        ensures ok { OnOk result (self.new ≡ self.old ++ event ∷ []) }
+        ensures err { OnErr result (self.new ≡ self.old) }
+        ensures reason { refusal_told result ≡ refusal_of self.old event }
+        ensures history { IsHistory self.new }
+        ensures within { length self.new ≤ limit }
+    {
+        let pushed = match event {
+            Event::Call { no, shard, id, op } => self.push_call(no, shard, id, op),
+            Event::Reply { no, reply } => self.push_reply(no, reply),
+            Event::Lost { no } => self.push_lost(no),
+        };
+        // A look at a field: what the type keeps is known of the history as it is now.
+        let _ = &self.events;
+        pushed
+    }
+
+    /// The allocator that the history was made with.
+    pub(crate) fn allocator(&self) -> Global {
+        *self.events.allocator()
+    }
+
+    /// How many documents there are.
+    pub fn docs(&self) -> usize
+        ensures { result ≡ length (documents_of self.now) }
+    {
+        self.documents.len()
+    }
+
+    /// The id of a document; documents are numbered from 0 in the order of their first calls.
+    pub fn doc(&self, doc: usize) -> &DocId
+        requires { doc < length (documents_of self.now) }
+        ensures { option_map (λ d. d.0) (slice_get (documents_of self.now) doc) ≡ Some result.now }
+    {
+        match self.documents.get_index(doc) {
+            Some((id, _)) => id,
+            None => unreachable!(),
+        }
+    }
+
+    /// The number of the document with this id, where it was called.
+    pub fn doc_of(&self, id: &DocId) -> Option<usize>
+        ensures { result ≡ position (λ d. is_same id.now d.0) (documents_of self.now) }
+    {
+        self.documents.get_index_of(id)
+    }
+
+    /// The places of the calls of a document, in their order.
+    pub(crate) fn calls_of_document(&self, doc: usize) -> &[usize]
+        requires { doc < length (documents_of self.now) }
+        ensures { option_map (λ d. calls_at self.now d.0) (slice_get (documents_of self.now) doc)
+            ≡ Some result.now }
+    {
+        self.document_calls[doc].as_slice()
+    }
+
+    /// The shard of a document, that of its first call: 0 to 1,023.
+    pub fn shard(&self, doc: usize) -> u32
+        requires { doc < length (documents_of self.now) }
+        ensures { option_map (λ d. d.1) (slice_get (documents_of self.now) doc) ≡ Some result }
+    {
+        match self.documents.get_index(doc) {
+            Some((_, shard)) => *shard,
+            None => unreachable!(),
+        }
+    }
+}
+
+#[cfg(test)]
+mod tests;

@@ -1,0 +1,99 @@
+ghost use Rattle.std.specs.Prelude.{◌≡◌, ◌<◌, ◌∷◌, ◌++◌, [], Ok, OnOk, OnErr};
+ghost use Rattle.history.specs.declared.event.Event.TheVariants.{Call, Reply as Answered, Lost};
+ghost use Rattle.history.specs.Refusal.{refusal_of, refusal_told};
+ghost use Rattle.history.specs.aids.Indexes.{open_call_of};
+
+use crate::event::Event;
+use crate::fault::HistFault;
+use crate::history::History;
+use api_lines::SHARDS;
+use doc_register::{Op, Reply};
+use version_pair::DocId;
+
+impl History {
+    /// Adds a call, or refuses it: `SecondCall`, `ShardMoved`, `Full`, `NoMemory`.
+    pub(crate) fn push_call(
+        &mut self,
+        no: u64,
+        shard: u32,
+        id: DocId,
+        op: Op,
+    ) -> Result<(), HistFault>
+        requires { shard < SHARDS }
+        ensures ok { OnOk result (self.new ≡ self.old ++ Call no shard id op ∷ []) }
+        ensures err { OnErr result (self.new ≡ self.old) }
+        ensures reason { refusal_told result ≡ refusal_of self.old (Call no shard id op) }
+    {
+        if let Some(fault) = self.call_refusal(no, shard, &id) {
+            return Err(fault);
+        }
+        match self.append_call(no, shard, id, op) {
+            Ok(()) => Ok(()),
+            Err(_) => Err(HistFault::NoMemory),
+        }
+    }
+
+    /// Adds a reply to the call at the place, which has no ending yet; or refuses it: `Kind`, `Full`, `NoMemory`.
+    pub(crate) fn push_answer(
+        &mut self,
+        call: usize,
+        no: u64,
+        reply: Reply,
+    ) -> Result<(), HistFault>
+        requires { open_call_of self.old no ≡ Ok call }
+        ensures ok { OnOk result (self.new ≡ self.old ++ Answered no reply ∷ []) }
+        ensures err { OnErr result (self.new ≡ self.old) }
+        ensures reason { refusal_told result ≡ refusal_of self.old (Answered no reply) }
+    {
+        if !self.is_answerable(call, &reply) {
+            return Err(HistFault::Kind);
+        }
+        if let Some(fault) = self.refusal_for_room() {
+            return Err(fault);
+        }
+        match self.append_ending(call, Event::Reply { no, reply }) {
+            Ok(()) => Ok(()),
+            Err(_) => Err(HistFault::NoMemory),
+        }
+    }
+
+    /// Adds the news that the call at the place, which has no ending yet, is lost; or refuses it: `Full`, `NoMemory`.
+    pub(crate) fn push_loss(&mut self, call: usize, no: u64) -> Result<(), HistFault>
+        requires { open_call_of self.old no ≡ Ok call }
+        ensures ok { OnOk result (self.new ≡ self.old ++ Lost no ∷ []) }
+        ensures err { OnErr result (self.new ≡ self.old) }
+        ensures reason { refusal_told result ≡ refusal_of self.old (Lost no) }
+    {
+        if let Some(fault) = self.refusal_for_room() {
+            return Err(fault);
+        }
+        match self.append_ending(call, Event::Lost { no }) {
+            Ok(()) => Ok(()),
+            Err(_) => Err(HistFault::NoMemory),
+        }
+    }
+
+    /// Adds a reply, or refuses it: `NoCall`, `Ended`, `Kind`, `Full`, `NoMemory`.
+    pub(crate) fn push_reply(&mut self, no: u64, reply: Reply) -> Result<(), HistFault>
+        ensures ok { OnOk result (self.new ≡ self.old ++ Answered no reply ∷ []) }
+        ensures err { OnErr result (self.new ≡ self.old) }
+        ensures reason { refusal_told result ≡ refusal_of self.old (Answered no reply) }
+    {
+        match self.open_call(no) {
+            Ok(call) => self.push_answer(call, no, reply),
+            Err(fault) => Err(fault),
+        }
+    }
+
+    /// Adds the news that a call is lost, or refuses it: `NoCall`, `Ended`, `Full`, `NoMemory`.
+    pub(crate) fn push_lost(&mut self, no: u64) -> Result<(), HistFault>
+        ensures ok { OnOk result (self.new ≡ self.old ++ Lost no ∷ []) }
+        ensures err { OnErr result (self.new ≡ self.old) }
+        ensures reason { refusal_told result ≡ refusal_of self.old (Lost no) }
+    {
+        match self.open_call(no) {
+            Ok(call) => self.push_loss(call, no),
+            Err(fault) => Err(fault),
+        }
+    }
+}

@@ -1,0 +1,66 @@
+ghost use Rattle.std.specs.Prelude.{◌≡◌, ◌<◌, ◌++◌, ℕ, IfOk, OnOk, Some, length, option_map, slice_get};
+ghost use Rattle.std.specs.Option.{option_to_list};
+ghost use Rattle.history.specs.Events.{PassesAt, documents_of, heard_of, is_call, record_at, records_of};
+
+use crate::event::Event;
+use crate::history::History;
+use crate::record::Rec;
+use doc_register::Reply;
+use version_pair::NoMemory;
+
+impl History {
+    // What was heard of the call that stands at this place: the place of its reply, and the reply.
+    fn heard_at_call(&self, place: usize) -> Option<(usize, Reply)>
+        requires { place < length self.now }
+        ensures { (n : ℕ) → PassesAt (is_call n) self.now place → result ≡ heard_of self.now n }
+    {
+        let Some(ending) = self.ending_of_call(place) else {
+            return None;
+        };
+        match self.event(ending) {
+            Event::Reply { reply, .. } => Some((ending, *reply)),
+            Event::Call { .. } => None,
+            Event::Lost { .. } => None,
+        }
+    }
+
+    // The call at the place as a record.
+    fn record(&self, place: usize) -> Option<Rec>
+        requires { place < length self.now }
+        ensures { result ≡ record_at self.now place }
+    {
+        match self.event(place) {
+            Event::Call { no, op, .. } => Some(Rec {
+                no: *no,
+                op: *op,
+                call_at: place,
+                heard: self.heard_at_call(place),
+            }),
+            Event::Reply { .. } | Event::Lost { .. } => None,
+        }
+    }
+
+    /// The calls of a document in their order, each with what was heard of it.
+    pub fn records(&self, doc: usize) -> Result<Vec<Rec>, NoMemory>
+        requires { doc < length (documents_of self.now) }
+        ensures { IfOk result (λ records. option_map (λ d. records_of self.now d.0)
+            (slice_get (documents_of self.now) doc) ≡ Some records.items) }
+    {
+        let places = self.calls_of_document(doc);
+        let mut records = Vec::with_capacity(self.allocator(), places.len())?;
+        for place in places {
+            push_some(&mut records, self.record(*place))?;
+        }
+        Ok(records)
+    }
+}
+
+// Adds the record, where there is one.
+fn push_some(records: &mut Vec<Rec>, found: Option<Rec>) -> Result<(), NoMemory>
+    ensures ok { OnOk result (records.new.items ≡ records.old.items ++ option_to_list found) }
+{
+    if let Some(record) = found {
+        records.push(record)?;
+    }
+    Ok(())
+}

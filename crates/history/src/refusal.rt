@@ -1,0 +1,61 @@
+ghost use Rattle.doc_register.specs.declared.op.Op.{Op};
+ghost use Rattle.history.specs.declared.event.Event.TheVariants.{Call};
+ghost use Rattle.std.specs.Prelude.{◌≡◌, ◌<◌, length};
+ghost use Rattle.history.specs.Refusal.{refusal_of, when_full};
+ghost use Rattle.history.specs.aids.Indexes.{is_answerable as answerable, open_call_of};
+
+use crate::event::Event;
+use crate::fault::HistFault;
+use crate::history::{History, MOST_EVENTS};
+use doc_register::Reply;
+use version_pair::DocId;
+
+impl History {
+    /// `Full`, where there is no room for one more event.
+    pub(crate) fn refusal_for_room(&self) -> Option<HistFault>
+        ensures { result ≡ when_full self.now }
+    {
+        if self.len() < MOST_EVENTS {
+            None
+        } else {
+            Some(HistFault::Full)
+        }
+    }
+
+    /// Why a call is refused, if it is.
+    pub(crate) fn call_refusal(&self, no: u64, shard: u32, id: &DocId) -> Option<HistFault>
+        ensures { (op : Op) → result ≡ refusal_of self.now (Call no shard id.now op) }
+    {
+        if self.call(no).is_some() {
+            return Some(HistFault::SecondCall);
+        }
+        match self.known_shard(id) {
+            Some(known) if known != shard => Some(HistFault::ShardMoved),
+            _ => self.refusal_for_room(),
+        }
+    }
+
+    /// The place of the call with this number, where it has no ending; else `NoCall` or `Ended`.
+    pub(crate) fn open_call(&self, no: u64) -> Result<usize, HistFault>
+        ensures { result ≡ open_call_of self.now no }
+    {
+        let Some(place) = self.call(no) else {
+            return Err(HistFault::NoCall);
+        };
+        match self.ending_of_call(place) {
+            Some(_) => Err(HistFault::Ended),
+            None => Ok(place),
+        }
+    }
+
+    /// Whether the call at the place can have the reply.
+    pub(crate) fn is_answerable(&self, place: usize, reply: &Reply) -> bool
+        requires { place < length self.now }
+        ensures { result ≡ answerable self.now place reply.now }
+    {
+        match self.event(place) {
+            Event::Call { op, .. } => reply.fits(*op),
+            Event::Reply { .. } | Event::Lost { .. } => false,
+        }
+    }
+}

@@ -1,0 +1,81 @@
+ghost use Rattle.std.specs.Prelude.{◌≡◌};
+ghost use Rattle.history.specs.Seen.{condition_of, pair_named, pair_of_reply, seen_in, seen_with};
+
+use crate::event::Event;
+use crate::history::History;
+use doc_register::{Op, Reply};
+use version_pair::Pair;
+
+/// The greatest primary term and the greatest sequence number in any reply or condition of a history; they need not
+/// stand in one pair. Both are 0 where no pair is named, and below 2^63.
+#[derive(Clone, Copy, Debug, PartialEq, Eq)]
+pub struct Seen {
+    /// The greatest primary term.
+    pub term: u64,
+    /// The greatest sequence number.
+    pub seq: u64,
+}
+
+impl Seen {
+    // What is seen with one more pair, where there is one.
+    fn with(self, pair: Option<Pair>) -> Seen
+        ensures { result ≡ seen_with self pair }
+    {
+        match pair {
+            None => self,
+            Some(pair) => Seen {
+                term: self.term.max(pair.term()),
+                seq: self.seq.max(pair.seq()),
+            },
+        }
+    }
+}
+
+// The condition of an operation.
+fn condition(op: &Op) -> Option<Pair>
+    ensures { result ≡ condition_of op.now }
+{
+    match op {
+        Op::Get | Op::Create { .. } => None,
+        Op::Index { cond, .. } | Op::Delete { cond } => *cond,
+    }
+}
+
+// The pair of a reply.
+fn reply_pair(reply: &Reply) -> Option<Pair>
+    ensures { result ≡ pair_of_reply reply.now }
+{
+    match reply {
+        Reply::Indexed { pair, .. } | Reply::Deleted { pair, .. } | Reply::Found { pair, .. } => {
+            Some(*pair)
+        }
+        Reply::Missing | Reply::Conflict => None,
+    }
+}
+
+// The pair that an event names.
+fn event_pair(event: &Event) -> Option<Pair>
+    ensures { result ≡ pair_named event.now }
+{
+    match event {
+        Event::Call { op, .. } => condition(op),
+        Event::Reply { reply, .. } => reply_pair(reply),
+        Event::Lost { .. } => None,
+    }
+}
+
+impl History {
+    /// The greatest primary term and the greatest sequence number in any reply or condition.
+    pub fn seen(&self) -> Seen
+        ensures { result ≡ seen_in self.now }
+    {
+        let mut seen = Seen { term: 0, seq: 0 };
+        for place in 0..self.len() {
+            seen = seen.with(event_pair(self.event(place)));
+        }
+        seen
+    }
+}
+
+#[cfg(test)]
+mod tests;
