@@ -1,5 +1,6 @@
 -- Valid places of a document's records are the orders that explain the document.
-use Rattle.std.proofs.Common.{ℕ, zero, suc, ◌≡◌, ◌<◌, ◌≤◌, ◌⊎◌, inl, inr, List, [], ◌∷◌, refl, sym, ap, subst, ◌∙◌, arith, true, false, Option, Some, None, slice_get}
+use Rattle.std.proofs.lemmas.Bool.{cases_lt}
+use Rattle.std.proofs.Common.{ℕ, zero, suc, ◌≡◌, ◌<◌, inl, inr, List, [], ◌∷◌, refl, sym, ap, subst, ◌∙◌, arith, true, false, Option, Some, None, slice_get}
 use Rattle.std.specs.Prelude.{IsSome, ◌==◌, if◌then◌else◌}
 use Rattle.std.specs.Cmp.Lexicographic.{pointwise}
 use Rattle.version_pair.specs.declared.pair.Pair.{Pair}
@@ -161,7 +162,7 @@ built_more : (events : List Event) (d : List ℕ) (s m t : DocState) (p : Place)
     → IsPlaceOf (records_of events d) p r → IsCallAt events r.call_at r.no h d r.op → IsEntryOf h d s r.op r.heard p.pair m e
     → IsBuilt events d m ps t order → IsBuilt events d s (p ∷ ps) t (record { no = r.no; entry = e } ∷ order)
 built_more events d s m t p ps r h e order at call of rest = record {
-  placed = (record { named = r; place_of = at; number = refl; operation = of.operation; tells = of.tells }, rest.placed);
+  placed = (record { named = r; names = at; number = refl; operation = of.operation; tells = of.tells }, rest.placed);
   run = (m, of.step, rest.run);
   calls = own_calls;
   shown = own_shown;
@@ -215,7 +216,7 @@ built_once mode events d history split places order right placed i j p q at bt s
     let a = told_by (records_of events d) places order i p placed at in
     let b = told_by (records_of events d) places order j q placed bt in
     right.once i j a.0 b.0 a.1 b.1
-    (same_number events d history split a.0.rec b.0.rec a.2.named b.2.named a.2.place_of b.2.place_of (sym a.2.number ∙ (same ∙ b.2.number)))
+    (same_number events d history split a.0.rec b.0.rec a.2.named b.2.named a.2.names b.2.names (sym a.2.number ∙ (same ∙ b.2.number)))
 
 tells_reply : (heard : Option (ℕ × Answer)) (pair : Option Pair) (e : Entry) (k : ℕ) (r : Answer) → heard ≡ Some (k, r) → TellsOf heard pair e → e.reply ≡ r
 tells_reply None pair e k r is tells = absurd (none_is_not_some (k, r) is)
@@ -235,14 +236,8 @@ built_answered mode events d split places order valid placed k j n h op r reply 
     let heard : own.1.heard ≡ Some (k, r) = (split.heard d own.0 own.1 own.2 k r).1 (subst (λ m. IsReplyAt events k m r) (sym number) reply) in
     let named = valid.answered own.0 own.1 own.2 (some_heard own.1.heard k r heard) in
     let q = tells_of (records_of events d) places order named.0 named.1 placed named.2 in
-    let one : q.2.named ≡ own.1 = same_record events d own.0 q.2.named own.1 (subst (λ k. IsRecordAt events d k q.2.named) named.3 q.2.place_of) own.2 in
+    let one : q.2.named ≡ own.1 = same_record events d own.0 q.2.named own.1 (subst (λ k. IsRecordAt events d k q.2.named) named.3 q.2.names) own.2 in
     (named.0, q.0, q.1, q.2.number ∙ (ap (λ c. c.no) one ∙ number), tells_reply q.2.named.heard named.1.pair q.0.entry k r (ap (λ c. c.heard) one ∙ heard) q.2.tells)
-
-less_or_not : (i j : ℕ) → (i < j) ⊎ (j ≤ i)
-less_or_not zero zero = inr (omega arith)
-less_or_not zero (suc j) = inl (omega arith)
-less_or_not (suc i) zero = inr (omega arith)
-less_or_not (suc i) (suc j) = elim (less_or_not i j) as (λ _. (suc i < suc j) ⊎ (suc j ≤ suc i)) [ inl a ↦ inl (omega arith) | inr b ↦ inr (omega arith) ]
 
 heard_before : (heard : Option (ℕ × Answer)) (k place : ℕ) (r : Answer) → heard ≡ Some (k, r) → k < place → IsHeardBefore heard place
 heard_before heard k place r is less = subst (λ o. IsHeardBefore o place) (sym is) less
@@ -259,11 +254,11 @@ built_respects : (mode : Conflicts) (events : List Event) (d : List ℕ) → IsS
 built_respects mode events d split places order right placed i j p q at bt first =
     let a = told_by (records_of events d) places order i p placed at in
     let b = told_by (records_of events d) places order j q placed bt in
-    let before : IsHeardBefore a.2.named.heard b.2.named.call_at = precedes_heard events d split a.0.rec b.0.rec a.2.named b.2.named a.2.place_of b.2.place_of
+    let before : IsHeardBefore a.2.named.heard b.2.named.call_at = precedes_heard events d split a.0.rec b.0.rec a.2.named b.2.named a.2.names b.2.names
     (subst (λ n. Precedes events n b.2.named.no) a.2.number (subst (λ n. Precedes events p.no n) b.2.number first)) in
-    elim (less_or_not i j) as (λ _. i < j) [
+    elim (cases_lt i j) as (λ _. i < j) [
       | inl less ↦ less
-      | inr not ↦ absurd (right.in_time j i b.0 a.0 b.2.named a.2.named not b.1 a.1 b.2.place_of a.2.place_of before)
+      | inr not ↦ absurd (right.in_time j i b.0 a.0 b.2.named a.2.named not b.1 a.1 b.2.names a.2.names before)
     ]
 
 plain_tells : (mode : Conflicts) (heard : Option (ℕ × Answer)) (pair : Option Pair) (e : Entry) → mode ≡ Plain → (heard ≡ None → e.hidden ≡ None) → GivesAsMay mode heard pair
@@ -288,8 +283,8 @@ explains mode events d places history valid =
         answered = built_answered mode events d split places built.0 valid built.1.placed;
         plain = λ plain i q at.
             let told = told_by (records_of events d) places built.0 i q built.1.placed at in
-            plain_tells mode told.2.named.heard told.0.pair q.entry plain (λ none. built.1.shown i told.0 q told.2.named told.1 at told.2.place_of none)
-            (valid.right.pairs i told.0 told.2.named told.1 told.2.place_of) told.2.tells;
+            plain_tells mode told.2.named.heard told.0.pair q.entry plain (λ none. built.1.shown i told.0 q told.2.named told.1 at told.2.names none)
+            (valid.right.pairs i told.0 told.2.named told.1 told.2.names) told.2.tells;
         respects = built_respects mode events d split places built.0 valid.right built.1.placed;
         legal = legal_of_one d (run_of built.0)
             (λ i e at. let p = entry_at built.0 i e at in ap (λ x. x.doc) (sym p.2) ∙ (built.1.calls i p.0 p.1).1)
@@ -419,7 +414,7 @@ lay events d s (q ∷ qs) t records run =
     let pair : Option Pair = given own.named.heard q.entry in (
       record { rec = own.place; pair = pair } ∷ rest.0,
       record {
-        placed = (record { named = own.named; place_of = own.at; number = own.number; operation = own.operation; tells = own.tells }, rest.1.placed);
+        placed = (record { named = own.named; names = own.at; number = own.number; operation = own.operation; tells = own.tells }, rest.1.placed);
         run = (
           run.0,
           own.named,
@@ -455,27 +450,27 @@ laid_right mode events d order places t history split explained changes run laid
   known = λ i p at.
       let q = tells_of (records_of events d) places order i p laid.placed at in (
         q.2.named,
-        q.2.place_of,
+        q.2.names,
         λ get.
-            let pending : IsPending events q.0.no = subst (λ n. IsPending events n) (sym q.2.number) (unanswered_pending events d split p.rec q.2.named q.2.place_of get.1) in
+            let pending : IsPending events q.0.no = subst (λ n. IsPending events n) (sym q.2.number) (unanswered_pending events d split p.rec q.2.named q.2.names get.1) in
             changes i q.0 q.1 pending (inl (q.2.operation ∙ get.0)),
       );
   once = λ i j p u at bt same.
       let q = tells_of (records_of events d) places order i p laid.placed at in
       let v = tells_of (records_of events d) places order j u laid.placed bt in
-      let one : q.2.named ≡ v.2.named = same_some q.2.named v.2.named (sym q.2.place_of ∙ (ap (λ k. slice_get (records_of events d) k) same ∙ v.2.place_of)) in
+      let one : q.2.named ≡ v.2.named = same_some q.2.named v.2.named (sym q.2.names ∙ (ap (λ k. slice_get (records_of events d) k) same ∙ v.2.names)) in
       explained.once i j q.0 v.0 q.1 v.1 (q.2.number ∙ (ap (λ r. r.no) one ∙ sym v.2.number));
   pairs = λ i p r at named.
       let q = tells_of (records_of events d) places order i p laid.placed at in
-      let one : q.2.named ≡ r = same_some q.2.named r (sym q.2.place_of ∙ named) in
+      let one : q.2.named ≡ r = same_some q.2.named r (sym q.2.names ∙ named) in
       let step = placed_step Never order t run i q.0 q.1 in
       subst (λ o. GivesAsMay mode o.heard p.pair) one
       (pairs_may mode step.0 q.0.entry step.1 q.2.named.heard p.pair (λ plain. explained.plain plain i q.0 q.1) step.2 q.2.tells);
   in_time = λ i j p u r o less at bt named names before.
       let q = tells_of (records_of events d) places order i p laid.placed at in
       let v = tells_of (records_of events d) places order j u laid.placed bt in
-      let one : q.2.named ≡ r = same_some q.2.named r (sym q.2.place_of ∙ named) in
-      let two : v.2.named ≡ o = same_some v.2.named o (sym v.2.place_of ∙ names) in
+      let one : q.2.named ≡ r = same_some q.2.named r (sym q.2.names ∙ named) in
+      let two : v.2.named ≡ o = same_some v.2.named o (sym v.2.names ∙ names) in
       let first : Precedes events o.no r.no = heard_precedes events d split u.rec p.rec o r names named before in
       let order_is : j < i = explained.respects j i v.0 q.0 v.1 q.1
       (subst (λ n. Precedes events n q.0.no) (sym (v.2.number ∙ ap (λ x. x.no) two)) (subst (λ n. Precedes events o.no n) (sym (q.2.number ∙ ap (λ x. x.no) one)) first)) in
@@ -492,7 +487,7 @@ laid_answered mode events d order places t history split explained laid k r at h
     let reply : IsReplyAt events x.0.0 r.no x.0.1 = (split.heard d k r at x.0.0 x.0.1).0 x.1 in
     let stands = explained.answered x.0.0 r.call_at r.no call.0 r.op x.0.1 reply call.1 in
     let told = told_by (records_of events d) places order stands.0 stands.1 laid.placed stands.2 in
-    (stands.0, told.0, told.1, same_number events d history split told.0.rec k told.2.named r told.2.place_of at (sym told.2.number ∙ stands.3))
+    (stands.0, told.0, told.1, same_number events d history split told.0.rec k told.2.named r told.2.names at (sym told.2.number ∙ stands.3))
 
 valid : (mode : Conflicts) (events : List Event) (d : List ℕ) (order : List Placed) → IsHistory events → ExplainsDocument mode events d order → AllChange events order
     → (places : List Place) × AreValid mode (records_of events d) places × ArePlacedBy (records_of events d) places order

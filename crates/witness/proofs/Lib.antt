@@ -1,6 +1,7 @@
-pub mod WalkLemmas
+mod WalkLemmas
 pub mod DocumentLaws
-pub mod DocumentsLemmas
-pub mod ReadLemmas
-pub mod WriteLemmas
-pub mod RoundTrip
+mod DocumentsLemmas
+mod WriteLemmas
+mod RoundTrip
+pub mod PlaceLemmas
+pub mod OneDocument

@@ -11,13 +11,16 @@ use Rattle.doc_register.specs.declared.state.DocState.TheVariants.{Never}
 use Rattle.doc_register.specs.Register.{performed_reply}
 use Rattle.doc_register.proofs.RunLaws.{step_decided}
 use Rattle.history.specs.declared.record.Rec.{Rec}
-use Rattle.history.proofs.ListLemmas.{get_front, get_last, get_snoc, get_within, none_is_not_some, same_some}
+use Rattle.history.proofs.ListLemmas.{get_front, get_last, get_snoc, get_take, none_is_not_some, same_some, take_one_more}
+use Rattle.std.proofs.lemmas.Bool.{cases_eq}
+use Rattle.std.proofs.lemmas.List.{length-set}
+use Rattle.std.proofs.lemmas.Option.{slice_get_within}
 use Rattle.witness.specs.declared.broken.Broken.{Broken}
 use Rattle.witness.specs.declared.broken.Broken.TheVariants.{Stranger, Twice, Absent, Late, PairMissing, PairGiven, Illegal, NoMemory}
 use Rattle.witness.specs.declared.place.Place.{Place}
 use Rattle.witness.specs.Places.{AreRight, AreValid, GivesAsMay, IsHeardBefore, IsNamed, IsPlaceOf, IsPlaceRun, IsUnansweredGet, StepsAt}
 use Rattle.witness.specs.Faults.{IsFirstFault, IsFresh, IsLate, IsReached}
-use Rattle.witness.specs.Walks.{AllNamedBelow, IsAbsent, IsNextStep, IsWalked}
+use Rattle.witness.specs.aids.Walks.{AllNamedBelow, IsAbsent, IsNextStep, IsWalked}
 
 -- ---- late
 
@@ -71,9 +74,9 @@ reached_at mode records places i p marks latest s here walked = record { here = 
 pub fresh_at : (mode : Conflicts) (records : List Rec) (places : List Place) (i : ℕ) (p : Place) (r : Rec) (marks : List Bool) (latest : ℕ) (s : DocState)
     → slice_get places i ≡ Some p → IsWalked mode records (take i places) marks latest s → IsPlaceOf records p r → (IsUnansweredGet r → ⊥)
     → slice_get marks p.rec ≡ Some false → IsFresh mode records places i p r
-fresh_at mode records places i p r marks latest s here walked place_of known unmarked = record {
+fresh_at mode records places i p r marks latest s here walked names known unmarked = record {
   reached = reached_at mode records places i p marks latest s here walked;
-  place_of = place_of;
+  names = names;
   known = known;
   fresh = λ named.
       let marked : slice_get marks p.rec ≡ Some true = (walked.marked p.rec).1 named in
@@ -93,19 +96,6 @@ pair_fault_is mode records places i p r (Some h) pair b is pair_is fresh not fau
 
 -- ---- lists
 
-pub take_one_more : {X : Type 0} (xs : List X) (i : ℕ) (x : X) → slice_get xs i ≡ Some x → take (suc i) xs ≡ take i xs ++ x ∷ []
-take_one_more [] i x at = absurd (none_is_not_some x at)
-take_one_more (y ∷ xs) zero x at = ap (λ z. z ∷ []) (same_some y x at)
-take_one_more (y ∷ xs) (suc i) x at = ap (λ ys. y ∷ ys) (take_one_more xs i x at)
-
--- what stands at a place of the front stands there in the whole list, before the front's end
-pub get_take : {X : Type 0} (xs : List X) (i j : ℕ) (x : X) → slice_get (take i xs) j ≡ Some x → (slice_get xs j ≡ Some x) × (j < i)
-get_take [] zero j x at = absurd (none_is_not_some x at)
-get_take [] (suc i) j x at = absurd (none_is_not_some x at)
-get_take (y ∷ xs) zero j x at = absurd (none_is_not_some x at)
-get_take (y ∷ xs) (suc i) zero x at = (at, omega arith)
-get_take (y ∷ xs) (suc i) (suc j) x at = let rest = get_take xs i j x at in (rest.0, let less : j < i = rest.1 in omega arith)
-
 set_here : (marks : List Bool) (k : ℕ) → k < length marks → slice_get (set marks k true) k ≡ Some true
 set_here [] k within = absurd (omega arith)
 set_here (m ∷ marks) zero within = refl
@@ -118,17 +108,6 @@ set_there (m ∷ marks) zero (suc j) other = refl
 set_there (m ∷ marks) (suc k) zero other = refl
 set_there (m ∷ marks) (suc k) (suc j) other = set_there marks k j (λ same. other (ap suc same))
 
-set_length : (marks : List Bool) (k : ℕ) → length (set marks k true) ≡ length marks
-set_length [] k = refl
-set_length (m ∷ marks) zero = refl
-set_length (m ∷ marks) (suc k) = ap suc (set_length marks k)
-
-same_or_not : (j k : ℕ) → (j ≡ k) ⊎ (j ≡ k → ⊥)
-same_or_not zero zero = inl refl
-same_or_not zero (suc k) = inr (λ same. omega arith)
-same_or_not (suc j) zero = inr (λ same. omega arith)
-same_or_not (suc j) (suc k) = elim (same_or_not j k) as (λ _. (suc j ≡ suc k) ⊎ (suc j ≡ suc k → ⊥)) [ inl same ↦ inl (ap suc same) | inr other ↦ inr (λ same. other (omega arith)) ]
-
 -- ---- one place more
 
 pub run_append : (records : List Rec) (s m t : DocState) (ps qs : List Place) → IsPlaceRun records s ps m → IsPlaceRun records m qs t → IsPlaceRun records s (ps ++ qs) t
@@ -137,7 +116,7 @@ run_append records s m t (p ∷ ps) qs a b = (a.0, a.1, a.2, a.3, run_append rec
 
 -- what the next place brings: its record, which may be named and is not yet, with a pair as it may give, in time, and its step
 record IsNext (mode : Conflicts) (records : List Rec) (front : List Place) (p : Place) (r : Rec) (s t : DocState) : Type 0 where
-  place_of : IsPlaceOf records p r
+  names : IsPlaceOf records p r
   known : IsUnansweredGet r → ⊥
   fresh : IsNamed front p.rec → ⊥
   gives : GivesAsMay mode r.heard p.pair
@@ -147,14 +126,14 @@ record IsNext (mode : Conflicts) (records : List Rec) (front : List Place) (p : 
 
 run_more : (mode : Conflicts) (records : List Rec) (front : List Place) (p : Place) (r : Rec) (s t : DocState)
     → IsPlaceRun records Never front s → IsNext mode records front p r s t → IsPlaceRun records Never (front ++ p ∷ []) t
-run_more mode records front p r s t run next = run_append records Never s t front (p ∷ []) run (t, r, next.place_of, next.steps, refl)
+run_more mode records front p r s t run next = run_append records Never s t front (p ∷ []) run (t, r, next.names, next.steps, refl)
 
 right_more : (mode : Conflicts) (records : List Rec) (front : List Place) (p : Place) (r : Rec) (s t : DocState)
     → AreRight mode records front → IsPlaceRun records Never front s → IsNext mode records front p r s t → AreRight mode records (front ++ p ∷ [])
 right_more mode records front p r s t right run next = record {
   known = λ i q at. elim (get_snoc front p q i at) as (λ _. (o : Rec) × IsPlaceOf records q o × (IsUnansweredGet o → ⊥)) [
     | inl before ↦ right.known i q before
-    | inr last ↦ (r, subst (λ o. IsPlaceOf records o r) last.1 next.place_of, next.known)
+    | inr last ↦ (r, subst (λ o. IsPlaceOf records o r) last.1 next.names, next.known)
   ];
   once = λ i j q u at bt same. elim (get_snoc front p q i at) as (λ _. i ≡ j) [
     | inl before ↦ elim (get_snoc front p u j bt) as (λ _. i ≡ j) [
@@ -166,26 +145,26 @@ right_more mode records front p r s t right run next = record {
       | inr last ↦ end.0 ∙ sym last.0
     ]
   ];
-  pairs = λ i q o at place_of. elim (get_snoc front p q i at) as (λ _. GivesAsMay mode o.heard q.pair) [
-    | inl before ↦ right.pairs i q o before place_of
+  pairs = λ i q o at names. elim (get_snoc front p q i at) as (λ _. GivesAsMay mode o.heard q.pair) [
+    | inl before ↦ right.pairs i q o before names
     | inr last ↦
-        let named : IsPlaceOf records p o = subst (λ u. IsPlaceOf records u o) (sym last.1) place_of in
-        let same : r ≡ o = same_some r o (sym next.place_of ∙ named) in
+        let named : IsPlaceOf records p o = subst (λ u. IsPlaceOf records u o) (sym last.1) names in
+        let same : r ≡ o = same_some r o (sym next.names ∙ named) in
         subst (λ u. GivesAsMay mode o.heard u.pair) last.1 (subst (λ k. GivesAsMay mode k.heard p.pair) same next.gives)
   ];
   in_time = λ i j q u o v less at bt of_q of_u. elim (get_snoc front p u j bt) as (λ _. IsHeardBefore v.heard o.call_at → ⊥) [
     | inl first ↦ elim (get_snoc front p q i at) as (λ _. IsHeardBefore v.heard o.call_at → ⊥) [
       | inl before ↦ right.in_time i j q u o v less before first of_q of_u
-      | inr end ↦ let within : j < length front = get_within front j u first in let here : i ≡ length front = end.0 in absurd (omega arith)
+      | inr end ↦ let within : j < length front = slice_get_within front j u first in let here : i ≡ length front = end.0 in absurd (omega arith)
     ]
     | inr last ↦
         let named : IsPlaceOf records p v = subst (λ k. IsPlaceOf records k v) (sym last.1) of_u in
-        let same : r ≡ v = same_some r v (sym next.place_of ∙ named) in
+        let same : r ≡ v = same_some r v (sym next.names ∙ named) in
         elim (get_snoc front p q i at) as (λ _. IsHeardBefore v.heard o.call_at → ⊥) [
           | inl before ↦ λ late. next.in_time i q o before of_q (subst (λ k. IsHeardBefore k.heard o.call_at) (sym same) late)
           | inr end ↦
               let own : IsPlaceOf records p o = subst (λ k. IsPlaceOf records k o) (sym end.1) of_q in
-              let mine : r ≡ o = same_some r o (sym next.place_of ∙ own) in
+              let mine : r ≡ o = same_some r o (sym next.names ∙ own) in
               λ late. next.own_in_time (subst (λ k. IsHeardBefore r.heard k.call_at) (sym mine) (subst (λ k. IsHeardBefore k.heard o.call_at) (sym same) late))
         ]
   ];
@@ -206,7 +185,7 @@ named_or_last front p k named = elim (get_snoc front p named.1 named.0 named.2) 
 
 marked_more : (front : List Place) (p : Place) (marks : List Bool) → p.rec < length marks → ((k : ℕ) → (slice_get marks k ≡ Some true) ↔ IsNamed front k)
     → (k : ℕ) → (slice_get (set marks p.rec true) k ≡ Some true) ↔ IsNamed (front ++ p ∷ []) k
-marked_more front p marks within marked k = elim (same_or_not k p.rec) as (λ _. (slice_get (set marks p.rec true) k ≡ Some true) ↔ IsNamed (front ++ p ∷ []) k) [
+marked_more front p marks within marked k = elim (cases_eq k p.rec) as (λ _. (slice_get (set marks p.rec true) k ≡ Some true) ↔ IsNamed (front ++ p ∷ []) k) [
   | inl same ↦ (
     λ _. subst (IsNamed (front ++ p ∷ [])) (sym same) (named_last front p),
     λ _. subst (λ j. slice_get (set marks p.rec true) j ≡ Some true) (sym same) (set_here marks p.rec within),
@@ -231,16 +210,16 @@ walked_more : (mode : Conflicts) (records : List Rec) (front : List Place) (mark
     → IsWalked mode records (front ++ p ∷ []) (set marks p.rec true) new t
 walked_more mode records front marks latest new p r s t walked next later =
     let size = walked.size in
-    let named : p.rec < length records = get_within records p.rec r next.place_of in
+    let named : p.rec < length records = slice_get_within records p.rec r next.names in
     record {
       right = right_more mode records front p r s t walked.right walked.run next;
       run = run_more mode records front p r s t walked.run next;
-      size = set_length marks p.rec ∙ size;
+      size = length-set marks p.rec true ∙ size;
       marked = marked_more front p marks (omega arith) walked.marked;
-      greatest = λ i q o at place_of. elim (get_snoc front p q i at) as (λ _. o.call_at ≤ new) [
-        | inl before ↦ let old : o.call_at ≤ latest = walked.greatest i q o before place_of in let grows : latest ≤ new = later.grows in omega arith
+      greatest = λ i q o at names. elim (get_snoc front p q i at) as (λ _. o.call_at ≤ new) [
+        | inl before ↦ let old : o.call_at ≤ latest = walked.greatest i q o before names in let grows : latest ≤ new = later.grows in omega arith
         | inr last ↦
-            let same : r ≡ o = same_some r o (sym next.place_of ∙ subst (λ u. IsPlaceOf records u o) (sym last.1) place_of) in
+            let same : r ≡ o = same_some r o (sym next.names ∙ subst (λ u. IsPlaceOf records u o) (sym last.1) names) in
             subst (λ k. k.call_at ≤ new) same later.within
       ];
       reached = elim later.one as (λ _. (new ≡ 0) ⊎ ((i : ℕ) × (q : Place) × (o : Rec) × (slice_get (front ++ p ∷ []) i ≡ Some q) × IsPlaceOf records q o × (o.call_at ≡ new))) [
@@ -248,14 +227,14 @@ walked_more mode records front marks latest new p r s t walked next later =
           | inl none ↦ inl (kept ∙ none)
           | inr some ↦ inr (some.0, some.1, some.2, get_front front (p ∷ []) some.0 some.1 some.3, some.4, some.5 ∙ sym kept)
         ]
-        | inr is ↦ inr (length front, p, r, get_last front p, next.place_of, sym is)
+        | inr is ↦ inr (length front, p, r, get_last front p, next.names, sym is)
       ];
     }
 
 next_of_step : (mode : Conflicts) (records : List Rec) (places : List Place) (i : ℕ) (r : Rec) (s t : DocState) → (n : IsNextStep mode records places i r s t)
     → IsNext mode records (take i places) n.place r s t
 next_of_step mode records places i r s t n = record {
-  place_of = n.fresh.place_of;
+  names = n.fresh.names;
   known = n.fresh.known;
   fresh = n.fresh.fresh;
   gives = n.gives;
@@ -281,7 +260,7 @@ pub within_marks : (mode : Conflicts) (records : List Rec) (places : List Place)
     → IsWalked mode records (take i places) marks latest s → IsNextStep mode records places i r s t → slice_get places i ≡ Some p → p.rec < length marks
 within_marks mode records places i marks latest p r s t walked n at =
     let same : n.place ≡ p = same_some n.place p (sym n.fresh.reached.here ∙ at) in
-    let named : p.rec < length records = get_within records p.rec r (subst (λ q. IsPlaceOf records q r) same n.fresh.place_of) in
+    let named : p.rec < length records = slice_get_within records p.rec r (subst (λ q. IsPlaceOf records q r) same n.fresh.names) in
     let size = walked.size in
     omega arith
 
@@ -291,7 +270,7 @@ pub all_valid : (mode : Conflicts) (records : List Rec) (places : List Place) (m
     → IsWalked mode records places marks latest s → AllNamedBelow records marks (length records) → AreValid mode records places
 all_valid mode records places marks latest s walked named = record {
   right = walked.right;
-  answered = λ k r at heard. (walked.marked k).0 (named k r (get_within records k r at) at heard);
+  answered = λ k r at heard. (walked.marked k).0 (named k r (slice_get_within records k r at) at heard);
 }
 
 pub one_absent : (mode : Conflicts) (records : List Rec) (places : List Place) (marks : List Bool) (latest : ℕ) (s : DocState) (k : ℕ)
@@ -323,17 +302,17 @@ missing_pair mode (Some h) pair is none gives = none_is_not_some h (sym is)
 
 late_not_valid : (mode : Conflicts) (records : List Rec) (places : List Place) (i : ℕ) (p : Place) (r : Rec) → AreRight mode records places
     → slice_get places i ≡ Some p → IsPlaceOf records p r → IsLate records places i r → ⊥
-late_not_valid mode records places i p r right at place_of (inl own) = right.in_time i i p p r r (omega arith) at at place_of place_of own
-late_not_valid mode records places i p r right at place_of (inr other) =
+late_not_valid mode records places i p r right at names (inl own) = right.in_time i i p p r r (omega arith) at at names names own
+late_not_valid mode records places i p r right at names (inr other) =
     let before = get_take places i other.0 other.1 other.3 in
     let less : other.0 < i = before.1 in
-    right.in_time other.0 i other.1 p other.2 r (omega arith) before.0 at other.4 place_of other.5
+    right.in_time other.0 i other.1 p other.2 r (omega arith) before.0 at other.4 names other.5
 
 illegal_not_valid : (mode : Conflicts) (records : List Rec) (places : List Place) (i : ℕ) (p : Place) (r : Rec) → AreRight mode records places
     → slice_get places i ≡ Some p → IsPlaceOf records p r → ((s t : DocState) → IsPlaceRun records Never (take i places) s → StepsAt s r.op r.heard p.pair t → ⊥) → ⊥
-illegal_not_valid mode records places i p r right at place_of stuck =
+illegal_not_valid mode records places i p r right at names stuck =
     let here = run_at records Never right.legal.0 places i p right.legal.1 at in
-    let same : here.2 ≡ r = same_some here.2 r (sym here.4 ∙ place_of) in
+    let same : here.2 ≡ r = same_some here.2 r (sym here.4 ∙ names) in
     stuck here.0 here.1 here.3 (subst (λ k. StepsAt here.0 k.op k.heard p.pair here.1) same here.5)
 
 pub fault_not_valid : (mode : Conflicts) (records : List Rec) (places : List Place) (b : Broken) → IsFirstFault mode records places b → AreValid mode records places → ⊥
@@ -346,11 +325,11 @@ fault_not_valid mode records places (Twice i) fault valid =
     let same : named.0 ≡ i = valid.right.once named.0 i named.1 fault.0 before.0 fault.2.here named.3 in
     omega arith
 fault_not_valid mode records places (PairMissing i) fault valid =
-    missing_pair mode fault.1.heard fault.0.pair fault.3 fault.4 (valid.right.pairs i fault.0 fault.1 fault.2.reached.here fault.2.place_of)
-fault_not_valid mode records places (PairGiven i) fault valid = fault.4 (valid.right.pairs i fault.0 fault.1 fault.2.reached.here fault.2.place_of)
-fault_not_valid mode records places (Late i) fault valid = late_not_valid mode records places i fault.0 fault.1 valid.right fault.2.reached.here fault.2.place_of fault.4
+    missing_pair mode fault.1.heard fault.0.pair fault.3 fault.4 (valid.right.pairs i fault.0 fault.1 fault.2.reached.here fault.2.names)
+fault_not_valid mode records places (PairGiven i) fault valid = fault.4 (valid.right.pairs i fault.0 fault.1 fault.2.reached.here fault.2.names)
+fault_not_valid mode records places (Late i) fault valid = late_not_valid mode records places i fault.0 fault.1 valid.right fault.2.reached.here fault.2.names fault.4
 fault_not_valid mode records places (Illegal i) fault valid =
-    illegal_not_valid mode records places i fault.0 fault.1 valid.right fault.2.reached.here fault.2.place_of fault.5
+    illegal_not_valid mode records places i fault.0 fault.1 valid.right fault.2.reached.here fault.2.names fault.5
 fault_not_valid mode records places (Absent k) fault valid = fault.4 (valid.answered k fault.0 fault.2 fault.3)
 fault_not_valid mode records places NoMemory fault valid = absurd fault
 

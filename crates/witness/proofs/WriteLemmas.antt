@@ -1,20 +1,23 @@
 -- Writing witness texts: the lines of documents and places, one after another.
-use Rattle.std.proofs.Common.{ℕ, ◌≡◌, ◌+◌, List, [], ◌∷◌, ◌++◌, length, map, take, refl, sym, ap, subst, ◌∙◌, Some, slice_get, append_assoc, append-nil, add-one}
+use Rattle.std.proofs.Common.{ℕ, ◌≡◌, ◌+◌, List, [], ◌∷◌, ◌++◌, length, map, take, sym, ap, subst, ◌∙◌, Some, slice_get, append_assoc, append-nil, add-one}
 use Rattle.std.proofs.Math.Seq.{take-length}
 use Rattle.std.proofs.lemmas.Grind.{flat_map-append}
 use Rattle.std.proofs.lemmas.List.Elements.{All-append, All-nil}
 use Rattle.std.proofs.lemmas.List.{map-append}
 use Rattle.serde_json.specs.Written.{compact_text}
-use Rattle.witness.specs.Lines.{IsReadable, IsWrittenOn, witness_places}
-use Rattle.witness.specs.Text.{DocPlaces, Said, document, numbers_of, place, said_by, value_of, written}
+use Rattle.witness.specs.Documents.{witness_places}
+use Rattle.witness.specs.aids.Lines.{IsReadable, IsWrittenOn}
+use Rattle.witness.specs.declared.witness_line.WitnessLine.{WitnessLine}
+use Rattle.witness.specs.declared.witness_line.WitnessLine.TheVariants as line
+use Rattle.witness.specs.Text.{DocPlaces, said_by, value_of, written}
 use Rattle.witness.specs.Witness.{Witness}
 use Rattle.witness.specs.declared.place.Place.{Place}
-use Rattle.witness.proofs.WalkLemmas.{take_one_more}
+use Rattle.history.proofs.ListLemmas.{take_one_more}
 
 pub written_none : (text : List ℕ) → IsWrittenOn text text []
 written_none text = record { added = sym (append-nil text); readable = All-nil IsReadable }
 
-pub written_both : (old middle new : List ℕ) (first second : List Said) → IsWrittenOn old middle first → IsWrittenOn middle new second → IsWrittenOn old new (first ++ second)
+pub written_both : (old middle new : List ℕ) (first second : List WitnessLine) → IsWrittenOn old middle first → IsWrittenOn middle new second → IsWrittenOn old new (first ++ second)
 written_both old middle new first second a b = record {
   added = b.added ∙ (ap (λ text. text ++ written second) a.added
       ∙ (append_assoc old (written first) (written second) ∙ ap (λ text. old ++ text) (sym (flat_map-append (λ said. compact_text (value_of said) ++ 10 ∷ []) first second))));
@@ -23,29 +26,25 @@ written_both old middle new first second a b = record {
 
 -- one place more
 pub written_place : (old text new : List ℕ) (places : List Place) (i : ℕ) (p : Place) → slice_get places i ≡ Some p
-    → IsWrittenOn old text (map (λ q. place (numbers_of q)) (take i places)) → IsWrittenOn text new (place (numbers_of p) ∷ [])
-    → IsWrittenOn old new (map (λ q. place (numbers_of q)) (take (i + 1) places))
+    → IsWrittenOn old text (map (λ q. line.Place q) (take i places)) → IsWrittenOn text new (line.Place p ∷ [])
+    → IsWrittenOn old new (map (λ q. line.Place q) (take (i + 1) places))
 written_place old text new places i p at before more =
     subst (IsWrittenOn old new)
-    (sym (ap (λ k. map (λ q. place (numbers_of q)) (take k places)) (add-one i)
-    ∙ (ap (map (λ q. place (numbers_of q))) (take_one_more places i p at) ∙ map-append (λ q. place (numbers_of q)) (take i places) (p ∷ []))))
-    (written_both old text new (map (λ q. place (numbers_of q)) (take i places)) (place (numbers_of p) ∷ []) before more)
+    (sym (ap (λ k. map (λ q. line.Place q) (take k places)) (add-one i)
+    ∙ (ap (map (λ q. line.Place q)) (take_one_more places i p at) ∙ map-append (λ q. line.Place q) (take i places) (p ∷ []))))
+    (written_both old text new (map (λ q. line.Place q) (take i places)) (line.Place p ∷ []) before more)
 
-pub written_places : (old text : List ℕ) (places : List Place) (i : ℕ) → i ≡ length places → IsWrittenOn old text (map (λ q. place (numbers_of q)) (take i places))
-    → IsWrittenOn old text (map (λ q. place (numbers_of q)) places)
+pub written_places : (old text : List ℕ) (places : List Place) (i : ℕ) → i ≡ length places → IsWrittenOn old text (map (λ q. line.Place q) (take i places))
+    → IsWrittenOn old text (map (λ q. line.Place q) places)
 written_places old text places i end before =
-    subst (λ ps. IsWrittenOn old text (map (λ q. place (numbers_of q)) ps)) (ap (λ k. take k places) end ∙ take-length places) before
-
-map_map : (ps : List Place) → map place (map numbers_of ps) ≡ map (λ q. place (numbers_of q)) ps
-map_map [] = refl
-map_map (p ∷ ps) = ap (λ rest. place (numbers_of p) ∷ rest) (map_map ps)
+    subst (λ ps. IsWrittenOn old text (map (λ q. line.Place q) ps)) (ap (λ k. take k places) end ∙ take-length places) before
 
 -- the lines of one witness
-pub written_witness : (old text new : List ℕ) (w : Witness) → IsWrittenOn old text (document w.doc ∷ []) → IsWrittenOn text new (map (λ q. place (numbers_of q)) w.places)
+pub written_witness : (old text new : List ℕ) (w : Witness) → IsWrittenOn old text (line.Document w.doc ∷ []) → IsWrittenOn text new (map (λ q. line.Place q) w.places)
     → IsWrittenOn old new (said_by (witness_places w ∷ []))
 written_witness old text new w first rest =
-    subst (IsWrittenOn old new) (ap (λ lines. document w.doc ∷ lines) (sym (map_map w.places) ∙ sym (append-nil (map place (map numbers_of w.places)))))
-    (written_both old text new (document w.doc ∷ []) (map (λ q. place (numbers_of q)) w.places) first rest)
+    subst (IsWrittenOn old new) (ap (λ lines. line.Document w.doc ∷ lines) (sym (append-nil (map (λ q. line.Place q) w.places))))
+    (written_both old text new (line.Document w.doc ∷ []) (map (λ q. line.Place q) w.places) first rest)
 
 -- one witness more
 pub written_more : (old text new : List ℕ) (witnesses : List Witness) (i : ℕ) (w : Witness) → slice_get witnesses i ≡ Some w
@@ -56,7 +55,7 @@ written_more old text new witnesses i w at before more =
     (sym (ap (λ k. said_by (map witness_places (take k witnesses))) (add-one i)
     ∙ (ap (λ ws. said_by (map witness_places ws)) (take_one_more witnesses i w at)
     ∙ (ap said_by (map-append witness_places (take i witnesses) (w ∷ []))
-    ∙ flat_map-append (λ (d : DocPlaces). document d.doc ∷ map place d.places) (map witness_places (take i witnesses)) (witness_places w ∷ [])))))
+    ∙ flat_map-append (λ (d : DocPlaces). line.Document d.doc ∷ map (λ q. line.Place q) d.places) (map witness_places (take i witnesses)) (witness_places w ∷ [])))))
     (written_both old text new (said_by (map witness_places (take i witnesses))) (said_by (witness_places w ∷ [])) before more)
 
 pub written_all : (text : List ℕ) (witnesses : List Witness) (i : ℕ) → i ≡ length witnesses → IsWrittenOn [] text (said_by (map witness_places (take i witnesses)))

@@ -21,29 +21,34 @@ pub record IsReached (mode : Conflicts) (records : List Rec) (places : List Plac
 -- it is reached, and it names a record that may be named and is not named before
 pub record IsFresh (mode : Conflicts) (records : List Rec) (places : List Place) (i : ℕ) (p : Place) (r : Rec) : Type 0 where
   pub reached : IsReached mode records places i p
-  pub place_of : IsPlaceOf records p r
+  pub names : IsPlaceOf records p r
   pub known : ¬ IsUnansweredGet r
   pub fresh : ¬ IsNamed (take i places) p.rec
 
 -- the record's reply was heard before its own call, or before that of a place before i
 abbrev pub IsLate : List Rec → List Place → ℕ → Rec → Type 0
 IsLate records places i r =
-    IsHeardBefore r.heard r.call_at ⊎ ((j : ℕ) × (q : Place) × (s : Rec) × (slice_get (take i places) j ≡ Some q) × IsPlaceOf records q s × IsHeardBefore r.heard s.call_at)
+    IsHeardBefore r.heard r.call_at
+    ⊎ ((j : ℕ) × (q : Place) × (s : Rec) × (slice_get (take i places) j ≡ Some q) × IsPlaceOf records q s
+    × IsHeardBefore r.heard s.call_at)
 
 -- The fault holds, and none that is told before it: place by place stranger, twice, pair missing, pair given, late,
 -- illegal; last the least answered record that is absent.
 abbrev pub IsFirstFault : Conflicts → List Rec → List Place → Broken → Type 0
 IsFirstFault mode records places (Stranger i) = (p : Place) × IsReached mode records places i p × IsStranger records p
 IsFirstFault mode records places (Twice i) =
-    (p : Place) × (r : Rec) × IsReached mode records places i p × IsPlaceOf records p r × (¬ IsUnansweredGet r) × IsNamed (take i places) p.rec
+    (p : Place) × (r : Rec) × IsReached mode records places i p × IsPlaceOf records p r × (¬ IsUnansweredGet r)
+    × IsNamed (take i places) p.rec
 IsFirstFault mode records places (PairMissing i) =
     (p : Place) × (r : Rec) × IsFresh mode records places i p r × (r.heard ≡ None) × (p.pair ≡ None)
 IsFirstFault mode records places (PairGiven i) =
     (p : Place) × (r : Rec) × IsFresh mode records places i p r × IsSome r.heard × (¬ GivesAsMay mode r.heard p.pair)
 IsFirstFault mode records places (Late i) =
-    (p : Place) × (r : Rec) × IsFresh mode records places i p r × GivesAsMay mode r.heard p.pair × IsLate records places i r
+    (p : Place) × (r : Rec) × IsFresh mode records places i p r × GivesAsMay mode r.heard p.pair
+    × IsLate records places i r
 IsFirstFault mode records places (Illegal i) =
-    (p : Place) × (r : Rec) × IsFresh mode records places i p r × GivesAsMay mode r.heard p.pair × (¬ IsLate records places i r)
+    (p : Place) × (r : Rec) × IsFresh mode records places i p r × GivesAsMay mode r.heard p.pair
+    × (¬ IsLate records places i r)
     × ((s t : DocState) → IsPlaceRun records Never (take i places) s → ¬ StepsAt s r.op r.heard p.pair t)
 IsFirstFault mode records places (Absent k) =
     (r : Rec) × AreRight mode records places × (slice_get records k ≡ Some r) × IsSome r.heard × (¬ IsNamed places k)

@@ -34,7 +34,7 @@ TellsOf (Some (at, reply)) pair e = (e.reply ≡ reply) × (e.hidden ≡ pair)
 -- the place tells of the call that stands in the order
 pub record IsPlacedBy (records : List Rec) (p : Place) (q : Placed) : Type 0 where
   pub named : Rec
-  pub place_of : IsPlaceOf records p named
+  pub names : IsPlaceOf records p named
   pub number : q.no ≡ named.no
   pub operation : q.entry.op ≡ named.op
   pub tells : TellsOf named.heard p.pair q.entry
@@ -48,7 +48,8 @@ ArePlacedBy records (p ∷ ps) (q ∷ qs) = IsPlacedBy records p q × ArePlacedB
 
 -- no unanswered call stands in the order that changes nothing there
 abbrev pub AllChange : List Event → List Placed → Type 0
-AllChange events order = (i : ℕ) (p : Placed) → slice_get order i ≡ Some p → IsPending events p.no → ¬ ChangesNothing p.entry
+AllChange events order = (i : ℕ) (p : Placed) → slice_get order i ≡ Some p → IsPending events p.no
+    → ¬ ChangesNothing p.entry
 
 -- Valid places of a document's records are an order that explains the document; and an order that explains it, without
 -- unanswered calls that change nothing, is one of valid places.
@@ -58,4 +59,5 @@ pub record PlacesAreOrders : Type 0 where
       → (order : List Placed) × ExplainsDocument mode events d order × ArePlacedBy (records_of events d) places order
   pub valid : (mode : Conflicts) (events : List Event) (d : List ℕ) (order : List Placed) → IsHistory events
       → ExplainsDocument mode events d order → AllChange events order
-      → (places : List Place) × AreValid mode (records_of events d) places × ArePlacedBy (records_of events d) places order
+      → (places : List Place) × AreValid mode (records_of events d) places
+      × ArePlacedBy (records_of events d) places order

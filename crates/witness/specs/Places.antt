@@ -46,16 +46,21 @@ IsHeardBefore (Some (at, reply)) place = at < place
 -- the calls of the places are steps one after another, from s to t
 abbrev pub IsPlaceRun : List Rec → DocState → List Place → DocState → Type 0
 IsPlaceRun records s [] t = t ≡ s
-IsPlaceRun records s (p ∷ ps) t = (m : DocState) × (r : Rec) × IsPlaceOf records p r × StepsAt s r.op r.heard p.pair m × IsPlaceRun records m ps t
+IsPlaceRun records s (p ∷ ps) t = (m : DocState) × (r : Rec) × IsPlaceOf records p r × StepsAt s r.op r.heard p.pair m
+    × IsPlaceRun records m ps t
 
 -- All that valid places have, but that each answered call stands in them: each names a record, none an unanswered get and
 -- none a record twice; pairs are given as they may be; no place's reply was heard before the call of its own or of an
 -- earlier place; and the calls are steps one after another, from a document that was never written.
 pub record AreRight (mode : Conflicts) (records : List Rec) (places : List Place) : Type 0 where
-  pub known : (i : ℕ) (p : Place) → slice_get places i ≡ Some p → (r : Rec) × IsPlaceOf records p r × (¬ IsUnansweredGet r)
-  pub once : (i j : ℕ) (p q : Place) → slice_get places i ≡ Some p → slice_get places j ≡ Some q → p.rec ≡ q.rec → i ≡ j
-  pub pairs : (i : ℕ) (p : Place) (r : Rec) → slice_get places i ≡ Some p → IsPlaceOf records p r → GivesAsMay mode r.heard p.pair
-  pub in_time : (i j : ℕ) (p q : Place) (r s : Rec) → i ≤ j → slice_get places i ≡ Some p → slice_get places j ≡ Some q
+  pub known : (i : ℕ) (p : Place) → slice_get places i ≡ Some p → (r : Rec) × IsPlaceOf records p r
+      × (¬ IsUnansweredGet r)
+  pub once : (i j : ℕ) (p q : Place) → slice_get places i ≡ Some p → slice_get places j ≡ Some q → p.rec ≡ q.rec
+      → i ≡ j
+  pub pairs : (i : ℕ) (p : Place) (r : Rec) → slice_get places i ≡ Some p → IsPlaceOf records p r
+      → GivesAsMay mode r.heard p.pair
+  pub in_time : (i j : ℕ) (p q : Place) (r s : Rec) → i ≤ j → slice_get places i ≡ Some p
+      → slice_get places j ≡ Some q
       → IsPlaceOf records p r → IsPlaceOf records q s → ¬ IsHeardBefore s.heard r.call_at
   pub legal : (t : DocState) × IsPlaceRun records Never places t
 

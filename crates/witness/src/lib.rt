@@ -3,6 +3,8 @@
 
 mod broken;
 mod check;
+mod doc_witness;
+mod documents;
 pub mod laws;
 mod place;
 mod place_check;
@@ -12,7 +14,8 @@ mod witness_reader;
 mod witness_writer;
 
 pub use broken::Broken;
-pub use check::DocWitness;
+pub use doc_witness::DocWitness;
+pub use documents::MOST_ITEMS;
 pub use place::Place;
-pub use witness_reader::{MOST_ENTRIES, read_witness};
+pub use witness_reader::read_witness;
 pub use witness_writer::write_witness;

@@ -37,7 +37,8 @@ fn completed(state: DocState, op: &Op, pair: Pair) -> Option<DocState>
 /// The document after the call of a place; `None` where the call can't be answered so.
 pub fn step_at(state: DocState, found: Rec, pair: Option<Pair>) -> Option<DocState>
     ensures some { IfSome result (StepsAt state found.op found.heard pair) }
-    ensures none { IfNone result ((after : State) → ¬ StepsAt state found.op found.heard pair after) }
+    ensures none { IfNone result ((after : State)
+        → ¬ StepsAt state found.op found.heard pair after) }
 {
     match (found.heard, pair) {
         (Some(heard), pair) => step(state, &found.op, &heard.1, pair),

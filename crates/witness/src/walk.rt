@@ -2,7 +2,7 @@ ghost use Rattle.std.specs.Prelude.{◌≡◌, ◌<◌, ◌≤◌, ◌↔◌, �
 ghost use Rattle.witness.specs.declared.broken.Broken.TheVariants.{PairMissing, PairGiven};
 ghost use Rattle.witness.specs.Places.{IsHeardBefore, IsUnansweredGet};
 ghost use Rattle.witness.specs.Faults.{IsFirstFault};
-ghost use Rattle.witness.specs.Walks.{IsNextStep, IsWalked};
+ghost use Rattle.witness.specs.aids.Walks.{IsNextStep, IsWalked};
 
 use crate::broken::Broken;
 use crate::place::Place;
@@ -40,7 +40,8 @@ fn is_before(heard: Option<(usize, Reply)>, place: usize) -> bool
 
 // Whether the record's reply was heard before its own call, or before the place.
 fn is_late(found: Rec, place: usize) -> bool
-    ensures { IsTrue result ↔ (IsHeardBefore found.heard found.call_at ⊎ IsHeardBefore found.heard place) }
+    ensures { IsTrue result
+        ↔ (IsHeardBefore found.heard found.call_at ⊎ IsHeardBefore found.heard place) }
 {
     is_before(found.heard, found.call_at) || is_before(found.heard, place)
 }
@@ -64,8 +65,10 @@ pub fn next_step(
     conflicts: Conflicts,
 ) -> Result<(Rec, DocState), Broken>
     requires within { i < length places.now }
-    requires walked { IsWalked conflicts records.now (take i places.now) walk.now.marks.items walk.now.latest walk.now.state }
-    ensures { MatchResult result (λ next. IsNextStep conflicts records.now places.now i next.0 walk.now.state next.1)
+    requires walked { IsWalked conflicts records.now (take i places.now)
+        walk.now.marks.items walk.now.latest walk.now.state }
+    ensures { MatchResult result
+        (λ next. IsNextStep conflicts records.now places.now i next.0 walk.now.state next.1)
         (IsFirstFault conflicts records.now places.now) }
 {
     let place = places[i];

@@ -4,11 +4,13 @@ ghost use Rattle.serde_json.specs.Data.{depth};
 ghost use Rattle.serde_json.specs.View.{view};
 ghost use Rattle.serde_json.specs.Written.{compact_text, has_float};
 ghost use Rattle.version_pair.specs.Id.{IsIdLength};
-ghost use Rattle.history.specs.Json.{IsJsonLine};
-ghost use Rattle.witness.specs.Lines.{IsWrittenOn, witness_places};
-ghost use Rattle.witness.specs.Text.{AreWithinLimits, Said, document as begins, numbers_of, place as gives, said_by, value_of, witness_text, written};
+ghost use Rattle.api_lines.specs.aids.JsonLines.{IsJsonLine};
+ghost use Rattle.witness.specs.Documents.{witness_places};
+ghost use Rattle.witness.specs.aids.Lines.{IsWrittenOn};
+ghost use Rattle.witness.specs.declared.witness_line.WitnessLine.TheVariants as line;
+ghost use Rattle.witness.specs.Text.{AreWithinLimits, said_by, value_of, witness_text, written};
 
-use crate::check::DocWitness;
+use crate::doc_witness::DocWitness;
 use crate::place::Place;
 use serde_json::{Value, json};
 use std::alloc::Global;
@@ -16,7 +18,7 @@ use version_pair::{DocId, NoMemory};
 
 // The value of a document's line.
 fn document_value(alloc: Global, id: &DocId) -> Result<Value, NoMemory>
-    ensures value { IfOk result (λ value. view value ≡ value_of (begins id.now)) }
+    ensures value { IfOk result (λ value. view value ≡ value_of (line.Document id.now)) }
     ensures id { IsIdLength (length id.now) }
 {
     let name = id.as_str();
@@ -25,7 +27,7 @@ fn document_value(alloc: Global, id: &DocId) -> Result<Value, NoMemory>
 
 // The value of a place's line.
 fn place_value(alloc: Global, place: Place) -> Result<Value, NoMemory>
-    ensures { IfOk result (λ value. view value ≡ value_of (gives (numbers_of place))) }
+    ensures { IfOk result (λ value. view value ≡ value_of (line.Place place)) }
 {
     let rec = place.rec;
     match place.pair {
@@ -41,8 +43,10 @@ fn place_value(alloc: Global, place: Place) -> Result<Value, NoMemory>
 // Adds the value as a line.
 fn write_value(alloc: Global, value: &Value, text: &mut Vec<u8>) -> Result<(), NoMemory>
     requires { has_float (view value.now) ≡ false }
-    ensures added { OnOk result (text.new.items ≡ text.old.items ++ (compact_text (view value.now) ++ 10 ∷ [])) }
-    ensures json { OnOk result (depth (view value.now) ≤ max_depth → IsJsonLine (compact_text (view value.now)) (view value.now)) }
+    ensures added { OnOk result (text.new.items
+        ≡ text.old.items ++ (compact_text (view value.now) ++ 10 ∷ [])) }
+    ensures json { OnOk result (depth (view value.now) ≤ max_depth
+        → IsJsonLine (compact_text (view value.now)) (view value.now)) }
 {
     let line = value.to_vec(alloc)?;
     text.extend_from_slice(&line)?;
@@ -52,7 +56,7 @@ fn write_value(alloc: Global, value: &Value, text: &mut Vec<u8>) -> Result<(), N
 
 // Adds the line of a document.
 fn write_document(alloc: Global, id: &DocId, text: &mut Vec<u8>) -> Result<(), NoMemory>
-    ensures { OnOk result (IsWrittenOn text.old.items text.new.items (begins id.now ∷ [])) }
+    ensures { OnOk result (IsWrittenOn text.old.items text.new.items (line.Document id.now ∷ [])) }
 {
     let value = document_value(alloc, id)?;
     write_value(alloc, &value, text)
@@ -60,7 +64,8 @@ fn write_document(alloc: Global, id: &DocId, text: &mut Vec<u8>) -> Result<(), N
 
 // Adds the line of a place.
 fn write_place(alloc: Global, place: Place, text: &mut Vec<u8>) -> Result<(), NoMemory>
-    ensures { OnOk result (IsWrittenOn text.old.items text.new.items (gives (numbers_of place) ∷ [])) }
+    ensures { OnOk result
+        (IsWrittenOn text.old.items text.new.items (line.Place place ∷ [])) }
 {
     let value = place_value(alloc, place)?;
     write_value(alloc, &value, text)
@@ -68,7 +73,8 @@ fn write_place(alloc: Global, place: Place, text: &mut Vec<u8>) -> Result<(), No
 
 // Adds the lines of the places.
 fn write_places(alloc: Global, places: &[Place], text: &mut Vec<u8>) -> Result<(), NoMemory>
-    ensures { OnOk result (IsWrittenOn text.old.items text.new.items (map (λ p. gives (numbers_of p)) places.now)) }
+    ensures { OnOk result
+        (IsWrittenOn text.old.items text.new.items (map (λ p. line.Place p) places.now)) }
 {
     for i in 0..places.len() {
         write_place(alloc, places[i], text)?;
@@ -78,7 +84,8 @@ fn write_places(alloc: Global, places: &[Place], text: &mut Vec<u8>) -> Result<(
 
 // Adds the lines of a witness.
 fn write_one(alloc: Global, witness: &DocWitness, text: &mut Vec<u8>) -> Result<(), NoMemory>
-    ensures { OnOk result (IsWrittenOn text.old.items text.new.items (said_by (witness_places witness.now ∷ []))) }
+    ensures { OnOk result
+        (IsWrittenOn text.old.items text.new.items (said_by (witness_places witness.now ∷ []))) }
 {
     write_document(alloc, witness.id(), text)?;
     write_places(alloc, witness.places(), text)?;
@@ -91,7 +98,8 @@ fn write_one(alloc: Global, witness: &DocWitness, text: &mut Vec<u8>) -> Result<
 /// What is written is read back, where there are at most 2,097,152 documents and places, and record numbers are below
 /// 2^32.
 pub fn write_witness(alloc: Global, witnesses: &[DocWitness]) -> Result<Vec<u8>, NoMemory>
-    ensures text { IfOk result (λ bytes. bytes.items ≡ written (said_by (map witness_places witnesses.now))) }
+    ensures text { IfOk result
+        (λ bytes. bytes.items ≡ written (said_by (map witness_places witnesses.now))) }
     ensures reads_back { IfOk result (λ bytes. AreWithinLimits (map witness_places witnesses.now)
         → witness_text bytes.items ≡ Ok (map witness_places witnesses.now)) }
 {

@@ -1,5 +1,5 @@
 use super::*;
-use history::TextFault;
+use api_lines::{TextCause, TextFault};
 use std::test::Fail;
 
 // The record of a place, and its sequence number and term.

@@ -1,4 +1,4 @@
-use Rattle.witness.specs.Walks.{AllNamedBelow}
+use Rattle.witness.specs.aids.Walks.{AllNamedBelow}
 use Rattle.witness.proofs.check.absent.Given as goal
 
 abbrev pub invariant-loop-k : goal.invariant-loop-k

@@ -1,6 +1,6 @@
 use Rattle.std.proofs.Common.{arith, ◌≡◌, length, add-one, sym, subst, refl, take}
 use Rattle.std.proofs.lemmas.Option.{slice_get_read}
-use Rattle.witness.specs.Walks.{AllNamedBelow, IsAbsent, IsWalked}
+use Rattle.witness.specs.aids.Walks.{AllNamedBelow, IsAbsent, IsWalked}
 use Rattle.witness.proofs.WalkLemmas.{all_valid, one_absent, walked_all, walked_next, within_marks}
 use Rattle.witness.proofs.check.first_fault.Goals as goal
 

@@ -1,5 +1,5 @@
 use Rattle.std.proofs.Common.{take}
-use Rattle.witness.specs.Walks.{IsWalked}
+use Rattle.witness.specs.aids.Walks.{IsWalked}
 use Rattle.witness.proofs.check.first_fault.Given as goal
 
 abbrev pub invariant-loop-i : goal.invariant-loop-i

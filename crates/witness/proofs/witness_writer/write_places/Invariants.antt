@@ -1,7 +1,7 @@
 use Rattle.std.proofs.Common.{map, take}
-use Rattle.witness.specs.Lines.{IsWrittenOn}
-use Rattle.witness.specs.Text.{numbers_of, place}
+use Rattle.witness.specs.aids.Lines.{IsWrittenOn}
+use Rattle.witness.specs.declared.witness_line.WitnessLine.TheVariants as line
 use Rattle.witness.proofs.witness_writer.write_places.Given as goal
 
 abbrev pub invariant-loop-i : goal.invariant-loop-i
-invariant-loop-i l = IsWrittenOn l.fn.text.items l.text.items (map (λ q. place (numbers_of q)) (take l.i l.places))
+invariant-loop-i l = IsWrittenOn l.fn.text.items l.text.items (map (λ q. line.Place q) (take l.i l.places))

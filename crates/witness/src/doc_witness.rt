@@ -1,0 +1,120 @@
+ghost use Rattle.std.specs.Prelude.{◌≡◌, ◌≢◌, IfOk, IfErr, IsOk};
+ghost use Rattle.witness.specs.declared.broken.Broken.TheVariants.{NoMemory as Unchecked};
+ghost use Rattle.witness.specs.Places.{AreValid};
+ghost use Rattle.witness.specs.Faults.{IsFirstFault};
+
+use crate::broken::Broken;
+use crate::check::{first_fault, start};
+use crate::place::Place;
+use doc_register::Conflicts;
+use history::Rec;
+use std::alloc::Global;
+use std::marker::Model;
+use version_pair::DocId;
+
+/// An order of one document's calls that explains them.
+///
+/// Its type keeps that its places are valid for its records in its reading of conflicts.
+#[derive(Debug, Drop)]
+pub struct DocWitness {
+    id: DocId,
+    records: Vec<Rec>,
+    places: Vec<Place>,
+    conflicts: Conflicts,
+}
+
+impl Model for DocWitness {
+    ghost use Rattle.witness.specs.Witness.{Witness};
+    ghost use Rattle.witness.specs.Places.{AreValid};
+
+    ghost Value = { Witness };
+
+    ghost view = { λ w. record {
+      doc = w.id;
+      records = w.records.items;
+      places = w.places.items;
+      conflicts = w.conflicts;
+    } };
+
+    ghost invariant = { λ w. AreValid w.conflicts w.records.items w.places.items };
+}
+
+impl DocWitness {
+    /// The witness of these places, where they are valid for the records; else the first fault, with all that was
+    /// handed in.
+    ///
+    /// `NoMemory` is told first, where a growth was refused. Then place by place: `Stranger`, `Twice`,
+    /// `PairMissing`, `PairGiven`, `Late`, `Illegal`. Last `Absent`, with the least record.
+    pub fn check(
+        alloc: Global,
+        id: DocId,
+        records: Vec<Rec>,
+        places: Vec<Place>,
+        conflicts: Conflicts,
+    ) -> Result<DocWitness, (Broken, DocId, Vec<Rec>, Vec<Place>)>
+        ensures ok { IfOk result
+            (λ w. w ≡ record {
+              doc = id;
+              records = records.items;
+              places = places.items;
+              conflicts = conflicts;
+            }) }
+        ensures valid { IsOk result → AreValid conflicts records.items places.items }
+        ensures fault { IfErr result
+            (λ e. e.0 ≢ Unchecked → IsFirstFault conflicts records.items places.items e.0) }
+        ensures invalid { IfErr result
+            (λ e. e.0 ≢ Unchecked → ¬ AreValid conflicts records.items places.items) }
+        ensures given_back { IfErr result
+            (λ e. (e.1 ≡ id) × (e.2.items ≡ records.items) × (e.3.items ≡ places.items)) }
+    {
+        let Ok(walk) = start(alloc, &records) else {
+            return Err((Broken::NoMemory, id, records, places));
+        };
+        match first_fault(walk, &records, &places, conflicts) {
+            Some(fault) => Err((fault, id, records, places)),
+            None => Ok(DocWitness {
+                id,
+                records,
+                places,
+                conflicts,
+            }),
+        }
+    }
+
+    /// The document's id.
+    pub fn id(&self) -> &DocId
+        ensures { result.now ≡ self.now.doc }
+    {
+        &self.id
+    }
+
+    /// The document's calls, in their order in the history.
+    pub fn records(&self) -> &[Rec]
+        ensures same { result.now ≡ self.now.records }
+        ensures valid { AreValid self.now.conflicts self.now.records self.now.places }
+    {
+        // A look at a field: what the type keeps is known from here on.
+        let _ = &self.id;
+        &self.records
+    }
+
+    /// The order that explains them.
+    pub fn places(&self) -> &[Place]
+        ensures same { result.now ≡ self.now.places }
+        ensures valid { AreValid self.now.conflicts self.now.records self.now.places }
+    {
+        // A look at a field: what the type keeps is known from here on.
+        let _ = &self.id;
+        &self.places
+    }
+
+    /// How a conflict is read.
+    pub fn conflicts(&self) -> Conflicts
+        ensures { result ≡ self.now.conflicts }
+    {
+        self.conflicts
+    }
+}
+
+#[cfg(test)]
+mod tests;
