@@ -5,7 +5,8 @@ use Rattle.doc_register.specs.declared.state.Conflicts.{Conflicts}
 use Rattle.history.specs.declared.event.Event.{Event}
 use Rattle.history.specs.declared.record.Rec.{Rec}
 use Rattle.history.specs.Events.{documents_of, records_of}
-use Rattle.history.proofs.ListLemmas.{get_within, none_is_not_some, same_some}
+use Rattle.std.proofs.lemmas.Option.{slice_get_within}
+use Rattle.history.proofs.ListLemmas.{none_is_not_some, same_some}
 use Rattle.witness.specs.declared.broken.Broken.{Broken}
 use Rattle.witness.specs.declared.place.Place.{Place}
 use Rattle.witness.specs.Faults.{IsFirstFault}
@@ -13,15 +14,17 @@ use Rattle.witness.specs.Places.{AreValid}
 use Rattle.witness.specs.Witness.{Witness}
 use Rattle.compose.specs.declared.verify_fault.VerifyFault.{VerifyFault}
 use Rattle.compose.specs.declared.verify_fault.VerifyFault.TheVariants as fault
-use Rattle.compose.specs.Covers.{AreCover, AreFine, WitnessEntry, IsEntered, IsKnown, IsWitnessOf, entry_of}
+use Rattle.witness.specs.Text.{DocPlaces}
+use Rattle.witness.specs.Documents.{doc_places}
+use Rattle.compose.specs.Covers.{AreCover, AreFine, IsEntered, IsKnown, IsWitnessOf}
 use Rattle.compose.specs.aids.FirstEntry.{IsFaultOfFirst, IsFaultOfPlaces, IsFaultOfSecond, IsFirstOf, IsWitnessOfFirst}
 use Rattle.compose.specs.VerifyFaults.{IsFirstVerifyFault}
 
 -- ---- entries
 
-pub entry_at : (es : List (List ℕ × Vec Place Global)) (i : ℕ) (x : List ℕ × Vec Place Global) → slice_get es i ≡ Some x → slice_get (map entry_of es) i ≡ Some (entry_of x)
+pub entry_at : (es : List (List ℕ × Vec Place Global)) (i : ℕ) (x : List ℕ × Vec Place Global) → slice_get es i ≡ Some x → slice_get (map doc_places es) i ≡ Some (doc_places x)
 entry_at [] i x at = absurd (none_is_not_some x at)
-entry_at (e ∷ es) zero x at = ap (λ y. Some (entry_of y)) (same_some e x at)
+entry_at (e ∷ es) zero x at = ap (λ y. Some (doc_places y)) (same_some e x at)
 entry_at (e ∷ es) (suc i) x at = entry_at es i x at
 
 -- ---- the one document
@@ -35,14 +38,14 @@ one_of [] d size at = absurd (omega arith)
 one_of (e ∷ []) d size at = (e.1, ap (λ c. (c, e.1) ∷ []) (same_some e.0 d at))
 one_of (e ∷ f ∷ ds) d size at = absurd (omega arith)
 
-known_only : (events : List Event) (d : List ℕ) (h : ℕ) → IsOnly events d h → (e : WitnessEntry) → IsKnown events e → e.doc ≡ d
+known_only : (events : List Event) (d : List ℕ) (h : ℕ) → IsOnly events d h → (e : DocPlaces) → IsKnown events e → e.doc ≡ d
 unfolding IsOnly
 known_only events d h only e known = by_place known.0 (subst (λ ds. slice_get ds known.0 ≡ Some (e.doc, known.1)) only known.2) where
   by_place : (k : ℕ) → slice_get {X = List ℕ × ℕ} ((d, h) ∷ []) k ≡ Some (e.doc, known.1) → e.doc ≡ d
   by_place zero at = let same : (d, h) ≡ (e.doc, known.1) = same_some (d, h) (e.doc, known.1) at in ap (λ x. x.0) (sym same)
   by_place (suc k) at = absurd (none_is_not_some (e.doc, known.1) at)
 
-only_known : (events : List Event) (d : List ℕ) (h : ℕ) → IsOnly events d h → (e : WitnessEntry) → e.doc ≡ d → IsKnown events e
+only_known : (events : List Event) (d : List ℕ) (h : ℕ) → IsOnly events d h → (e : DocPlaces) → e.doc ≡ d → IsKnown events e
 unfolding IsOnly
 only_known events d h only e same = (0, h, subst (λ ds. slice_get ds 0 ≡ Some (e.doc, h)) (sym only) (ap (λ c. Some (c, h)) (sym same)))
 
@@ -53,18 +56,18 @@ fine_none mode events = record {
   valid = λ i e at. absurd (none_is_not_some e at);
 }
 
-fine_one : (mode : Conflicts) (events : List Event) (e : WitnessEntry) → IsKnown events e → AreValid mode (records_of events e.doc) e.places → AreFine mode events (e ∷ [])
+fine_one : (mode : Conflicts) (events : List Event) (e : DocPlaces) → IsKnown events e → AreValid mode (records_of events e.doc) e.places → AreFine mode events (e ∷ [])
 fine_one mode events e known valid = record { known = known_at; once = one_at; valid = valid_at } where
-  known_at : (i : ℕ) (x : WitnessEntry) → slice_get (e ∷ []) i ≡ Some x → IsKnown events x
+  known_at : (i : ℕ) (x : DocPlaces) → slice_get (e ∷ []) i ≡ Some x → IsKnown events x
   known_at zero x at = subst (λ k. IsKnown events k) (same_some e x at) known
   known_at (suc i) x at = absurd (none_is_not_some x at)
 
-  one_at : (i j : ℕ) (x y : WitnessEntry) → slice_get (e ∷ []) i ≡ Some x → slice_get (e ∷ []) j ≡ Some y → x.doc ≡ y.doc → i ≡ j
+  one_at : (i j : ℕ) (x y : DocPlaces) → slice_get (e ∷ []) i ≡ Some x → slice_get (e ∷ []) j ≡ Some y → x.doc ≡ y.doc → i ≡ j
   one_at zero zero x y at bt same = refl
   one_at zero (suc j) x y at bt same = absurd (none_is_not_some y bt)
   one_at (suc i) j x y at bt same = absurd (none_is_not_some x at)
 
-  valid_at : (i : ℕ) (x : WitnessEntry) → slice_get (e ∷ []) i ≡ Some x → AreValid mode (records_of events x.doc) x.places
+  valid_at : (i : ℕ) (x : DocPlaces) → slice_get (e ∷ []) i ≡ Some x → AreValid mode (records_of events x.doc) x.places
   valid_at zero x at = subst (λ k. AreValid mode (records_of events k.doc) k.places) (same_some e x at) valid
   valid_at (suc i) x at = absurd (none_is_not_some x at)
 
@@ -73,7 +76,7 @@ not_entered_none d entered = none_is_not_some entered.1 entered.2
 
 -- ---- faults of a history of one document
 
-fault_first : (mode : Conflicts) (events : List Event) (entries : List WitnessEntry) (d : List ℕ) (h : ℕ) (told : VerifyFault) → IsOnly events d h → IsFaultOfFirst entries d told
+fault_first : (mode : Conflicts) (events : List Event) (entries : List DocPlaces) (d : List ℕ) (h : ℕ) (told : VerifyFault) → IsOnly events d h → IsFaultOfFirst entries d told
     → IsFirstVerifyFault mode events entries told
 unfolding IsOnly
 fault_first mode events entries d h told only (inl none) =
@@ -88,7 +91,7 @@ fault_first mode events entries d h told only (inr other) =
     subst (IsFirstVerifyFault mode events entries) (sym other.3)
     (other.0, record { here = other.1; fine = fine_none mode events }, λ known. other.2 (known_only events d h only other.0 known))
 
-fault_places : (mode : Conflicts) (events : List Event) (entries : List WitnessEntry) (d : List ℕ) (h : ℕ) (told : VerifyFault) → IsOnly events d h → IsFirstOf entries d
+fault_places : (mode : Conflicts) (events : List Event) (entries : List DocPlaces) (d : List ℕ) (h : ℕ) (told : VerifyFault) → IsOnly events d h → IsFirstOf entries d
     → IsFaultOfPlaces mode events entries told → IsFirstVerifyFault mode events entries told
 unfolding IsOnly
 fault_places mode events entries d h told only first wrong =
@@ -105,7 +108,7 @@ fault_places mode events entries d h told only first wrong =
     )
 
 -- the first entry is fine, where its places are valid
-front_fine : (mode : Conflicts) (events : List Event) (entries : List WitnessEntry) (d : List ℕ) (h : ℕ) (w : Witness) → IsOnly events d h → (first : IsFirstOf entries d)
+front_fine : (mode : Conflicts) (events : List Event) (entries : List DocPlaces) (d : List ℕ) (h : ℕ) (w : Witness) → IsOnly events d h → (first : IsFirstOf entries d)
     → IsWitnessOfFirst mode events entries w → AreFine mode events (first.0 ∷ [])
 unfolding IsOnly
 front_fine mode events entries d h w only first is =
@@ -116,7 +119,7 @@ front_fine mode events entries d h w only first is =
     fine_one mode events first.0 (only_known events d h only first.0 first.2)
     (subst (λ ps. AreValid mode (records_of events first.0.doc) ps) places (subst (λ rs. AreValid mode rs w.places) records is.7))
 
-fault_second : (mode : Conflicts) (events : List Event) (entries : List WitnessEntry) (d : List ℕ) (h : ℕ) (w : Witness) (told : VerifyFault) → IsOnly events d h → IsFirstOf entries d
+fault_second : (mode : Conflicts) (events : List Event) (entries : List DocPlaces) (d : List ℕ) (h : ℕ) (w : Witness) (told : VerifyFault) → IsOnly events d h → IsFirstOf entries d
     → IsWitnessOfFirst mode events entries w → IsFaultOfSecond entries d told → IsFirstVerifyFault mode events entries told
 fault_second mode events [] d h w told only first is wrong = absurd (none_is_not_some first.0 first.1)
 fault_second mode events (e ∷ entries) d h w told only first is wrong =
@@ -135,7 +138,7 @@ fault_second mode events (e ∷ entries) d h w told only first is wrong =
           (wrong.0, record { here = wrong.1; fine = fine }, λ known. other.0 (known_only events d h only wrong.0 known))
     ]
 
-cover_one : (mode : Conflicts) (events : List Event) (entries : List WitnessEntry) (d : List ℕ) (h : ℕ) (w : Witness) → IsOnly events d h → IsFirstOf entries d → length entries ≤ 1
+cover_one : (mode : Conflicts) (events : List Event) (entries : List DocPlaces) (d : List ℕ) (h : ℕ) (w : Witness) → IsOnly events d h → IsFirstOf entries d → length entries ≤ 1
     → IsWitnessOfFirst mode events entries w → AreCover mode events entries
 unfolding IsOnly
 cover_one mode events [] d h w only first few is = absurd (none_is_not_some first.0 first.1)
@@ -150,7 +153,7 @@ cover_one mode events (e ∷ []) d h w only first few is =
       by_place zero c at = ap (λ x. x.0) (same_some (d, h) c at)
       by_place (suc k) c at = absurd (none_is_not_some c at)
 
-witness_one : (mode : Conflicts) (events : List Event) (entries : List WitnessEntry) (d : List ℕ) (h : ℕ) (w : Witness) → IsOnly events d h → IsFirstOf entries d
+witness_one : (mode : Conflicts) (events : List Event) (entries : List DocPlaces) (d : List ℕ) (h : ℕ) (w : Witness) → IsOnly events d h → IsFirstOf entries d
     → IsWitnessOfFirst mode events entries w → IsWitnessOf mode events (Some w)
 unfolding IsOnly
 witness_one mode events entries d h w only first is =
@@ -161,25 +164,25 @@ witness_one mode events entries d h w only first is =
 
 -- ---- as the code meets them: the one document is that which the history tells
 
-pub told_first : (mode : Conflicts) (events : List Event) (entries : List WitnessEntry) (d : List ℕ) (told : VerifyFault) → length (documents_of events) ≡ 1
+pub told_first : (mode : Conflicts) (events : List Event) (entries : List DocPlaces) (d : List ℕ) (told : VerifyFault) → length (documents_of events) ≡ 1
     → option_map (λ e. e.0) (slice_get (documents_of events) 0) ≡ Some d → IsFaultOfFirst entries d told → IsFirstVerifyFault mode events entries told
 unfolding IsOnly
 told_first mode events entries d told one at wrong = let only = one_of (documents_of events) d one at in fault_first mode events entries d only.0 told only.1 wrong
 
-pub told_places : (mode : Conflicts) (events : List Event) (entries : List WitnessEntry) (d : List ℕ) (told : VerifyFault) → length (documents_of events) ≡ 1
+pub told_places : (mode : Conflicts) (events : List Event) (entries : List DocPlaces) (d : List ℕ) (told : VerifyFault) → length (documents_of events) ≡ 1
     → option_map (λ e. e.0) (slice_get (documents_of events) 0) ≡ Some d → IsFirstOf entries d → IsFaultOfPlaces mode events entries told → IsFirstVerifyFault mode events entries told
 unfolding IsOnly
 told_places mode events entries d told one at first wrong =
     let only = one_of (documents_of events) d one at in fault_places mode events entries d only.0 told only.1 first wrong
 
-pub told_second : (mode : Conflicts) (events : List Event) (entries : List WitnessEntry) (d : List ℕ) (w : Witness) (told : VerifyFault) → length (documents_of events) ≡ 1
+pub told_second : (mode : Conflicts) (events : List Event) (entries : List DocPlaces) (d : List ℕ) (w : Witness) (told : VerifyFault) → length (documents_of events) ≡ 1
     → option_map (λ e. e.0) (slice_get (documents_of events) 0) ≡ Some d → IsFirstOf entries d → IsWitnessOfFirst mode events entries w → IsFaultOfSecond entries d told
     → IsFirstVerifyFault mode events entries told
 unfolding IsOnly
 told_second mode events entries d w told one at first is wrong =
     let only = one_of (documents_of events) d one at in fault_second mode events entries d only.0 w told only.1 first is wrong
 
-pub covers : (mode : Conflicts) (events : List Event) (entries : List WitnessEntry) (d : List ℕ) (w : Witness) → length (documents_of events) ≡ 1
+pub covers : (mode : Conflicts) (events : List Event) (entries : List DocPlaces) (d : List ℕ) (w : Witness) → length (documents_of events) ≡ 1
     → option_map (λ e. e.0) (slice_get (documents_of events) 0) ≡ Some d → IsFirstOf entries d → length entries ≤ 1 → IsWitnessOfFirst mode events entries w
     → IsWitnessOf mode events (Some w) × AreCover mode events entries
 unfolding IsOnly
@@ -189,35 +192,35 @@ covers mode events entries d w one at first few is =
 
 -- ---- a history without documents
 
-pub covers_none : (mode : Conflicts) (events : List Event) (entries : List WitnessEntry) → length (documents_of events) ≡ 0 → entries ≡ [] → AreCover mode events entries
+pub covers_none : (mode : Conflicts) (events : List Event) (entries : List DocPlaces) → length (documents_of events) ≡ 0 → entries ≡ [] → AreCover mode events entries
 covers_none mode events entries none empty = record {
   fine = subst (AreFine mode events) (sym empty) (fine_none mode events);
-  complete = λ k d at. let within : k < length (documents_of events) = get_within (documents_of events) k d at in absurd (omega arith);
+  complete = λ k d at. let within : k < length (documents_of events) = slice_get_within (documents_of events) k d at in absurd (omega arith);
 }
 
-pub stranger_first : (mode : Conflicts) (events : List Event) (entries : List WitnessEntry) (e : WitnessEntry) → length (documents_of events) ≡ 0 → slice_get entries 0 ≡ Some e
+pub stranger_first : (mode : Conflicts) (events : List Event) (entries : List DocPlaces) (e : DocPlaces) → length (documents_of events) ≡ 0 → slice_get entries 0 ≡ Some e
     → IsFirstVerifyFault mode events entries (fault.DocStranger 0)
 stranger_first mode events entries e none at = (
   e,
   record { here = at; fine = fine_none mode events },
-  λ known. let within : known.0 < length (documents_of events) = get_within (documents_of events) known.0 (e.doc, known.1) known.2 in omega arith,
+  λ known. let within : known.0 < length (documents_of events) = slice_get_within (documents_of events) known.0 (e.doc, known.1) known.2 in omega arith,
 )
 
 -- the fault of an entry of another document, or of the same again
 pub fault_other : (es : List (List ℕ × Vec Place Global)) (x : List ℕ × Vec Place Global) (d : List ℕ) → slice_get es 0 ≡ Some x → (x.0 ≡ d → ⊥)
-    → IsFaultOfFirst (map entry_of es) d (fault.DocStranger 0)
-fault_other es x d at other = inr (entry_of x, entry_at es 0 x at, other, refl)
+    → IsFaultOfFirst (map doc_places es) d (fault.DocStranger 0)
+fault_other es x d at other = inr (doc_places x, entry_at es 0 x at, other, refl)
 
-pub first_of : (es : List (List ℕ × Vec Place Global)) (x : List ℕ × Vec Place Global) (d : List ℕ) → slice_get es 0 ≡ Some x → x.0 ≡ d → IsFirstOf (map entry_of es) d
-first_of es x d at same = (entry_of x, entry_at es 0 x at, same)
+pub first_of : (es : List (List ℕ × Vec Place Global)) (x : List ℕ × Vec Place Global) (d : List ℕ) → slice_get es 0 ≡ Some x → x.0 ≡ d → IsFirstOf (map doc_places es) d
+first_of es x d at same = (doc_places x, entry_at es 0 x at, same)
 
 pub fault_again : (es : List (List ℕ × Vec Place Global)) (x : List ℕ × Vec Place Global) (d : List ℕ) → slice_get es 1 ≡ Some x → x.0 ≡ d
-    → IsFaultOfSecond (map entry_of es) d (fault.DocTwice 1)
-fault_again es x d at same = (entry_of x, entry_at es 1 x at, inl (same, refl))
+    → IsFaultOfSecond (map doc_places es) d (fault.DocTwice 1)
+fault_again es x d at same = (doc_places x, entry_at es 1 x at, inl (same, refl))
 
 pub fault_strange : (es : List (List ℕ × Vec Place Global)) (x : List ℕ × Vec Place Global) (d : List ℕ) → slice_get es 1 ≡ Some x → (x.0 ≡ d → ⊥)
-    → IsFaultOfSecond (map entry_of es) d (fault.DocStranger 1)
-fault_strange es x d at other = (entry_of x, entry_at es 1 x at, inr (other, refl))
+    → IsFaultOfSecond (map doc_places es) d (fault.DocStranger 1)
+fault_strange es x d at other = (doc_places x, entry_at es 1 x at, inr (other, refl))
 
 -- ---- the first document's records
 
@@ -231,18 +234,18 @@ records_at events d records at is = same_some records (records_of events d.0) (s
 
 pub first_is : (mode : Conflicts) (events : List Event) (es : List (List ℕ × Vec Place Global)) (x : List ℕ × Vec Place Global) (records : List Rec) (w : Witness)
     → length (documents_of events) ≡ 1 → slice_get es 0 ≡ Some x → option_map (λ e. records_of events e.0) (slice_get (documents_of events) 0) ≡ Some records
-    → w ≡ record { doc = x.0; records = records; places = x.1.items; conflicts = mode } → AreValid mode records x.1.items → IsWitnessOfFirst mode events (map entry_of es) w
+    → w ≡ record { doc = x.0; records = records; places = x.1.items; conflicts = mode } → AreValid mode records x.1.items → IsWitnessOfFirst mode events (map doc_places es) w
 first_is mode events es x records w one at is w_is valid =
     let d = first_document (documents_of events) one in
-    subst (λ k. IsWitnessOfFirst mode events (map entry_of es) k) (sym w_is)
-    (entry_of x, d.0, entry_at es 0 x at, d.1, refl, records_at events d.0 records d.1 is, refl, valid)
+    subst (λ k. IsWitnessOfFirst mode events (map doc_places es) k) (sym w_is)
+    (doc_places x, d.0, entry_at es 0 x at, d.1, refl, records_at events d.0 records d.1 is, refl, valid)
 
 pub first_wrong : (mode : Conflicts) (events : List Event) (es : List (List ℕ × Vec Place Global)) (x : List ℕ × Vec Place Global) (records : List Rec) (broken : Broken)
     → length (documents_of events) ≡ 1 → slice_get es 0 ≡ Some x → option_map (λ e. records_of events e.0) (slice_get (documents_of events) 0) ≡ Some records
-    → IsFirstFault mode records x.1.items broken → IsFaultOfPlaces mode events (map entry_of es) (fault.Broken 0 broken)
+    → IsFirstFault mode records x.1.items broken → IsFaultOfPlaces mode events (map doc_places es) (fault.Broken 0 broken)
 first_wrong mode events es x records broken one at is wrong =
     let d = first_document (documents_of events) one in (
-      entry_of x,
+      doc_places x,
       d.0,
       broken,
       entry_at es 0 x at,
@@ -260,6 +263,6 @@ explained_one mode events d records places w one at is w_is valid =
     (only.0, only.1, records_at events (d, only.0) records (ap (λ ds. slice_get ds 0) only.1) is, valid)
 
 pub stranger_of_none : (mode : Conflicts) (events : List Event) (es : List (List ℕ × Vec Place Global)) → length (documents_of events) ≡ 0 → 0 < length es
-    → IsFirstVerifyFault mode events (map entry_of es) (fault.DocStranger 0)
+    → IsFirstVerifyFault mode events (map doc_places es) (fault.DocStranger 0)
 stranger_of_none mode events [] none some = absurd (omega arith)
-stranger_of_none mode events (e ∷ es) none some = stranger_first mode events (map entry_of (e ∷ es)) (entry_of e) none refl
+stranger_of_none mode events (e ∷ es) none some = stranger_first mode events (map doc_places (e ∷ es)) (doc_places e) none refl

@@ -1,3 +1,2 @@
-mod CountLemmas
 mod CoverLemmas
 pub mod OneDocument

@@ -1,7 +1,8 @@
 ghost use Rattle.std.specs.Prelude.{◌≡◌, ◌≢◌, ◌≤◌, ◌<◌, ◌↔◌, IsTrue, IfOk, IfErr, MatchOption, MatchResult, Err, Some, map, length};
 ghost use Rattle.history.specs.Events.{documents_of};
 ghost use Rattle.compose.specs.declared.verify_fault.VerifyFault.TheVariants.{DocMissing, DocStranger, NoMemory as Unverified};
-ghost use Rattle.compose.specs.Covers.{AreCover, IsWitnessOf, entry_of};
+ghost use Rattle.witness.specs.Documents.{doc_places};
+ghost use Rattle.compose.specs.Covers.{AreCover, IsWitnessOf};
 ghost use Rattle.compose.specs.VerifyFaults.{IsFirstVerifyFault};
 ghost use Rattle.compose.specs.aids.FirstEntry.{IsFaultOfFirst, IsFaultOfPlaces, IsFaultOfSecond, IsFirstOf, IsWitnessOfFirst};
 
@@ -33,8 +34,8 @@ fn fault_of_no_document(entries: &[(DocId, Vec<Place>)]) -> Option<VerifyFault>
 
 // The fault of the first entry's document, for a history of this document alone.
 fn fault_of_first(entries: &[(DocId, Vec<Place>)], id: &DocId) -> Option<VerifyFault>
-    ensures { MatchOption result (IsFirstOf (map entry_of entries.now) id.now) (IsFaultOfFirst
-        (map entry_of entries.now) id.now) }
+    ensures { MatchOption result (IsFirstOf (map doc_places entries.now) id.now) (IsFaultOfFirst
+        (map doc_places entries.now) id.now) }
 {
     if entries.is_empty() {
         return Some(VerifyFault::DocMissing(0));
@@ -49,7 +50,7 @@ fn fault_of_first(entries: &[(DocId, Vec<Place>)], id: &DocId) -> Option<VerifyF
 // The fault of the entry after the first, which is of the same document, where there is one.
 fn fault_of_second(entries: &[(DocId, Vec<Place>)], id: &DocId) -> Option<VerifyFault>
     ensures { MatchOption result (length entries.now ≤ 1) (IsFaultOfSecond
-        (map entry_of entries.now) id.now) }
+        (map doc_places entries.now) id.now) }
 {
     if entries.len() < 2 {
         return None;
@@ -71,9 +72,9 @@ fn verify_first(
     requires one { length (documents_of history.now) ≡ 1 }
     requires some { 0 < length entries.items }
     ensures { MatchResult result (IsWitnessOfFirst conflicts history.now
-        (map entry_of entries.items))
+        (map doc_places entries.items))
         (λ fault. fault ≢ Unverified → IsFaultOfPlaces conflicts history.now
-        (map entry_of entries.items) fault) }
+        (map doc_places entries.items) fault) }
 {
     let Ok(records) = history.records(0) else {
         return Err(VerifyFault::NoMemory);
@@ -98,9 +99,9 @@ fn verify_document(
 ) -> Result<DocWitness, VerifyFault>
     requires { length (documents_of history.now) ≡ 1 }
     ensures { MatchResult result (λ w. IsWitnessOf conflicts history.now (Some w)
-        × AreCover conflicts history.now (map entry_of entries.items))
+        × AreCover conflicts history.now (map doc_places entries.items))
         (λ fault. fault ≢ Unverified → IsFirstVerifyFault conflicts history.now
-        (map entry_of entries.items) fault) }
+        (map doc_places entries.items) fault) }
 {
     let id = history.doc(0);
     if let Some(fault) = fault_of_first(&entries, id) {
@@ -126,10 +127,10 @@ pub fn verify(
     conflicts: Conflicts,
 ) -> Result<Option<DocWitness>, VerifyFault>
     ensures ok { IfOk result (λ witness. IsWitnessOf conflicts history.now witness) }
-    ensures cover { IfOk result (λ _. AreCover conflicts history.now (map entry_of entries.items)) }
+    ensures cover { IfOk result (λ _. AreCover conflicts history.now (map doc_places entries.items)) }
     ensures fault { IfErr result (λ fault. fault ≢ Unverified
         → length (documents_of history.now) ≤ 1
-        → IsFirstVerifyFault conflicts history.now (map entry_of entries.items) fault) }
+        → IsFirstVerifyFault conflicts history.now (map doc_places entries.items) fault) }
     ensures many { 2 ≤ length (documents_of history.now) → result ≡ Err (DocMissing 1) }
 {
     match history.docs() {

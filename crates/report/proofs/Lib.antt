@@ -1,2 +1,3 @@
 mod StreamLemmas
+mod CutTexts
 mod AnswerLemmas

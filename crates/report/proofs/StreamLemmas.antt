@@ -1,19 +1,14 @@
 -- Bytes that are read and written piece by piece.
-use Rattle.std.proofs.Common.{ℕ, suc, ◌≡◌, ◌<◌, ◌≤◌, ◌+◌, ◌*◌, List, [], ◌∷◌, ◌++◌, length, take, drop, append_assoc, append-nil, refl, sym, ap, subst, ◌∙◌, arith, Option, Some, None, Bool, true, false, inl, inr, All, Result, Ok, Err}
-use Rattle.std.specs.Prelude.{◌-◌, ◌==◌, if◌then◌else◌, IfSome, IfOk, IsErrOf, MatchResult}
+use Rattle.std.proofs.Common.{ℕ, ◌≡◌, ◌<◌, List, [], ◌∷◌, ◌++◌, length, take, drop, append_assoc, append-nil, refl, sym, ap, subst, ◌∙◌, arith, Option, Some, None, inl, inr, Result, Ok, Err}
+use Rattle.std.specs.Prelude.{◌-◌, IfSome, IfOk, IsErrOf, MatchResult}
 use Rattle.std.specs.Io.KnownBytes.{Appends, Consumes, IsAtEnd, Keeps}
 use Rattle.std.proofs.KnownBytes.{Appends-nil, Appends-trans}
 use Rattle.std.proofs.Math.Seq.{take-append_seam}
 use Rattle.std.proofs.lemmas.List.{take_all}
 use Rattle.std.proofs.Common.{length-drop, take-append-drop}
-use Rattle.std.specs.Prelude.{slice_index_or}
-use Rattle.history.specs.declared.event.Event.{Event}
-use Rattle.history.specs.Text.{IsHistoryText, lines_of, longest_line, onto_first}
-use Rattle.doc_register.specs.declared.state.Conflicts.{Conflicts}
 use Rattle.report.specs.aids.Enough.{AreEnough, most_bytes}
-use Rattle.report.specs.Verdict.{HasAnswer, HasFront, IsAnswer}
+use Rattle.report.specs.Verdict.{HasAnswer, HasFront}
 use Rattle.report.specs.declared.status.Status.{Status}
-use Rattle.report.specs.declared.status.Status.TheVariants.{Yes, No, Refused}
 use Rattle.report.specs.declared.stream_fault.StreamFault.{StreamFault}
 use Rattle.report.specs.declared.stream_fault.StreamFault.TheVariants.{Write}
 
@@ -63,50 +58,6 @@ written_all old new text (b ∷ rest) w empty = absurd (omega arith)
 -- the rest of a slice
 pub slice_rest : (n : ℕ) (xs : List ℕ) → take (length xs - n) (drop n xs) ≡ drop n xs
 slice_rest n xs = take_all (length xs - n) (drop n xs) (omega (arith, length-drop n xs))
-
--- ---- a history text is not longer than its lines allow
-
-line_bytes : List (List ℕ) → ℕ
-line_bytes [] = 0
-line_bytes (l ∷ ls) = length l + 1 + line_bytes ls
-
-onto_bytes : (b : ℕ) (ls : List (List ℕ)) → line_bytes ls + 1 ≤ line_bytes (onto_first b ls) + 0
-unfolding line_bytes
-onto_bytes b [] = omega arith
-onto_bytes b (l ∷ ls) = omega arith
-
-text_bytes : (text : List ℕ) → length text ≤ line_bytes (lines_of text)
-unfolding line_bytes
-text_bytes [] = omega arith
-text_bytes (b ∷ bytes) = by_test (b == 10) (text_bytes bytes) where
-  by_test : (t : Bool) → length bytes ≤ line_bytes (lines_of bytes) → suc (length bytes) ≤ line_bytes (if t then [] ∷ lines_of bytes else onto_first b (lines_of bytes))
-  by_test true h = omega arith
-  by_test false h = omega (arith, onto_bytes b (lines_of bytes))
-
-few_bytes : (ls : List (List ℕ)) → ((k : ℕ) (d : List ℕ) → k < length ls → length (slice_index_or ls k d) ≤ longest_line) → line_bytes ls ≤ length ls * 65537
-unfolding line_bytes
-few_bytes [] h = omega arith
-few_bytes (l ∷ ls) h =
-    let first : length l ≤ 65536 = h 0 [] (omega arith) in
-    let later : line_bytes ls ≤ length ls * 65537 = few_bytes ls (λ k d below. h (suc k) d (omega arith)) in omega arith
-
-pub text_within : (text : List ℕ) → length (lines_of text) ≤ 4194304 → All (λ line. length line ≤ longest_line) (lines_of text) → length text ≤ most_bytes
-text_within text few short =
-    let a = text_bytes text in
-    let b = few_bytes (lines_of text) short in
-    omega arith
-
-pub text_is_short : (text : List ℕ) (events : List Event) → IsHistoryText text events → length text ≤ most_bytes
-text_is_short text events is = text_within text is.lines_fit is.bytes_fit
-
--- an answer to bytes that are enough is one to the whole input
-pub answer_of_input : (mode : Conflicts) (input : Option (List ℕ)) (bytes : List ℕ) (status : Status) (line : List ℕ)
-    → IfSome input (AreEnough bytes) → IsAnswer mode bytes status line → IfSome input (λ xs. IsAnswer mode xs status line)
-answer_of_input mode None bytes status line enough is = tt
-answer_of_input mode (Some xs) bytes Yes line (inl same) is = subst (λ ys. IsAnswer mode ys Yes line) same is
-answer_of_input mode (Some xs) bytes Yes line (inr long) is = let short = text_is_short bytes is.4.events is.4.is_text in absurd (omega arith)
-answer_of_input mode (Some xs) bytes No line enough is = is
-answer_of_input mode (Some xs) bytes Refused line enough is = is
 
 -- ---- an answer that was written, or a front of it
 

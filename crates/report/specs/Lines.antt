@@ -1,7 +1,7 @@
 -- The lines that are written.
 use Rattle.std.specs.Prelude.{ℕ, List, [], ◌++◌, ◌==◌, codes, decimal, if◌then◌else◌}
-use Rattle.history.specs.declared.text_fault.TextCause.{TextCause}
-use Rattle.history.specs.declared.text_fault.TextCause.TheVariants.{Long, Lines, Json, Shape, Id, Range, Half, Stranger, SecondCall, NoCall, Ended, Full, ShardMoved}
+use Rattle.api_lines.specs.declared.text_fault.TextCause.{TextCause}
+use Rattle.api_lines.specs.declared.text_fault.TextCause.TheVariants.{Long, Lines, Json, Shape, Id, Range, Half, Stranger, SecondCall, NoCall, Ended, Full, ShardMoved}
 use Rattle.witness.specs.declared.broken.Broken.{Broken}
 use Rattle.witness.specs.declared.broken.Broken.TheVariants.{Stranger as StrangePlace, Twice, Absent, Late, PairMissing, PairGiven, Illegal, NoMemory}
 use Rattle.compose.specs.declared.verify_fault.VerifyFault.{VerifyFault}

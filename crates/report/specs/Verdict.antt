@@ -1,20 +1,22 @@
 -- What a line that is written says of the bytes that were read.
-use Rattle.std.specs.Prelude.{◌≡◌, ℕ, ◌+◌, ◌≤◌, ◌⊎◌, List, codes, length, map, Ok, Option, IfSome, take}
+use Rattle.std.specs.Prelude.{◌≡◌, ℕ, ◌+◌, ◌≤◌, ◌⊎◌, List, codes, length, map, Ok, Err, Option, IfSome, take}
 use Rattle.std.specs.Option.{option_to_list}
 use Rattle.std.specs.Io.KnownBytes.{Appends}
 use Rattle.doc_register.specs.declared.state.Conflicts.{Conflicts}
 use Rattle.history.specs.declared.event.Event.{Event}
-use Rattle.history.specs.declared.text_fault.TextCause.{TextCause}
+use Rattle.api_lines.specs.declared.text_fault.TextFault.{TextFault}
 use Rattle.history.specs.Events.{documents_of}
 use Rattle.history.specs.Order.{Explains, IsLinearizable, Placed}
+use Rattle.history.specs.Reading.{history_text}
 use Rattle.history.specs.Text.{IsHistoryText}
 use Rattle.compose.specs.Counts.{calls_of}
-use Rattle.witness.specs.Lines.{witness_places}
+use Rattle.witness.specs.Documents.{witness_places}
 use Rattle.witness.specs.Text.{witness_text}
 use Rattle.witness.specs.Witness.{Witness}
 use Rattle.report.specs.Lines.{broken_line, no_line, refused_file_line, refused_line, verified_line, yes_line}
 use Rattle.compose.specs.Explained.{HasOrder}
-use Rattle.compose.specs.Covers.{AreCover, WitnessEntry, IsWitnessOf, spelled}
+use Rattle.witness.specs.Text.{DocPlaces}
+use Rattle.compose.specs.Covers.{AreCover, IsWitnessOf}
 use Rattle.compose.specs.VerifyFaults.{IsFirstVerifyFault}
 use Rattle.compose.specs.declared.verify_fault.VerifyFault.{VerifyFault}
 use Rattle.compose.specs.declared.verify_fault.VerifyFault.TheVariants.{DocMissing}
@@ -33,11 +35,20 @@ pub record IsExplained (mode : Conflicts) (input : List ℕ) (docs calls left_ou
   pub explains : Explains mode events order
   pub the_rest : length order + left_out ≡ calls
 
--- the line, and what it says of the input: `yes` says that the input is explained
+-- the input is a text of some history
+abbrev pub IsSomeHistory : List ℕ → Type 0
+IsSomeHistory input = (events : List Event) × IsHistoryText input events
+
+-- the input is a text of no history: the line tells the first of its lines that is refused, with its first cause
+abbrev pub IsRefused : List ℕ → List ℕ → Type 0
+IsRefused input line = (told : TextFault) × (line ≡ refused_line told.line told.cause) × (history_text input ≡ Err told)
+
+-- The line, and what it says of the input: `yes` says that it is explained, `no` that it is a text of some history, and
+-- `refused` that it is none.
 abbrev pub IsAnswer : Conflicts → List ℕ → Status → List ℕ → Type 0
 IsAnswer mode input Yes line = (docs calls left_out : ℕ) × (line ≡ yes_line docs calls left_out) × IsExplained mode input docs calls left_out
-IsAnswer mode input No line = line ≡ no_line
-IsAnswer mode input Refused line = (n : ℕ) × (cause : TextCause) × (line ≡ refused_line n cause)
+IsAnswer mode input No line = (line ≡ no_line) × IsSomeHistory input
+IsAnswer mode input Refused line = IsRefused input line
 
 -- The witness of the history that the input is a text of, as a text: it reads as this witness, or as none where there is
 -- no document; and its places are an order that explains the history.
@@ -52,16 +63,16 @@ pub record IsWitnessed (mode : Conflicts) (input text : List ℕ) : Type 0 where
 -- what is written where a witness is asked for: the text of one, or the line of a check
 abbrev pub IsWitnessAnswer : Conflicts → List ℕ → Status → List ℕ → Type 0
 IsWitnessAnswer mode input Yes text = IsWitnessed mode input text
-IsWitnessAnswer mode input No text = text ≡ no_line
-IsWitnessAnswer mode input Refused text = (n : ℕ) × (cause : TextCause) × (text ≡ refused_line n cause)
+IsWitnessAnswer mode input No text = (text ≡ no_line) × IsSomeHistory input
+IsWitnessAnswer mode input Refused text = IsRefused input text
 
 -- The one input is a text of a history, and the other reads as entries that cover it; there is an order that explains it,
 -- in which so many of its calls do not stand.
 pub record IsVerified (mode : Conflicts) (history witness : List ℕ) (docs calls left_out : ℕ) : Type 0 where
   pub events : List Event
   pub is_text : IsHistoryText history events
-  pub entries : List WitnessEntry
-  pub reads : witness_text witness ≡ Ok (map spelled entries)
+  pub entries : List DocPlaces
+  pub reads : witness_text witness ≡ Ok entries
   pub cover : AreCover mode events entries
   pub explained : HasOrder mode events docs calls left_out
 
@@ -70,18 +81,27 @@ pub record IsVerified (mode : Conflicts) (history witness : List ℕ) (docs call
 pub record IsBroken (mode : Conflicts) (history witness : List ℕ) (fault : VerifyFault) : Type 0 where
   pub events : List Event
   pub is_text : IsHistoryText history events
-  pub entries : List WitnessEntry
-  pub reads : witness_text witness ≡ Ok (map spelled entries)
+  pub entries : List DocPlaces
+  pub reads : witness_text witness ≡ Ok entries
   pub one : length (documents_of events) ≤ 1 → IsFirstVerifyFault mode events entries fault
   pub many : 2 ≤ length (documents_of events) → fault ≡ DocMissing 1
+
+-- the one input is a text of no history: the line tells the first of its lines that is refused, with its first cause
+abbrev pub IsRefusedHistory : List ℕ → List ℕ → Type 0
+IsRefusedHistory history line =
+    (told : TextFault) × (line ≡ refused_file_line (codes "history") told.line told.cause) × (history_text history ≡ Err told)
+
+-- the one input is a text of some history, and the other is no witness text: the line tells as much of that one
+abbrev pub IsRefusedWitness : List ℕ → List ℕ → List ℕ → Type 0
+IsRefusedWitness history witness line =
+    (told : TextFault) × (line ≡ refused_file_line (codes "witness") told.line told.cause) × IsSomeHistory history × (witness_text witness ≡ Err told)
 
 -- the line, and what it says of both inputs
 abbrev pub IsVerifyAnswer : Conflicts → List ℕ → List ℕ → Status → List ℕ → Type 0
 IsVerifyAnswer mode history witness Yes line =
     (docs calls left_out : ℕ) × (line ≡ verified_line docs calls left_out) × IsVerified mode history witness docs calls left_out
 IsVerifyAnswer mode history witness No line = (fault : VerifyFault) × (line ≡ broken_line fault) × IsBroken mode history witness fault
-IsVerifyAnswer mode history witness Refused line =
-    (file : List ℕ) × (n : ℕ) × (cause : TextCause) × ((file ≡ codes "history") ⊎ (file ≡ codes "witness")) × (line ≡ refused_file_line file n cause)
+IsVerifyAnswer mode history witness Refused line = IsRefusedHistory history line ⊎ IsRefusedWitness history witness line
 
 -- ---- what the writer holds
 

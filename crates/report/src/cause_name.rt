@@ -1,7 +1,7 @@
 ghost use Rattle.std.specs.Prelude.{◌≡◌};
 ghost use Rattle.report.specs.Lines.{cause_name as printed};
 
-use history::TextCause;
+use api_lines::TextCause;
 
 /// The printed name of a cause.
 pub fn cause_name(cause: TextCause) -> &'static str

@@ -1,6 +1,7 @@
-ghost use Rattle.std.specs.Prelude.{◌≡◌, IfOk, ℕ, List};
+ghost use Rattle.std.specs.Prelude.{◌≡◌, IfOk, ℕ, List, Err};
 ghost use Rattle.doc_register.specs.declared.state.Conflicts.{Conflicts as Mode};
 ghost use Rattle.history.specs.Events.{IsHistory};
+ghost use Rattle.history.specs.Reading.{history_text};
 ghost use Rattle.history.specs.Text.{IsHistoryText};
 ghost use Rattle.report.specs.Lines.{no_line, refused_line, yes_line};
 ghost use Rattle.report.specs.Verdict.{IsAnswer, IsWitnessAnswer};
@@ -8,9 +9,10 @@ ghost use Rattle.report.specs.Verdict.{IsAnswer, IsWitnessAnswer};
 use crate::answer::Answer;
 use crate::cause_name::cause_name;
 use crate::status::Status;
+use api_lines::{ReadFault, TextFault};
 use compose::{Counts, Explanation, explain};
 use doc_register::Conflicts;
-use history::{History, ReadFault, TextFault, read};
+use history::{History, read};
 use std::alloc::{AllocError, Global};
 use version_pair::NoMemory;
 
@@ -43,8 +45,9 @@ pub fn refusal(alloc: Global, fault: TextFault) -> Result<Answer, NoMemory>
     ensures status { IfOk result (λ answer. answer.status ≡ Status.Refused) }
     ensures line { IfOk result (λ answer. answer.text.items ≡ refused_line fault.line fault.cause) }
     ensures answers { IfOk result (λ answer. (mode : Mode) (input : List ℕ)
-        → IsAnswer mode input answer.status answer.text.items) }
+        → history_text input ≡ Err fault → IsAnswer mode input answer.status answer.text.items) }
     ensures witness { IfOk result (λ answer. (mode : Mode) (input : List ℕ)
+        → history_text input ≡ Err fault
         → IsWitnessAnswer mode input answer.status answer.text.items) }
 {
     let number = fault.line;
@@ -54,7 +57,11 @@ pub fn refusal(alloc: Global, fault: TextFault) -> Result<Answer, NoMemory>
 }
 
 // The answer to a text that was read as this history.
-fn history_answer(alloc: Global, history: &History, conflicts: Conflicts) -> Result<Answer, NoMemory>
+fn history_answer(
+    alloc: Global,
+    history: &History,
+    conflicts: Conflicts,
+) -> Result<Answer, NoMemory>
     requires { IsHistory history.now }
     ensures { IfOk result (λ answer. (input : List ℕ) → IsHistoryText input history.now
         → IsAnswer conflicts input answer.status answer.text.items) }

@@ -53,7 +53,8 @@ pub fn check_stream<R: Read, W: Write>(
 ) -> Result<Status, StreamFault>
     requires some_workers { 1 ≤ workers }
     requires few_workers { workers ≤ 16 }
-    // Where `yes` is answered, the bytes of the reader to its end are a text of a history that an order explains.
+    // Where `yes` is answered, the bytes of the reader to its end are a text of a history that an order explains; where
+    // `no` is, of some history; and where `refused` is, of none, and the line tells the first that is refused.
     ensures answered { IfOk result (IsAnswered conflicts (R.remaining reader.old)
         (W.contents writer.old) (W.contents writer.new)) }
     // After a write fault a front of such a line is written.
@@ -84,7 +85,7 @@ pub fn witness_stream<R: Read, W: Write>(
     writer: &mut W,
     conflicts: Conflicts,
 ) -> Result<Status, StreamFault>
-    // Where it answers yes, what it wrote reads as a witness of the history that the bytes are a text of.
+    // Where it answers yes, what it wrote reads as a witness of the history that the bytes are a text of; else as above.
     ensures answered { IfOk result (λ status. HasAnswer (WitnessesInput conflicts
         (R.remaining reader.old) status)
         (W.contents writer.old) (W.contents writer.new)) }
@@ -119,7 +120,8 @@ pub fn verify_stream<R: Read, Q: Read, W: Write>(
     writer: &mut W,
     conflicts: Conflicts,
 ) -> Result<Status, StreamFault>
-    // Where it answers yes, the one's bytes are a text of a history, and the other's read as entries that cover it.
+    // Where it answers yes, the one's bytes are a text of a history, and the other's read as entries that cover it; where
+    // it answers no, as entries that do not; and a refusal tells the first line of the first text that is refused.
     ensures answered { IfOk result (λ status. HasAnswer (VerifiesInputs conflicts
         (R.remaining history.old) (Q.remaining witness.old) status)
         (W.contents writer.old) (W.contents writer.new)) }

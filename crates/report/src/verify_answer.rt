@@ -1,19 +1,21 @@
-ghost use Rattle.std.specs.Prelude.{◌≡◌, IfOk, ℕ, List, Ok, codes, map};
-ghost use Rattle.witness.specs.Lines.{doc_places};
+ghost use Rattle.std.specs.Prelude.{◌≡◌, IfOk, ℕ, List, Ok, Err, codes, map};
+ghost use Rattle.witness.specs.Documents.{doc_places};
 ghost use Rattle.witness.specs.Text.{witness_text};
 ghost use Rattle.doc_register.specs.declared.state.Conflicts.{Conflicts as Mode};
 ghost use Rattle.history.specs.Events.{IsHistory};
+ghost use Rattle.history.specs.Reading.{history_text};
 ghost use Rattle.history.specs.Text.{IsHistoryText};
 ghost use Rattle.report.specs.Lines.{broken_line as told_line, refused_file_line, verified_line};
-ghost use Rattle.report.specs.Verdict.{IsVerifyAnswer};
+ghost use Rattle.report.specs.Verdict.{IsSomeHistory, IsVerifyAnswer};
 
 use crate::answer::Answer;
 use crate::broken_line::fault_line;
 use crate::cause_name::cause_name;
 use crate::status::Status;
+use api_lines::{ReadFault, TextFault};
 use compose::{Counts, VerifyFault, verify};
 use doc_register::Conflicts;
-use history::{History, ReadFault, TextFault};
+use history::History;
 use std::alloc::{AllocError, Global};
 use version_pair::{DocId, NoMemory};
 use witness::{Place, read_witness};
@@ -47,6 +49,7 @@ pub fn refused_history(alloc: Global, fault: TextFault) -> Result<Answer, NoMemo
     ensures line { IfOk result (λ answer. answer.text.items
         ≡ refused_file_line (codes "history") fault.line fault.cause) }
     ensures answers { IfOk result (λ answer. (mode : Mode) (history witness : List ℕ)
+        → history_text history ≡ Err fault
         → IsVerifyAnswer mode history witness answer.status answer.text.items) }
 {
     let number = fault.line;
@@ -60,6 +63,7 @@ fn refused_witness(alloc: Global, fault: TextFault) -> Result<Answer, NoMemory>
     ensures line { IfOk result (λ answer. answer.text.items
         ≡ refused_file_line (codes "witness") fault.line fault.cause) }
     ensures answers { IfOk result (λ answer. (mode : Mode) (history witness : List ℕ)
+        → IsSomeHistory history → witness_text witness ≡ Err fault
         → IsVerifyAnswer mode history witness answer.status answer.text.items) }
 {
     let number = fault.line;

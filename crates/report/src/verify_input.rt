@@ -6,8 +6,9 @@ ghost use Rattle.report.specs.Verdict.{IsVerifyAnswer};
 use crate::answer::Answer;
 use crate::input::{InputFault, read_enough};
 use crate::verify_answer::{refused_history, verify_answer};
+use api_lines::ReadFault;
 use doc_register::Conflicts;
-use history::{History, ReadFault, read};
+use history::{History, read};
 use std::alloc::Global;
 use std::io::Read;
 

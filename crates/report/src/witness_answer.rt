@@ -1,6 +1,6 @@
 ghost use Rattle.std.specs.Prelude.{◌≡◌, IfOk, ℕ, List, Ok, map};
 ghost use Rattle.std.specs.Option.{option_to_list};
-ghost use Rattle.witness.specs.Lines.{witness_places};
+ghost use Rattle.witness.specs.Documents.{witness_places};
 ghost use Rattle.witness.specs.Text.{AreWithinLimits, witness_text};
 ghost use Rattle.history.specs.Events.{IsHistory};
 ghost use Rattle.history.specs.Text.{IsHistoryText};
@@ -9,9 +9,10 @@ ghost use Rattle.report.specs.Verdict.{IsWitnessAnswer};
 use crate::answer::Answer;
 use crate::check_answer::{no, refusal};
 use crate::status::Status;
+use api_lines::ReadFault;
 use compose::{Explanation, explain};
 use doc_register::Conflicts;
-use history::{History, ReadFault, read};
+use history::{History, read};
 use std::alloc::{AllocError, Global};
 use std::slice;
 use version_pair::NoMemory;
@@ -29,7 +30,11 @@ fn text_of(alloc: Global, witness: &Option<DocWitness>) -> Result<Vec<u8>, NoMem
 }
 
 // The witness of a history as a text, or the answer that no order was found.
-fn history_witness(alloc: Global, history: &History, conflicts: Conflicts) -> Result<Answer, NoMemory>
+fn history_witness(
+    alloc: Global,
+    history: &History,
+    conflicts: Conflicts,
+) -> Result<Answer, NoMemory>
     requires { IsHistory history.now }
     ensures { IfOk result (λ answer. (input : List ℕ) → IsHistoryText input history.now
         → IsWitnessAnswer conflicts input answer.status answer.text.items) }
@@ -50,11 +55,7 @@ fn history_witness(alloc: Global, history: &History, conflicts: Conflicts) -> Re
 }
 
 /// The witness of the history that a text is of, as a text; or the answer of a check that is not yes.
-pub fn witness_answer(
-    alloc: Global,
-    text: &[u8],
-    conflicts: Conflicts,
-) -> Result<Answer, NoMemory>
+pub fn witness_answer(alloc: Global, text: &[u8], conflicts: Conflicts) -> Result<Answer, NoMemory>
     ensures { IfOk result (λ answer. IsWitnessAnswer conflicts text.now answer.status
         answer.text.items) }
 {

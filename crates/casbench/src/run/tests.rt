@@ -182,7 +182,12 @@ fn files_of_a_check(rt: HostRuntime) -> Result<(), Fail> {
         (None, Ok(Status::Yes), line, ""),
         (Some("h"), Ok(Status::Yes), line, "open h;read h;"),
         (Some("broken"), fault, "", "open broken;read broken;"),
-        (Some("absent"), fault, "", "open absent;tell casbench: absent: no such file;"),
+        (
+            Some("absent"),
+            fault,
+            "",
+            "open absent;tell casbench: absent: no such file;",
+        ),
     ] {
         runs(&rt, rt.alloc(), Words::Check { file }, wanted, text, steps)?;
     }
@@ -197,7 +202,11 @@ fn files_of_a_witness(rt: HostRuntime) -> Result<(), Fail> {
         (None, Ok(Status::Yes), ""),
         (Some("h"), Ok(Status::Yes), "open h;read h;"),
         (Some("broken"), fault, "open broken;read broken;"),
-        (Some("absent"), fault, "open absent;tell casbench: absent: no such file;"),
+        (
+            Some("absent"),
+            fault,
+            "open absent;tell casbench: absent: no such file;",
+        ),
     ] {
         runs(&rt, rt.alloc(), Words::Witness { file }, wanted, "", steps)?;
     }
@@ -224,9 +233,27 @@ fn files_of_a_verify(rt: HostRuntime) -> Result<(), Fail> {
             "",
             "open h;open broken;read h;read broken;",
         ),
-        ("absent", "w", fault, "", "open absent;tell casbench: absent: no such file;"),
-        ("h", "absent", fault, "", "open h;open absent;tell casbench: absent: no such file;"),
-        ("w", "lost", fault, "", "open w;open lost;tell casbench: lost: no such file;"),
+        (
+            "absent",
+            "w",
+            fault,
+            "",
+            "open absent;tell casbench: absent: no such file;",
+        ),
+        (
+            "h",
+            "absent",
+            fault,
+            "",
+            "open h;open absent;tell casbench: absent: no such file;",
+        ),
+        (
+            "w",
+            "lost",
+            fault,
+            "",
+            "open w;open lost;tell casbench: lost: no such file;",
+        ),
     ] {
         runs(
             &rt,

@@ -116,6 +116,31 @@ fn explained_texts(rt: HostRuntime) -> Result<(), Fail> {
 }
 
 #[test]
+fn explained_replies(rt: HostRuntime) -> Result<(), Fail> {
+    for (case, text, line) in [
+        (
+            "delete-of-missing",
+            texts::DELETE_OF_MISSING,
+            "yes docs=1 calls=3 left_out=0\n",
+        ),
+        ("create", texts::CREATE, "yes docs=1 calls=4 left_out=0\n"),
+        (
+            "index-200-created-is-unknown",
+            texts::INDEX_200_CREATED_IS_UNKNOWN,
+            "yes docs=1 calls=1 left_out=1\n",
+        ),
+        (
+            "index-without-seq-is-unknown",
+            texts::INDEX_WITHOUT_SEQ_IS_UNKNOWN,
+            "yes docs=1 calls=1 left_out=1\n",
+        ),
+    ] {
+        check_text(&rt, rt.alloc(), case, text, line)?;
+    }
+    Ok(())
+}
+
+#[test]
 fn texts_without_order(rt: HostRuntime) -> Result<(), Fail> {
     for (case, text, line) in [
         ("pair-falls", texts::PAIR_FALLS, "no\n"),

@@ -26,6 +26,32 @@ pub const TWO_CLIENTS_ONE_GET_EACH: &str = r#"{"e":"call","n":0,"id":"d","op":"g
 {"e":"reply","n":1,"status":404,"body":{"_index":"i","_id":"d","found":false}}
 "#;
 
+pub const DELETE_OF_MISSING: &str = r#"{"e":"call","n":0,"id":"d","op":"delete"}
+{"e":"reply","n":0,"status":404,"body":{"_index":"i","_id":"d","_version":1,"result":"not_found","_shards":{"total":2,"successful":1,"failed":0},"_seq_no":0,"_primary_term":1}}
+{"e":"call","n":1,"id":"d","op":"get"}
+{"e":"reply","n":1,"status":404,"body":{"_index":"i","_id":"d","found":false}}
+{"e":"call","n":2,"id":"d","op":"index","k":1}
+{"e":"reply","n":2,"status":201,"body":{"_index":"i","_id":"d","_version":1,"result":"created","_shards":{"total":2,"successful":1,"failed":0},"_seq_no":1,"_primary_term":1}}
+"#;
+
+pub const CREATE: &str = r#"{"e":"call","n":0,"id":"d","op":"create","k":1}
+{"e":"reply","n":0,"status":201,"body":{"_index":"i","_id":"d","_version":1,"result":"created","_shards":{"total":2,"successful":1,"failed":0},"_seq_no":0,"_primary_term":1}}
+{"e":"call","n":1,"id":"d","op":"create","k":2}
+{"e":"reply","n":1,"status":409,"body":{"error":{"type":"version_conflict_engine_exception","reason":"x"},"status":409}}
+{"e":"call","n":2,"id":"d","op":"delete"}
+{"e":"reply","n":2,"status":200,"body":{"_index":"i","_id":"d","_version":1,"result":"deleted","_shards":{"total":2,"successful":1,"failed":0},"_seq_no":1,"_primary_term":1}}
+{"e":"call","n":3,"id":"d","op":"create","k":3}
+{"e":"reply","n":3,"status":201,"body":{"_index":"i","_id":"d","_version":1,"result":"created","_shards":{"total":2,"successful":1,"failed":0},"_seq_no":2,"_primary_term":1}}
+"#;
+
+pub const INDEX_200_CREATED_IS_UNKNOWN: &str = r#"{"e":"call","n":0,"id":"d","op":"index","k":1}
+{"e":"reply","n":0,"status":200,"body":{"_id":"d","result":"created","_seq_no":0,"_primary_term":1}}
+"#;
+
+pub const INDEX_WITHOUT_SEQ_IS_UNKNOWN: &str = r#"{"e":"call","n":0,"id":"d","op":"index","k":1}
+{"e":"reply","n":0,"status":200,"body":{"_id":"d","result":"updated","_primary_term":1}}
+"#;
+
 pub const PAIR_FALLS: &str = r#"{"e":"call","n":0,"id":"d","op":"index","k":1}
 {"e":"reply","n":0,"status":201,"body":{"_index":"i","_id":"d","_version":1,"result":"created","_shards":{"total":2,"successful":1,"failed":0},"_seq_no":7,"_primary_term":1}}
 {"e":"call","n":1,"id":"d","op":"index","k":2}

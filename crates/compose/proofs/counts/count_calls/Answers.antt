@@ -1,7 +1,11 @@
-use Rattle.std.proofs.Common.{arith, ◌≡◌, ◌+◌, ◌≤◌, length, ap, sym, ◌∙◌, cond}
+use Rattle.std.proofs.Common.{arith, ◌≡◌, ◌+◌, ◌≤◌, length, ap, sym, ◌∙◌, cond, Bool, true, false}
 use Rattle.history.specs.Events.{is_any_call}
-use Rattle.compose.proofs.CountLemmas.{counted_all, counted_next, one_at_most}
+use Rattle.history.proofs.CountLemmas.{counted_all, counted_next}
 use Rattle.compose.proofs.counts.count_calls.Goals as goal
+
+one_at_most : (b : Bool) → cond b 1 0 ≤ 1
+one_at_most true = omega arith
+one_at_most false = omega arith
 
 pub loop-place-preserved : goal.loop-place-preserved
 loop-place-preserved c =

@@ -1,6 +1,7 @@
 use Rattle.std.proofs.Common.{subst}
 use Rattle.report.specs.Verdict.{AnswersInput, IsAnswer}
-use Rattle.report.proofs.StreamLemmas.{answer_of_input, wrote, wrote_front}
+use Rattle.report.proofs.AnswerLemmas.{answer_of_input}
+use Rattle.report.proofs.StreamLemmas.{wrote, wrote_front}
 use Rattle.report.proofs.streams.check_stream.Goals as goal
 
 pub returns-in-Ok-check_answer-clause-answered : goal.returns-in-Ok-check_answer-clause-answered

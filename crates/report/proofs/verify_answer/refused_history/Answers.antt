@@ -1,9 +1,9 @@
-use Rattle.std.proofs.Common.{◌≡◌, rules, refl, inl, codes}
+use Rattle.std.proofs.Common.{◌≡◌, rules, codes}
 use Rattle.report.specs.Lines.{refused_file_line}
-use Rattle.report.proofs.AnswerLemmas.{verify_refused}
+use Rattle.report.proofs.AnswerLemmas.{verify_refused_history}
 use Rattle.report.proofs.verify_answer.refused_history.Goals as goal
 
 pub returns-clause-answers : goal.returns-clause-answers
-returns-clause-answers c = λ mode history witness.
+returns-clause-answers c = λ mode history witness refused.
     let line : c.of.result.text.items ≡ refused_file_line (codes "history") c.args.fault.line c.args.fault.cause = search rules in
-    verify_refused mode history witness c.of.result.status c.of.result.text.items (codes "history") c.args.fault.line c.args.fault.cause c.of.ensures.status (inl refl) line
+    verify_refused_history mode history witness c.of.result.status c.of.result.text.items c.args.fault c.of.ensures.status line refused

@@ -1,9 +1,9 @@
-use Rattle.std.proofs.Common.{◌≡◌, rules, refl, inr, codes}
+use Rattle.std.proofs.Common.{◌≡◌, rules, codes}
 use Rattle.report.specs.Lines.{refused_file_line}
-use Rattle.report.proofs.AnswerLemmas.{verify_refused}
+use Rattle.report.proofs.AnswerLemmas.{verify_refused_witness}
 use Rattle.report.proofs.verify_answer.refused_witness.Goals as goal
 
 pub returns-clause-answers : goal.returns-clause-answers
-returns-clause-answers c = λ mode history witness.
+returns-clause-answers c = λ mode history witness some refused.
     let line : c.of.result.text.items ≡ refused_file_line (codes "witness") c.args.fault.line c.args.fault.cause = search rules in
-    verify_refused mode history witness c.of.result.status c.of.result.text.items (codes "witness") c.args.fault.line c.args.fault.cause c.of.ensures.status (inr refl) line
+    verify_refused_witness mode history witness c.of.result.status c.of.result.text.items c.args.fault c.of.ensures.status line some refused
