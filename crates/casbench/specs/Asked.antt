@@ -1,26 +1,47 @@
 -- What the words of the command line ask for.
-use Rattle.std.specs.Prelude.{true, List, Option, Some, None, codes, if◌then◌else◌, option_map}
+use Rattle.std.specs.Prelude.{ℕ, Bool, true, List, Option, Some, None, ◌&&◌, ◌^◌, codes, if◌then◌else◌, length, nat_lt, option_map}
+use Rattle.std.specs.Char.{digit_value}
+use Rattle.std.specs.List.{list_all}
 use Rattle.std.specs.Str.{bytes_eq}
+use Rattle.std.specs.Str.Parse.{digits_value, without_leading_plus}
 use Rattle.clap.specs.Simple.{on_top}
 use Rattle.clap.specs.Words.{App, Kinds, Row, Rule, Text, first_of, fault_of, new_app, new_rule, subcommand_of, with_rule, with_subcommand}
+use Rattle.clap.specs.declared.builder.value_parser.ValueParser.TheVariants as parser
 use Rattle.casbench.specs.declared.words.Words.{Words}
 use Rattle.casbench.specs.declared.words.Words.TheVariants as words
 
--- a check of a history, a witness of one, both of standard input where no file is named, or a check of a witness
--- against a history
+-- a check of a history, a witness of one, both of standard input where no file is named, a check of a witness against a
+-- history, or the lines of a bulk's body and its reply, the calls numbered from a number on
 pub data Asked : Type 0 where
   ToCheck : Option Text → Asked
   ToWitness : Option Text → Asked
   ToVerify : Text → Text → Asked
+  ToWriteBulk : Text → Text → ℕ → Asked
 
 abbrev pub asked_by : Words → Asked
 asked_by (words.Check file) = ToCheck (option_map (λ f. f.now) file)
 asked_by (words.Witness file) = ToWitness (option_map (λ f. f.now) file)
 asked_by (words.Verify history witness) = ToVerify history.now witness.now
+asked_by (words.Bulk body reply first) = ToWriteBulk body.now reply.now first
 
 abbrev pub both_files : Option Text → Option Text → Option Asked
 both_files (Some history) (Some witness) = Some (ToVerify history witness)
 both_files _ _ = None
+
+-- a number below 2^64: digits, with a plus before them or not
+abbrev pub is_number : Text → Bool
+is_number text =
+    let digits = without_leading_plus text in
+    (nat_lt 0 (length digits) && list_all (λ c. nat_lt (digit_value c) 10) digits) && nat_lt (digits_value 10 digits) (2 ^ 64)
+
+-- the number of the first call, which is 0 where none is given
+abbrev pub first_of_calls : Option Text → Option ℕ
+first_of_calls None = Some 0
+first_of_calls (Some text) = if is_number text then Some (digits_value 10 (without_leading_plus text)) else None
+
+abbrev pub bulk_of : Option Text → Option Text → Option Text → Option Asked
+bulk_of (Some body) (Some reply) first = option_map (λ n. ToWriteBulk body reply n) (first_of_calls first)
+bulk_of _ _ _ = None
 
 -- what a command of this name asks for, which was given these files by the names of its arguments
 abbrev pub asked_of_command : Text → List Row → Option Asked
@@ -28,7 +49,9 @@ asked_of_command name rows =
     if bytes_eq name (codes "check") then Some (ToCheck (first_of (codes "history") rows))
     else (if bytes_eq name (codes "witness") then Some (ToWitness (first_of (codes "history") rows))
     else (if bytes_eq name (codes "verify") then both_files (first_of (codes "history") rows) (first_of (codes "witness") rows)
-    else None))
+    else (if bytes_eq name (codes "bulk")
+    then bulk_of (first_of (codes "body") rows) (first_of (codes "reply") rows) (first_of (codes "first") rows)
+    else None)))
 
 -- no command asks for a check of standard input
 abbrev pub asked_of : Option (Text × List Row) → Option Asked
@@ -43,6 +66,10 @@ file_rule name = record (new_rule name) { value_names = 1 }
 abbrev pub needed_rule : Text → Rule
 needed_rule name = record (file_rule name) { required = true }
 
+-- `--first N`, N below 2^64
+abbrev pub first_rule : Rule
+first_rule = record (file_rule (codes "first")) { long = Some (codes "first"); parser = Some (parser.Unsigned 0 18446744073709551615) }
+
 abbrev pub check_line : App
 check_line = with_rule (new_app (codes "check")) (file_rule (codes "history"))
 
@@ -52,11 +79,14 @@ witness_line = with_rule (new_app (codes "witness")) (file_rule (codes "history"
 abbrev pub verify_line : App
 verify_line = with_rule (with_rule (new_app (codes "verify")) (needed_rule (codes "history"))) (needed_rule (codes "witness"))
 
--- `casbench`, which has a version, with its three commands
+abbrev pub bulk_line : App
+bulk_line = with_rule (with_rule (with_rule (new_app (codes "bulk")) (needed_rule (codes "body"))) (needed_rule (codes "reply"))) first_rule
+
+-- `casbench`, which has a version, with its four commands
 abbrev pub command_line : App
 command_line =
     let named : App = on_top (λ s. record s { has_version = true }) (new_app (codes "casbench")) in
-    with_subcommand (with_subcommand (with_subcommand named check_line.top) witness_line.top) verify_line.top
+    with_subcommand (with_subcommand (with_subcommand (with_subcommand named check_line.top) witness_line.top) verify_line.top) bulk_line.top
 
 -- what the words ask for, the first of which is the program's name
 unfoldable pub asked_on : List Text → Option Asked

@@ -5,7 +5,7 @@ ghost use Rattle.report.specs.Verdict.{HasAnswer, IsAnswered, WitnessesInput};
 use crate::files::{open_both, open_or};
 use crate::words::Words;
 use doc_register::Conflicts;
-use report::{Status, StreamFault, check_stream, verify_stream, witness_stream};
+use report::{Status, StreamFault, bulk_stream, check_stream, verify_stream, witness_stream};
 use std::alloc::Global;
 use std::io::{Read, Write};
 use std::rt::Files;
@@ -48,6 +48,10 @@ pub fn run<R: Files + Eprint, I: Read + Drop, W: Write>(
         Words::Verify { history, witness } => {
             let (mut history, mut witness) = open_both(rt, history, witness)?;
             verify_stream(alloc, &mut history, &mut witness, writer, Conflicts::Plain)
+        }
+        Words::Bulk { body, reply, first } => {
+            let (mut body, mut reply) = open_both(rt, body, reply)?;
+            bulk_stream(alloc, first, &mut body, &mut reply, writer)
         }
     }
 }

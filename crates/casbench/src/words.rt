@@ -1,9 +1,10 @@
 ghost use Rattle.std.specs.Prelude.{◌≡◌, ◌⊎◌, [], Some, None, false, IfOk, IfErr, OnOk, codes, map, option_map};
 ghost use Rattle.clap.specs.Words.{FailsBy, HasKind, app_of, found_of, rows_of, rule_of, subcommand_rows_of};
 ghost use Rattle.clap.specs.declared.builder.command.Command.TheViews.{out-Command as fields_of};
-ghost use Rattle.casbench.specs.Asked.{asked_by, asked_of, asked_of_command, asked_on, both_files, faults_on};
-ghost use Rattle.casbench.specs.Asked.{check_line, command_line, file_rule, needed_rule, verify_line, witness_line};
+ghost use Rattle.casbench.specs.Asked.{asked_by, asked_of, asked_of_command, asked_on, both_files, bulk_of, faults_on, first_of_calls};
+ghost use Rattle.casbench.specs.Asked.{bulk_line, check_line, command_line, file_rule, first_rule, needed_rule, verify_line, witness_line};
 
+use clap::builder::ValueParser;
 use clap::error::ErrorKind;
 use clap::{Arg, ArgMatches, Command, Error};
 use std::alloc::{AllocError, Global};
@@ -13,11 +14,25 @@ use std::convert::AsStr;
 #[derive(Clone, Copy, Debug, PartialEq, Eq)]
 pub enum Words<'a> {
     /// To check a history text: that of the file, or of standard input where none is named.
-    Check { file: Option<&'a str> },
+    Check {
+        file: Option<&'a str>,
+    },
     /// To write the witness of a history text: that of the file, or of standard input where none is named.
-    Witness { file: Option<&'a str> },
+    Witness {
+        file: Option<&'a str>,
+    },
     /// To check the witness text of the one file against the history text of the other.
-    Verify { history: &'a str, witness: &'a str },
+    Verify {
+        history: &'a str,
+        witness: &'a str,
+    },
+    /// To write the body of a bulk request and its reply, of these files, as lines of a history, its calls numbered from
+    /// `first`.
+    Bulk {
+        body: &'a str,
+        reply: &'a str,
+        first: u64,
+    },
 }
 
 // The commands by their names.
@@ -27,8 +42,16 @@ const WITNESS: &str = "witness";
 
 const VERIFY: &str = "verify";
 
+const BULK: &str = "bulk";
+
 // The arguments by their ids.
 const HISTORY: &str = "history";
+
+const BODY: &str = "body";
+
+const REPLY: &str = "reply";
+
+const FIRST: &str = "first";
 
 // The file of the history text, which may be left out.
 fn history<'a>(alloc: Global) -> Arg<'a>
@@ -49,6 +72,18 @@ fn needed<'a>(alloc: Global, id: &'a str, shown: &'a str, help: &'a str) -> Arg<
         .value_name(shown)
         .help(help)
         .required(true)
+}
+
+// The number of the first call, which may be left out.
+fn first<'a>(alloc: Global) -> Arg<'a>
+    ensures rule { rule_of result ≡ first_rule }
+    ensures local { result.global ≡ false }
+{
+    Arg::new(alloc, FIRST)
+        .long(FIRST)
+        .value_name("N")
+        .value_parser(ValueParser::Unsigned(0, u64::MAX))
+        .help("The number of the first call; 0 where it is left out")
 }
 
 fn check_command<'a>(alloc: Global) -> Result<Command<'a>, AllocError>
@@ -82,6 +117,23 @@ fn verify_command<'a>(alloc: Global) -> Result<Command<'a>, AllocError>
         .arg(needed(alloc, WITNESS, "WITNESS", "The witness text"))
 }
 
+fn bulk_command<'a>(alloc: Global) -> Result<Command<'a>, AllocError>
+    ensures line { IfOk result (λ command. app_of command ≡ bulk_line) }
+    ensures local { IfOk result (λ command. (fields_of command).has_globals ≡ false) }
+{
+    Command::new(alloc, BULK)
+        .about("Write a bulk request and its reply as lines of a history")
+        .after_help("Example:\n  casbench bulk bulk.body bulk.reply --first 100 >> history.ndjson")
+        .arg(needed(alloc, BODY, "BODY", "The body of the bulk request"))?
+        .arg(needed(
+            alloc,
+            REPLY,
+            "REPLY",
+            "The body of its reply, the status being 200",
+        ))?
+        .arg(first(alloc))
+}
+
 fn program<'a>(alloc: Global) -> Result<Command<'a>, AllocError>
     ensures { IfOk result (λ program. app_of program ≡ command_line) }
 {
@@ -92,11 +144,12 @@ fn program<'a>(alloc: Global) -> Result<Command<'a>, AllocError>
             "Tells whether a recorded history of an OpenSearch index keeps the compare-and-set promise",
         )
         .after_help(
-            "Examples:\n  casbench check history.ndjson\n  casbench witness history.ndjson > history.witness\n  casbench verify history.ndjson history.witness",
+            "Examples:\n  casbench check history.ndjson\n  casbench witness history.ndjson > history.witness\n  casbench verify history.ndjson history.witness\n  casbench bulk bulk.body bulk.reply --first 100 >> history.ndjson",
         )
         .subcommand(check_command(alloc)?)?
         .subcommand(witness_command(alloc)?)?
-        .subcommand(verify_command(alloc)?)
+        .subcommand(verify_command(alloc)?)?
+        .subcommand(bulk_command(alloc)?)
 }
 
 // A check of a witness, where both files are named.
@@ -111,6 +164,36 @@ fn verify_words<'a>(history: Option<&'a str>, witness: Option<&'a str>) -> Optio
     })
 }
 
+// The number that is given for the first call: 0 where none is. The parse refuses a text that is none.
+fn first_call(text: Option<&str>) -> Option<u64>
+    ensures { result ≡ first_of_calls (option_map (λ t. t.now) text.entry) }
+{
+    match text {
+        None => Some(0),
+        Some(text) => match text.parse() {
+            Ok(number) => Some(number),
+            Err(_) => None,
+        },
+    }
+}
+
+// The lines of a bulk, where both files are named.
+fn bulk_words<'a>(
+    body: Option<&'a str>,
+    reply: Option<&'a str>,
+    first: Option<&'a str>,
+) -> Option<Words<'a>>
+    ensures { option_map asked_by result
+        ≡ bulk_of (option_map (λ f. f.now) body.entry) (option_map (λ f. f.now) reply.entry) (option_map
+        (λ t. t.now) first.entry) }
+{
+    Some(Words::Bulk {
+        body: body?,
+        reply: reply?,
+        first: first_call(first)?,
+    })
+}
+
 // What the command of this name asks for.
 fn asked_of_command<'a>(name: &str, given: &ArgMatches<'a>) -> Option<Words<'a>>
     ensures { option_map asked_by result
@@ -121,6 +204,11 @@ fn asked_of_command<'a>(name: &str, given: &ArgMatches<'a>) -> Option<Words<'a>>
         CHECK => Some(Words::Check { file }),
         WITNESS => Some(Words::Witness { file }),
         VERIFY => verify_words(file, given.get_str(WITNESS)),
+        BULK => bulk_words(
+            given.get_str(BODY),
+            given.get_str(REPLY),
+            given.get_str(FIRST),
+        ),
         _ => None,
     }
 }

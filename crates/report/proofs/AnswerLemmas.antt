@@ -20,6 +20,7 @@ use Rattle.compose.specs.declared.explanation.Explanation.TheVariants.{Found}
 use Rattle.compose.specs.Explained.{IsExplanation}
 use Rattle.report.specs.Lines.{broken_line, no_line, refused_file_line, refused_line, verified_line, yes_line}
 use Rattle.report.specs.aids.Enough.{AreEnough}
+use Rattle.report.specs.Bulk.{AnswersBulk, IsBulkAnswer}
 use Rattle.compose.specs.Explained.{HasOrder}
 use Rattle.report.specs.Verdict.{IsAnswer, IsExplained, IsRefused, IsSomeHistory, IsVerifyAnswer, IsWitnessAnswer, IsWitnessed}
 use Rattle.witness.specs.Documents.{doc_places}
@@ -176,3 +177,13 @@ verify_no mode input witness H es status text told is line is_text reads one man
       line,
       record { events = H; is_text = is_text; entries = map doc_places es; reads = reads; one = one; many = many },
     )
+
+-- ---- a bulk
+
+-- what is written of all bytes of the body and the reply is written of what the readers had
+pub bulk_of_inputs : (first : ℕ) (b r bytes others : List ℕ) (body reply : Option (List ℕ)) (status : Status) (text : List ℕ) → b ≡ bytes → r ≡ others
+    → IfSome body (λ input. bytes ≡ input) → IfSome reply (λ input. others ≡ input) → IsBulkAnswer first b r status text → AnswersBulk first body reply status text
+bulk_of_inputs first b r bytes others None reply status text is_b is_r all_body all_reply is = tt
+bulk_of_inputs first b r bytes others (Some x) None status text is_b is_r all_body all_reply is = tt
+bulk_of_inputs first b r bytes others (Some x) (Some y) status text is_b is_r all_body all_reply is =
+    subst (λ xs. IsBulkAnswer first xs y status text) (is_b ∙ all_body) (subst (λ ys. IsBulkAnswer first b ys status text) (is_r ∙ all_reply) is)

@@ -1,3 +1,4 @@
+pub mod Bulk
 pub mod Lines
 pub mod Verdict
 pub mod aids

@@ -2,6 +2,8 @@
 use Rattle.std.specs.Prelude.{ℕ, List, [], ◌++◌, ◌==◌, codes, decimal, if◌then◌else◌}
 use Rattle.api_lines.specs.declared.text_fault.TextCause.{TextCause}
 use Rattle.api_lines.specs.declared.text_fault.TextCause.TheVariants.{Long, Lines, Json, Shape, Id, Range, Half, Stranger, SecondCall, NoCall, Ended, Full, ShardMoved}
+use Rattle.api_lines.specs.declared.bulk_fault.BulkFault.{BulkFault}
+use Rattle.api_lines.specs.declared.bulk_fault.BulkFault.TheVariants as bulk
 use Rattle.witness.specs.declared.broken.Broken.{Broken}
 use Rattle.witness.specs.declared.broken.Broken.TheVariants.{Stranger as StrangePlace, Twice, Absent, Late, PairMissing, PairGiven, Illegal, NoMemory}
 use Rattle.compose.specs.declared.verify_fault.VerifyFault.{VerifyFault}
@@ -76,3 +78,18 @@ broken_line (fault.Broken i broken) = broken_places_line i broken
 broken_line (fault.PairTwice shard pair) =
     codes "broken term=" ++ (decimal pair.term ++ (codes " seq=" ++ (decimal pair.seq ++ (codes " cause=pair-twice" ++ shard_end shard))))
 broken_line fault.NoMemory = []
+
+-- a refused line of the body of a bulk, or of its reply
+abbrev pub refused_bulk_line : ℕ → List ℕ → List ℕ
+refused_bulk_line line name = codes "refused line=" ++ (decimal line ++ (codes " cause=" ++ (name ++ codes "\n")))
+
+-- what is told of a bulk that is refused; want of memory has no line
+abbrev pub bulk_fault_line : BulkFault → List ℕ
+bulk_fault_line (bulk.Syntax n) = refused_bulk_line n (codes "syntax")
+bulk_fault_line (bulk.Action n) = refused_bulk_line n (codes "action")
+bulk_fault_line (bulk.Source n) = refused_bulk_line n (codes "source")
+bulk_fault_line (bulk.Half n) = refused_bulk_line n (codes "half")
+bulk_fault_line (bulk.Range n) = refused_bulk_line n (codes "range")
+bulk_fault_line bulk.Count = codes "refused cause=count\n"
+bulk_fault_line (bulk.Kind i) = codes "refused item=" ++ (decimal i ++ codes " cause=kind\n")
+bulk_fault_line bulk.NoMemory = []

@@ -41,3 +41,18 @@ pub fn read_enough<R: Read>(alloc: Global, reader: &mut R) -> Result<Vec<u8>, In
     }
     Ok(bytes)
 }
+
+/// All bytes of the reader to its end. A fault of the reader of any kind, an interruption too, ends the reading.
+pub fn read_all<R: Read>(alloc: Global, reader: &mut R) -> Result<Vec<u8>, InputFault>
+    ensures { IfOk result (λ bytes. IfSome (R.remaining reader.old) (λ input. bytes.items ≡ input)) }
+{
+    let mut chunk = [0u8; CHUNK];
+    let mut bytes = Vec::new(alloc);
+    loop {
+        match reader.read(&mut chunk) {
+            Ok(0) => return Ok(bytes),
+            Ok(count) => bytes.extend_from_slice(&chunk[..count])?,
+            Err(_) => return Err(InputFault::Read),
+        }
+    }
+}

@@ -1,8 +1,10 @@
-//! Bytes in, a line or a text out: a history checked, its witness written, a witness verified.
+//! Bytes in, a line or a text out: a history checked, its witness written, a witness verified, a bulk as history lines.
 #![tactic(auto)]
 
 mod answer;
 mod broken_line;
+mod bulk_answer;
+mod bulk_line;
 mod cause_name;
 mod check_answer;
 mod input;
@@ -16,4 +18,4 @@ mod witness_answer;
 
 pub use status::Status;
 pub use stream_fault::StreamFault;
-pub use streams::{check_stream, verify_stream, witness_stream};
+pub use streams::{bulk_stream, check_stream, verify_stream, witness_stream};

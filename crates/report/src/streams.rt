@@ -1,11 +1,13 @@
 ghost use Rattle.std.specs.Prelude.{◌≡◌, ◌≢◌, ◌≤◌, ℕ, IfOk, IsErrOf, MatchResult, take};
 ghost use Rattle.std.specs.Io.KnownBytes.{Appends, Keeps};
 ghost use Rattle.report.specs.aids.Enough.{stream_fault};
+ghost use Rattle.report.specs.Bulk.{AnswersBulk};
 ghost use Rattle.report.specs.Verdict.{AnswersInput, HasAnswer, HasFront, IsAnswered, IsCutOff, VerifiesInputs, WitnessesInput};
 
 use crate::answer::Answer;
+use crate::bulk_answer::bulk_answer;
 use crate::check_answer::check_answer;
-use crate::input::{InputFault, read_enough};
+use crate::input::{InputFault, read_all, read_enough};
 use crate::output::write_text;
 use crate::status::Status;
 use crate::stream_fault::StreamFault;
@@ -140,6 +142,45 @@ pub fn verify_stream<R: Read, Q: Read, W: Write>(
     match verify_input(alloc, &bytes, witness, conflicts) {
         Ok(answer) => write_answer(writer, &answer),
         Err(fault) => Err(fault_of(fault)),
+    }
+}
+
+/// Reads the body of a bulk request and then its reply, each to its end, and writes their lines in a history: the calls of
+/// all items, numbered from `first`, and then a reply or a lost line for each. Where they are refused it writes one line:
+/// `refused line=L cause=NAME`, `refused cause=count` or `refused item=I cause=kind`, with the first fault.
+///
+/// The status of the reply is taken to be 200. Both are read before either is judged.
+pub fn bulk_stream<R: Read, Q: Read, W: Write>(
+    alloc: Global,
+    first: u64,
+    body: &mut R,
+    reply: &mut Q,
+    writer: &mut W,
+) -> Result<Status, StreamFault>
+    // What it wrote are the lines of the one's bytes with the other's, and it answers yes; or the line of their first
+    // fault, and it answers refused.
+    ensures answered { IfOk result (λ status. HasAnswer (AnswersBulk first
+        (R.remaining body.old) (Q.remaining reply.old) status)
+        (W.contents writer.old) (W.contents writer.new)) }
+    ensures cut_off { IsErrOf result StreamFault.Write
+        → HasFront (AnswersBulk first (R.remaining body.old) (Q.remaining reply.old))
+        (W.contents writer.old) (W.contents writer.new) }
+    ensures unread { IsErrOf result StreamFault.Read → Keeps (W.contents writer.old)
+        (W.contents writer.new) }
+    ensures no_memory { IsErrOf result StreamFault.NoMemory → Keeps (W.contents writer.old)
+        (W.contents writer.new) }
+{
+    let body = match read_all(alloc, body) {
+        Ok(bytes) => bytes,
+        Err(fault) => return Err(fault_of(fault)),
+    };
+    let reply = match read_all(alloc, reply) {
+        Ok(bytes) => bytes,
+        Err(fault) => return Err(fault_of(fault)),
+    };
+    match bulk_answer(alloc, first, &body, &reply) {
+        Ok(answer) => write_answer(writer, &answer),
+        Err(_) => Err(StreamFault::NoMemory),
     }
 }
 

@@ -267,6 +267,44 @@ fn files_of_a_verify(rt: HostRuntime) -> Result<(), Fail> {
     Ok(())
 }
 
+// An empty reply is no JSON; both files are read before either is judged.
+#[test]
+fn files_of_a_bulk(rt: HostRuntime) -> Result<(), Fail> {
+    let line = "refused line=1 cause=syntax\n";
+    let fault = Err(StreamFault::Read);
+    for (body, reply, wanted, text, steps) in [
+        (
+            "h",
+            "w",
+            Ok(Status::Refused),
+            line,
+            "open h;open w;read h;read w;",
+        ),
+        (
+            "h",
+            "broken",
+            fault,
+            "",
+            "open h;open broken;read h;read broken;",
+        ),
+        (
+            "absent",
+            "w",
+            fault,
+            "",
+            "open absent;tell casbench: absent: no such file;",
+        ),
+    ] {
+        let words = Words::Bulk {
+            body,
+            reply,
+            first: 0,
+        };
+        runs(&rt, rt.alloc(), words, wanted, text, steps)?;
+    }
+    Ok(())
+}
+
 #[test]
 fn both_files_open_before_one_is_read(rt: HostRuntime) -> Result<(), Fail> {
     let alloc = rt.alloc();

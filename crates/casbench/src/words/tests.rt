@@ -73,6 +73,27 @@ fn files_with_names_of_their_own(rt: HostRuntime) -> Result<(), Fail> {
     )
 }
 
+#[test]
+fn bulks_and_their_first_numbers(rt: HostRuntime) -> Result<(), Fail> {
+    for (words, first) in [
+        (&["casbench", "bulk", "b", "r"][..], 0),
+        (&["casbench", "bulk", "b", "r", "--first", "7"][..], 7),
+        (&["casbench", "bulk", "--first", "0", "b", "r"][..], 0),
+        (
+            &["casbench", "bulk", "b", "--first=18446744073709551615", "r"][..],
+            u64::MAX,
+        ),
+    ] {
+        let wanted = Words::Bulk {
+            body: "b",
+            reply: "r",
+            first,
+        };
+        reads(&rt, rt.alloc(), words, wanted)?;
+    }
+    Ok(())
+}
+
 // The kind and the text of the error that the words are.
 fn refusal(alloc: Global, words: &[&str]) -> Result<(ErrorKind, String), Fail> {
     match read_words(alloc, words) {
@@ -85,6 +106,34 @@ fn refuses(rt: &impl Abort, alloc: Global, words: &[&str], wanted: ErrorKind) ->
     let (kind, text) = refusal(alloc, words)?;
     assert_eq!(rt; kind, wanted, "{words:?}");
     assert!(rt; text.starts_with("error: "), "{words:?}");
+    Ok(())
+}
+
+#[test]
+fn refused_words_of_a_bulk(rt: HostRuntime) -> Result<(), Fail> {
+    let number = ErrorKind::ValueValidation;
+    let unknown = ErrorKind::UnknownArgument;
+    let missing = ErrorKind::MissingRequiredArgument;
+    for (words, wanted) in [
+        (&["casbench", "bulk"][..], missing),
+        (&["casbench", "bulk", "b", "--first", "1"][..], missing),
+        (&["casbench", "bulk", "b", "r", "1"][..], unknown),
+        (&["casbench", "bulk", "b", "r", "--first", "x"][..], number),
+        (&["casbench", "bulk", "b", "r", "--first="][..], number),
+        (&["casbench", "bulk", "b", "r", "--first=-1"][..], number),
+        (&["casbench", "bulk", "b", "r", "--first=1.0"][..], number),
+        (
+            &["casbench", "bulk", "b", "r", "--first=18446744073709551616"][..],
+            number,
+        ),
+        (
+            &["casbench", "bulk", "b", "r", "--first=1", "--first=1"][..],
+            ErrorKind::ArgumentConflict,
+        ),
+        (&["casbench", "check", "h", "--first=1"][..], unknown),
+    ] {
+        refuses(&rt, rt.alloc(), words, wanted)?;
+    }
     Ok(())
 }
 
@@ -115,6 +164,8 @@ const WITNESS_EXAMPLE: &str = "\n  casbench witness history.ndjson > history.wit
 
 const VERIFY_EXAMPLE: &str = "\n  casbench verify history.ndjson history.witness\n";
 
+const BULK_EXAMPLE: &str = "\n  casbench bulk bulk.body bulk.reply --first 100 >> history.ndjson\n";
+
 // The words ask for help, and it has the example.
 fn helps(rt: &impl Abort, alloc: Global, words: &[&str], example: &str) -> Result<(), Fail> {
     let (kind, text) = refusal(alloc, words)?;
@@ -130,11 +181,13 @@ fn help_has_the_examples(rt: HostRuntime) -> Result<(), Fail> {
         helps(&rt, alloc, &["casbench", asked], CHECK_EXAMPLE)?;
         helps(&rt, alloc, &["casbench", asked], WITNESS_EXAMPLE)?;
         helps(&rt, alloc, &["casbench", asked], VERIFY_EXAMPLE)?;
+        helps(&rt, alloc, &["casbench", asked], BULK_EXAMPLE)?;
     }
     for (name, example) in [
         (CHECK, CHECK_EXAMPLE),
         (WITNESS, WITNESS_EXAMPLE),
         (VERIFY, VERIFY_EXAMPLE),
+        (BULK, BULK_EXAMPLE),
     ] {
         helps(&rt, alloc, &["casbench", "help", name], example)?;
         helps(&rt, alloc, &["casbench", name, "--help"], example)?;

@@ -4,6 +4,8 @@ use std::io::{self, ErrorKind};
 use std::process::Abort;
 use std::test::Fail;
 
+mod bulks;
+mod limits;
 mod verifying;
 mod witnesses;
 

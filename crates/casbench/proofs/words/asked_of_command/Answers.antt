@@ -22,3 +22,13 @@ returns-in-verify c =
     let witness : option_map (λ f. f.now) c.get_str.result ≡ first_of (codes "witness") (rows_of (found_of c.args.given.now)) =
     c.get_str.ensures ∙ first_value-rows (found_of c.args.given.now) (codes "witness") in
     rw (c.in-verify.is, c.verify_words.ensures, history, witness) refl
+
+pub returns-in-bulk : goal.returns-in-bulk
+returns-in-bulk c =
+    let body : option_map (λ f. f.now) c.get_str-in-bulk.result ≡ first_of (codes "body") (rows_of (found_of c.args.given.now)) =
+    c.get_str-in-bulk.ensures ∙ first_value-rows (found_of c.args.given.now) (codes "body") in
+    let reply : option_map (λ f. f.now) c.get_str-in-bulk-2.result ≡ first_of (codes "reply") (rows_of (found_of c.args.given.now)) =
+    c.get_str-in-bulk-2.ensures ∙ first_value-rows (found_of c.args.given.now) (codes "reply") in
+    let first : option_map (λ f. f.now) c.get_str-in-bulk-3.result ≡ first_of (codes "first") (rows_of (found_of c.args.given.now)) =
+    c.get_str-in-bulk-3.ensures ∙ first_value-rows (found_of c.args.given.now) (codes "first") in
+    rw (c.in-bulk.is, c.bulk_words.ensures, body, reply, first) refl

@@ -2,7 +2,7 @@ use Rattle.std.proofs.Common.{rules, ◌≡◌, ◌∙◌, true, codes, ap, ap�
 use Rattle.std.proofs.lemmas.Result.{IfOk-weaker}
 use Rattle.clap.specs.Simple.{on_top}
 use Rattle.clap.specs.Words.{App, app_of, new_app, with_subcommand}
-use Rattle.casbench.specs.Asked.{check_line, witness_line}
+use Rattle.casbench.specs.Asked.{check_line, verify_line, witness_line}
 use Rattle.casbench.proofs.words.program.Goals as goal
 
 abbrev named_line : App
@@ -17,5 +17,8 @@ returns c =
     let two : app_of c.in_ok-subcommand-2.field-0 ≡ with_subcommand (with_subcommand named_line check_line.top) witness_line.top =
     c.in_ok-subcommand-2.ensures.shape c.in_ok-witness_command.ensures.local
     ∙ ap₂ with_subcommand one (ap (λ (a : App). a.top) c.in_ok-witness_command.ensures.line) in
-    IfOk-weaker c.subcommand-3.result _ _ (λ r h. h.shape c.in_ok-verify_command.ensures.local
-    ∙ ap₂ with_subcommand two (ap (λ (a : App). a.top) c.in_ok-verify_command.ensures.line)) c.subcommand-3.ensures
+    let three : app_of c.in_ok-subcommand-3.field-0 ≡ with_subcommand (with_subcommand (with_subcommand named_line check_line.top) witness_line.top) verify_line.top =
+    c.in_ok-subcommand-3.ensures.shape c.in_ok-verify_command.ensures.local
+    ∙ ap₂ with_subcommand two (ap (λ (a : App). a.top) c.in_ok-verify_command.ensures.line) in
+    IfOk-weaker c.subcommand-4.result _ _ (λ r h. h.shape c.in_ok-bulk_command.ensures.local
+    ∙ ap₂ with_subcommand three (ap (λ (a : App). a.top) c.in_ok-bulk_command.ensures.line)) c.subcommand-4.ensures

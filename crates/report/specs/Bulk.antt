@@ -1,0 +1,18 @@
+-- What is written of a bulk request and its reply.
+use Rattle.std.specs.Prelude.{◌≡◌, ℕ, List, Ok, Err, Option, IfSome}
+use Rattle.api_lines.specs.declared.bulk_fault.BulkFault.{BulkFault}
+use Rattle.history.specs.BulkText.{bulk_history}
+use Rattle.report.specs.Lines.{bulk_fault_line}
+use Rattle.report.specs.declared.status.Status.{Status}
+use Rattle.report.specs.declared.status.Status.TheVariants.{Yes, No, Refused}
+
+-- The lines of the bulk's calls, numbered from first on, and of their endings, where its status is 200; or the line of the
+-- first fault.
+abbrev pub IsBulkAnswer : ℕ → List ℕ → List ℕ → Status → List ℕ → Type 0
+IsBulkAnswer first body reply Yes text = bulk_history first body 200 reply ≡ Ok text
+IsBulkAnswer first body reply No text = ⊥
+IsBulkAnswer first body reply Refused line = (told : BulkFault) × (line ≡ bulk_fault_line told) × (bulk_history first body 200 reply ≡ Err told)
+
+-- what is written of the bytes that the two readers had
+abbrev pub AnswersBulk : ℕ → Option (List ℕ) → Option (List ℕ) → Status → List ℕ → Type 0
+AnswersBulk first body reply status text = IfSome body (λ b. IfSome reply (λ r. IsBulkAnswer first b r status text))
