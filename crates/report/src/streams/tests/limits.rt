@@ -21,10 +21,24 @@ fn gets(alloc: Global, count: usize) -> Result<String, Fail> {
 fn most_events(rt: HostRuntime) -> Result<(), Fail> {
     let text = gets(rt.alloc(), MOST_EVENTS)?;
     let line = "yes docs=1 calls=1048576 left_out=1048576\n";
-    check_text(&rt, rt.alloc(), "most events", text.as_str(), line)?;
+    writes(
+        &rt,
+        rt.alloc(),
+        "most events",
+        PLAIN_CHECK,
+        (text.as_str(), ""),
+        line,
+    )?;
     let text = gets(rt.alloc(), MOST_EVENTS + 1)?;
     let line = "refused line=1048577 cause=full\n";
-    check_text(&rt, rt.alloc(), "one event more", text.as_str(), line)
+    writes(
+        &rt,
+        rt.alloc(),
+        "one event more",
+        PLAIN_CHECK,
+        (text.as_str(), ""),
+        line,
+    )
 }
 
 #[test]
@@ -37,7 +51,28 @@ fn most_lines(rt: HostRuntime) -> Result<(), Fail> {
         for _ in 0..count {
             text.push_str("\n")?;
         }
-        check_text(&rt, rt.alloc(), "lines", text.as_str(), line)?;
+        writes(
+            &rt,
+            rt.alloc(),
+            "lines",
+            PLAIN_CHECK,
+            (text.as_str(), ""),
+            line,
+        )?;
+    }
+    Ok(())
+}
+
+// A line of spaces: the longest that there may be, and one byte more.
+#[test]
+fn longest_line(rt: HostRuntime) -> Result<(), Fail> {
+    let spaces = [b' '; 65_537];
+    for (count, line) in [
+        (65_536, "yes docs=0 calls=0 left_out=0\n"),
+        (65_537, "refused line=1 cause=long\n"),
+    ] {
+        let text = str::from_utf8(&spaces[..count])?;
+        writes(&rt, rt.alloc(), "spaces", PLAIN_CHECK, (text, ""), line)?;
     }
     Ok(())
 }

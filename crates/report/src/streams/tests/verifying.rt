@@ -1,28 +1,5 @@
 use super::*;
 
-fn verify_text(
-    rt: &impl Abort,
-    alloc: Global,
-    case: &str,
-    texts: (&str, &str),
-    wanted: (Status, &str),
-) -> Result<(), Fail> {
-    let (history, witness) = texts;
-    let mut history = history.as_bytes();
-    let mut witness = witness.as_bytes();
-    let mut writer = Vec::new(alloc);
-    let status = verify_stream(
-        alloc,
-        &mut history,
-        &mut witness,
-        &mut writer,
-        Conflicts::Plain,
-    )?;
-    let written = str::from_utf8(writer.as_slice())?;
-    assert_eq!(rt; (status, written), wanted, "{case}");
-    Ok(())
-}
-
 #[test]
 fn verified_witnesses(rt: HostRuntime) -> Result<(), Fail> {
     for (case, history, witness, line) in [
@@ -69,19 +46,20 @@ fn verified_witnesses(rt: HostRuntime) -> Result<(), Fail> {
             "verified docs=1 calls=2 left_out=0\n",
         ),
     ] {
-        verify_text(
+        writes(
             &rt,
             rt.alloc(),
             case,
+            PLAIN_VERIFY,
             (history, witness),
-            (Status::Yes, line),
+            line,
         )?;
     }
     Ok(())
 }
 
 #[test]
-fn broken_places(rt: HostRuntime) -> Result<(), Fail> {
+fn places_out_of_order(rt: HostRuntime) -> Result<(), Fail> {
     for (case, history, witness, line) in [
         (
             "verify-illegal",
@@ -113,6 +91,22 @@ fn broken_places(rt: HostRuntime) -> Result<(), Fail> {
             texts::STRANGE_PLACE_WITNESS,
             "broken entry=0 cause=stranger place=1\n",
         ),
+    ] {
+        writes(
+            &rt,
+            rt.alloc(),
+            case,
+            PLAIN_VERIFY,
+            (history, witness),
+            line,
+        )?;
+    }
+    Ok(())
+}
+
+#[test]
+fn places_of_wrong_records(rt: HostRuntime) -> Result<(), Fail> {
+    for (case, history, witness, line) in [
         (
             "an unanswered get",
             texts::PENDING_GET,
@@ -144,12 +138,13 @@ fn broken_places(rt: HostRuntime) -> Result<(), Fail> {
             "broken entry=0 cause=illegal place=1\n",
         ),
     ] {
-        verify_text(
+        writes(
             &rt,
             rt.alloc(),
             case,
+            PLAIN_VERIFY,
             (history, witness),
-            (Status::No, line),
+            line,
         )?;
     }
     Ok(())
@@ -195,12 +190,13 @@ fn broken_entries(rt: HostRuntime) -> Result<(), Fail> {
             "broken entry=0 cause=illegal place=0\n",
         ),
     ] {
-        verify_text(
+        writes(
             &rt,
             rt.alloc(),
             case,
+            PLAIN_VERIFY,
             (history, witness),
-            (Status::No, line),
+            line,
         )?;
     }
     Ok(())
@@ -252,12 +248,13 @@ fn refused_files(rt: HostRuntime) -> Result<(), Fail> {
             "refused file=history line=2 cause=second-call\n",
         ),
     ] {
-        verify_text(
+        writes(
             &rt,
             rt.alloc(),
             case,
+            PLAIN_VERIFY,
             (history, witness),
-            (Status::Refused, line),
+            line,
         )?;
     }
     Ok(())
@@ -266,6 +263,8 @@ fn refused_files(rt: HostRuntime) -> Result<(), Fail> {
 // For now the entries of a history of two documents are not looked at.
 #[test]
 fn two_documents(rt: HostRuntime) -> Result<(), Fail> {
+    let history = texts::DOCUMENTS_INTERLEAVED;
+    let line = "broken doc=1 cause=doc-missing\n";
     for (case, witness) in [
         ("no entry", ""),
         (
@@ -281,138 +280,14 @@ fn two_documents(rt: HostRuntime) -> Result<(), Fail> {
             texts::VERIFY_DOCUMENT_TWICE_WITNESS,
         ),
     ] {
-        let line = "broken doc=1 cause=doc-missing\n";
-        let history = texts::DOCUMENTS_INTERLEAVED;
-        verify_text(
+        writes(
             &rt,
             rt.alloc(),
             case,
+            PLAIN_VERIFY,
             (history, witness),
-            (Status::No, line),
+            line,
         )?;
     }
-    Ok(())
-}
-
-#[test]
-fn a_read_fails(rt: HostRuntime) -> Result<(), Fail> {
-    for (at, fails, entries_at, entries_fail) in [
-        (0, true, 32, false),
-        (200, true, 32, false),
-        (400, true, 32, false),
-        (400, false, 0, true),
-        (400, false, 20, true),
-    ] {
-        let mut history = Given {
-            bytes: &texts::INDEX_THEN_GET.as_bytes()[..at],
-            most: usize::MAX,
-            fails,
-        };
-        let mut witness = Given {
-            bytes: &texts::INDEX_THEN_GET_WITNESS.as_bytes()[..entries_at],
-            most: usize::MAX,
-            fails: entries_fail,
-        };
-        let mut writer = Vec::new(rt.alloc());
-        let result = verify_stream(
-            rt.alloc(),
-            &mut history,
-            &mut witness,
-            &mut writer,
-            Conflicts::Plain,
-        );
-        assert_eq!(rt;
-            result,
-            Err(StreamFault::Read),
-            "after {at} and {entries_at} bytes"
-        );
-        assert!(rt; writer.is_empty(), "after {at} and {entries_at} bytes");
-    }
-    Ok(())
-}
-
-#[test]
-fn a_refused_history_leaves_the_witness_unread(rt: HostRuntime) -> Result<(), Fail> {
-    let mut history = texts::SECOND_REPLY.as_bytes();
-    let mut witness = Given {
-        bytes: &[],
-        most: usize::MAX,
-        fails: true,
-    };
-    let mut writer = Vec::new(rt.alloc());
-    let status = verify_stream(
-        rt.alloc(),
-        &mut history,
-        &mut witness,
-        &mut writer,
-        Conflicts::Plain,
-    )?;
-    assert_eq!(rt; status, Status::Refused);
-    assert_eq!(rt;
-        str::from_utf8(writer.as_slice())?,
-        "refused file=history line=3 cause=ended\n"
-    );
-    Ok(())
-}
-
-#[test]
-fn a_write_fails(rt: HostRuntime) -> Result<(), Fail> {
-    for (left, fails, written) in [
-        (3, true, "ver"),
-        (3, false, "ver"),
-        (0, true, ""),
-        (0, false, ""),
-    ] {
-        let mut history = texts::INDEX_THEN_GET.as_bytes();
-        let mut witness = texts::INDEX_THEN_GET_WITNESS.as_bytes();
-        let mut writer = Taken {
-            text: Vec::new(rt.alloc()),
-            most: usize::MAX,
-            left,
-            fails,
-        };
-        let result = verify_stream(
-            rt.alloc(),
-            &mut history,
-            &mut witness,
-            &mut writer,
-            Conflicts::Plain,
-        );
-        assert_eq!(rt; result, Err(StreamFault::Write), "after {left} bytes");
-        assert_eq!(rt; str::from_utf8(writer.text.as_slice())?, written);
-    }
-    Ok(())
-}
-
-#[test]
-fn a_byte_each_time(rt: HostRuntime) -> Result<(), Fail> {
-    let mut history = Given {
-        bytes: texts::VERIFY_GOOD_ORDER.as_bytes(),
-        most: 1,
-        fails: false,
-    };
-    let mut witness = Given {
-        bytes: texts::VERIFY_GOOD_ORDER_WITNESS.as_bytes(),
-        most: 1,
-        fails: false,
-    };
-    let mut writer = Taken {
-        text: Vec::new(rt.alloc()),
-        most: 1,
-        left: usize::MAX,
-        fails: false,
-    };
-    let status = verify_stream(
-        rt.alloc(),
-        &mut history,
-        &mut witness,
-        &mut writer,
-        Conflicts::Maybe,
-    )?;
-    assert_eq!(rt; status, Status::Yes);
-    assert_eq!(rt;
-        str::from_utf8(writer.text.as_slice())?,
-        "verified docs=1 calls=4 left_out=0\n"
-    );
     Ok(())
 }
