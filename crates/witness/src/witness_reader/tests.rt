@@ -1,9 +1,7 @@
 use super::*;
-use api_lines::{TextCause, TextFault};
+use api_lines::TextFault;
+use std::process::Abort;
 use std::test::Fail;
-
-// The record of a place, and its sequence number and term.
-type Row = (usize, Option<(u64, u64)>);
 
 const BLANK_LINES: &str = "\n \t\r\n\n   ";
 
@@ -46,344 +44,296 @@ const DOCUMENT_TWICE: &str = r#"{"doc":"a"}
 const WITH_BLANK_LINES: &str =
     "\r\n{\"doc\":\"a\"}\r\n \t\n{\"doc\":\"b\"}\n\n\t {\"rec\" : 7} \r\n\n{\"doc\":\"c\"}";
 
-// Whether the places are those of the rows.
-fn are_rows(places: &[Place], rows: &[Row]) -> bool {
-    places.len() == rows.len()
-        && places.iter().zip(rows.iter()).all(|(place, row)| {
-            place.rec == row.0 && place.pair.map(|pair| (pair.seq(), pair.term())) == row.1
-        })
+// The documents with their places, as texts.
+fn said(alloc: Global, documents: &[(DocId, Vec<Place>)]) -> Result<String, Fail> {
+    let mut said = String::new(alloc);
+    for document in documents {
+        let id = document.0.as_str();
+        said.push_str(&format!(in alloc; "[{id}]")?)?;
+        for place in &document.1 {
+            said.push_str(&place_said(alloc, *place)?)?;
+        }
+    }
+    Ok(said)
 }
 
-// Whether the documents of the text are those wanted, by their ids and places.
-fn gives(alloc: Global, text: &str, want: &[(&str, &[Row])]) -> Result<bool, ReadFault> {
-    let documents = read_witness(alloc, text.as_bytes())?;
-    Ok(
-        documents.len() == want.len()
-            && documents.iter().zip(want.iter()).all(|(document, wanted)| {
-                document.0.as_str() == wanted.0 && are_rows(&document.1, wanted.1)
-            }),
-    )
+fn place_said(alloc: Global, place: Place) -> Result<String, Fail> {
+    let rec = place.rec;
+    match place.pair {
+        None => Ok(format!(in alloc; " {rec}")?),
+        Some(pair) => {
+            let seq = pair.seq();
+            let term = pair.term();
+            Ok(format!(in alloc; " {rec} (seq {seq} term {term})")?)
+        }
+    }
 }
 
-// The first line that is refused, with its cause; `None` where all are read. Where memory is refused the test ends with
-// an error.
-fn fault_of(alloc: Global, text: &[u8]) -> Result<Option<(u64, TextCause)>, Fail> {
+// The documents of a text, or the first line that is refused with its cause. Where memory is refused the test ends with an
+// error.
+fn told(alloc: Global, text: &[u8]) -> Result<String, Fail> {
     match read_witness(alloc, text) {
-        Ok(_) => Ok(None),
-        Err(ReadFault::Text(TextFault { line, cause })) => Ok(Some((line, cause))),
+        Ok(documents) => said(alloc, &documents),
+        Err(ReadFault::Text(TextFault { line, cause })) => {
+            Ok(format!(in alloc; "line {line}: {cause:?}")?)
+        }
         Err(ReadFault::NoMemory) => Err("no memory".into()),
     }
 }
 
-#[test]
-fn texts_read(rt: HostRuntime) -> Result<(), Fail> {
-    for (text, want) in [
-        ("", &[][..]),
-        (BLANK_LINES, &[][..]),
-        (r#"{"doc":"d"}"#, &[("d", &[][..])][..]),
-        (
-            LOST_WRITE_EXPLAINS_CONFLICT,
-            &[("d", &[(0, None), (1, Some((2, 3))), (2, None)][..])][..],
-        ),
-        (INDEX_THEN_GET, &[("d", &[(0, None), (1, None)][..])][..]),
-        (
-            OVERLAPPING_GETS,
-            &[("d", &[(0, None), (3, None), (1, None), (2, None)][..])][..],
-        ),
-        (
-            SCARCE_NUMBER_ENOUGH,
-            &[
-                ("a", &[(0, None), (1, Some((2, 1))), (2, None)][..]),
-                ("b", &[(0, None), (1, Some((4, 1))), (2, None)][..]),
-            ][..],
-        ),
-        (
-            DOCUMENT_TWICE,
-            &[
-                ("a", &[(0, None), (1, None)][..]),
-                ("a", &[(0, None), (1, None)][..]),
-            ][..],
-        ),
-        (
-            WITH_BLANK_LINES,
-            &[("a", &[][..]), ("b", &[(7, None)][..]), ("c", &[][..])][..],
-        ),
-    ] {
-        assert!(rt; gives(rt.alloc(), text, want)?, "{text}");
+// Asserts what is told of a text.
+fn is_told(rt: &impl Abort, alloc: Global, text: &str, want: &str) -> Result<(), Fail> {
+    let got = told(alloc, text.as_bytes())?;
+    assert_eq!(rt; got.as_str(), want, "{text}");
+    Ok(())
+}
+
+// Asserts what is told of texts.
+fn all_told(rt: &impl Abort, alloc: Global, rows: &[(&str, &str)]) -> Result<(), Fail> {
+    for (text, want) in rows {
+        is_told(rt, alloc, text, want)?;
     }
     Ok(())
 }
 
-// Each line after a document "d".
 #[test]
-fn places_read(rt: HostRuntime) -> Result<(), Fail> {
-    for (line, want) in [
-        (r#"{"rec":4294967295}"#, (4_294_967_295, None)),
-        (r#"{"rec":0,"seq":0,"term":1}"#, (0, Some((0, 1)))),
-        (
-            r#"{"term":9223372036854775807,"seq":9223372036854775807,"rec":1}"#,
+fn texts_read(rt: HostRuntime) -> Result<(), Fail> {
+    all_told(
+        &rt,
+        rt.alloc(),
+        &[
+            ("", ""),
+            (BLANK_LINES, ""),
+            (r#"{"doc":"d"}"#, "[d]"),
+            (LOST_WRITE_EXPLAINS_CONFLICT, "[d] 0 1 (seq 2 term 3) 2"),
+            (INDEX_THEN_GET, "[d] 0 1"),
+            (OVERLAPPING_GETS, "[d] 0 3 1 2"),
             (
-                1,
-                Some((9_223_372_036_854_775_807, 9_223_372_036_854_775_807)),
+                SCARCE_NUMBER_ENOUGH,
+                "[a] 0 1 (seq 2 term 1) 2[b] 0 1 (seq 4 term 1) 2",
             ),
-        ),
-        // Of a key named twice the last value counts.
-        (r#"{"rec":null,"rec":-1,"rec":4}"#, (4, None)),
-        (
-            r#"{"rec":0,"seq":5,"term":0,"seq":6,"term":7}"#,
-            (0, Some((6, 7))),
-        ),
-    ] {
-        let text = format!(in rt.alloc(); "{{\"doc\":\"d\"}}\n{line}")?;
-        assert!(rt;
-            gives(rt.alloc(), &text, &[("d", &[want][..])][..])?,
-            "{line}"
-        );
+            (DOCUMENT_TWICE, "[a] 0 1[a] 0 1"),
+            (WITH_BLANK_LINES, "[a][b] 7[c]"),
+        ],
+    )
+}
+
+// Asserts what is told of lines, each after a document "d".
+fn all_told_later(rt: &impl Abort, alloc: Global, rows: &[(&str, &str)]) -> Result<(), Fail> {
+    for (line, want) in rows {
+        let text = format!(in alloc; "{{\"doc\":\"d\"}}\n{line}")?;
+        is_told(rt, alloc, &text, want)?;
     }
     Ok(())
+}
+
+#[test]
+fn places_read(rt: HostRuntime) -> Result<(), Fail> {
+    all_told_later(
+        &rt,
+        rt.alloc(),
+        &[
+            (r#"{"rec":4294967295}"#, "[d] 4294967295"),
+            (r#"{"rec":0,"seq":0,"term":1}"#, "[d] 0 (seq 0 term 1)"),
+            (
+                r#"{"term":9223372036854775807,"seq":9223372036854775807,"rec":1}"#,
+                "[d] 1 (seq 9223372036854775807 term 9223372036854775807)",
+            ),
+            // Of a key named twice the last value counts.
+            (r#"{"rec":null,"rec":-1,"rec":4}"#, "[d] 4"),
+            (
+                r#"{"rec":0,"seq":5,"term":0,"seq":6,"term":7}"#,
+                "[d] 0 (seq 6 term 7)",
+            ),
+        ],
+    )
 }
 
 #[test]
 fn texts_refused(rt: HostRuntime) -> Result<(), Fail> {
-    for (text, line, cause) in [
-        ("{\"rec\":0}\n", 1, TextCause::Shape),
-        ("{\"doc\":\"\"}\n", 1, TextCause::Id),
-        (
-            "{\"doc\":\"d\"}\n{\"rec\":0,\"seq\":1}\n",
-            2,
-            TextCause::Half,
-        ),
-        (
-            "{\"doc\":\"d\"}\n{\"rec\":4294967296}\n",
-            2,
-            TextCause::Range,
-        ),
-        (
-            "{\"doc\":\"d\"}\n{\"rec\":0,\"seq\":0,\"term\":0}\n",
-            2,
-            TextCause::Range,
-        ),
-        // Blank lines count, and nothing is read after the first line that is refused.
-        (
-            "\n \t\r\n{\"doc\":\"d\"}\n\n{\"rec\":-1}\n{\"rec\":",
-            5,
-            TextCause::Range,
-        ),
-        (
-            "{\"doc\":\"d\"}\n{\"rec\":0}\n{\"rec\":1}\n{\"doc\":0}\n{\"rec\":-1}",
-            4,
-            TextCause::Shape,
-        ),
-        ("{\"doc\":\"d\"}{\"rec\":0}", 1, TextCause::Json),
-        ("{\"doc\":\n\"d\"}", 1, TextCause::Json),
-        ("\u{b}\n", 1, TextCause::Json),
-        ("\u{a0}\n", 1, TextCause::Json),
-    ] {
-        let got = fault_of(rt.alloc(), text.as_bytes())?;
-        assert_eq!(rt; got, Some((line, cause)), "{text}");
+    all_told(
+        &rt,
+        rt.alloc(),
+        &[
+            ("{\"rec\":0}\n", "line 1: Shape"),
+            ("{\"doc\":\"\"}\n", "line 1: Id"),
+            ("{\"doc\":\"d\"}\n{\"rec\":0,\"seq\":1}\n", "line 2: Half"),
+            ("{\"doc\":\"d\"}\n{\"rec\":4294967296}\n", "line 2: Range"),
+            (
+                "{\"doc\":\"d\"}\n{\"rec\":0,\"seq\":0,\"term\":0}\n",
+                "line 2: Range",
+            ),
+            // Blank lines count, and nothing is read after the first line that is refused.
+            (
+                "\n \t\r\n{\"doc\":\"d\"}\n\n{\"rec\":-1}\n{\"rec\":",
+                "line 5: Range",
+            ),
+            (
+                "{\"doc\":\"d\"}\n{\"rec\":0}\n{\"rec\":1}\n{\"doc\":0}\n{\"rec\":-1}",
+                "line 4: Shape",
+            ),
+            ("{\"doc\":\"d\"}{\"rec\":0}", "line 1: Json"),
+            ("{\"doc\":\n\"d\"}", "line 1: Json"),
+            ("\u{b}\n", "line 1: Json"),
+            ("\u{a0}\n", "line 1: Json"),
+        ],
+    )
+}
+
+// Asserts the line and the cause for which a text is refused.
+fn is_refused(
+    rt: &impl Abort,
+    alloc: Global,
+    text: &str,
+    line: u64,
+    cause: &str,
+) -> Result<(), Fail> {
+    let want = format!(in alloc; "line {line}: {cause}")?;
+    is_told(rt, alloc, text, &want)
+}
+
+// Asserts the causes for which lines are refused: before any document, and after a document "d".
+fn all_refused(rt: &impl Abort, alloc: Global, rows: &[(&str, &str, &str)]) -> Result<(), Fail> {
+    for (line, first, later) in rows {
+        is_refused(rt, alloc, line, 1, first)?;
+        let text = format!(in alloc; "{{\"doc\":\"d\"}}\n{line}\n")?;
+        is_refused(rt, alloc, &text, 2, later)?;
     }
     Ok(())
 }
 
-// Each line before any document, and after a document "d".
 #[test]
 fn lines_refused(rt: HostRuntime) -> Result<(), Fail> {
-    for (line, first, later) in [
-        ("{\"rec\":0", TextCause::Json, TextCause::Json),
-        ("rec", TextCause::Json, TextCause::Json),
-        ("1", TextCause::Shape, TextCause::Shape),
-        ("null", TextCause::Shape, TextCause::Shape),
-        ("\"doc\"", TextCause::Shape, TextCause::Shape),
-        ("[{\"doc\":\"d\"}]", TextCause::Shape, TextCause::Shape),
-        ("{}", TextCause::Shape, TextCause::Shape),
-        ("{\"Doc\":\"d\"}", TextCause::Shape, TextCause::Shape),
-        ("{\"doc\":1}", TextCause::Shape, TextCause::Shape),
-        ("{\"doc\":null}", TextCause::Shape, TextCause::Shape),
-        ("{\"doc\":[\"d\"]}", TextCause::Shape, TextCause::Shape),
-        (
-            "{\"doc\":\"d\",\"doc\":null}",
-            TextCause::Shape,
-            TextCause::Shape,
-        ),
-        // The document is looked for first.
-        (
-            "{\"rec\":0,\"doc\":null}",
-            TextCause::Shape,
-            TextCause::Shape,
-        ),
-        (
-            "{\"rec\":\"0\",\"seq\":1,\"doc\":\"\"}",
-            TextCause::Id,
-            TextCause::Id,
-        ),
-        ("{\"doc\":\"d\",\"doc\":\"\"}", TextCause::Id, TextCause::Id),
-        ("{\"rec\":\"0\"}", TextCause::Shape, TextCause::Shape),
-        ("{\"rec\":null}", TextCause::Shape, TextCause::Shape),
-        ("{\"seq\":0,\"term\":1}", TextCause::Shape, TextCause::Shape),
-        (
-            "{\"rec\":0,\"seq\":null}",
-            TextCause::Shape,
-            TextCause::Shape,
-        ),
-        (
-            "{\"rec\":0,\"term\":null}",
-            TextCause::Shape,
-            TextCause::Shape,
-        ),
-        (
-            "{\"rec\":0,\"seq\":null,\"term\":null}",
-            TextCause::Shape,
-            TextCause::Shape,
-        ),
-        (
-            "{\"rec\":0,\"seq\":0,\"term\":\"1\"}",
-            TextCause::Shape,
-            TextCause::Shape,
-        ),
-        (
-            "{\"rec\":0,\"seq\":true,\"term\":1}",
-            TextCause::Shape,
-            TextCause::Shape,
-        ),
-        // A field of another kind, before half a pair and a number past its range.
-        ("{\"seq\":1}", TextCause::Shape, TextCause::Shape),
-        ("{\"term\":0}", TextCause::Shape, TextCause::Shape),
-        (
-            "{\"rec\":-1,\"seq\":-1,\"term\":\"\"}",
-            TextCause::Shape,
-            TextCause::Shape,
-        ),
-        (
-            "{\"rec\":-1,\"seq\":{}}",
-            TextCause::Shape,
-            TextCause::Shape,
-        ),
-        // A place before any document, before half a pair and a number past its range.
-        ("{\"rec\":0,\"seq\":0}", TextCause::Shape, TextCause::Half),
-        ("{\"rec\":0,\"term\":1}", TextCause::Shape, TextCause::Half),
-        // Half a pair, before a number past its range.
-        (
-            "{\"rec\":4294967296,\"seq\":0}",
-            TextCause::Shape,
-            TextCause::Half,
-        ),
-        (
-            "{\"rec\":1.0,\"term\":0}",
-            TextCause::Shape,
-            TextCause::Half,
-        ),
-        (
-            "{\"rec\":0,\"seq\":9223372036854775808}",
-            TextCause::Shape,
-            TextCause::Half,
-        ),
-        ("{\"rec\":4294967296}", TextCause::Shape, TextCause::Range),
-        (
-            "{\"rec\":18446744073709551616}",
-            TextCause::Shape,
-            TextCause::Range,
-        ),
-        ("{\"rec\":1.0}", TextCause::Shape, TextCause::Range),
-        ("{\"rec\":1e3}", TextCause::Shape, TextCause::Range),
-        ("{\"rec\":-1}", TextCause::Shape, TextCause::Range),
-        ("{\"rec\":-0}", TextCause::Shape, TextCause::Range),
-        (
-            "{\"rec\":4294967296,\"seq\":0,\"term\":1}",
-            TextCause::Shape,
-            TextCause::Range,
-        ),
-        (
-            "{\"rec\":0,\"seq\":0,\"term\":0}",
-            TextCause::Shape,
-            TextCause::Range,
-        ),
-        (
-            "{\"rec\":0,\"seq\":0,\"term\":9223372036854775808}",
-            TextCause::Shape,
-            TextCause::Range,
-        ),
-        (
-            "{\"rec\":0,\"seq\":9223372036854775808,\"term\":1}",
-            TextCause::Shape,
-            TextCause::Range,
-        ),
-        (
-            "{\"rec\":0,\"seq\":-0,\"term\":1}",
-            TextCause::Shape,
-            TextCause::Range,
-        ),
-        (
-            "{\"rec\":0,\"seq\":0,\"term\":1.0}",
-            TextCause::Shape,
-            TextCause::Range,
-        ),
-    ] {
-        let got = fault_of(rt.alloc(), line.as_bytes())?;
-        assert_eq!(rt; got, Some((1, first)), "{line}");
-        let text = format!(in rt.alloc(); "{{\"doc\":\"d\"}}\n{line}\n")?;
-        let got = fault_of(rt.alloc(), text.as_bytes())?;
-        assert_eq!(rt; got, Some((2, later)), "{line}");
-    }
-    Ok(())
+    all_refused(
+        &rt,
+        rt.alloc(),
+        &[
+            ("{\"rec\":0", "Json", "Json"),
+            ("rec", "Json", "Json"),
+            ("1", "Shape", "Shape"),
+            ("null", "Shape", "Shape"),
+            ("\"doc\"", "Shape", "Shape"),
+            ("[{\"doc\":\"d\"}]", "Shape", "Shape"),
+            ("{}", "Shape", "Shape"),
+            ("{\"Doc\":\"d\"}", "Shape", "Shape"),
+            ("{\"doc\":1}", "Shape", "Shape"),
+            ("{\"doc\":null}", "Shape", "Shape"),
+            ("{\"doc\":[\"d\"]}", "Shape", "Shape"),
+            ("{\"doc\":\"d\",\"doc\":null}", "Shape", "Shape"),
+            // The document is looked for first.
+            ("{\"rec\":0,\"doc\":null}", "Shape", "Shape"),
+            ("{\"rec\":\"0\",\"seq\":1,\"doc\":\"\"}", "Id", "Id"),
+            ("{\"doc\":\"d\",\"doc\":\"\"}", "Id", "Id"),
+            ("{\"rec\":\"0\"}", "Shape", "Shape"),
+            ("{\"rec\":null}", "Shape", "Shape"),
+            ("{\"seq\":0,\"term\":1}", "Shape", "Shape"),
+            ("{\"rec\":0,\"seq\":null}", "Shape", "Shape"),
+            ("{\"rec\":0,\"term\":null}", "Shape", "Shape"),
+            ("{\"rec\":0,\"seq\":null,\"term\":null}", "Shape", "Shape"),
+            ("{\"rec\":0,\"seq\":0,\"term\":\"1\"}", "Shape", "Shape"),
+            ("{\"rec\":0,\"seq\":true,\"term\":1}", "Shape", "Shape"),
+            // A field of another kind, before half a pair and a number past its range.
+            ("{\"seq\":1}", "Shape", "Shape"),
+            ("{\"term\":0}", "Shape", "Shape"),
+            ("{\"rec\":-1,\"seq\":-1,\"term\":\"\"}", "Shape", "Shape"),
+            ("{\"rec\":-1,\"seq\":{}}", "Shape", "Shape"),
+            // A place before any document, before half a pair and a number past its range.
+            ("{\"rec\":0,\"seq\":0}", "Shape", "Half"),
+            ("{\"rec\":0,\"term\":1}", "Shape", "Half"),
+            // Half a pair, before a number past its range.
+            ("{\"rec\":4294967296,\"seq\":0}", "Shape", "Half"),
+            ("{\"rec\":1.0,\"term\":0}", "Shape", "Half"),
+            ("{\"rec\":0,\"seq\":9223372036854775808}", "Shape", "Half"),
+            ("{\"rec\":4294967296}", "Shape", "Range"),
+            ("{\"rec\":18446744073709551616}", "Shape", "Range"),
+            ("{\"rec\":1.0}", "Shape", "Range"),
+            ("{\"rec\":1e3}", "Shape", "Range"),
+            ("{\"rec\":-1}", "Shape", "Range"),
+            ("{\"rec\":-0}", "Shape", "Range"),
+            (
+                "{\"rec\":4294967296,\"seq\":0,\"term\":1}",
+                "Shape",
+                "Range",
+            ),
+            ("{\"rec\":0,\"seq\":0,\"term\":0}", "Shape", "Range"),
+            (
+                "{\"rec\":0,\"seq\":0,\"term\":9223372036854775808}",
+                "Shape",
+                "Range",
+            ),
+            (
+                "{\"rec\":0,\"seq\":9223372036854775808,\"term\":1}",
+                "Shape",
+                "Range",
+            ),
+            ("{\"rec\":0,\"seq\":-0,\"term\":1}", "Shape", "Range"),
+            ("{\"rec\":0,\"seq\":0,\"term\":1.0}", "Shape", "Range"),
+        ],
+    )
 }
 
+// A byte that is no letter's, a letter cut short in an id, and one that has a surrogate's number.
 #[test]
 fn lines_that_are_no_text(rt: HostRuntime) -> Result<(), Fail> {
-    for line in [
-        &[0xff][..],
-        // A letter cut short in an id, and one that has a surrogate's number.
-        &[
-            b'{', b'"', b'd', b'o', b'c', b'"', b':', b'"', 0xc3, b'"', b'}',
-        ][..],
-        &[
-            b'{', b'"', b'd', b'o', b'c', b'"', b':', b'"', 0xed, 0xa0, 0x80, b'"', b'}',
-        ][..],
-    ] {
-        assert_eq!(rt;
-            fault_of(rt.alloc(), line)?,
-            Some((1, TextCause::Json)),
-            "{line:?}"
-        );
+    let lines: [&[u8]; 3] = [
+        b"\xff",
+        b"{\"doc\":\"\xc3\"}",
+        b"{\"doc\":\"\xed\xa0\x80\"}",
+    ];
+    for line in lines {
+        let got = told(rt.alloc(), line)?;
+        assert_eq!(rt; got.as_str(), "line 1: Json", "{line:?}");
     }
     Ok(())
 }
 
-// A document with an id of so many letters: of one byte, and of two.
+// The first line that is refused of a document with an id of so many letters, with its cause; nothing where it is read.
+fn fault_of_id(alloc: Global, letter: &str, len: usize) -> Result<String, Fail> {
+    let id = letter.repeat(alloc, len)?;
+    let text = format!(in alloc; "{{\"doc\":\"{id}\"}}")?;
+    match read_witness(alloc, text.as_bytes()) {
+        Ok(_) => Ok(String::new(alloc)),
+        Err(_) => told(alloc, text.as_bytes()),
+    }
+}
+
+// Letters of one byte, and of two.
 #[test]
 fn lengths_of_ids(rt: HostRuntime) -> Result<(), Fail> {
     for (letter, len, want) in [
-        ("x", 1, None),
-        ("x", 512, None),
-        ("x", 513, Some((1, TextCause::Id))),
-        ("é", 256, None),
-        ("é", 257, Some((1, TextCause::Id))),
+        ("x", 1, ""),
+        ("x", 512, ""),
+        ("x", 513, "line 1: Id"),
+        ("é", 256, ""),
+        ("é", 257, "line 1: Id"),
     ] {
-        let id = letter.repeat(rt.alloc(), len)?;
-        let text = format!(in rt.alloc(); "{{\"doc\":\"{id}\"}}")?;
-        assert_eq!(rt;
-            fault_of(rt.alloc(), text.as_bytes())?,
-            want,
-            "{letter} {len}"
-        );
+        let got = fault_of_id(rt.alloc(), letter, len)?;
+        assert_eq!(rt; got.as_str(), want, "{letter} {len}");
     }
     Ok(())
 }
 
 // So many bytes of one kind, with a document's line before them and after.
+fn among_documents(alloc: Global, byte: u8, len: usize) -> Result<Vec<u8>, Fail> {
+    let mut text = b"{\"doc\":\"d\"}\n".to_vec(alloc)?;
+    let line = vec![in alloc; byte; len]?;
+    text.extend_from_slice(&line)?;
+    text.extend_from_slice(b"\n{\"doc\":\"d\"}\n")?;
+    Ok(text)
+}
+
 #[test]
 fn long_lines(rt: HostRuntime) -> Result<(), Fail> {
     for (byte, len, want) in [
-        (b' ', 65_536, None),
-        (b' ', 65_537, Some((2, TextCause::Long))),
-        (b'x', 65_536, Some((2, TextCause::Json))),
-        (b'x', 65_537, Some((2, TextCause::Long))),
-        (0xff, 65_537, Some((2, TextCause::Long))),
+        (b' ', 65_536, "[d][d]"),
+        (b' ', 65_537, "line 2: Long"),
+        (b'x', 65_536, "line 2: Json"),
+        (b'x', 65_537, "line 2: Long"),
+        (0xff, 65_537, "line 2: Long"),
     ] {
-        let mut text = b"{\"doc\":\"d\"}\n".to_vec(rt.alloc())?;
-        let line = vec![in rt.alloc(); byte; len]?;
-        text.extend_from_slice(&line)?;
-        text.extend_from_slice(b"\n{\"doc\":\"d\"}\n")?;
-        assert_eq!(rt; fault_of(rt.alloc(), &text)?, want, "{byte} {len}");
+        let text = among_documents(rt.alloc(), byte, len)?;
+        let got = told(rt.alloc(), &text)?;
+        assert_eq!(rt; got.as_str(), want, "{byte} {len}");
     }
     Ok(())
 }
@@ -393,7 +343,7 @@ fn long_lines(rt: HostRuntime) -> Result<(), Fail> {
 fn too_many_lines(rt: HostRuntime) -> Result<(), Fail> {
     let mut text = vec![in rt.alloc(); b'\n'; 4_194_304]?;
     text.push(b'x')?;
-    let got = fault_of(rt.alloc(), &text)?;
-    assert_eq!(rt; got, Some((4_194_305, TextCause::Lines)));
+    let got = told(rt.alloc(), &text)?;
+    assert_eq!(rt; got.as_str(), "line 4194305: Lines");
     Ok(())
 }
