@@ -1,4 +1,4 @@
-//! Records and places as short texts, for the tests.
+//! Records and places as short texts, for the tests, and the assertion that two texts are the same.
 //!
 //! `0 index 1, 1 created 1 0; 2 get` is an index of 1 that was called at 0 and answered at 1 by `created` with the term 1
 //! and the sequence number 0; and a get that was called at 2 and not answered. `0; 1 3 2` is the place of the record 0
@@ -117,4 +117,13 @@ pub fn places(alloc: Global, text: &str) -> Result<Vec<Place>, Fail> {
         places.push(place(part)?)?;
     }
     Ok(places)
+}
+
+/// An error that tells the case and both texts, where they are not the same.
+pub fn same(case: &str, got: &str, want: &str) -> Result<(), Fail> {
+    if got == want {
+        Ok(())
+    } else {
+        Err(Fail::new(format_args!("{case:?}: {got:?} in the place of {want:?}")))
+    }
 }

@@ -1,6 +1,5 @@
 use super::*;
 use crate::notation;
-use std::process::Abort;
 use std::test::Fail;
 
 const OVERLAPPING: &str =
@@ -46,7 +45,6 @@ fn are_all(id: &DocId, kept: (&[Rec], &[Place]), records: &[Rec], places: &[Plac
 // What the check tells of such records and places: "valid" where it makes a witness, which has all; else the fault,
 // where it hands all back. Where memory is refused, all is handed back too, and the test ends with an error.
 fn told(
-    rt: &impl Abort,
     alloc: Global,
     records: &[Rec],
     places: &[Place],
@@ -55,41 +53,42 @@ fn told(
     match checked(alloc, records, places, conflicts)? {
         Ok(witness) => {
             let kept = (witness.records(), witness.places());
-            assert!(rt; are_all(witness.id(), kept, records, places));
-            assert_eq!(rt; witness.conflicts(), conflicts);
-            Ok(format!(in alloc; "valid")?)
+            if are_all(witness.id(), kept, records, places) && witness.conflicts() == conflicts {
+                Ok(format!(in alloc; "valid")?)
+            } else {
+                Err("a witness of other records or places".into())
+            }
         }
         Err((fault, id, record_list, place_list)) => {
             let kept = (record_list.as_slice(), place_list.as_slice());
-            assert!(rt; are_all(&id, kept, records, places));
-            if fault == Broken::NoMemory {
-                return Err("no memory".into());
+            if are_all(&id, kept, records, places) && fault != Broken::NoMemory {
+                Ok(format!(in alloc; "{fault:?}")?)
+            } else {
+                Err("no memory, or not all handed back".into())
             }
-            Ok(format!(in alloc; "{fault:?}")?)
         }
     }
 }
 
 // Asserts what is told of records and places.
 fn is_told(
-    rt: &impl Abort,
     alloc: Global,
-    case: (&str, &str),
+    records: &str,
+    places: &str,
     conflicts: Conflicts,
     want: &str,
 ) -> Result<(), Fail> {
-    let records = notation::records(alloc, case.0)?;
-    let places = notation::places(alloc, case.1)?;
-    let got = told(rt, alloc, &records, &places, conflicts)?;
-    assert_eq!(rt; got.as_str(), want, "{case:?}");
-    Ok(())
+    let record_list = notation::records(alloc, records)?;
+    let place_list = notation::places(alloc, places)?;
+    let got = told(alloc, &record_list, &place_list, conflicts)?;
+    notation::same(places, got.as_str(), want)
 }
 
 // Asserts what is told of records and places: plainly, and where a conflict may hide a pair.
-fn all_told(rt: &impl Abort, alloc: Global, rows: &[(&str, &str, &str, &str)]) -> Result<(), Fail> {
+fn all_told(alloc: Global, rows: &[(&str, &str, &str, &str)]) -> Result<(), Fail> {
     for (records, places, plain, maybe) in rows {
-        is_told(rt, alloc, (records, places), Conflicts::Plain, plain)?;
-        is_told(rt, alloc, (records, places), Conflicts::Maybe, maybe)?;
+        is_told(alloc, records, places, Conflicts::Plain, plain)?;
+        is_told(alloc, records, places, Conflicts::Maybe, maybe)?;
     }
     Ok(())
 }
@@ -97,7 +96,6 @@ fn all_told(rt: &impl Abort, alloc: Global, rows: &[(&str, &str, &str, &str)]) -
 #[test]
 fn overlapping_gets(rt: HostRuntime) -> Result<(), Fail> {
     all_told(
-        &rt,
         rt.alloc(),
         &[
             (OVERLAPPING, "0; 3; 1; 2", "valid", "valid"),
@@ -114,7 +112,6 @@ fn overlapping_gets(rt: HostRuntime) -> Result<(), Fail> {
 #[test]
 fn late_places_that_are_no_neighbours(rt: HostRuntime) -> Result<(), Fail> {
     all_told(
-        &rt,
         rt.alloc(),
         &[
             (THREE_GETS, "2; 0; 1", "Late(2)", "Late(2)"),
@@ -129,7 +126,6 @@ fn late_places_that_are_no_neighbours(rt: HostRuntime) -> Result<(), Fail> {
 #[test]
 fn places_of_replies(rt: HostRuntime) -> Result<(), Fail> {
     all_told(
-        &rt,
         rt.alloc(),
         &[
             (
@@ -169,7 +165,6 @@ fn places_of_replies(rt: HostRuntime) -> Result<(), Fail> {
 #[test]
 fn lost_write_explains_conflict(rt: HostRuntime) -> Result<(), Fail> {
     all_told(
-        &rt,
         rt.alloc(),
         &[
             (LOST_WRITE, "0; 1 3 2; 2", "valid", "valid"),
@@ -190,7 +185,6 @@ fn lost_write_explains_conflict(rt: HostRuntime) -> Result<(), Fail> {
 #[test]
 fn lost_write_before_an_answered_one(rt: HostRuntime) -> Result<(), Fail> {
     all_told(
-        &rt,
         rt.alloc(),
         &[
             (
@@ -212,7 +206,6 @@ fn lost_write_before_an_answered_one(rt: HostRuntime) -> Result<(), Fail> {
 #[test]
 fn hidden_conflict(rt: HostRuntime) -> Result<(), Fail> {
     all_told(
-        &rt,
         rt.alloc(),
         &[
             (
@@ -238,7 +231,6 @@ fn hidden_conflict(rt: HostRuntime) -> Result<(), Fail> {
 #[test]
 fn deletes_and_creates(rt: HostRuntime) -> Result<(), Fail> {
     all_told(
-        &rt,
         rt.alloc(),
         &[
             (
@@ -297,7 +289,6 @@ fn deletes_and_creates(rt: HostRuntime) -> Result<(), Fail> {
 #[test]
 fn unanswered_writes(rt: HostRuntime) -> Result<(), Fail> {
     all_told(
-        &rt,
         rt.alloc(),
         &[
             (UNANSWERED, "", "valid", "valid"),
@@ -315,7 +306,6 @@ fn unanswered_writes(rt: HostRuntime) -> Result<(), Fail> {
 #[test]
 fn first_faults(rt: HostRuntime) -> Result<(), Fail> {
     all_told(
-        &rt,
         rt.alloc(),
         &[
             ("", "", "valid", "valid"),

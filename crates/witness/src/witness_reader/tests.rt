@@ -1,6 +1,6 @@
 use super::*;
+use crate::notation::same;
 use api_lines::TextFault;
-use std::process::Abort;
 use std::test::Fail;
 
 const BLANK_LINES: &str = "\n \t\r\n\n   ";
@@ -82,16 +82,15 @@ fn told(alloc: Global, text: &[u8]) -> Result<String, Fail> {
 }
 
 // Asserts what is told of a text.
-fn is_told(rt: &impl Abort, alloc: Global, text: &str, want: &str) -> Result<(), Fail> {
+fn is_told(alloc: Global, text: &str, want: &str) -> Result<(), Fail> {
     let got = told(alloc, text.as_bytes())?;
-    assert_eq!(rt; got.as_str(), want, "{text}");
-    Ok(())
+    same(text, got.as_str(), want)
 }
 
 // Asserts what is told of texts.
-fn all_told(rt: &impl Abort, alloc: Global, rows: &[(&str, &str)]) -> Result<(), Fail> {
+fn all_told(alloc: Global, rows: &[(&str, &str)]) -> Result<(), Fail> {
     for (text, want) in rows {
-        is_told(rt, alloc, text, want)?;
+        is_told(alloc, text, want)?;
     }
     Ok(())
 }
@@ -99,7 +98,6 @@ fn all_told(rt: &impl Abort, alloc: Global, rows: &[(&str, &str)]) -> Result<(),
 #[test]
 fn texts_read(rt: HostRuntime) -> Result<(), Fail> {
     all_told(
-        &rt,
         rt.alloc(),
         &[
             ("", ""),
@@ -119,10 +117,10 @@ fn texts_read(rt: HostRuntime) -> Result<(), Fail> {
 }
 
 // Asserts what is told of lines, each after a document "d".
-fn all_told_later(rt: &impl Abort, alloc: Global, rows: &[(&str, &str)]) -> Result<(), Fail> {
+fn all_told_later(alloc: Global, rows: &[(&str, &str)]) -> Result<(), Fail> {
     for (line, want) in rows {
         let text = format!(in alloc; "{{\"doc\":\"d\"}}\n{line}")?;
-        is_told(rt, alloc, &text, want)?;
+        is_told(alloc, &text, want)?;
     }
     Ok(())
 }
@@ -130,7 +128,6 @@ fn all_told_later(rt: &impl Abort, alloc: Global, rows: &[(&str, &str)]) -> Resu
 #[test]
 fn places_read(rt: HostRuntime) -> Result<(), Fail> {
     all_told_later(
-        &rt,
         rt.alloc(),
         &[
             (r#"{"rec":4294967295}"#, "[d] 4294967295"),
@@ -152,7 +149,6 @@ fn places_read(rt: HostRuntime) -> Result<(), Fail> {
 #[test]
 fn texts_refused(rt: HostRuntime) -> Result<(), Fail> {
     all_told(
-        &rt,
         rt.alloc(),
         &[
             ("{\"rec\":0}\n", "line 1: Shape"),
@@ -181,23 +177,17 @@ fn texts_refused(rt: HostRuntime) -> Result<(), Fail> {
 }
 
 // Asserts the line and the cause for which a text is refused.
-fn is_refused(
-    rt: &impl Abort,
-    alloc: Global,
-    text: &str,
-    line: u64,
-    cause: &str,
-) -> Result<(), Fail> {
+fn is_refused(alloc: Global, text: &str, line: u64, cause: &str) -> Result<(), Fail> {
     let want = format!(in alloc; "line {line}: {cause}")?;
-    is_told(rt, alloc, text, &want)
+    is_told(alloc, text, &want)
 }
 
 // Asserts the causes for which lines are refused: before any document, and after a document "d".
-fn all_refused(rt: &impl Abort, alloc: Global, rows: &[(&str, &str, &str)]) -> Result<(), Fail> {
+fn all_refused(alloc: Global, rows: &[(&str, &str, &str)]) -> Result<(), Fail> {
     for (line, first, later) in rows {
-        is_refused(rt, alloc, line, 1, first)?;
+        is_refused(alloc, line, 1, first)?;
         let text = format!(in alloc; "{{\"doc\":\"d\"}}\n{line}\n")?;
-        is_refused(rt, alloc, &text, 2, later)?;
+        is_refused(alloc, &text, 2, later)?;
     }
     Ok(())
 }
@@ -205,7 +195,6 @@ fn all_refused(rt: &impl Abort, alloc: Global, rows: &[(&str, &str, &str)]) -> R
 #[test]
 fn lines_refused(rt: HostRuntime) -> Result<(), Fail> {
     all_refused(
-        &rt,
         rt.alloc(),
         &[
             ("{\"rec\":0", "Json", "Json"),
@@ -282,7 +271,7 @@ fn lines_that_are_no_text(rt: HostRuntime) -> Result<(), Fail> {
     ];
     for line in lines {
         let got = told(rt.alloc(), line)?;
-        assert_eq!(rt; got.as_str(), "line 1: Json", "{line:?}");
+        same("no text", got.as_str(), "line 1: Json")?;
     }
     Ok(())
 }
@@ -308,7 +297,7 @@ fn lengths_of_ids(rt: HostRuntime) -> Result<(), Fail> {
         ("é", 257, "line 1: Id"),
     ] {
         let got = fault_of_id(rt.alloc(), letter, len)?;
-        assert_eq!(rt; got.as_str(), want, "{letter} {len}");
+        same(letter, got.as_str(), want)?;
     }
     Ok(())
 }
@@ -333,7 +322,7 @@ fn long_lines(rt: HostRuntime) -> Result<(), Fail> {
     ] {
         let text = among_documents(rt.alloc(), byte, len)?;
         let got = told(rt.alloc(), &text)?;
-        assert_eq!(rt; got.as_str(), want, "{byte} {len}");
+        same("a long line", got.as_str(), want)?;
     }
     Ok(())
 }
@@ -344,6 +333,5 @@ fn too_many_lines(rt: HostRuntime) -> Result<(), Fail> {
     let mut text = vec![in rt.alloc(); b'\n'; 4_194_304]?;
     text.push(b'x')?;
     let got = told(rt.alloc(), &text)?;
-    assert_eq!(rt; got.as_str(), "line 4194305: Lines");
-    Ok(())
+    same("too many lines", got.as_str(), "line 4194305: Lines")
 }

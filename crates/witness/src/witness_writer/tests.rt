@@ -3,7 +3,6 @@ use crate::broken::Broken;
 use crate::notation;
 use crate::witness_reader::read_witness;
 use doc_register::Conflicts;
-use std::process::Abort;
 use std::test::Fail;
 
 const LOST: &str = "0 index 1, 1 created 1 0; 2 index 2 1 0; 4 index 3 1 0, 5 conflict";
@@ -34,25 +33,27 @@ fn is_read_back(alloc: Global, witnesses: &[DocWitness], text: &[u8]) -> Result<
 }
 
 // Asserts that this is written of the witnesses, and is read back.
-fn is_written(
-    rt: &impl Abort,
-    alloc: Global,
-    witnesses: &[DocWitness],
-    want: &str,
-) -> Result<(), Fail> {
+fn is_written(alloc: Global, witnesses: &[DocWitness], want: &str) -> Result<(), Fail> {
     let text = write_witness(alloc, witnesses)?;
-    assert_eq!(rt; text.as_slice(), want.as_bytes());
-    assert!(rt; is_read_back(alloc, witnesses, &text)?, "{want}");
-    Ok(())
+    if text.as_slice() == want.as_bytes() && is_read_back(alloc, witnesses, &text)? {
+        Ok(())
+    } else {
+        Err(Fail::new(format_args!("not written and read back: {want}")))
+    }
+}
+
+// The witnesses of two documents.
+fn two_witnesses(alloc: Global) -> Result<Vec<DocWitness>, Fail> {
+    let mut witnesses = Vec::new(alloc);
+    witnesses.push(witness_of(alloc, "d", LOST, "0; 1 3 2; 2")?)?;
+    witnesses.push(witness_of(alloc, "d", SHOWN, "0; 1")?)?;
+    Ok(witnesses)
 }
 
 // What is written of no witness, of one, and of two.
 #[test]
 fn texts_written(rt: HostRuntime) -> Result<(), Fail> {
-    let witnesses = vec![in rt.alloc();
-        witness_of(rt.alloc(), "d", LOST, "0; 1 3 2; 2")?,
-        witness_of(rt.alloc(), "d", SHOWN, "0; 1")?,
-    ]?;
+    let witnesses = two_witnesses(rt.alloc())?;
     for (from, to, want) in [
         (0, 0, ""),
         (
@@ -67,10 +68,8 @@ fn texts_written(rt: HostRuntime) -> Result<(), Fail> {
             "{\"doc\":\"d\"}\n{\"rec\":0}\n{\"rec\":1,\"seq\":2,\"term\":3}\n{\"rec\":2}\n{\"doc\":\"d\"}\n{\"rec\":0}\n{\"rec\":1}\n",
         ),
     ] {
-        let Some(chosen) = witnesses.get(from..to) else {
-            return Err("no such witnesses".into());
-        };
-        is_written(&rt, rt.alloc(), chosen, want)?;
+        let chosen = witnesses.get(from..to).ok_or("no such witnesses")?;
+        is_written(rt.alloc(), chosen, want)?;
     }
     Ok(())
 }
