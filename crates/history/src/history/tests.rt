@@ -1,144 +1,117 @@
 use super::*;
-use crate::record::Rec;
-use doc_register::{Op, Reply};
+use crate::testing::{documents_of, records_of, same};
+use doc_register::Reply;
+use std::test::Fail;
 use version_pair::Pair;
 
-const INDEX: Op = Op::Index { k: 1, cond: None };
+// An index of "d" on shard 3 that was answered, a get of "d" that is pending, and a get of "e" that is lost.
+const THREE_CALLS: &str =
+    "call 0 3 d index; reply 0 created; call 1 3 d get; call 2 4 e get; lost 2";
 
-// An event as plain data.
-#[derive(Clone, Copy, Debug)]
-enum Step<'a> {
-    // The number, the shard, the document and the operation.
-    Call(u64, u32, &'a str, Op),
-    Reply(u64, Reply),
-    Lost(u64),
+// What the history of the three calls has, as `shape_of` tells it.
+const THREE_CALLS_SHAPE: &str =
+    "false 5 2; Some(0) Some(1); Some(2) None; Some(3) Some(4); None None";
+
+// The number that a word is.
+fn number(word: Option<&str>) -> Result<u64, Fail> {
+    Ok(word.ok_or("a number")?.parse::<u64>()?)
 }
 
-fn first_pair() -> Pair {
-    Pair::new(1, 0).unwrap()
-}
-
-fn created() -> Reply {
-    Reply::Indexed {
-        pair: first_pair(),
-        created: true,
+fn op(name: Option<&str>) -> Result<Op, Fail> {
+    match name.unwrap_or("") {
+        "get" => Ok(Op::Get),
+        "index" => Ok(Op::Index { k: 1, cond: None }),
+        _ => Err("no operation".into()),
     }
 }
 
-fn found() -> Reply {
-    Reply::Found {
-        pair: first_pair(),
-        k: 1,
+fn reply(name: Option<&str>) -> Result<Reply, Fail> {
+    let pair = Pair::new(1, 0).ok_or("a pair")?;
+    match name.unwrap_or("") {
+        "created" => Ok(Reply::Indexed {
+            pair,
+            created: true,
+        }),
+        "found" => Ok(Reply::Found { pair, k: 1 }),
+        "missing" => Ok(Reply::Missing),
+        _ => Err("no reply".into()),
     }
 }
 
-// What a history answers to a call; `None` where the shard or the id is none.
+// What a history answers to a call.
 fn push_call(
     alloc: Global,
     history: &mut History,
     no: u64,
-    shard: u32,
-    id: &str,
+    shard: u64,
+    id: Option<&str>,
     op: Op,
-) -> Option<Result<(), HistFault>> {
+) -> Result<Result<(), HistFault>, Fail> {
+    let id = DocId::new(alloc, id.unwrap_or(""))?;
     if shard >= 1024 {
-        return None;
+        return Err("no shard".into());
     }
-    let id = DocId::new(alloc, id).ok()?;
-    Some(history.push(Event::Call { no, shard, id, op }))
+    let shard = shard as u32;
+    Ok(history.push(Event::Call { no, shard, id, op }))
 }
 
-// What a history answers to one more event.
-fn answer(alloc: Global, history: &mut History, step: Step) -> Option<Result<(), HistFault>> {
-    match step {
-        Step::Call(no, shard, id, op) => push_call(alloc, history, no, shard, id, op),
-        Step::Reply(no, reply) => Some(history.push(Event::Reply { no, reply })),
-        Step::Lost(no) => Some(history.push(Event::Lost { no })),
+// What a history answers to one more event, told by its kind and its number; then by its reply, or by its shard, its
+// document and its operation.
+fn push(alloc: Global, history: &mut History, step: &str) -> Result<Result<(), HistFault>, Fail> {
+    let mut words = step.split_whitespace();
+    let kind = words.next().unwrap_or("");
+    let no = number(words.next())?;
+    match kind {
+        "call" => {
+            let shard = number(words.next())?;
+            let id = words.next();
+            push_call(alloc, history, no, shard, id, op(words.next())?)
+        }
+        "reply" => Ok(history.push(Event::Reply {
+            no,
+            reply: reply(words.next())?,
+        })),
+        "lost" => Ok(history.push(Event::Lost { no })),
+        _ => Err("no event".into()),
     }
 }
 
-// Whether a history takes all of these events.
-fn takes(alloc: Global, history: &mut History, steps: &[Step]) -> bool {
-    for step in steps {
-        if answer(alloc, history, *step) != Some(Ok(())) {
-            return false;
+// Adds these events to a history, which has to take them.
+fn push_all(alloc: Global, history: &mut History, steps: &str) -> Result<(), Fail> {
+    for step in steps.split_terminator(';') {
+        if push(alloc, history, step)?.is_err() {
+            return Err("an event is refused".into());
         }
     }
-    true
+    Ok(())
 }
 
 // The history of these events.
-fn history_of(alloc: Global, steps: &[Step]) -> Option<History> {
+fn history_of(alloc: Global, steps: &str) -> Result<History, Fail> {
     let mut history = History::new(alloc);
-    if takes(alloc, &mut history, steps) {
-        Some(history)
-    } else {
-        None
+    push_all(alloc, &mut history, steps)?;
+    Ok(history)
+}
+
+// Whether a history is empty, how many events it has, and how many documents; then the places of the calls 0 to 3 and of
+// their endings.
+fn shape_of(alloc: Global, history: &History) -> Result<String, Fail> {
+    let is_empty = history.is_empty();
+    let len = history.len();
+    let docs = history.docs();
+    let mut shape = format!(in alloc; "{is_empty} {len} {docs}")?;
+    for no in 0..4 {
+        let call = history.call(no);
+        let ending = history.ending(no);
+        shape.push_str(&format!(in alloc; "; {call:?} {ending:?}")?)?;
     }
-}
-
-// An index of "d" on shard 3 that was answered, a get of "d" that is pending, and a get of "e" that is lost.
-fn three_calls(alloc: Global) -> Option<History> {
-    history_of(
-        alloc,
-        &[
-            Step::Call(0, 3, "d", INDEX),
-            Step::Reply(0, created()),
-            Step::Call(1, 3, "d", Op::Get),
-            Step::Call(2, 4, "e", Op::Get),
-            Step::Lost(2),
-        ],
-    )
-}
-
-// What the three calls answer to one more event.
-fn one_more(alloc: Global, step: Step) -> Option<Result<(), HistFault>> {
-    answer(alloc, &mut three_calls(alloc)?, step)
-}
-
-// The three calls, after a second call of a number and a second ending, which they refuse.
-fn two_refused(alloc: Global) -> Option<History> {
-    let mut history = three_calls(alloc)?;
-    let second_call = answer(alloc, &mut history, Step::Call(1, 9, "g", INDEX));
-    let second_ending = answer(alloc, &mut history, Step::Reply(2, Reply::Missing));
-    let refused = [
-        Some(Err(HistFault::SecondCall)),
-        Some(Err(HistFault::Ended)),
-    ];
-    if [second_call, second_ending] == refused {
-        Some(history)
-    } else {
-        None
-    }
-}
-
-// Whether a history is empty, how many events it has, and how many documents.
-fn size(history: &History) -> (bool, usize, usize) {
-    (history.is_empty(), history.len(), history.docs())
-}
-
-// The place of the call with a number, and of its ending.
-fn places(history: &History, no: u64) -> (Option<usize>, Option<usize>) {
-    (history.call(no), history.ending(no))
-}
-
-// The places of the calls 0 to 3 and of their endings.
-fn four_places(history: &History) -> [(Option<usize>, Option<usize>); 4] {
-    [
-        places(history, 0),
-        places(history, 1),
-        places(history, 2),
-        places(history, 3),
-    ]
+    Ok(shape)
 }
 
 // Whether the get numbered 1 stands on shard 3 at the place 2, and the loss of the call 2 at the place 4.
-fn get_and_loss(history: &History) -> (bool, bool) {
-    if history.len() < 5 {
-        return (false, false);
-    }
-    (
-        matches!(
+fn has_get_and_loss(history: &History) -> bool {
+    history.len() >= 5
+        && matches!(
             history.event(2),
             Event::Call {
                 no: 1,
@@ -146,149 +119,154 @@ fn get_and_loss(history: &History) -> (bool, bool) {
                 op: Op::Get,
                 ..
             }
-        ),
-        matches!(history.event(4), Event::Lost { no: 2 }),
+        )
+        && matches!(history.event(4), Event::Lost { no: 2 })
+}
+
+// Asserts that a history has this shape.
+fn has_shape(alloc: Global, history: &History, want: &str) -> Result<(), Fail> {
+    let shape = shape_of(alloc, history)?;
+    same("shape", shape.as_str(), want)
+}
+
+#[test]
+fn empty_history(rt: HostRuntime) -> Result<(), Fail> {
+    let history = History::new(rt.alloc());
+    has_shape(
+        rt.alloc(),
+        &history,
+        "true 0 0; None None; None None; None None; None None",
     )
 }
 
-// Whether the document has this id and this shard.
-fn is_document(history: &History, doc: usize, id: &str, shard: u32) -> bool {
-    doc < history.docs() && history.doc(doc).as_str() == id && history.shard(doc) == shard
+// Asserts what a history answers to one more event.
+fn is_pushed(alloc: Global, history: &mut History, step: &str, want: &str) -> Result<(), Fail> {
+    let told = push(alloc, history, step)?;
+    let told = format!(in alloc; "{told:?}")?;
+    same(step, told.as_str(), want)
 }
 
-// How many documents there are, and whether the first three are "b", "a" and "c" on their shards.
-fn documents(history: &History) -> (usize, [bool; 3]) {
-    (
-        history.docs(),
-        [
-            is_document(history, 0, "b", 7),
-            is_document(history, 1, "a", 0),
-            is_document(history, 2, "c", 1023),
-        ],
-    )
-}
-
-// Whether the document has these records.
-fn has_records(history: &History, doc: usize, want: &[Rec]) -> bool {
-    if doc >= history.docs() {
-        return false;
-    }
-    match history.records(doc) {
-        Ok(records) => records.as_slice() == want,
-        Err(_) => false,
+// Asserts that a history has what that of the three calls has.
+fn has_three_calls(alloc: Global, history: &History) -> Result<(), Fail> {
+    if has_get_and_loss(history) {
+        has_shape(alloc, history, THREE_CALLS_SHAPE)
+    } else {
+        Err("no get and loss".into())
     }
 }
 
-#[test]
-fn empty_history(rt: HostRuntime) {
-    let said = history_of(rt.alloc(), &[]).map(|history| (size(&history), four_places(&history)));
-    assert_eq!(rt; said, Some(((true, 0, 0), [(None, None); 4])));
+// Asserts that a refused event leaves the history of the three calls as it was.
+fn keeps_three_calls(alloc: Global, history: &mut History) -> Result<(), Fail> {
+    has_three_calls(alloc, history)?;
+    is_pushed(alloc, history, "call 1 9 g index", "Err(SecondCall)")?;
+    is_pushed(alloc, history, "reply 2 missing", "Err(Ended)")?;
+    has_three_calls(alloc, history)
 }
 
 #[test]
-fn calls_and_endings(rt: HostRuntime) {
-    let want = [
-        (Some(0), Some(1)),
-        (Some(2), None),
-        (Some(3), Some(4)),
-        (None, None),
-    ];
-    // A refused event leaves the history as it was.
-    for history in [three_calls(rt.alloc()), two_refused(rt.alloc())] {
-        let history = history.as_ref();
-        assert_eq!(rt; history.map(size), Some((false, 5, 2)));
-        assert_eq!(rt; history.map(four_places), Some(want));
-        assert_eq!(rt; history.map(get_and_loss), Some((true, true)));
-    }
+fn calls_and_endings(rt: HostRuntime) -> Result<(), Fail> {
+    let mut history = history_of(rt.alloc(), THREE_CALLS)?;
+    keeps_three_calls(rt.alloc(), &mut history)
+}
+
+// Asserts what the three calls answer to one more event.
+fn is_told(alloc: Global, step: &str, want: &str) -> Result<(), Fail> {
+    let mut history = history_of(alloc, THREE_CALLS)?;
+    is_pushed(alloc, &mut history, step, want)
 }
 
 #[test]
-fn refused_events(rt: HostRuntime) {
+fn refused_events(rt: HostRuntime) -> Result<(), Fail> {
     for (step, want) in [
-        (Step::Call(0, 3, "d", Op::Get), Err(HistFault::SecondCall)),
+        ("call 0 3 d get", "Err(SecondCall)"),
         // The first cause is told where both hold.
-        (Step::Call(0, 5, "d", Op::Get), Err(HistFault::SecondCall)),
-        (Step::Call(3, 5, "d", Op::Get), Err(HistFault::ShardMoved)),
-        (Step::Call(3, 3, "d", Op::Get), Ok(())),
-        (Step::Call(3, 3, "f", Op::Get), Ok(())),
-        (Step::Call(3, 1023, "f", Op::Get), Ok(())),
-        (Step::Reply(3, created()), Err(HistFault::NoCall)),
-        (Step::Reply(0, created()), Err(HistFault::Ended)),
+        ("call 0 5 d get", "Err(SecondCall)"),
+        ("call 3 5 d get", "Err(ShardMoved)"),
+        ("call 3 3 d get", "Ok(())"),
+        ("call 3 3 f get", "Ok(())"),
+        ("call 3 1023 f get", "Ok(())"),
+        ("reply 3 created", "Err(NoCall)"),
+        ("reply 0 created", "Err(Ended)"),
         // The first cause is told where both hold.
-        (Step::Reply(0, found()), Err(HistFault::Ended)),
-        (Step::Reply(2, found()), Err(HistFault::Ended)),
-        (Step::Reply(1, created()), Err(HistFault::Kind)),
-        (Step::Reply(1, found()), Ok(())),
-        (Step::Reply(1, Reply::Missing), Ok(())),
-        (Step::Lost(3), Err(HistFault::NoCall)),
-        (Step::Lost(0), Err(HistFault::Ended)),
-        (Step::Lost(1), Ok(())),
+        ("reply 0 found", "Err(Ended)"),
+        ("reply 2 found", "Err(Ended)"),
+        ("reply 1 created", "Err(Kind)"),
+        ("reply 1 found", "Ok(())"),
+        ("reply 1 missing", "Ok(())"),
+        ("lost 3", "Err(NoCall)"),
+        ("lost 0", "Err(Ended)"),
+        ("lost 1", "Ok(())"),
     ] {
-        assert_eq!(rt; one_more(rt.alloc(), step), Some(want), "{step:?}");
+        is_told(rt.alloc(), step, want)?;
+    }
+    Ok(())
+}
+
+// Asserts that a history has these documents.
+fn has_documents(alloc: Global, history: &History, want: &str) -> Result<(), Fail> {
+    let documents = documents_of(alloc, history)?;
+    same("documents", documents.as_str(), want)
+}
+
+#[test]
+fn documents_in_order_of_first_calls(rt: HostRuntime) -> Result<(), Fail> {
+    let steps = "call 0 7 b get; call 1 0 a get; call 2 7 b get; call 3 1023 c get; call 4 0 a get";
+    let history = history_of(rt.alloc(), steps)?;
+    has_documents(rt.alloc(), &history, "b on 7; a on 0; c on 1023; ")
+}
+
+// Asserts which number the document with this id has.
+fn is_numbered(
+    alloc: Global,
+    history: &History,
+    id: &str,
+    want: Option<usize>,
+) -> Result<(), Fail> {
+    let named = DocId::new(alloc, id)?;
+    if history.doc_of(&named) == want {
+        Ok(())
+    } else {
+        Err(Fail::new(format_args!("another number of {id}")))
     }
 }
 
-#[test]
-fn documents_in_order_of_first_calls(rt: HostRuntime) {
-    let steps = [
-        Step::Call(0, 7, "b", Op::Get),
-        Step::Call(1, 0, "a", Op::Get),
-        Step::Call(2, 7, "b", Op::Get),
-        Step::Call(3, 1023, "c", Op::Get),
-        Step::Call(4, 0, "a", Op::Get),
-    ];
-    let history = history_of(rt.alloc(), &steps);
-    assert_eq!(rt;
-        history.map(|history| documents(&history)),
-        Some((3, [true, true, true]))
-    );
-}
-
-// The number of the document with this id.
-fn number_of(alloc: Global, history: &History, id: &str) -> Option<usize> {
-    let id = DocId::new(alloc, id).ok()?;
-    history.doc_of(&id)
+// Asserts that "b" and "a" are the documents 0 and 1, and "c" is none.
+fn are_numbered(alloc: Global, history: &History) -> Result<(), Fail> {
+    is_numbered(alloc, history, "b", Some(0))?;
+    is_numbered(alloc, history, "a", Some(1))?;
+    is_numbered(alloc, history, "c", None)
 }
 
 #[test]
-fn documents_found_by_id(rt: HostRuntime) {
-    let steps = [
-        Step::Call(0, 7, "b", Op::Get),
-        Step::Call(1, 0, "a", Op::Get),
-    ];
-    let found = history_of(rt.alloc(), &steps).map(|history| (
-        number_of(rt.alloc(), &history, "b"),
-        number_of(rt.alloc(), &history, "a"),
-        number_of(rt.alloc(), &history, "c"),
-    ));
-    assert_eq!(rt; found, Some((Some(0), Some(1), None)));
+fn documents_found_by_id(rt: HostRuntime) -> Result<(), Fail> {
+    let history = history_of(rt.alloc(), "call 0 7 b get; call 1 0 a get")?;
+    are_numbered(rt.alloc(), &history)
+}
+
+// Asserts that a document has these records.
+fn has_records(alloc: Global, history: &History, doc: usize, want: &str) -> Result<(), Fail> {
+    let records = records_of(alloc, history, doc)?;
+    same("records", records.as_str(), want)
+}
+
+// Asserts that the documents of the three calls have their records.
+fn have_records(alloc: Global, history: &History) -> Result<(), Fail> {
+    has_records(
+        alloc,
+        history,
+        0,
+        "[Rec { no: 0, op: Index { k: 1, cond: None }, call_at: 0, heard: Some((1, Indexed { pair: Pair { term: 1, seq: 0 }, created: true })) }, Rec { no: 1, op: Get, call_at: 2, heard: None }]",
+    )?;
+    has_records(
+        alloc,
+        history,
+        1,
+        "[Rec { no: 2, op: Get, call_at: 3, heard: None }]",
+    )
 }
 
 #[test]
-fn records_of_two_documents(rt: HostRuntime) {
-    let first = [
-        Rec {
-            no: 0,
-            op: INDEX,
-            call_at: 0,
-            heard: Some((1, created())),
-        },
-        Rec {
-            no: 1,
-            op: Op::Get,
-            call_at: 2,
-            heard: None,
-        },
-    ];
-    let second = [Rec {
-        no: 2,
-        op: Op::Get,
-        call_at: 3,
-        heard: None,
-    }];
-    let same = three_calls(rt.alloc()).map(|history| (
-        has_records(&history, 0, &first),
-        has_records(&history, 1, &second),
-    ));
-    assert_eq!(rt; same, Some((true, true)));
+fn records_of_two_documents(rt: HostRuntime) -> Result<(), Fail> {
+    let history = history_of(rt.alloc(), THREE_CALLS)?;
+    have_records(rt.alloc(), &history)
 }

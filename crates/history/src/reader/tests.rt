@@ -1,8 +1,7 @@
 use super::*;
-use crate::record::Rec;
-use api_lines::{LONGEST_LINE, TextCause, TextFault};
-use doc_register::{Op, Reply};
-use version_pair::Pair;
+use crate::testing::{documents_of, records_of, same};
+use api_lines::{LONGEST_LINE, TextFault};
+use std::test::Fail;
 
 const BLANK_LINES: &str = "\n \t\r\n\n   ";
 
@@ -84,184 +83,174 @@ const SHARD_MOVED: &str = r#"{"e":"call","n":0,"id":"d","op":"index","k":1}
 {"e":"call","n":1,"id":"d","op":"get","shard":1}
 "#;
 
-// How many events a text has, or why it is refused.
-fn count(alloc: Global, text: &str) -> Result<usize, ReadFault> {
-    Ok(read(alloc, text.as_bytes())?.len())
-}
-
-fn refused(line: u64, cause: TextCause) -> Result<usize, ReadFault> {
-    Err(ReadFault::Text(TextFault { line, cause }))
-}
-
-// How many events a line of so many spaces has, or why it is refused.
-fn count_in_spaces(alloc: Global, len: usize) -> Result<usize, ReadFault> {
-    match vec![in alloc; b' '; len] {
-        Ok(line) => Ok(read(alloc, &line)?.len()),
-        Err(_) => Err(ReadFault::NoMemory),
+// How many events a text has, or why it is refused. Where memory is refused the test ends with an error.
+fn told(alloc: Global, text: &[u8]) -> Result<String, Fail> {
+    match read(alloc, text) {
+        Ok(history) => {
+            let len = history.len();
+            Ok(format!(in alloc; "{len} events")?)
+        }
+        Err(ReadFault::Text(TextFault { line, cause })) => {
+            Ok(format!(in alloc; "line {line}: {cause:?}")?)
+        }
+        Err(ReadFault::NoMemory) => Err("no memory".into()),
     }
 }
 
-// Whether the one document of a history is "d" on shard 0.
-fn has_document_d(history: &History) -> bool {
-    history.docs() == 1 && history.doc(0).as_str() == "d" && history.shard(0) == 0
+// Asserts what is told of a text.
+fn is_told(alloc: Global, text: &str, want: &str) -> Result<(), Fail> {
+    let got = told(alloc, text.as_bytes())?;
+    same(text, got.as_str(), want)
 }
 
-// Whether the first document of a history has these records.
-fn has_records(history: &History, want: &[Rec]) -> bool {
-    if history.docs() == 0 {
-        return false;
+// Asserts what is told of texts.
+fn all_told(alloc: Global, rows: &[(&str, &str)]) -> Result<(), Fail> {
+    for (text, want) in rows {
+        is_told(alloc, text, want)?;
     }
-    match history.records(0) {
-        Ok(records) => records.as_slice() == want,
-        Err(_) => false,
-    }
+    Ok(())
 }
 
 #[test]
-fn texts_taken(rt: HostRuntime) {
-    for (text, events) in [
-        ("", 0),
-        (BLANK_LINES, 0),
-        (INDEX_THEN_GET, 4),
-        (TERM_BEFORE_SEQUENCE, 4),
-        (PAIR_FALLS, 6),
-        (GREATEST_SEQUENCE_NUMBER, 1),
-        (SHOWN_AND_TAKEN_BACK, 8),
-    ] {
-        assert_eq!(rt; count(rt.alloc(), text), Ok(events), "{text}");
-    }
+fn texts_taken(rt: HostRuntime) -> Result<(), Fail> {
+    all_told(
+        rt.alloc(),
+        &[
+            ("", "0 events"),
+            (BLANK_LINES, "0 events"),
+            (INDEX_THEN_GET, "4 events"),
+            (TERM_BEFORE_SEQUENCE, "4 events"),
+            (PAIR_FALLS, "6 events"),
+            (GREATEST_SEQUENCE_NUMBER, "1 events"),
+            (SHOWN_AND_TAKEN_BACK, "8 events"),
+        ],
+    )
 }
 
 #[test]
-fn texts_refused(rt: HostRuntime) {
-    for (text, line, cause) in [
-        (SECOND_REPLY, 3, TextCause::Ended),
-        (HALF_CONDITION, 1, TextCause::Half),
-        (SEQUENCE_NUMBER_PAST_RANGE, 1, TextCause::Range),
-        (TWO_HUNDRED_BRACKETS, 1, TextCause::Json),
-        (LINE_CUT_SHORT, 1, TextCause::Json),
-        (REPLY_OF_ANOTHER_DOCUMENT, 2, TextCause::Stranger),
-        (REPLY_WITHOUT_CALL, 1, TextCause::NoCall),
-        (NUMBER_FRACTION, 1, TextCause::Range),
-        (NUMBER_MINUS, 1, TextCause::Range),
-        (EMPTY_ID, 1, TextCause::Id),
-        (UNKNOWN_OPERATION, 1, TextCause::Shape),
-        (SECOND_CALL, 2, TextCause::SecondCall),
-        (SHARD_MOVED, 2, TextCause::ShardMoved),
-    ] {
-        assert_eq!(rt; count(rt.alloc(), text), refused(line, cause), "{text}");
-    }
+fn texts_refused(rt: HostRuntime) -> Result<(), Fail> {
+    all_told(
+        rt.alloc(),
+        &[
+            (SECOND_REPLY, "line 3: Ended"),
+            (HALF_CONDITION, "line 1: Half"),
+            (SEQUENCE_NUMBER_PAST_RANGE, "line 1: Range"),
+            (TWO_HUNDRED_BRACKETS, "line 1: Json"),
+            (LINE_CUT_SHORT, "line 1: Json"),
+            (REPLY_OF_ANOTHER_DOCUMENT, "line 2: Stranger"),
+            (REPLY_WITHOUT_CALL, "line 1: NoCall"),
+            (NUMBER_FRACTION, "line 1: Range"),
+            (NUMBER_MINUS, "line 1: Range"),
+            (EMPTY_ID, "line 1: Id"),
+            (UNKNOWN_OPERATION, "line 1: Shape"),
+            (SECOND_CALL, "line 2: SecondCall"),
+            (SHARD_MOVED, "line 2: ShardMoved"),
+        ],
+    )
 }
 
 #[test]
-fn lines_taken(rt: HostRuntime) {
-    for (text, events) in [
-        (r#"{"e":"call","n":0,"id":"d","op":"get","shard":1023}"#, 1),
-        (r#"{"e":"call","n":0,"id":"d","op":"delete"}"#, 1),
-        (
-            r#"{"e":"call","n":18446744073709551615,"id":"d","op":"get","at":[1,{}]}"#,
-            1,
-        ),
-    ] {
-        assert_eq!(rt; count(rt.alloc(), text), Ok(events), "{text}");
-    }
+fn lines_taken(rt: HostRuntime) -> Result<(), Fail> {
+    all_told(
+        rt.alloc(),
+        &[
+            (
+                r#"{"e":"call","n":0,"id":"d","op":"get","shard":1023}"#,
+                "1 events",
+            ),
+            (r#"{"e":"call","n":0,"id":"d","op":"delete"}"#, "1 events"),
+            (
+                r#"{"e":"call","n":18446744073709551615,"id":"d","op":"get","at":[1,{}]}"#,
+                "1 events",
+            ),
+        ],
+    )
 }
 
 #[test]
-fn lines_refused(rt: HostRuntime) {
-    for (text, line, cause) in [
-        (
-            r#"{"e":"call","n":0,"id":"d","op":"get","shard":1024}"#,
-            1,
-            TextCause::Range,
-        ),
-        (
-            r#"{"e":"call","n":0,"id":"d","op":"get","shard":null}"#,
-            1,
-            TextCause::Shape,
-        ),
-        (
-            r#"{"e":"call","n":0,"id":"d","op":"index","k":1,"if_seq_no":null,"if_primary_term":null}"#,
-            1,
-            TextCause::Shape,
-        ),
-        (
-            r#"{"e":"call","n":0,"id":"d","op":"index","k":1,"if_seq_no":0,"if_primary_term":0}"#,
-            1,
-            TextCause::Range,
-        ),
-        (
-            r#"{"e":"call","n":18446744073709551616,"id":"d","op":"get"}"#,
-            1,
-            TextCause::Range,
-        ),
-        (r#"{"e":"call","id":"d","op":"get"}"#, 1, TextCause::Shape),
-        (r#"["e","call"]"#, 1, TextCause::Shape),
-        (r#"{"e":"lost","n":0}"#, 1, TextCause::NoCall),
-    ] {
-        assert_eq!(rt; count(rt.alloc(), text), refused(line, cause), "{text}");
-    }
+fn lines_refused(rt: HostRuntime) -> Result<(), Fail> {
+    all_told(
+        rt.alloc(),
+        &[
+            (
+                r#"{"e":"call","n":0,"id":"d","op":"get","shard":1024}"#,
+                "line 1: Range",
+            ),
+            (
+                r#"{"e":"call","n":0,"id":"d","op":"get","shard":null}"#,
+                "line 1: Shape",
+            ),
+            (
+                r#"{"e":"call","n":0,"id":"d","op":"index","k":1,"if_seq_no":null,"if_primary_term":null}"#,
+                "line 1: Shape",
+            ),
+            (
+                r#"{"e":"call","n":0,"id":"d","op":"index","k":1,"if_seq_no":0,"if_primary_term":0}"#,
+                "line 1: Range",
+            ),
+            (
+                r#"{"e":"call","n":18446744073709551616,"id":"d","op":"get"}"#,
+                "line 1: Range",
+            ),
+            (r#"{"e":"call","id":"d","op":"get"}"#, "line 1: Shape"),
+            (r#"["e","call"]"#, "line 1: Shape"),
+            (r#"{"e":"lost","n":0}"#, "line 1: NoCall"),
+        ],
+    )
 }
 
 #[test]
-fn causes_in_order(rt: HostRuntime) {
-    for (line, cause) in [
-        // A field of another kind, before an empty id, a half of a condition and a number past its range.
-        (
-            r#"{"e":"call","n":1.5,"id":"","op":"index","k":"1","if_seq_no":0}"#,
-            TextCause::Shape,
-        ),
-        (
-            r#"{"e":"call","n":1.5,"id":"","op":"index","k":1,"if_seq_no":0}"#,
-            TextCause::Id,
-        ),
-        (
-            r#"{"e":"call","n":1.5,"id":"d","op":"index","k":1,"if_seq_no":0}"#,
-            TextCause::Half,
-        ),
-        (r#"{"e":"reply","n":9,"status":70000}"#, TextCause::Range),
-        (r#"{"e":"reply","n":9,"status":200}"#, TextCause::NoCall),
-    ] {
-        assert_eq!(rt; count(rt.alloc(), line), refused(1, cause), "{line}");
-    }
+fn causes_in_order(rt: HostRuntime) -> Result<(), Fail> {
+    all_told(
+        rt.alloc(),
+        &[
+            // A field of another kind, before an empty id, a half of a condition and a number past its range.
+            (
+                r#"{"e":"call","n":1.5,"id":"","op":"index","k":"1","if_seq_no":0}"#,
+                "line 1: Shape",
+            ),
+            (
+                r#"{"e":"call","n":1.5,"id":"","op":"index","k":1,"if_seq_no":0}"#,
+                "line 1: Id",
+            ),
+            (
+                r#"{"e":"call","n":1.5,"id":"d","op":"index","k":1,"if_seq_no":0}"#,
+                "line 1: Half",
+            ),
+            (r#"{"e":"reply","n":9,"status":70000}"#, "line 1: Range"),
+            (r#"{"e":"reply","n":9,"status":200}"#, "line 1: NoCall"),
+        ],
+    )
 }
 
+// Lines of so many spaces.
 #[test]
-fn long_lines(rt: HostRuntime) {
+fn long_lines(rt: HostRuntime) -> Result<(), Fail> {
     for (len, want) in [
-        (LONGEST_LINE, Ok(0)),
-        (LONGEST_LINE + 1, refused(1, TextCause::Long)),
+        (LONGEST_LINE, "0 events"),
+        (LONGEST_LINE + 1, "line 1: Long"),
     ] {
-        assert_eq!(rt; count_in_spaces(rt.alloc(), len), want, "{len}");
+        let line = vec![in rt.alloc(); b' '; len]?;
+        let got = told(rt.alloc(), &line)?;
+        same("spaces", got.as_str(), want)?;
     }
+    Ok(())
+}
+
+// Asserts that the history is that of an index and a get.
+fn has_index_then_get(alloc: Global, history: &History) -> Result<(), Fail> {
+    let documents = documents_of(alloc, history)?;
+    same("documents", documents.as_str(), "d on 0; ")?;
+    let records = records_of(alloc, history, 0)?;
+    same(
+        "records",
+        records.as_str(),
+        "[Rec { no: 0, op: Index { k: 1, cond: None }, call_at: 0, heard: Some((1, Indexed { pair: Pair { term: 1, seq: 0 }, created: true })) }, Rec { no: 1, op: Get, call_at: 2, heard: Some((3, Found { pair: Pair { term: 1, seq: 0 }, k: 1 })) }]",
+    )
 }
 
 #[test]
-fn events_of_a_text(rt: HostRuntime) {
-    let pair = Pair::new(1, 0).unwrap();
-    let want = [
-        Rec {
-            no: 0,
-            op: Op::Index { k: 1, cond: None },
-            call_at: 0,
-            heard: Some((
-                1,
-                Reply::Indexed {
-                    pair,
-                    created: true,
-                },
-            )),
-        },
-        Rec {
-            no: 1,
-            op: Op::Get,
-            call_at: 2,
-            heard: Some((3, Reply::Found { pair, k: 1 })),
-        },
-    ];
-    let same = read(rt.alloc(), INDEX_THEN_GET.as_bytes()).map(|history| (
-        has_document_d(&history),
-        has_records(&history, &want),
-    ));
-    assert_eq!(rt; same, Ok((true, true)));
+fn events_of_a_text(rt: HostRuntime) -> Result<(), Fail> {
+    let history = read(rt.alloc(), INDEX_THEN_GET.as_bytes())?;
+    has_index_then_get(rt.alloc(), &history)
 }

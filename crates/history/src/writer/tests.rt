@@ -1,5 +1,7 @@
 use super::*;
 use crate::reader::read;
+use crate::testing::same;
+use std::test::Fail;
 
 const INDEX_THEN_GET: &str = r#"{"e":"call","n":0,"id":"d","op":"index","k":1}
 {"e":"reply","n":0,"status":201,"body":{"_index":"i","_id":"d","_version":1,"result":"created","_shards":{"total":2,"successful":1,"failed":0},"_seq_no":0,"_primary_term":1}}
@@ -24,15 +26,26 @@ const CALLS_ON_A_SHARD: &str = r#"{"e":"call","id":"a","n":0,"op":"get","shard":
 {"e":"lost","n":1}
 "#;
 
-// Whether the first events of a text's history are written so.
-fn are_written_so(alloc: Global, text: &str, events: usize, want: &str) -> Option<bool> {
-    let history = read(alloc, text.as_bytes()).ok()?;
-    let written = write(alloc, &history.prefix(events).ok()?).ok()?;
-    Some(written.as_slice() == want.as_bytes())
+// What is written of the first events of a history.
+fn written_of(alloc: Global, history: &History, events: usize) -> Result<Vec<u8>, Fail> {
+    let first = history.prefix(events)?;
+    Ok(write(alloc, &first)?)
+}
+
+// What is written of the first events of a text's history.
+fn written(alloc: Global, text: &str, events: usize) -> Result<Vec<u8>, Fail> {
+    let history = read(alloc, text.as_bytes())?;
+    written_of(alloc, &history, events)
+}
+
+// Asserts that the first events of a text's history are written so.
+fn is_written(alloc: Global, text: &str, events: usize, want: &str) -> Result<(), Fail> {
+    let got = written(alloc, text, events)?;
+    same(text, std::str::from_utf8(&got)?, want)
 }
 
 #[test]
-fn histories_written(rt: HostRuntime) {
+fn histories_written(rt: HostRuntime) -> Result<(), Fail> {
     for (text, events, want) in [
         ("", 0, ""),
         (INDEX_THEN_GET, 4, INDEX_THEN_GET_WRITTEN),
@@ -40,10 +53,7 @@ fn histories_written(rt: HostRuntime) {
         (INDEX_THEN_GET_WRITTEN, 4, INDEX_THEN_GET_WRITTEN),
         (CALLS_ON_A_SHARD, 9, CALLS_ON_A_SHARD),
     ] {
-        assert_eq!(rt;
-            are_written_so(rt.alloc(), text, events, want),
-            Some(true),
-            "{text}"
-        );
+        is_written(rt.alloc(), text, events, want)?;
     }
+    Ok(())
 }
