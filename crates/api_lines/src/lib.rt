@@ -14,6 +14,8 @@ pub mod laws;
 pub mod lines;
 mod number;
 mod reply_table;
+#[cfg(test)]
+mod testing;
 mod text_fault;
 mod written_reply;
 

@@ -1,8 +1,7 @@
 use super::*;
 use crate::bulk::read_bulk;
-use doc_register::Reply;
+use crate::testing::same;
 use std::test::Fail;
-use version_pair::Pair;
 
 // The body of the case `bulk`.
 const BULK: &[u8] = b"{\"index\":{\"_index\":\"i\",\"_id\":\"a\"}}
@@ -13,78 +12,73 @@ const BULK: &[u8] = b"{\"index\":{\"_index\":\"i\",\"_id\":\"a\"}}
 ";
 
 // What is heard of the calls of that body, or the fault.
-fn heard(alloc: Global, status: u16, body: &[u8]) -> Result<Vec<Heard>, BulkFault> {
+fn told(alloc: Global, status: u16, body: &str) -> Result<String, Fail> {
     let calls = read_bulk(alloc, BULK)?;
-    read_bulk_reply(alloc, calls.as_slice(), status, body)
+    match read_bulk_reply(alloc, calls.as_slice(), status, body.as_bytes()) {
+        Ok(heard) => Ok(format!(in alloc; "{heard:?}")?),
+        Err(fault) => Ok(format!(in alloc; "{fault:?}")?),
+    }
 }
 
-#[test]
-fn a_reply_read(rt: HostRuntime) -> Result<(), Fail> {
-    let body =
-        r#"{"took":1,"errors":true,"items":[{"index":{"_id":"a","status":201,"result":"created","_seq_no":0,"_primary_term":1}},{"delete":{"_id":"b","status":404,"result":"not_found","_seq_no":1,"_primary_term":1}},{"index":{"_id":"a","status":409,"error":{"type":"version_conflict_engine_exception","reason":"x"}}}]}"#;
-    let told = heard(rt.alloc(), 200, body.as_bytes()).map_err(|_| "a reply")?;
-    let created = Heard::Reply(Reply::Indexed {
-        pair: Pair::new(1, 0).ok_or("a pair")?,
-        created: true,
-    });
-    let missed = Heard::Reply(Reply::Deleted {
-        pair: Pair::new(1, 1).ok_or("a pair")?,
-        found: false,
-    });
-    assert_eq!(rt;
-        told.as_slice(),
-        [created, missed, Heard::Reply(Reply::Conflict)].as_slice()
-    );
+// Asserts what is told of replies.
+fn all_told(alloc: Global, rows: &[(u16, &str, &str)]) -> Result<(), Fail> {
+    for (status, body, want) in rows {
+        let got = told(alloc, *status, body)?;
+        same(body, got.as_str(), want)?;
+    }
     Ok(())
 }
 
 #[test]
-fn items_that_tell_nothing(rt: HostRuntime) -> Result<(), Fail> {
-    let body =
-        r#"{"items":[{"index":{"_id":"x","status":"x"}},{"delete":{"_id":"b","status":65536}},{"index":{}}]}"#;
-    let told = heard(rt.alloc(), 200, body.as_bytes()).map_err(|_| "a reply")?;
-    assert_eq!(rt;
-        told.as_slice(),
-        [Heard::Stranger, Heard::Unknown, Heard::Unknown].as_slice()
-    );
-    Ok(())
-}
-
-#[test]
-fn another_status_is_not_read(rt: HostRuntime) -> Result<(), Fail> {
-    let told = heard(rt.alloc(), 503, b"{").map_err(|_| "a reply")?;
-    assert_eq!(rt;
-        told.as_slice(),
-        [Heard::Unknown, Heard::Unknown, Heard::Unknown].as_slice()
-    );
-    Ok(())
+fn replies_read(rt: HostRuntime) -> Result<(), Fail> {
+    all_told(
+        rt.alloc(),
+        &[
+            (
+                200,
+                r#"{"took":1,"errors":true,"items":[{"index":{"_id":"a","status":201,"result":"created","_seq_no":0,"_primary_term":1}},{"delete":{"_id":"b","status":404,"result":"not_found","_seq_no":1,"_primary_term":1}},{"index":{"_id":"a","status":409,"error":{"type":"version_conflict_engine_exception","reason":"x"}}}]}"#,
+                "[Reply(Indexed { pair: Pair { term: 1, seq: 0 }, created: true }), Reply(Deleted { pair: Pair { term: 1, seq: 1 }, found: false }), Reply(Conflict)]",
+            ),
+            // Items that tell nothing.
+            (
+                200,
+                r#"{"items":[{"index":{"_id":"x","status":"x"}},{"delete":{"_id":"b","status":65536}},{"index":{}}]}"#,
+                "[Stranger, Unknown, Unknown]",
+            ),
+            // A body of another status is not read.
+            (503, "{", "[Unknown, Unknown, Unknown]"),
+        ],
+    )
 }
 
 #[test]
 fn replies_refused(rt: HostRuntime) -> Result<(), Fail> {
-    for (body, fault) in [
-        ("{\"items\":", BulkFault::Syntax(1)),
-        ("[]", BulkFault::Count),
-        ("{\"items\":{}}", BulkFault::Count),
-        (
-            r#"{"took":1,"errors":true,"items":[{"index":{"_id":"a","status":201,"result":"created","_seq_no":0,"_primary_term":1}},{"delete":{"_id":"b","status":404,"result":"not_found","_seq_no":1,"_primary_term":1}}]}"#,
-            BulkFault::Count,
-        ),
-        (
-            r#"{"items":[{"index":{}},{"index":{}},{"index":{}}]}"#,
-            BulkFault::Kind(1),
-        ),
-        (
-            r#"{"items":[{"index":{}},{"delete":{}},{"index":{},"delete":{}}]}"#,
-            BulkFault::Kind(2),
-        ),
-        (
-            r#"{"items":[{"index":1},{"delete":{}},{"index":{}}]}"#,
-            BulkFault::Kind(0),
-        ),
-    ] {
-        let told = heard(rt.alloc(), 200, body.as_bytes()).err();
-        assert_eq!(rt; told, Some(fault), "{body}");
-    }
-    Ok(())
+    all_told(
+        rt.alloc(),
+        &[
+            (200, "{\"items\":", "Syntax(1)"),
+            (200, "[]", "Count"),
+            (200, "{\"items\":{}}", "Count"),
+            (
+                200,
+                r#"{"took":1,"errors":true,"items":[{"index":{"_id":"a","status":201,"result":"created","_seq_no":0,"_primary_term":1}},{"delete":{"_id":"b","status":404,"result":"not_found","_seq_no":1,"_primary_term":1}}]}"#,
+                "Count",
+            ),
+            (
+                200,
+                r#"{"items":[{"index":{}},{"index":{}},{"index":{}}]}"#,
+                "Kind(1)",
+            ),
+            (
+                200,
+                r#"{"items":[{"index":{}},{"delete":{}},{"index":{},"delete":{}}]}"#,
+                "Kind(2)",
+            ),
+            (
+                200,
+                r#"{"items":[{"index":1},{"delete":{}},{"index":{}}]}"#,
+                "Kind(0)",
+            ),
+        ],
+    )
 }

@@ -1,80 +1,94 @@
 use super::*;
-use crate::reply_table::{Heard, read_reply};
+use crate::reply_table::read_reply;
+use crate::testing::same;
 use doc_register::Op;
 use std::test::Fail;
 
+// A reply by its name: of the term 1, with this sequence number, and of 7 where it shows a number.
+fn reply_named(name: &str, seq: u64) -> Result<Reply, Fail> {
+    let pair = Pair::new(1, seq).ok_or("a pair")?;
+    match name {
+        "created" => Ok(Reply::Indexed {
+            pair,
+            created: true,
+        }),
+        "updated" => Ok(Reply::Indexed {
+            pair,
+            created: false,
+        }),
+        "deleted" => Ok(Reply::Deleted { pair, found: true }),
+        "absent" => Ok(Reply::Deleted { pair, found: false }),
+        "found" => Ok(Reply::Found { pair, k: 7 }),
+        "missing" => Ok(Reply::Missing),
+        "conflict" => Ok(Reply::Conflict),
+        _ => Err("no reply".into()),
+    }
+}
+
 // The status and the text of what is written of a reply about the document `a`.
-fn written(alloc: Global, reply: &Reply) -> Result<(u16, String), Fail> {
-    let id = DocId::new(alloc, "a").map_err(|_| "an id")?;
+fn written(alloc: Global, reply: &Reply) -> Result<String, Fail> {
+    let id = DocId::new(alloc, "a")?;
     let (status, body) = write_reply(alloc, &id, reply)?;
-    Ok((status, body.to_string(alloc)?))
+    let text = body.to_string(alloc)?;
+    Ok(format!(in alloc; "{status} {text}")?)
+}
+
+// Asserts what is written of a reply.
+fn is_written(alloc: Global, name: &str, seq: u64, want: &str) -> Result<(), Fail> {
+    let got = written(alloc, &reply_named(name, seq)?)?;
+    same(name, got.as_str(), want)
 }
 
 #[test]
 fn replies_written(rt: HostRuntime) -> Result<(), Fail> {
-    let first = Pair::new(1, 0).ok_or("a pair")?;
-    let second = Pair::new(1, 1).ok_or("a pair")?;
-    for (reply, status, text) in [
+    for (name, seq, want) in [
         (
-            Reply::Indexed {
-                pair: first,
-                created: true,
-            },
-            201,
-            r#"{"_id":"a","_primary_term":1,"_seq_no":0,"result":"created"}"#,
+            "created",
+            0,
+            r#"201 {"_id":"a","_primary_term":1,"_seq_no":0,"result":"created"}"#,
         ),
         (
-            Reply::Indexed {
-                pair: first,
-                created: false,
-            },
-            200,
-            r#"{"_id":"a","_primary_term":1,"_seq_no":0,"result":"updated"}"#,
+            "updated",
+            0,
+            r#"200 {"_id":"a","_primary_term":1,"_seq_no":0,"result":"updated"}"#,
         ),
         (
-            Reply::Deleted {
-                pair: second,
-                found: true,
-            },
-            200,
-            r#"{"_id":"a","_primary_term":1,"_seq_no":1,"result":"deleted"}"#,
+            "deleted",
+            1,
+            r#"200 {"_id":"a","_primary_term":1,"_seq_no":1,"result":"deleted"}"#,
         ),
         (
-            Reply::Deleted {
-                pair: second,
-                found: false,
-            },
-            404,
-            r#"{"_id":"a","_primary_term":1,"_seq_no":1,"result":"not_found"}"#,
+            "absent",
+            1,
+            r#"404 {"_id":"a","_primary_term":1,"_seq_no":1,"result":"not_found"}"#,
         ),
         (
-            Reply::Found { pair: first, k: 7 },
-            200,
-            r#"{"_id":"a","_primary_term":1,"_seq_no":0,"_source":{"k":7},"found":true}"#,
+            "found",
+            0,
+            r#"200 {"_id":"a","_primary_term":1,"_seq_no":0,"_source":{"k":7},"found":true}"#,
         ),
-        (Reply::Missing, 404, r#"{"_id":"a","found":false}"#),
+        ("missing", 0, r#"404 {"_id":"a","found":false}"#),
         (
-            Reply::Conflict,
-            409,
-            r#"{"error":{"type":"version_conflict_engine_exception"}}"#,
+            "conflict",
+            0,
+            r#"409 {"error":{"type":"version_conflict_engine_exception"}}"#,
         ),
     ] {
-        let (code, body) = written(rt.alloc(), &reply)?;
-        assert_eq!(rt; code, status, "{reply:?}");
-        assert_eq!(rt; body.as_str(), text, "{reply:?}");
+        is_written(rt.alloc(), name, seq, want)?;
     }
     Ok(())
 }
 
 #[test]
 fn written_and_read_back(rt: HostRuntime) -> Result<(), Fail> {
-    let id = DocId::new(rt.alloc(), "a").map_err(|_| "an id")?;
-    let pair = Pair::new(1, 0).ok_or("a pair")?;
-    let reply = Reply::Found { pair, k: 7 };
+    let id = DocId::new(rt.alloc(), "a")?;
+    let reply = reply_named("found", 0)?;
     let (status, body) = write_reply(rt.alloc(), &id, &reply)?;
-    assert_eq!(rt;
-        read_reply(&Op::Get, &id, status, &body),
-        Heard::Reply(reply)
-    );
-    Ok(())
+    let heard = read_reply(&Op::Get, &id, status, &body);
+    let got = format!(in rt.alloc(); "{heard:?}")?;
+    same(
+        "found",
+        got.as_str(),
+        "Reply(Found { pair: Pair { term: 1, seq: 0 }, k: 7 })",
+    )
 }
