@@ -254,13 +254,16 @@ first_wrong mode events es x records broken one at is wrong =
       subst (λ rs. IsFirstFault mode rs x.1.items broken) (records_at events d.0 records d.1 is) wrong,
     )
 
-pub explained_one : (mode : Conflicts) (events : List Event) (d : List ℕ) (records : List Rec) (places : List Place) (w : Witness) → length (documents_of events) ≡ 1
+pub explained_one : (mode : Conflicts) (events : List Event) (d : List ℕ) (records : List Rec) (w : Witness) → length (documents_of events) ≡ 1
     → option_map (λ e. e.0) (slice_get (documents_of events) 0) ≡ Some d → option_map (λ e. records_of events e.0) (slice_get (documents_of events) 0) ≡ Some records
-    → w ≡ record { doc = d; records = records; places = places; conflicts = mode } → AreValid mode records places → IsWitnessOf mode events (Some w)
-explained_one mode events d records places w one at is w_is valid =
-    let only = one_of (documents_of events) d one at in
-    subst (λ k. IsWitnessOf mode events (Some k)) (sym w_is)
-    (only.0, only.1, records_at events (d, only.0) records (ap (λ ds. slice_get ds 0) only.1) is, valid)
+    → w.doc ≡ d → w.records ≡ records → AreValid mode records w.places → IsWitnessOf mode events (Some w)
+explained_one mode events d records w one at is doc_is records_is valid =
+    let only = one_of (documents_of events) d one at in (
+      only.0,
+      only.1 ∙ ap (λ k. (k, only.0) ∷ []) (sym doc_is),
+      records_is ∙ (records_at events (d, only.0) records (ap (λ ds. slice_get ds 0) only.1) is ∙ ap (records_of events) (sym doc_is)),
+      subst (λ rs. AreValid mode rs w.places) (sym records_is) valid,
+    )
 
 pub stranger_of_none : (mode : Conflicts) (events : List Event) (es : List (List ℕ × Vec Place Global)) → length (documents_of events) ≡ 0 → 0 < length es
     → IsFirstVerifyFault mode events (map doc_places es) (fault.DocStranger 0)

@@ -5,22 +5,19 @@ use Rattle.history.specs.declared.event.Event.{Event}
 use Rattle.history.specs.declared.record.Rec.{Rec}
 use Rattle.history.specs.Events.{documents_of, records_of}
 use Rattle.history.specs.Order.{Explains, Placed}
-use Rattle.witness.specs.declared.place.Place.{Place}
-use Rattle.witness.specs.Places.{AreValid}
+use Rattle.doc_check.specs.NoOrders.{HasNoOrder}
 use Rattle.compose.specs.Counts.{calls_of}
-use Rattle.compose.specs.ReplyOrder.{IsReplyOrder}
 use Rattle.compose.specs.Covers.{IsWitnessOf}
 use Rattle.compose.specs.declared.explanation.Explanation.{Explanation}
 use Rattle.compose.specs.declared.explanation.Explanation.TheVariants.{Found, NotFound}
 
--- the order of the replies of the first document is not valid
+-- no places without a given pair are valid for the records of the first document
 abbrev pub IsUnexplained : Conflicts → List Event → Type 0
 IsUnexplained mode events =
-    (records : List Rec) × (places : List Place) × (option_map (λ d. records_of events d.0) (slice_get (documents_of events) 0) ≡ Some records)
-    × IsReplyOrder records places × (¬ AreValid mode records places)
+    (records : List Rec) × (option_map (λ d. records_of events d.0) (slice_get (documents_of events) 0) ≡ Some records) × HasNoOrder mode records
 
--- What is found is a witness of the history. That nothing is found says that it has more than one document, or that the
--- order of its replies is not valid.
+-- What is found is a witness of the history. That nothing is found says that it has more than one document, or that no places
+-- without a given pair are valid for its one.
 abbrev pub IsExplanation : Conflicts → List Event → Explanation → Type 0
 IsExplanation mode events (Found witness) = IsWitnessOf mode events witness
 IsExplanation mode events NotFound = (2 ≤ length (documents_of events)) ⊎ IsUnexplained mode events

@@ -2,12 +2,12 @@ ghost use Rattle.std.specs.Prelude.{◌≡◌, IfOk, length};
 ghost use Rattle.history.specs.Events.{documents_of};
 ghost use Rattle.compose.specs.Explained.{IsExplanation};
 
-use crate::reply_order::reply_order;
+use doc_check::{DocAnswer, answer};
 use doc_register::Conflicts;
 use history::History;
-use std::alloc::{AllocError, Global};
+use std::alloc::Global;
 use version_pair::NoMemory;
-use witness::{Broken, DocWitness};
+use witness::DocWitness;
 
 /// What was found for a history.
 #[derive(Debug, Drop)]
@@ -18,7 +18,7 @@ pub enum Explanation {
     NotFound,
 }
 
-// What is found for the one document of a history: the order of its replies, where that is valid.
+// What is found for the one document of a history.
 fn explain_document(
     alloc: Global,
     history: &History,
@@ -28,19 +28,15 @@ fn explain_document(
     ensures { IfOk result (IsExplanation conflicts history.now) }
 {
     let records = history.records(0)?;
-    let places = reply_order(alloc, &records)?;
     let id = history.doc(0).copy()?;
-    match DocWitness::check(alloc, id, records, places, conflicts) {
-        Ok(witness) => Ok(Explanation::Found(Some(witness))),
-        Err(back) => match back.0 {
-            Broken::NoMemory => Err(AllocError),
-            _ => Ok(Explanation::NotFound),
-        },
+    match answer(alloc, id, records, history.seen(), conflicts)? {
+        DocAnswer::Found(witness) => Ok(Explanation::Found(Some(witness))),
+        DocAnswer::NotFound(_) => Ok(Explanation::NotFound),
     }
 }
 
-/// What is found for a history: for one of at most one document the order of its replies, where that is valid, the
-/// unanswered calls being left out. For a history of more documents nothing is looked for.
+/// What is found for a history: for one of at most one document an order of its calls, where the search finds one. For
+/// a history of more documents nothing is looked for.
 pub fn explain(
     alloc: Global,
     history: &History,

@@ -3,7 +3,6 @@
 
 mod counts;
 mod explanation;
-mod reply_order;
 mod verification;
 mod verify_fault;
 

@@ -1,0 +1,9 @@
+mod Lists
+mod ChainLemmas
+mod PlacesLemmas
+mod StretchLemmas
+mod SweepLemmas
+mod MomentLemmas
+mod OrderLemmas
+mod SettledLemmas
+mod SearchLemmas

@@ -1,0 +1,13 @@
+use Rattle.std.proofs.Common.{arith, map, ap, subst, ◌∙◌}
+use Rattle.std.specs.Prelude.{IsPermutation}
+use Rattle.std.proofs.lemmas.List.{take_all}
+use Rattle.doc_check.specs.aids.Order.{place_of}
+use Rattle.doc_check.proofs.order.order_of.Goals as goal
+
+pub returns : goal.returns
+returns c = (
+  c.sort_unstable.new.self.items,
+  subst (λ xs. IsPermutation xs c.sort_unstable.new.self.items) c.in_ok-standings.ensures c.sort_unstable.ensures.permutation,
+  c.sort_unstable.ensures.sorted,
+  c.loop-i.invariant ∙ ap (map place_of) (take_all c.loop-i.i c.sort_unstable.new.self.items (omega arith)),
+)

@@ -1,0 +1,4 @@
+pub mod ReplyOrder
+pub mod NoOrders
+pub mod Search
+pub mod aids

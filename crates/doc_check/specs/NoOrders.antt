@@ -1,0 +1,40 @@
+-- Records without an order of the answered calls alone.
+use Rattle.std.specs.Prelude.{◌≡◌, ◌≢◌, ℕ, List, Option, None, Some, slice_get}
+use Rattle.doc_register.specs.declared.op.Op.TheVariants.{Get}
+use Rattle.doc_register.specs.declared.reply.Reply.{Reply}
+use Rattle.doc_register.specs.declared.reply.Reply.TheVariants.{Conflict}
+use Rattle.doc_register.specs.declared.state.Conflicts.{Conflicts}
+use Rattle.doc_register.specs.declared.state.Conflicts.TheVariants.{Maybe}
+use Rattle.history.specs.declared.record.Rec.{Rec}
+use Rattle.witness.specs.declared.place.Place.{Place}
+use Rattle.witness.specs.Places.{AreValid}
+
+-- no place gives a pair
+abbrev pub AreUnpaired : List Place → Type 0
+AreUnpaired places = (i : ℕ) (p : Place) → slice_get places i ≡ Some p → p.pair ≡ None
+
+-- no places without a given pair are valid for the records
+abbrev pub HasNoOrder : Conflicts → List Rec → Type 0
+HasNoOrder mode records = (places : List Place) → AreUnpaired places → ¬ AreValid mode records places
+
+-- a document for whose records that holds, in this reading of conflicts
+pub record Unordered : Type 0 where
+  pub doc : List ℕ
+  pub records : List Rec
+  pub conflicts : Conflicts
+
+-- ---- settled records
+
+-- a reply was heard, and it tells whether the write was performed: under Maybe a conflict doesn't
+abbrev pub IsTold : Conflicts → Option (ℕ × Reply) → Type 0
+IsTold mode None = ⊥
+IsTold mode (Some heard) = mode ≡ Maybe → heard.1 ≢ Conflict
+
+-- each write has such a reply
+abbrev pub AreSettled : Conflicts → List Rec → Type 0
+AreSettled mode records = (k : ℕ) (r : Rec) → slice_get records k ≡ Some r → r.op ≢ Get → IsTold mode r.heard
+
+-- settled records for which no places without a given pair are valid have no valid places
+abbrev pub SettledHaveNone : Type 0
+SettledHaveNone = (mode : Conflicts) (records : List Rec) → AreSettled mode records → HasNoOrder mode records
+    → (places : List Place) → ¬ AreValid mode records places

@@ -1,0 +1,35 @@
+-- What the search of a document answers.
+use Rattle.std.specs.Prelude.{◌≡◌, ℕ, List}
+use Rattle.doc_register.specs.declared.state.Conflicts.{Conflicts}
+use Rattle.history.specs.declared.record.Rec.{Rec}
+use Rattle.witness.specs.declared.place.Place.{Place}
+use Rattle.witness.specs.Places.{AreValid}
+use Rattle.doc_check.specs.NoOrders.{AreUnpaired, HasNoOrder}
+use Rattle.doc_check.specs.ReplyOrder.{IsReplyOrder}
+use Rattle.doc_check.specs.declared.search.DocAnswer.{DocAnswer}
+use Rattle.doc_check.specs.declared.search.DocAnswer.TheVariants.{Found, NotFound}
+
+-- The answer is about the document, its records and this reading of conflicts: an order found is valid for them; where none
+-- is found, no places without a given pair are.
+abbrev pub IsAbout : List ℕ → List Rec → Conflicts → DocAnswer → Type 0
+IsAbout doc records mode (Found w) = (w.doc ≡ doc) × (w.records ≡ records) × (w.conflicts ≡ mode) × AreValid mode records w.places
+IsAbout doc records mode (NotFound n) = (n.doc ≡ doc) × (n.records ≡ records) × (n.conflicts ≡ mode) × HasNoOrder mode records
+
+-- an order is found, with just these places
+abbrev pub IsFoundWith : List Place → DocAnswer → Type 0
+IsFoundWith places (Found w) = w.places ≡ places
+IsFoundWith places (NotFound n) = ⊥
+
+-- where the order of the replies is valid, it is what is found
+abbrev pub FollowsReplies : Conflicts → List Rec → DocAnswer → Type 0
+FollowsReplies mode records answer = (places : List Place) → IsReplyOrder records places → AreValid mode records places
+    → IsFoundWith places answer
+
+-- an order is found, of the answered calls alone
+abbrev pub IsFoundUnpaired : DocAnswer → Type 0
+IsFoundUnpaired (Found w) = AreUnpaired w.places
+IsFoundUnpaired (NotFound n) = ⊥
+
+-- where any places without a given pair are valid, such places are found
+abbrev pub FindsUnpaired : Conflicts → List Rec → DocAnswer → Type 0
+FindsUnpaired mode records answer = (places : List Place) → AreUnpaired places → AreValid mode records places → IsFoundUnpaired answer

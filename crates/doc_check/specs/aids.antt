@@ -1,0 +1,4 @@
+pub mod Chain
+pub mod Stretches
+pub mod Sweep
+pub mod Order

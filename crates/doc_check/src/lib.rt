@@ -1,0 +1,19 @@
+//! The search for one document: an order of its calls that explains them, or that it has none of its answered calls.
+#![tactic(auto)]
+
+mod chain;
+mod latest;
+pub mod laws;
+mod moments;
+mod no_order;
+mod order;
+mod reply_order;
+mod search;
+mod stretches;
+mod sweep;
+
+pub use no_order::NoOrder;
+pub use search::{DocAnswer, answer};
+
+#[cfg(test)]
+mod tests;

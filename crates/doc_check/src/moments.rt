@@ -1,0 +1,34 @@
+ghost use Rattle.std.specs.Prelude.{◌≡◌, IfOk};
+ghost use Rattle.doc_check.specs.aids.Sweep.{AreMoments, moments_from};
+
+use history::Rec;
+use std::alloc::Global;
+use version_pair::NoMemory;
+
+/// The call or the reply of an answered record: its place in the history, whether it is the reply, and the record.
+pub type Moment = (usize, bool, usize);
+
+// The calls and replies of the answered records.
+fn answered_moments(alloc: Global, records: &[Rec]) -> Result<Vec<Moment>, NoMemory>
+    ensures { IfOk result (λ moments. moments.items ≡ moments_from 0 records.now) }
+{
+    let mut moments = Vec::new(alloc);
+    for k in 0..records.len() {
+        let found = records[k];
+        if let Some(heard) = found.heard {
+            moments.push((found.call_at, false, k))?;
+            moments.push((heard.0, true, k))?;
+        }
+    }
+    Ok(moments)
+}
+
+/// The calls and replies of the answered records from the last to the first, a reply first among those of one place.
+pub fn moments_of(alloc: Global, records: &[Rec]) -> Result<Vec<Moment>, NoMemory>
+    ensures { IfOk result (λ moments. AreMoments records.now moments.items) }
+{
+    let mut moments = answered_moments(alloc, records)?;
+    moments.sort_unstable();
+    moments.reverse();
+    Ok(moments)
+}

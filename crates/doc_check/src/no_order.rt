@@ -1,0 +1,73 @@
+ghost use Rattle.std.specs.Prelude.{◌≡◌};
+ghost use Rattle.doc_check.specs.NoOrders.{HasNoOrder};
+
+use doc_register::Conflicts;
+use history::Rec;
+use std::marker::Model;
+use version_pair::DocId;
+
+/// The calls of a document for which no order was found.
+///
+/// Its type keeps that no places without a given pair are valid for its records in its reading of conflicts.
+#[derive(Debug, Drop)]
+pub struct NoOrder {
+    id: DocId,
+    records: Vec<Rec>,
+    conflicts: Conflicts,
+}
+
+impl Model for NoOrder {
+    ghost use Rattle.doc_check.specs.NoOrders.{HasNoOrder, Unordered};
+
+    ghost Value = { Unordered };
+
+    ghost view = { λ n. record {
+      doc = n.id;
+      records = n.records.items;
+      conflicts = n.conflicts;
+    } };
+
+    ghost invariant = { λ n. HasNoOrder n.conflicts n.records.items };
+}
+
+impl NoOrder {
+    // For records of which no places without a given pair are valid.
+    pub(crate) fn of(id: DocId, records: Vec<Rec>, conflicts: Conflicts) -> NoOrder
+        requires { HasNoOrder conflicts records.items }
+        ensures { result ≡ record {
+          doc = id;
+          records = records.items;
+          conflicts = conflicts;
+        } }
+    {
+        NoOrder {
+            id,
+            records,
+            conflicts,
+        }
+    }
+
+    /// The document's id.
+    pub fn id(&self) -> &DocId
+        ensures { result.now ≡ self.now.doc }
+    {
+        &self.id
+    }
+
+    /// The document's calls, in their order in the history.
+    pub fn records(&self) -> &[Rec]
+        ensures same { result.now ≡ self.now.records }
+        ensures none { HasNoOrder self.now.conflicts self.now.records }
+    {
+        // A look at a field: what the type keeps is known from here on.
+        let _ = &self.id;
+        &self.records
+    }
+
+    /// How a conflict is read.
+    pub fn conflicts(&self) -> Conflicts
+        ensures { result ≡ self.now.conflicts }
+    {
+        self.conflicts
+    }
+}

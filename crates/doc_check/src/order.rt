@@ -1,0 +1,65 @@
+ghost use Rattle.std.specs.Prelude.{◌≡◌, IfOk, length};
+ghost use Rattle.doc_check.specs.aids.Order.{IsStretchOrder, standing_made, standings_from};
+
+use crate::chain::performed_pair;
+use history::Rec;
+use std::alloc::Global;
+use version_pair::NoMemory;
+use witness::Place;
+
+// Where a record stands: its stretch, its turn there, the place of its reply, its number.
+type Standing = (usize, usize, usize, usize);
+
+// Where an answered record stands that was given a stretch: the write of a stretch comes first in it.
+fn standing_of(k: usize, found: Rec, given: Option<usize>) -> Option<Standing>
+    ensures { result ≡ standing_made k found.heard given }
+{
+    let Some(heard) = found.heard else {
+        return None;
+    };
+    let Some(stretch) = given else {
+        return None;
+    };
+    match performed_pair(found.heard) {
+        Some(_) => Some((stretch, 0, heard.0, k)),
+        None => Some((stretch, 1, heard.0, k)),
+    }
+}
+
+// Where the answered records stand.
+fn standings_of(
+    alloc: Global,
+    records: &[Rec],
+    given: &[Option<usize>],
+) -> Result<Vec<Standing>, NoMemory>
+    requires { length given.now ≡ length records.now }
+    ensures { IfOk result
+        (λ standings. standings.items ≡ standings_from 0 records.now given.now) }
+{
+    let mut standings = Vec::new(alloc);
+    for k in 0..records.len() {
+        if let Some(standing) = standing_of(k, records[k], given[k]) {
+            standings.push(standing)?;
+        }
+    }
+    Ok(standings)
+}
+
+/// The answered records by stretch, its write first, then by place of reply, with no pair given.
+pub fn order_of(
+    alloc: Global,
+    records: &[Rec],
+    given: &[Option<usize>],
+) -> Result<Vec<Place>, NoMemory>
+    requires { length given.now ≡ length records.now }
+    ensures { IfOk result (λ places. IsStretchOrder records.now given.now places.items) }
+{
+    let mut standings = standings_of(alloc, records, given)?;
+    standings.sort_unstable();
+    let mut places = Vec::with_capacity(alloc, standings.len())?;
+    for i in 0..standings.len() {
+        let (_, _, _, rec) = standings[i];
+        places.push(Place { rec, pair: None })?;
+    }
+    Ok(places)
+}

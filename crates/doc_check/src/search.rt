@@ -1,0 +1,98 @@
+ghost use Rattle.std.specs.Prelude.{◌≡◌, IfOk, MatchOption};
+ghost use Rattle.doc_register.specs.declared.state.Conflicts.{Conflicts as Mode};
+ghost use Rattle.witness.specs.Places.{AreValid};
+ghost use Rattle.doc_check.specs.NoOrders.{HasNoOrder};
+ghost use Rattle.doc_check.specs.Search.{FindsUnpaired, FollowsReplies, IsAbout};
+ghost use Rattle.doc_check.specs.aids.Sweep.{IsOfSweep};
+
+use crate::chain::{chain_of, rises};
+use crate::no_order::NoOrder;
+use crate::order::order_of;
+use crate::reply_order::reply_order;
+use crate::stretches::Stretches;
+use crate::sweep::sweep;
+use doc_register::Conflicts;
+use history::{Rec, Seen};
+use std::alloc::{AllocError, Global};
+use version_pair::{DocId, NoMemory};
+use witness::{Broken, DocWitness, Place};
+
+/// What the search found for a document.
+#[derive(Debug, Drop)]
+pub enum DocAnswer {
+    /// An order that explains its calls.
+    Found(DocWitness),
+    /// No order was found, and there is none of the answered calls alone.
+    NotFound(NoOrder),
+}
+
+// The order of the answered records that the sweep gives; `None` where it finds that there is none.
+fn swept(alloc: Global, records: &[Rec]) -> Result<Option<Vec<Place>>, NoMemory>
+    ensures { IfOk result (λ swept. (mode : Mode) → MatchOption swept (HasNoOrder mode records.now)
+        (λ places. IsOfSweep mode records.now places.items)) }
+{
+    let chain = chain_of(alloc, records)?;
+    if !rises(&chain) {
+        return Ok(None);
+    }
+    let stretches = Stretches::of(alloc, records, chain)?;
+    match sweep(alloc, records, &stretches)? {
+        Some(given) => Ok(Some(order_of(alloc, records, &given)?)),
+        None => Ok(None),
+    }
+}
+
+// What is found where no order of the answered calls alone is valid.
+fn answer_without(id: DocId, recs: Vec<Rec>, conflicts: Conflicts) -> DocAnswer
+    requires { HasNoOrder conflicts recs.items }
+    ensures { IsAbout id recs.items conflicts result }
+{
+    DocAnswer::NotFound(NoOrder::of(id, recs, conflicts))
+}
+
+// What is found where the order of the replies is not valid.
+fn answer_by_sweep(
+    alloc: Global,
+    id: DocId,
+    recs: Vec<Rec>,
+    conflicts: Conflicts,
+) -> Result<DocAnswer, NoMemory>
+    ensures about { IfOk result (IsAbout id recs.items conflicts) }
+    ensures complete { IfOk result (FindsUnpaired conflicts recs.items) }
+{
+    match swept(alloc, &recs)? {
+        Some(places) => match DocWitness::check(alloc, id, recs, places, conflicts) {
+            Ok(witness) => Ok(DocAnswer::Found(witness)),
+            Err((fault, id, recs, _)) => match fault {
+                Broken::NoMemory => Err(AllocError),
+                _ => Ok(answer_without(id, recs, conflicts)),
+            },
+        },
+        None => Ok(answer_without(id, recs, conflicts)),
+    }
+}
+
+/// An order of a document's calls that explains them, where one is found.
+///
+/// First the order of the replies is tried, then the sweep, which finds an order of the answered calls alone where
+/// there is one.
+pub fn answer(
+    alloc: Global,
+    id: DocId,
+    recs: Vec<Rec>,
+    seen: Seen,
+    conflicts: Conflicts,
+) -> Result<DocAnswer, NoMemory>
+    ensures about { IfOk result (IsAbout id recs.items conflicts) }
+    ensures replies { IfOk result (FollowsReplies conflicts recs.items) }
+    ensures complete { IfOk result (FindsUnpaired conflicts recs.items) }
+{
+    let places = reply_order(alloc, &recs)?;
+    match DocWitness::check(alloc, id, recs, places, conflicts) {
+        Ok(witness) => Ok(DocAnswer::Found(witness)),
+        Err((fault, id, recs, _)) => match fault {
+            Broken::NoMemory => Err(AllocError),
+            _ => answer_by_sweep(alloc, id, recs, conflicts),
+        },
+    }
+}

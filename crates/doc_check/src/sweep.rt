@@ -1,0 +1,90 @@
+ghost use Rattle.std.specs.Prelude.{◌≡◌, ◌<◌, ◌≤◌, Some, IfOk, IfSome, IfNone, MatchOption, List, length, slice_get};
+ghost use Rattle.history.specs.declared.record.Rec.{Rec as Call};
+ghost use Rattle.witness.specs.declared.place.Place.{Place};
+ghost use Rattle.doc_check.specs.aids.Chain.{pair_of};
+ghost use Rattle.doc_check.specs.aids.Stretches.{AreStretches, cap};
+ghost use Rattle.doc_check.specs.aids.Sweep.{AreGiven, AreSpread, IsMet, IsStuck};
+
+use crate::chain::performed_pair;
+use crate::moments::{Moment, moments_of};
+use crate::stretches::Stretches;
+use history::Rec;
+use std::alloc::Global;
+use version_pair::NoMemory;
+
+// The last stretch for what stands before a record in this stretch: a write is the first of its own.
+fn last_before(found: Rec, stretch: usize) -> usize
+    ensures { result ≡ cap (pair_of found.heard) stretch }
+{
+    match performed_pair(found.heard) {
+        Some(_) => stretch.saturating_sub(1),
+        None => stretch,
+    }
+}
+
+// The record's stretch once the moment is met, and the bound for all that is met later.
+fn meet(
+    records: &[Rec],
+    stretches: &Stretches,
+    given: &[Option<usize>],
+    bound: usize,
+    moment: Moment,
+) -> Option<(usize, usize)>
+    requires laid_out { AreStretches records.now stretches.now }
+    requires rec { moment.2 < length records.now }
+    requires size { length given.now ≡ length records.now }
+    requires bound { bound ≤ length stretches.now.chain.items }
+    ensures some { IfSome result (λ met. (r : Call) → slice_get records.now moment.2 ≡ Some r
+        → IsMet records.now stretches.now.chain.items given.now bound moment r met.0 met.1) }
+    ensures none { IfNone result ((r : Call) → slice_get records.now moment.2 ≡ Some r
+        → IsStuck records.now stretches.now.chain.items given.now bound moment r) }
+{
+    let (_, is_reply, rec) = moment;
+    let found = records[rec];
+    match given[rec] {
+        Some(stretch) => {
+            if is_reply {
+                Some((stretch, bound))
+            } else {
+                Some((stretch, bound.min(last_before(found, stretch))))
+            }
+        }
+        None => {
+            if is_reply {
+                match stretches.latest(rec, found, bound) {
+                    Some(stretch) => Some((stretch, bound)),
+                    None => None,
+                }
+            } else {
+                None
+            }
+        }
+    }
+}
+
+/// The latest stretch of each answered record that any order allows it; `None` where some record has none.
+pub fn sweep(
+    alloc: Global,
+    records: &[Rec],
+    stretches: &Stretches,
+) -> Result<Option<Vec<Option<usize>>>, NoMemory>
+    requires { AreStretches records.now stretches.now }
+    ensures { IfOk result (λ swept. MatchOption swept ((places : List Place)
+        → ¬ AreSpread records.now stretches.now.chain.items places)
+        (λ given. AreGiven records.now stretches.now.chain.items given.items)) }
+{
+    let moments = moments_of(alloc, records)?;
+    let mut given = vec![in alloc; None; records.len()]?;
+    let mut bound = stretches.last();
+    for i in 0..moments.len() {
+        let moment = moments[i];
+        match meet(records, stretches, &given, bound, moment) {
+            Some((stretch, lowered)) => {
+                given[moment.2] = Some(stretch);
+                bound = lowered;
+            }
+            None => return Ok(None),
+        }
+    }
+    Ok(Some(given))
+}

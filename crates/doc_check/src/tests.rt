@@ -1,0 +1,157 @@
+use super::*;
+use doc_register::Conflicts;
+use history::{History, read};
+use std::alloc::Global;
+use std::test::Fail;
+use version_pair::Pair;
+use witness::Place;
+
+// The case shown-and-taken-back.
+const SHOWN_AND_TAKEN_BACK: &str = r#"{"e":"call","n":0,"id":"d","op":"index","k":1}
+{"e":"reply","n":0,"status":201,"body":{"_id":"d","result":"created","_seq_no":0,"_primary_term":1}}
+{"e":"call","n":1,"id":"d","op":"index","k":2,"if_primary_term":1,"if_seq_no":0}
+{"e":"call","n":2,"id":"d","op":"get"}
+{"e":"reply","n":2,"status":200,"body":{"_id":"d","_seq_no":1,"_primary_term":1,"found":true,"_source":{"k":2}}}
+{"e":"call","n":3,"id":"d","op":"get"}
+{"e":"reply","n":3,"status":200,"body":{"_id":"d","_seq_no":0,"_primary_term":1,"found":true,"_source":{"k":1}}}
+{"e":"reply","n":1,"status":200,"body":{"_id":"d","result":"updated","_seq_no":1,"_primary_term":1}}
+"#;
+
+// The case overlapping-gets.
+const OVERLAPPING_GETS: &str = r#"{"e":"call","n":0,"id":"d","op":"index","k":1}
+{"e":"reply","n":0,"status":201,"body":{"_id":"d","result":"created","_seq_no":0,"_primary_term":1}}
+{"e":"call","n":1,"id":"d","op":"index","k":2,"if_primary_term":1,"if_seq_no":0}
+{"e":"call","n":2,"id":"d","op":"get"}
+{"e":"call","n":3,"id":"d","op":"get"}
+{"e":"reply","n":2,"status":200,"body":{"_id":"d","_seq_no":1,"_primary_term":1,"found":true,"_source":{"k":2}}}
+{"e":"reply","n":3,"status":200,"body":{"_id":"d","_seq_no":0,"_primary_term":1,"found":true,"_source":{"k":1}}}
+{"e":"reply","n":1,"status":200,"body":{"_id":"d","result":"updated","_seq_no":1,"_primary_term":1}}
+"#;
+
+// The case conflict-without-cause.
+const CONFLICT_WITHOUT_CAUSE: &str = r#"{"e":"call","n":0,"id":"d","op":"index","k":1}
+{"e":"reply","n":0,"status":201,"body":{"_id":"d","result":"created","_seq_no":0,"_primary_term":1}}
+{"e":"call","n":2,"id":"d","op":"index","k":3,"if_primary_term":1,"if_seq_no":0}
+{"e":"reply","n":2,"status":409,"body":{"error":{"type":"version_conflict_engine_exception"}}}
+"#;
+
+// The case term-before-sequence.
+const TERM_BEFORE_SEQUENCE: &str = r#"{"e":"call","n":0,"id":"d","op":"index","k":1}
+{"e":"reply","n":0,"status":201,"body":{"_id":"d","result":"created","_seq_no":7,"_primary_term":1}}
+{"e":"call","n":1,"id":"d","op":"index","k":2}
+{"e":"reply","n":1,"status":200,"body":{"_id":"d","result":"updated","_seq_no":5,"_primary_term":2}}
+"#;
+
+// The case pair-falls.
+const PAIR_FALLS: &str = r#"{"e":"call","n":0,"id":"d","op":"index","k":1}
+{"e":"reply","n":0,"status":201,"body":{"_id":"d","result":"created","_seq_no":7,"_primary_term":1}}
+{"e":"call","n":1,"id":"d","op":"index","k":2}
+{"e":"reply","n":1,"status":200,"body":{"_id":"d","result":"updated","_seq_no":5,"_primary_term":2}}
+{"e":"call","n":2,"id":"d","op":"index","k":3}
+{"e":"reply","n":2,"status":200,"body":{"_id":"d","result":"updated","_seq_no":9,"_primary_term":1}}
+"#;
+
+// The case conflict-without-condition.
+const CONFLICT_WITHOUT_CONDITION: &str = r#"{"e":"call","n":0,"id":"d","op":"index","k":1}
+{"e":"reply","n":0,"status":409,"body":{"error":{"type":"version_conflict_engine_exception"}}}
+"#;
+
+// The case overlapping-conflict.
+const OVERLAPPING_CONFLICT: &str = r#"{"e":"call","n":0,"id":"d","op":"index","k":1}
+{"e":"reply","n":0,"status":201,"body":{"_id":"d","result":"created","_seq_no":0,"_primary_term":1}}
+{"e":"call","n":1,"id":"d","op":"index","k":2,"if_primary_term":1,"if_seq_no":0}
+{"e":"call","n":2,"id":"d","op":"index","k":3,"if_primary_term":1,"if_seq_no":0}
+{"e":"reply","n":2,"status":409,"body":{"error":{"type":"version_conflict_engine_exception"}}}
+{"e":"reply","n":1,"status":200,"body":{"_id":"d","result":"updated","_seq_no":1,"_primary_term":1}}
+"#;
+
+// The case overlapping-gets-and-lost-delete.
+const OVERLAPPING_GETS_AND_LOST_DELETE: &str = r#"{"e":"call","n":0,"id":"d","op":"index","k":1}
+{"e":"reply","n":0,"status":201,"body":{"_id":"d","result":"created","_seq_no":0,"_primary_term":1}}
+{"e":"call","n":1,"id":"d","op":"index","k":2,"if_primary_term":1,"if_seq_no":0}
+{"e":"call","n":2,"id":"d","op":"get"}
+{"e":"call","n":3,"id":"d","op":"get"}
+{"e":"reply","n":2,"status":200,"body":{"_id":"d","_seq_no":1,"_primary_term":1,"found":true,"_source":{"k":2}}}
+{"e":"reply","n":3,"status":200,"body":{"_id":"d","_seq_no":0,"_primary_term":1,"found":true,"_source":{"k":1}}}
+{"e":"reply","n":1,"status":200,"body":{"_id":"d","result":"updated","_seq_no":1,"_primary_term":1}}
+{"e":"call","n":4,"id":"d","op":"delete"}
+"#;
+
+// The case create.
+const CREATE: &str = r#"{"e":"call","n":0,"id":"d","op":"create","k":1}
+{"e":"reply","n":0,"status":201,"body":{"_id":"d","result":"created","_seq_no":0,"_primary_term":1}}
+{"e":"call","n":1,"id":"d","op":"create","k":2}
+{"e":"reply","n":1,"status":409,"body":{"error":{"type":"version_conflict_engine_exception"}}}
+{"e":"call","n":2,"id":"d","op":"delete"}
+{"e":"reply","n":2,"status":200,"body":{"_id":"d","result":"deleted","_seq_no":1,"_primary_term":1}}
+{"e":"call","n":3,"id":"d","op":"create","k":3}
+{"e":"reply","n":3,"status":201,"body":{"_id":"d","result":"created","_seq_no":2,"_primary_term":1}}
+"#;
+
+const READINGS: [Conflicts; 2] = [Conflicts::Plain, Conflicts::Maybe];
+
+fn history_of(alloc: Global, text: &str) -> Result<History, Fail> {
+    match read(alloc, text.as_bytes()) {
+        Ok(history) => Ok(history),
+        Err(fault) => Err(fault)?,
+    }
+}
+
+// The places that are found for the first document of the text, where an order is found.
+fn places_of(alloc: Global, text: &str, conflicts: Conflicts) -> Result<Option<Vec<Place>>, Fail> {
+    let history = history_of(alloc, text)?;
+    if history.docs() == 0 {
+        return Err("no document".into());
+    }
+    let id = history.doc(0).copy()?;
+    let records = history.records(0)?;
+    match answer(alloc, id, records, history.seen(), conflicts)? {
+        DocAnswer::Found(witness) => Ok(Some(witness.places().to_vec(alloc)?)),
+        DocAnswer::NotFound(_) => Ok(None),
+    }
+}
+
+// The places of these records, with no pair given.
+fn unpaired(alloc: Global, recs: &[usize]) -> Result<Vec<Place>, Fail> {
+    let mut places = Vec::new(alloc);
+    for rec in recs {
+        places.push(Place {
+            rec: *rec,
+            pair: None,
+        })?;
+    }
+    Ok(places)
+}
+
+#[test]
+fn orders_of_answered_calls(rt: HostRuntime) -> Result<(), Fail> {
+    for (text, recs) in [
+        (OVERLAPPING_GETS, &[0, 3, 1, 2][..]),
+        (OVERLAPPING_GETS_AND_LOST_DELETE, &[0, 3, 1, 2][..]),
+        (OVERLAPPING_CONFLICT, &[0, 1, 2][..]),
+        (TERM_BEFORE_SEQUENCE, &[0, 1][..]),
+        (CREATE, &[0, 1, 2, 3][..]),
+    ] {
+        let wanted = unpaired(rt.alloc(), recs)?;
+        for conflicts in READINGS {
+            let places = places_of(rt.alloc(), text, conflicts)?;
+            let places = places.ok_or("an order")?;
+            assert_eq!(rt; places, wanted, "{text}");
+        }
+    }
+    Ok(())
+}
+
+#[test]
+fn no_order_of_answered_calls(rt: HostRuntime) -> Result<(), Fail> {
+    for text in [
+        SHOWN_AND_TAKEN_BACK,
+        PAIR_FALLS,
+        CONFLICT_WITHOUT_CAUSE,
+        CONFLICT_WITHOUT_CONDITION,
+    ] {
+        let places = places_of(rt.alloc(), text, Conflicts::Plain)?;
+        assert!(rt; places.is_none(), "{text}");
+    }
+    Ok(())
+}
