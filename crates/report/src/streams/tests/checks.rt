@@ -19,6 +19,11 @@ fn explained_texts(rt: HostRuntime) -> Result<(), Fail> {
             "yes docs=1 calls=2 left_out=0\n",
         ),
         (
+            "overlapping-gets",
+            texts::VERIFY_GOOD_ORDER,
+            "yes docs=1 calls=4 left_out=0\n",
+        ),
+        (
             "term-before-sequence",
             texts::TERM_BEFORE_SEQUENCE,
             "yes docs=1 calls=2 left_out=0\n",

@@ -17,6 +17,12 @@ fn written_witnesses(rt: HostRuntime) -> Result<(), Fail> {
         ),
         ("empty-text", texts::EMPTY_TEXT, Conflicts::Plain, ""),
         (
+            "overlapping-gets",
+            texts::VERIFY_GOOD_ORDER,
+            Conflicts::Plain,
+            texts::VERIFY_GOOD_ORDER_WITNESS,
+        ),
+        (
             "greatest-sequence-number",
             texts::GREATEST_SEQUENCE_NUMBER,
             Conflicts::Plain,
