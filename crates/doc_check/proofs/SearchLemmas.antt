@@ -120,8 +120,9 @@ follows_none mode records places (Ok a) order not = λ others other valid. absur
 follows_none mode records places (Err e) order not = tt
 
 -- where no places without a given pair are valid, none have to be found
-pub finds_none : (mode : Conflicts) (records : List Rec) (a : DocAnswer) → HasNoOrder mode records → FindsUnpaired mode records a
-finds_none mode records a none = λ places unpaired valid. absurd (none places unpaired valid)
+pub finds_none : (mode : Conflicts) (records : List Rec) (r : Result DocAnswer AllocError) → HasNoOrder mode records → IfOk r (FindsUnpaired mode records)
+finds_none mode records (Ok a) none = λ places unpaired valid. absurd (none places unpaired valid)
+finds_none mode records (Err e) none = tt
 
 -- where the order of the sweep is not valid, there is none
 pub sweep_invalid : (mode : Conflicts) (records : List Rec) (places : List Place) → IsOfSweep mode records places → (AreValid mode records places → ⊥) → HasNoOrder mode records

@@ -8,6 +8,7 @@ mod moments;
 mod no_order;
 mod order;
 mod reply_order;
+mod rules;
 mod search;
 mod stretches;
 mod sweep;

@@ -9,6 +9,7 @@ use crate::chain::{chain_of, rises};
 use crate::no_order::NoOrder;
 use crate::order::order_of;
 use crate::reply_order::reply_order;
+use crate::rules::completed;
 use crate::stretches::Stretches;
 use crate::sweep::sweep;
 use doc_register::Conflicts;
@@ -42,12 +43,28 @@ fn swept(alloc: Global, records: &[Rec]) -> Result<Option<Vec<Place>>, NoMemory>
     }
 }
 
-// What is found where no order of the answered calls alone is valid.
-fn answer_without(id: DocId, recs: Vec<Rec>, conflicts: Conflicts) -> DocAnswer
+// What is found where no order of the answered calls alone is valid: an order that completes unanswered writes by rules,
+// where that is valid.
+fn answer_by_rules(
+    alloc: Global,
+    id: DocId,
+    recs: Vec<Rec>,
+    seen: Seen,
+    conflicts: Conflicts,
+) -> Result<DocAnswer, NoMemory>
     requires { HasNoOrder conflicts recs.items }
-    ensures { IsAbout id recs.items conflicts result }
+    ensures { IfOk result (IsAbout id recs.items conflicts) }
 {
-    DocAnswer::NotFound(NoOrder::of(id, recs, conflicts))
+    match completed(alloc, &recs, seen, conflicts)? {
+        Some(places) => match DocWitness::check(alloc, id, recs, places, conflicts) {
+            Ok(witness) => Ok(DocAnswer::Found(witness)),
+            Err((fault, id, recs, _)) => match fault {
+                Broken::NoMemory => Err(AllocError),
+                _ => Ok(DocAnswer::NotFound(NoOrder::of(id, recs, conflicts))),
+            },
+        },
+        None => Ok(DocAnswer::NotFound(NoOrder::of(id, recs, conflicts))),
+    }
 }
 
 // What is found where the order of the replies is not valid.
@@ -55,6 +72,7 @@ fn answer_by_sweep(
     alloc: Global,
     id: DocId,
     recs: Vec<Rec>,
+    seen: Seen,
     conflicts: Conflicts,
 ) -> Result<DocAnswer, NoMemory>
     ensures about { IfOk result (IsAbout id recs.items conflicts) }
@@ -65,17 +83,17 @@ fn answer_by_sweep(
             Ok(witness) => Ok(DocAnswer::Found(witness)),
             Err((fault, id, recs, _)) => match fault {
                 Broken::NoMemory => Err(AllocError),
-                _ => Ok(answer_without(id, recs, conflicts)),
+                _ => answer_by_rules(alloc, id, recs, seen, conflicts),
             },
         },
-        None => Ok(answer_without(id, recs, conflicts)),
+        None => answer_by_rules(alloc, id, recs, seen, conflicts),
     }
 }
 
 /// An order of a document's calls that explains them, where one is found.
 ///
-/// First the order of the replies is tried, then the sweep, which finds an order of the answered calls alone where
-/// there is one.
+/// First the order of the replies is tried; then the sweep, which finds an order of the answered calls alone where
+/// there is one; then the rules, which complete unanswered writes.
 pub fn answer(
     alloc: Global,
     id: DocId,
@@ -92,7 +110,7 @@ pub fn answer(
         Ok(witness) => Ok(DocAnswer::Found(witness)),
         Err((fault, id, recs, _)) => match fault {
             Broken::NoMemory => Err(AllocError),
-            _ => answer_by_sweep(alloc, id, recs, conflicts),
+            _ => answer_by_sweep(alloc, id, recs, seen, conflicts),
         },
     }
 }

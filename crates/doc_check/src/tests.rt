@@ -88,6 +88,49 @@ const CREATE: &str = r#"{"e":"call","n":0,"id":"d","op":"create","k":1}
 {"e":"reply","n":3,"status":201,"body":{"_id":"d","result":"created","_seq_no":2,"_primary_term":1}}
 "#;
 
+// The case lost-write-explains-conflict.
+const LOST_WRITE_EXPLAINS_CONFLICT: &str = r#"{"e":"call","n":0,"id":"d","op":"index","k":1}
+{"e":"reply","n":0,"status":201,"body":{"_id":"d","result":"created","_seq_no":0,"_primary_term":1}}
+{"e":"call","n":1,"id":"d","op":"index","k":2,"if_primary_term":1,"if_seq_no":0}
+{"e":"lost","n":1}
+{"e":"call","n":2,"id":"d","op":"index","k":3,"if_primary_term":1,"if_seq_no":0}
+{"e":"reply","n":2,"status":409,"body":{"error":{"type":"version_conflict_engine_exception"}}}
+"#;
+
+// The case status-503-is-unknown.
+const STATUS_503_IS_UNKNOWN: &str = r#"{"e":"call","n":0,"id":"d","op":"index","k":1}
+{"e":"reply","n":0,"status":503,"body":{}}
+{"e":"call","n":1,"id":"d","op":"get"}
+{"e":"reply","n":1,"status":200,"body":{"_id":"d","_seq_no":0,"_primary_term":1,"found":true,"_source":{"k":1}}}
+"#;
+
+// The case lost-delete-no-number.
+const LOST_DELETE_NO_NUMBER: &str = r#"{"e":"call","n":0,"id":"d","op":"index","k":1}
+{"e":"reply","n":0,"status":201,"body":{"_id":"d","result":"created","_seq_no":0,"_primary_term":1}}
+{"e":"call","n":1,"id":"d","op":"delete"}
+{"e":"lost","n":1}
+{"e":"call","n":2,"id":"d","op":"index","k":2}
+{"e":"reply","n":2,"status":201,"body":{"_id":"d","result":"created","_seq_no":1,"_primary_term":1}}
+"#;
+
+// The case lost-delete-with-number.
+const LOST_DELETE_WITH_NUMBER: &str = r#"{"e":"call","n":0,"id":"d","op":"index","k":1}
+{"e":"reply","n":0,"status":201,"body":{"_id":"d","result":"created","_seq_no":0,"_primary_term":1}}
+{"e":"call","n":1,"id":"d","op":"delete"}
+{"e":"lost","n":1}
+{"e":"call","n":2,"id":"d","op":"index","k":2}
+{"e":"reply","n":2,"status":201,"body":{"_id":"d","result":"created","_seq_no":2,"_primary_term":1}}
+"#;
+
+// The case greatest-term.
+const GREATEST_TERM: &str = r#"{"e":"call","n":0,"id":"d","op":"index","k":1}
+{"e":"reply","n":0,"status":201,"body":{"_id":"d","result":"created","_seq_no":0,"_primary_term":9223372036854775807}}
+{"e":"call","n":1,"id":"d","op":"index","k":2,"if_primary_term":9223372036854775807,"if_seq_no":0}
+{"e":"lost","n":1}
+{"e":"call","n":2,"id":"d","op":"index","k":3,"if_primary_term":9223372036854775807,"if_seq_no":0}
+{"e":"reply","n":2,"status":409,"body":{"error":{"type":"version_conflict_engine_exception"}}}
+"#;
+
 const READINGS: [Conflicts; 2] = [Conflicts::Plain, Conflicts::Maybe];
 
 fn history_of(alloc: Global, text: &str) -> Result<History, Fail> {
@@ -150,6 +193,65 @@ fn no_order_of_answered_calls(rt: HostRuntime) -> Result<(), Fail> {
         CONFLICT_WITHOUT_CAUSE,
         CONFLICT_WITHOUT_CONDITION,
     ] {
+        let places = places_of(rt.alloc(), text, Conflicts::Plain)?;
+        assert!(rt; places.is_none(), "{text}");
+    }
+    Ok(())
+}
+
+// The places that the rules find for a text are these, each a record with the pair that is given to it.
+fn places_with(alloc: Global, wanted: &[(usize, Option<(u64, u64)>)]) -> Result<Vec<Place>, Fail> {
+    let mut places = Vec::new(alloc);
+    for (rec, numbers) in wanted {
+        let pair = match numbers {
+            Some((term, seq)) => Some(Pair::new(*term, *seq).ok_or("a pair")?),
+            None => None,
+        };
+        places.push(Place { rec: *rec, pair })?;
+    }
+    Ok(places)
+}
+
+#[test]
+fn orders_that_complete_writes(rt: HostRuntime) -> Result<(), Fail> {
+    for (text, conflicts, wanted) in [
+        (
+            LOST_WRITE_EXPLAINS_CONFLICT,
+            Conflicts::Plain,
+            &[(0, None), (1, Some((3, 2))), (2, None)][..],
+        ),
+        (
+            STATUS_503_IS_UNKNOWN,
+            Conflicts::Plain,
+            &[(0, Some((1, 0))), (1, None)][..],
+        ),
+        (
+            LOST_DELETE_WITH_NUMBER,
+            Conflicts::Plain,
+            &[(0, None), (1, Some((1, 1))), (2, None)][..],
+        ),
+        (
+            CONFLICT_WITHOUT_CAUSE,
+            Conflicts::Maybe,
+            &[(0, None), (1, Some((3, 2)))][..],
+        ),
+        (
+            CONFLICT_WITHOUT_CONDITION,
+            Conflicts::Maybe,
+            &[(0, Some((1, 0)))][..],
+        ),
+    ] {
+        let wanted = places_with(rt.alloc(), wanted)?;
+        let places = places_of(rt.alloc(), text, conflicts)?;
+        let places = places.ok_or("an order")?;
+        assert_eq!(rt; places, wanted, "{text}");
+    }
+    Ok(())
+}
+
+#[test]
+fn no_number_is_left(rt: HostRuntime) -> Result<(), Fail> {
+    for text in [LOST_DELETE_NO_NUMBER, GREATEST_TERM] {
         let places = places_of(rt.alloc(), text, Conflicts::Plain)?;
         assert!(rt; places.is_none(), "{text}");
     }

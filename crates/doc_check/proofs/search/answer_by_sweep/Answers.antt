@@ -1,4 +1,5 @@
 use Rattle.std.proofs.Common.{sym, subst, ap, Vec, Global}
+use Rattle.std.specs.Prelude.{IfOk}
 use Rattle.std.proofs.lemmas.Option.{MatchOption-at_none, MatchOption-at_some}
 use Rattle.witness.specs.declared.place.Place.{Place}
 use Rattle.doc_check.specs.NoOrders.{AreUnpaired, HasNoOrder}
@@ -14,8 +15,8 @@ returns-in-Ok-clause-complete c = λ others none valid.
     c.in-Some.places c.in-Some.is (c.in_ok-places.ensures c.args.conflicts) in
     subst AreUnpaired (sym (ap (λ w. w.places) c.in-Ok.ensures.ok)) of_sweep.unpaired
 
-pub answer_without-requires : goal.answer_without-requires
-answer_without-requires c =
+pub answer_by_rules-requires : goal.answer_by_rules-requires
+answer_by_rules-requires c =
     let of_sweep : IsOfSweep c.args.conflicts c.deref.result.now c.in-Some.places.items =
     MatchOption-at_some (HasNoOrder c.args.conflicts c.deref.result.now) (λ (places : Vec Place Global). IsOfSweep c.args.conflicts c.deref.result.now places.items)
     c.in-Some.places c.in-Some.is (c.in_ok-places.ensures c.args.conflicts) in
@@ -33,20 +34,20 @@ returns-in-Some c =
     sweep_invalid c.args.conflicts c.args.recs.items c.in-Some.places.items
     (subst (λ recs. IsOfSweep c.args.conflicts recs c.in-Some.places.items) c.deref.ensures.value of_sweep) (c.in-Err.ensures.invalid c.in_default.not-NoMemory) in
     record {
-      about = subst (λ id. IsAbout id c.args.recs.items c.args.conflicts c.answer_without.result) c.in-Err.ensures.given_back.0
-          (subst (λ recs. IsAbout c.in-Err.id recs c.args.conflicts c.answer_without.result) c.in-Err.ensures.given_back.1 c.answer_without.ensures);
-      complete = finds_none c.args.conflicts c.args.recs.items c.answer_without.result none;
+      about = subst (λ id. IfOk c.answer_by_rules.result (IsAbout id c.args.recs.items c.args.conflicts)) c.in-Err.ensures.given_back.0
+          (subst (λ recs. IfOk c.answer_by_rules.result (IsAbout c.in-Err.id recs c.args.conflicts)) c.in-Err.ensures.given_back.1 c.answer_by_rules.ensures);
+      complete = finds_none c.args.conflicts c.args.recs.items c.answer_by_rules.result none;
     }
 
-pub answer_without-requires-in-None : goal.answer_without-requires-in-None
-answer_without-requires-in-None c =
+pub answer_by_rules-requires-in-None : goal.answer_by_rules-requires-in-None
+answer_by_rules-requires-in-None c =
     subst (HasNoOrder c.args.conflicts) c.deref.ensures.value
     (MatchOption-at_none (HasNoOrder c.args.conflicts c.deref.result.now) (λ (places : Vec Place Global). IsOfSweep c.args.conflicts c.deref.result.now places.items)
     c.in-None.is (c.in_ok-places.ensures c.args.conflicts))
 
 pub returns-clause-complete : goal.returns-clause-complete
 returns-clause-complete c =
-    finds_none c.args.conflicts c.args.recs.items c.answer_without-in-None.result
+    finds_none c.args.conflicts c.args.recs.items c.answer_by_rules-in-None.result
     (subst (HasNoOrder c.args.conflicts) c.deref.ensures.value
     (MatchOption-at_none (HasNoOrder c.args.conflicts c.deref.result.now) (λ (places : Vec Place Global). IsOfSweep c.args.conflicts c.deref.result.now places.items)
     c.in-None.is (c.in_ok-places.ensures c.args.conflicts)))

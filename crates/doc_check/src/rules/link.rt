@@ -1,0 +1,43 @@
+use doc_register::{Op, Reply};
+use history::Rec;
+use version_pair::Pair;
+
+/// A write of the chain as the rules see it.
+#[derive(Clone, Copy, Debug, PartialEq, Eq, PartialOrd, Ord)]
+pub struct Link {
+    /// Its pair; `None` for one that is invented at the end.
+    pub pair: Option<Pair>,
+    /// Its record.
+    pub rec: usize,
+}
+
+/// The condition of a write, where it has one.
+pub fn condition(op: Op) -> Option<Pair> {
+    match op {
+        Op::Index { cond, .. } | Op::Delete { cond } => cond,
+        Op::Get | Op::Create { .. } => None,
+    }
+}
+
+/// Whether the operation leaves the document there.
+pub fn leaves_it(op: Op) -> bool {
+    matches!(op, Op::Index { .. } | Op::Create { .. })
+}
+
+/// Whether the document has to be there before the write, or has not to be; `None` where either will do.
+pub fn needs(found: Rec) -> Option<bool> {
+    match found.heard {
+        Some((_, Reply::Indexed { created, .. })) => Some(!created),
+        Some((_, Reply::Deleted { found, .. })) => Some(found),
+        _ => match found.op {
+            Op::Create { .. } => Some(false),
+            Op::Index { cond: Some(_), .. } | Op::Delete { cond: Some(_) } => Some(true),
+            _ => None,
+        },
+    }
+}
+
+/// Whether the record answers a conflict.
+pub fn conflicts(found: Rec) -> bool {
+    matches!(found.heard, Some((_, Reply::Conflict)))
+}
