@@ -16,6 +16,8 @@ pub struct Lost {
     swaps: Vec<(Pair, usize, usize)>,
     // Unanswered writes of a number, by it, and then those that answer a conflict.
     numbered: Vec<(u64, bool, usize, usize)>,
+    // Of each of those, where to look on for the first of its number that is left.
+    numbered_left: Vec<usize>,
     // Conflicts without a condition, by reply.
     refused: Vec<(usize, usize)>,
     first_delete: usize,
@@ -69,6 +71,7 @@ impl Lost {
             creates: Vec::new(alloc),
             swaps: Vec::new(alloc),
             numbered: Vec::new(alloc),
+            numbered_left: Vec::new(alloc),
             refused: Vec::new(alloc),
             first_delete: 0,
             first_index: 0,
@@ -83,6 +86,9 @@ impl Lost {
         lost.creates.sort_unstable();
         lost.swaps.sort_unstable();
         lost.numbered.sort_unstable();
+        for i in 0..lost.numbered.len() {
+            lost.numbered_left.push(i)?;
+        }
         lost.refused.sort_unstable();
         Ok(lost)
     }
@@ -127,14 +133,18 @@ impl Lost {
     }
 
     /// The first unanswered write of the number by call; under Maybe else a conflict's.
-    pub fn of_number(&self, k: u64, reading: Conflicts) -> Option<usize> {
+    pub fn of_number(&mut self, k: u64, reading: Conflicts) -> Option<usize> {
         let start = self.numbered.partition_point(|entry| entry.0 < k);
-        for i in start..self.numbered.len() {
+        let from = *self.numbered_left.get(start)?;
+        for i in from..self.numbered.len() {
             let (number, is_refused, _, rec) = self.numbered[i];
             if number != k || is_refused && reading == Conflicts::Plain {
                 return None;
             }
             if !self.is_taken(rec) {
+                if let Some(place) = self.numbered_left.get_mut(start) {
+                    *place = i;
+                }
                 return Some(rec);
             }
         }
