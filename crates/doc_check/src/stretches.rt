@@ -188,7 +188,8 @@ impl Stretches {
     fn of_write(&self, rec: usize, pair: Pair, bound: usize) -> Option<usize>
         requires { AreLaidOut self.now }
         ensures some { IfSome result (IsLatest (WriteFits self.now.chain.items rec pair) bound) }
-        ensures none { IfNone result (HoldsNowhere (WriteFits self.now.chain.items rec pair) bound) }
+        ensures none { IfNone result
+            (HoldsNowhere (WriteFits self.now.chain.items rec pair) bound) }
     {
         match self.pairs.binary_search(&pair) {
             Ok(link) => {
