@@ -44,8 +44,8 @@ fn write_answer<W: Write>(writer: &mut W, answer: &Answer) -> Result<Status, Str
 /// Reads a history text to its end and writes one line: `yes docs=D calls=C left_out=L` where one order of its
 /// calls explains it, `no` where none was found, or `refused line=L cause=NAME` where it is no history text.
 ///
-/// Looked for are orders of the answered calls alone, for a history of at most one document; unanswered calls are left
-/// out, and a conflict is read as not performed. `workers` is 1 to 16 and not used yet.
+/// An order is looked for in a history of at most one document: of the answered calls, and where they have none, one that
+/// completes unanswered writes by rules. `workers` is 1 to 16 and not used yet.
 pub fn check_stream<R: Read, W: Write>(
     alloc: Global,
     reader: &mut R,
