@@ -1,4 +1,4 @@
-mod Lists
+pub mod Lists
 mod ChainLemmas
 mod PlacesLemmas
 mod StretchLemmas

@@ -8,16 +8,24 @@ use std::alloc::Global;
 use version_pair::{NoMemory, Pair};
 use witness::Place;
 
+pub mod asking;
+pub mod by_number;
+pub mod flags;
 pub mod link;
 pub mod lost;
 pub mod named;
 pub mod numbers;
+pub mod performing;
 pub mod plan;
+pub mod queue;
+pub mod refused;
+pub mod room;
 pub mod round;
+pub mod stand;
 
 /// An order that completes unanswered writes, by rules: first the pairs that are named get their writes; then, in
-/// rounds, each flag that does not fit and each call that finds no stretch asks for a write. `None` where a rule finds
-/// no write to take. What is found is a guess, to be checked.
+/// rounds, the flags that do not fit ask for writes, then the calls that find no stretch, and then the conflicts that
+/// nothing refuses become writes. `None` where a rule finds no write to take. What is found is a guess, to be checked.
 pub fn completed(
     alloc: Global,
     records: &[Rec],

@@ -1,10 +1,18 @@
 use super::*;
+use crate::rules::completed;
+use crate::tests::drawn::drawn;
+use crate::tests::naive::naive;
 use doc_register::Conflicts;
 use history::{History, read};
 use std::alloc::Global;
+use std::process::Abort;
 use std::test::Fail;
 use version_pair::Pair;
 use witness::Place;
+
+mod drawn;
+mod draws;
+mod naive;
 
 // The case shown-and-taken-back.
 const SHOWN_AND_TAKEN_BACK: &str = r#"{"e":"call","n":0,"id":"d","op":"index","k":1}
@@ -255,5 +263,48 @@ fn no_number_is_left(rt: HostRuntime) -> Result<(), Fail> {
         let places = places_of(rt.alloc(), text, Conflicts::Plain)?;
         assert!(rt; places.is_none(), "{text}");
     }
+    Ok(())
+}
+
+// Whether some write is completed.
+fn completes(places: &[Place]) -> bool {
+    places.iter().any(|place| place.pair.is_some())
+}
+
+// The rules find for each drawn history what they find when they are followed word by word. How many get an order that
+// completes writes, and how many none.
+fn followed_word_by_word(
+    rt: &impl Abort,
+    alloc: Global,
+    conflicts: Conflicts,
+) -> Result<(usize, usize), Fail> {
+    let mut completing = 0usize;
+    let mut none = 0usize;
+    for seed in 0..200 {
+        let (records, seen) = drawn(alloc, seed, conflicts)?;
+        let places = completed(alloc, &records, seen, conflicts)?;
+        let wanted = naive(alloc, &records, seen, conflicts)?;
+        assert_eq!(rt; places, wanted, "history {seed}, {conflicts:?}");
+        match places {
+            Some(places) if completes(&places) => completing = completing.saturating_add(1),
+            Some(_) => {}
+            None => none = none.saturating_add(1),
+        }
+    }
+    Ok((completing, none))
+}
+
+#[test]
+fn rules_followed_word_by_word(rt: HostRuntime) -> Result<(), Fail> {
+    let mut completing = 0usize;
+    let mut none = 0usize;
+    for conflicts in READINGS {
+        let (more_completing, more_none) = followed_word_by_word(&rt, rt.alloc(), conflicts)?;
+        completing = completing.saturating_add(more_completing);
+        none = none.saturating_add(more_none);
+    }
+    // The draws reach both answers.
+    assert!(rt; completing >= 150, "{completing}");
+    assert!(rt; none >= 20, "{none}");
     Ok(())
 }

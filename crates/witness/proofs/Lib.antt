@@ -1,4 +1,4 @@
-mod WalkLemmas
+pub mod WalkLemmas
 pub mod DocumentLaws
 mod DocumentsLemmas
 mod WriteLemmas

@@ -108,6 +108,15 @@ impl DocWitness {
         &self.places
     }
 
+    /// The document's id, its calls, and the order that explains them.
+    pub fn into_parts(self) -> (DocId, Vec<Rec>, Vec<Place>)
+        ensures id { result.0 ≡ self.doc }
+        ensures records { result.1.items ≡ self.records }
+        ensures places { result.2.items ≡ self.places }
+    {
+        (self.id, self.records, self.places)
+    }
+
     /// How a conflict is read.
     pub fn conflicts(&self) -> Conflicts
         ensures { result ≡ self.now.conflicts }

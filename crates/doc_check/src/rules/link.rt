@@ -41,3 +41,9 @@ pub fn needs(found: Rec) -> Option<bool> {
 pub fn conflicts(found: Rec) -> bool {
     matches!(found.heard, Some((_, Reply::Conflict)))
 }
+
+/// Whether the record answers a conflict that no document refuses: an index or a delete without a condition, which has
+/// to be performed.
+pub fn is_free_conflict(found: Rec) -> bool {
+    conflicts(found) && condition(found.op).is_none() && !matches!(found.op, Op::Create { .. })
+}

@@ -1,29 +1,21 @@
-use crate::rules::link::{condition, conflicts};
-use doc_register::{Conflicts, Op};
+use crate::rules::link::condition;
+use crate::rules::queue::{Queue, is_left};
+use doc_register::Op;
 use history::Rec;
 use std::alloc::Global;
 use version_pair::{NoMemory, Pair};
 
-/// The writes that may be completed, each kind in the order of calls with the first that is left.
+/// The unanswered writes that may be completed, each kind in the order of calls, and which records are taken.
 #[derive(Debug, Drop)]
 pub struct Lost {
     // Whether the record stands in the chain.
     taken: Vec<bool>,
-    deletes: Vec<(usize, usize)>,
-    indexes: Vec<(usize, usize)>,
-    creates: Vec<(usize, usize)>,
-    // Writes with a condition, by its pair.
+    // Those without a condition.
+    deletes: Queue,
+    indexes: Queue,
+    creates: Queue,
+    // Those with a condition, by its pair.
     swaps: Vec<(Pair, usize, usize)>,
-    // Unanswered writes of a number, by it, and then those that answer a conflict.
-    numbered: Vec<(u64, bool, usize, usize)>,
-    // Of each of those, where to look on for the first of its number that is left.
-    numbered_left: Vec<usize>,
-    // Conflicts without a condition, by reply.
-    refused: Vec<(usize, usize)>,
-    first_delete: usize,
-    first_index: usize,
-    first_create: usize,
-    first_refused: usize,
 }
 
 /// What an insertion asks for.
@@ -41,15 +33,15 @@ pub struct Ask {
     pub limit: usize,
 }
 
-// The place in the list of the first record that is left, from a place on.
-fn first_left(list: &[(usize, usize)], from: usize, taken: &[bool]) -> usize {
-    for i in from..list.len() {
-        let (_, rec) = list[i];
-        if taken.get(rec) == Some(&false) {
-            return i;
+impl Ask {
+    /// Whether the operation is of a kind that will do.
+    pub fn is_for(&self, op: Op) -> bool {
+        match op {
+            Op::Get => false,
+            Op::Delete { .. } => self.delete,
+            Op::Index { .. } | Op::Create { .. } => self.write,
         }
     }
-    list.len()
 }
 
 // The earlier call of two.
@@ -62,62 +54,44 @@ fn earlier(a: Option<(usize, usize)>, b: Option<(usize, usize)>) -> Option<(usiz
 }
 
 impl Lost {
-    /// The unanswered writes, and the conflicts, of a document.
+    /// The unanswered writes of a document.
     pub fn of(alloc: Global, records: &[Rec]) -> Result<Lost, NoMemory> {
         let mut lost = Lost {
             taken: vec![in alloc; false; records.len()]?,
-            deletes: Vec::new(alloc),
-            indexes: Vec::new(alloc),
-            creates: Vec::new(alloc),
+            deletes: Queue::new(alloc),
+            indexes: Queue::new(alloc),
+            creates: Queue::new(alloc),
             swaps: Vec::new(alloc),
-            numbered: Vec::new(alloc),
-            numbered_left: Vec::new(alloc),
-            refused: Vec::new(alloc),
-            first_delete: 0,
-            first_index: 0,
-            first_create: 0,
-            first_refused: 0,
         };
         for rec in 0..records.len() {
-            lost.note(rec, records[rec])?;
+            if records[rec].heard.is_none() {
+                lost.note(rec, records[rec])?;
+            }
         }
-        lost.deletes.sort_unstable();
-        lost.indexes.sort_unstable();
-        lost.creates.sort_unstable();
+        lost.deletes.sort();
+        lost.indexes.sort();
+        lost.creates.sort();
         lost.swaps.sort_unstable();
-        lost.numbered.sort_unstable();
-        for i in 0..lost.numbered.len() {
-            lost.numbered_left.push(i)?;
-        }
-        lost.refused.sort_unstable();
         Ok(lost)
     }
 
-    // Notes a record.
+    // Notes an unanswered record.
     fn note(&mut self, rec: usize, found: Rec) -> Result<(), NoMemory> {
-        let is_refused = conflicts(found);
-        if found.heard.is_some() && !is_refused {
-            return Ok(());
-        }
-        if let Op::Index { k, .. } | Op::Create { k } = found.op {
-            self.numbered.push((k, is_refused, found.call_at, rec))?;
-        }
-        if let Some(heard) = found.heard {
-            if condition(found.op).is_none() && !matches!(found.op, Op::Create { .. }) {
-                self.refused.push((heard.0, rec))?;
+        let call_at = found.call_at;
+        match found.op {
+            Op::Get => Ok(()),
+            Op::Create { .. } => self.creates.push(call_at, rec),
+            Op::Index { cond: None, .. } => self.indexes.push(call_at, rec),
+            Op::Delete { cond: None } => self.deletes.push(call_at, rec),
+            Op::Index {
+                cond: Some(pair),
+                ..
             }
-            return Ok(());
+            | Op::Delete { cond: Some(pair) } => {
+                self.swaps.push((pair, call_at, rec))?;
+                Ok(())
+            }
         }
-        match condition(found.op) {
-            Some(pair) => self.swaps.push((pair, found.call_at, rec))?,
-            None => match found.op {
-                Op::Delete { .. } => self.deletes.push((found.call_at, rec))?,
-                Op::Index { .. } => self.indexes.push((found.call_at, rec))?,
-                Op::Create { .. } => self.creates.push((found.call_at, rec))?,
-                Op::Get => {}
-            },
-        }
-        Ok(())
     }
 
     /// Takes the record into the chain.
@@ -127,50 +101,22 @@ impl Lost {
         }
     }
 
-    /// Whether the record stands in the chain.
-    pub fn is_taken(&self, rec: usize) -> bool {
-        self.taken.get(rec) == Some(&true)
-    }
-
-    /// The first unanswered write of the number by call; under Maybe else a conflict's.
-    pub fn of_number(&mut self, k: u64, reading: Conflicts) -> Option<usize> {
-        let start = self.numbered.partition_point(|entry| entry.0 < k);
-        let from = *self.numbered_left.get(start)?;
-        for i in from..self.numbered.len() {
-            let (number, is_refused, _, rec) = self.numbered[i];
-            if number != k || is_refused && reading == Conflicts::Plain {
-                return None;
-            }
-            if !self.is_taken(rec) {
-                if let Some(place) = self.numbered_left.get_mut(start) {
-                    *place = i;
-                }
-                return Some(rec);
-            }
-        }
-        None
-    }
-
-    /// The first unanswered index by call.
-    pub fn index(&mut self) -> Option<usize> {
-        self.first_index = first_left(&self.indexes, self.first_index, &self.taken);
-        self.indexes.get(self.first_index).map(|entry| entry.1)
+    /// Of each record whether it stands in the chain.
+    pub fn taken(&self) -> &[bool] {
+        &self.taken
     }
 
     /// The first by call of the writes that would be performed there; it has to be called in time.
     pub fn candidate(&mut self, records: &[Rec], ask: Ask) -> Option<usize> {
-        self.first_delete = first_left(&self.deletes, self.first_delete, &self.taken);
-        self.first_index = first_left(&self.indexes, self.first_index, &self.taken);
-        self.first_create = first_left(&self.creates, self.first_create, &self.taken);
         let mut first = None;
         if ask.delete {
-            first = earlier(first, self.deletes.get(self.first_delete).copied());
+            first = earlier(first, self.deletes.first(&self.taken));
         }
         if ask.write {
-            first = earlier(first, self.indexes.get(self.first_index).copied());
+            first = earlier(first, self.indexes.first(&self.taken));
         }
         if ask.write && !ask.live {
-            first = earlier(first, self.creates.get(self.first_create).copied());
+            first = earlier(first, self.creates.first(&self.taken));
         }
         if let Some(pair) = ask.on {
             first = earlier(first, self.swap(records, pair, ask));
@@ -189,29 +135,11 @@ impl Lost {
             if own != pair {
                 return None;
             }
-            let is_delete = match records.get(rec) {
-                Some(found) => matches!(found.op, Op::Delete { .. }),
-                None => false,
-            };
-            if !self.is_taken(rec) && (if is_delete { ask.delete } else { ask.write }) {
+            let found = records.get(rec)?;
+            if is_left(&self.taken, rec) && ask.is_for(found.op) {
                 return Some((call_at, rec));
             }
         }
         None
-    }
-
-    /// The first by reply of the conflicts without a condition that are left, where it is of the kind asked for and
-    /// called in time.
-    pub fn refused(&mut self, records: &[Rec], ask: Ask) -> Option<usize> {
-        self.first_refused = first_left(&self.refused, self.first_refused, &self.taken);
-        let (_, rec) = *self.refused.get(self.first_refused)?;
-        let found = records.get(rec)?;
-        let is_delete = matches!(found.op, Op::Delete { .. });
-        let is_kind = if is_delete { ask.delete } else { ask.write };
-        if is_kind && found.call_at < ask.limit {
-            Some(rec)
-        } else {
-            None
-        }
     }
 }

@@ -1,7 +1,9 @@
 use crate::chain::{chain_of, rises};
+use crate::rules::by_number::ByNumber;
 use crate::rules::link::{Link, condition};
 use crate::rules::lost::Lost;
-use doc_register::{Conflicts, Reply};
+use crate::rules::queue::Queue;
+use doc_register::{Conflicts, Op, Reply};
 use history::Rec;
 use std::alloc::Global;
 use std::collections::BTreeSet;
@@ -19,94 +21,116 @@ fn shown(alloc: Global, records: &[Rec]) -> Result<Vec<(Pair, u64)>, NoMemory> {
     Ok(shown)
 }
 
-// The pairs that conditions of the links from a place on name and that are not known, by pair.
-fn asked(
-    alloc: Global,
-    records: &[Rec],
-    links: &[Link],
-    from: usize,
-    known: &BTreeSet<Pair>,
-) -> Result<Vec<Pair>, NoMemory> {
-    let mut asked = Vec::new(alloc);
-    for i in from..links.len() {
-        if let Some(found) = records.get(links[i].rec) {
-            if let Some(pair) = condition(found.op) {
-                if !known.contains(&pair) {
-                    asked.push(pair)?;
-                }
-            }
+// The unanswered indexes in the order of calls.
+fn unanswered_indexes(alloc: Global, records: &[Rec]) -> Result<Queue, NoMemory> {
+    let mut indexes = Queue::new(alloc);
+    for rec in 0..records.len() {
+        let found = records[rec];
+        if found.heard.is_none() && matches!(found.op, Op::Index { .. }) {
+            indexes.push(found.call_at, rec)?;
         }
     }
-    asked.sort_unstable();
-    Ok(asked)
+    indexes.sort();
+    Ok(indexes)
 }
 
-// The chain that is being named: its writes, and their pairs.
+// The chain that is being named.
 #[derive(Debug, Drop)]
 struct Naming {
     links: Vec<Link>,
+    // The pairs of the writes.
     known: BTreeSet<Pair>,
+    // The conditions of the writes that are no pairs of the writes, or were none when they were noted.
+    asked: BTreeSet<Pair>,
 }
 
 impl Naming {
     // Takes the record into the chain, with the pair.
-    fn add(&mut self, lost: &mut Lost, pair: Pair, rec: usize) -> Result<(), NoMemory> {
+    fn add(
+        &mut self,
+        records: &[Rec],
+        lost: &mut Lost,
+        pair: Pair,
+        rec: usize,
+    ) -> Result<(), NoMemory> {
         lost.take(rec);
         self.known.insert(pair)?;
         self.links.push(Link {
             pair: Some(pair),
             rec,
         })?;
+        if let Some(found) = records.get(rec) {
+            if let Some(named) = condition(found.op) {
+                if !self.known.contains(&named) {
+                    self.asked.insert(named)?;
+                }
+            }
+        }
         Ok(())
     }
-}
 
-// The chain of the performed answered writes.
-fn performed(alloc: Global, chain: &[(Pair, usize)], lost: &mut Lost) -> Result<Naming, NoMemory> {
-    let mut naming = Naming {
-        links: Vec::new(alloc),
-        known: BTreeSet::new(alloc),
-    };
-    for i in 0..chain.len() {
-        let (pair, rec) = chain[i];
-        naming.add(lost, pair, rec)?;
+    // The chain of the performed answered writes.
+    fn of(
+        alloc: Global,
+        records: &[Rec],
+        chain: &[(Pair, usize)],
+        lost: &mut Lost,
+    ) -> Result<Naming, NoMemory> {
+        let mut naming = Naming {
+            links: Vec::new(alloc),
+            known: BTreeSet::new(alloc),
+            asked: BTreeSet::new(alloc),
+        };
+        for (pair, rec) in chain {
+            naming.add(records, lost, *pair, *rec)?;
+        }
+        Ok(naming)
     }
-    Ok(naming)
-}
 
-// A pair that a get found and no write of the chain has completes the first unanswered write of its number; under Maybe
-// else a conflict's. False where none is left.
-fn name_shown(
-    naming: &mut Naming,
-    shown: &[(Pair, u64)],
-    lost: &mut Lost,
-    reading: Conflicts,
-) -> Result<bool, NoMemory> {
-    for i in 0..shown.len() {
-        let (pair, k) = shown[i];
-        if !naming.known.contains(&pair) {
-            match lost.of_number(k, reading) {
-                Some(rec) => naming.add(lost, pair, rec)?,
-                None => return Ok(false),
+    // A pair that a get found and no write of the chain has is given to the first unanswered write of its number by
+    // call; under Maybe else to a conflict's. False where none is left.
+    fn name_shown(
+        &mut self,
+        alloc: Global,
+        records: &[Rec],
+        lost: &mut Lost,
+        reading: Conflicts,
+    ) -> Result<bool, NoMemory> {
+        let mut writes = ByNumber::of(alloc, records, reading)?;
+        for (pair, k) in &shown(alloc, records)? {
+            if !self.known.contains(pair) {
+                match writes.first(*k, lost.taken()) {
+                    Some(rec) => self.add(records, lost, *pair, rec)?,
+                    None => return Ok(false),
+                }
             }
         }
+        Ok(true)
     }
-    Ok(true)
-}
 
-// A pair that a condition names and no write of the chain has completes the first unanswered index. False where none is
-// left.
-fn name_asked(naming: &mut Naming, asked: &[Pair], lost: &mut Lost) -> Result<bool, NoMemory> {
-    for i in 0..asked.len() {
-        let pair = asked[i];
-        if !naming.known.contains(&pair) {
-            match lost.index() {
-                Some(rec) => naming.add(lost, pair, rec)?,
-                None => return Ok(false),
+    // A pair that the condition of a write of the chain names and no write of the chain has is given to the first
+    // unanswered index by call, the least pair first. False where none is left.
+    fn name_asked(
+        &mut self,
+        alloc: Global,
+        records: &[Rec],
+        lost: &mut Lost,
+    ) -> Result<bool, NoMemory> {
+        let mut indexes = unanswered_indexes(alloc, records)?;
+        // Each write asks for one pair at the most.
+        for _ in 0..records.len() {
+            let Some(pair) = self.asked.pop_first() else {
+                return Ok(true);
+            };
+            if !self.known.contains(&pair) {
+                match indexes.first(lost.taken()) {
+                    Some((_, rec)) => self.add(records, lost, pair, rec)?,
+                    None => return Ok(false),
+                }
             }
         }
+        Ok(true)
     }
-    Ok(true)
 }
 
 /// The chain with a write for each pair that is named, by a get that found it or by the condition of a write in the
@@ -121,18 +145,11 @@ pub fn named_chain(
     if !rises(&chain) {
         return Ok(None);
     }
-    let mut naming = performed(alloc, &chain, lost)?;
-    let shown = shown(alloc, records)?;
-    if !name_shown(&mut naming, &shown, lost, reading)? {
+    let mut naming = Naming::of(alloc, records, &chain, lost)?;
+    if !naming.name_shown(alloc, records, lost, reading)?
+        || !naming.name_asked(alloc, records, lost)?
+    {
         return Ok(None);
-    }
-    let mut done = 0;
-    for _ in 0..records.len() {
-        let news = asked(alloc, records, &naming.links, done, &naming.known)?;
-        done = naming.links.len();
-        if !name_asked(&mut naming, &news, lost)? {
-            return Ok(None);
-        }
     }
     let mut links = naming.links;
     links.sort_unstable();

@@ -1,3 +1,4 @@
+use crate::chain::performed_pair;
 use crate::rules::link::{Link, condition};
 use history::{Rec, Seen};
 use std::alloc::Global;
@@ -69,32 +70,6 @@ fn conditions(alloc: Global, records: &[Rec]) -> Result<BTreeSet<Pair>, NoMemory
     Ok(named)
 }
 
-// The pair of an invented write that stands between two pairs.
-fn invented(
-    last: Option<Pair>,
-    next: Option<Pair>,
-    named: &BTreeSet<Pair>,
-    seen: Seen,
-    place: usize,
-    call_at: usize,
-) -> Option<Pair> {
-    let Some(next) = next else {
-        return last_pair(seen, place, call_at);
-    };
-    let term = match last {
-        Some(last) => last.term(),
-        None => 1,
-    };
-    if term < next.term() {
-        return term_pair(term, seen, place, call_at);
-    }
-    let from = match last {
-        Some(last) => last.seq().saturating_add(1),
-        None => 0,
-    };
-    free_pair(term, from, next, named)
-}
-
 // The records of the order, by stretch, its write first, then by place of reply.
 fn ordered(
     alloc: Global,
@@ -117,8 +92,67 @@ fn ordered(
     Ok(standings)
 }
 
+// The pairs of the writes of the chain, which are told from the first to the last.
+#[derive(Debug, Drop)]
+struct Numbering {
+    seen: Seen,
+    // The pairs that conditions name.
+    named: BTreeSet<Pair>,
+    // Of each write the next known pair after it.
+    after: Vec<Option<Pair>>,
+    // The next write, and the pair of the one before it.
+    next: usize,
+    last: Option<Pair>,
+}
+
+impl Numbering {
+    fn of(
+        alloc: Global,
+        records: &[Rec],
+        links: &[Link],
+        seen: Seen,
+    ) -> Result<Numbering, NoMemory> {
+        Ok(Numbering {
+            seen,
+            named: conditions(alloc, records)?,
+            after: pairs_after(alloc, links)?,
+            next: 0,
+            last: None,
+        })
+    }
+
+    // The pair of an invented write after the last pair and before the next, where there is one.
+    fn invented(&self, next: Option<Pair>, place: usize, call_at: usize) -> Option<Pair> {
+        let Some(next) = next else {
+            return last_pair(self.seen, place, call_at);
+        };
+        let (term, from) = match self.last {
+            Some(last) => (last.term(), last.seq().saturating_add(1)),
+            None => (1, 0),
+        };
+        if term < next.term() {
+            term_pair(term, self.seen, place, call_at)
+        } else {
+            free_pair(term, from, next, &self.named)
+        }
+    }
+
+    // The pair of the next write of the chain, which stands in this place of the order and was called there.
+    fn pair(&mut self, links: &[Link], place: usize, call_at: usize) -> Option<Pair> {
+        let own = links.get(self.next)?;
+        let after = *self.after.get(self.next)?;
+        self.next = self.next.saturating_add(1);
+        self.last = match own.pair {
+            Some(pair) => Some(pair),
+            None => self.invented(after, place, call_at),
+        };
+        self.last
+    }
+}
+
 /// The places of the order, the invented pairs being numbered: without a greater pair after it by a new term, before a
 /// greater term by a sequence number that was not seen, and between equal terms by the least number that is left.
+/// `None` where there is no such number.
 pub fn numbered(
     alloc: Global,
     records: &[Rec],
@@ -126,39 +160,25 @@ pub fn numbered(
     stretches: &[Option<usize>],
     seen: Seen,
 ) -> Result<Option<Vec<Place>>, NoMemory> {
-    let named = conditions(alloc, records)?;
-    let after = pairs_after(alloc, links)?;
+    let mut numbering = Numbering::of(alloc, records, links, seen)?;
     let standings = ordered(alloc, records, links, stretches)?;
     let mut places = Vec::new(alloc);
-    let mut last = None;
-    let mut link = 0;
     for place in 0..standings.len() {
         let (_, is_read, _, rec) = standings[place];
-        if is_read {
-            places.push(Place { rec, pair: None })?;
-            continue;
+        let mut pair = None;
+        if !is_read {
+            let Some(found) = records.get(rec) else {
+                return Ok(None);
+            };
+            let Some(own) = numbering.pair(links, place, found.call_at) else {
+                return Ok(None);
+            };
+            // A reply that shows the pair needs no other word of it.
+            if performed_pair(found.heard).is_none() {
+                pair = Some(own);
+            }
         }
-        let (Some(own), Some(next), Some(found)) = (
-            links.get(link),
-            after.get(link),
-            records.get(rec),
-        ) else {
-            return Ok(None);
-        };
-        link = link.saturating_add(1);
-        let pair = match own.pair {
-            Some(pair) => Some(pair),
-            None => invented(last, *next, &named, seen, place, found.call_at),
-        };
-        if pair.is_none() {
-            return Ok(None);
-        }
-        last = pair;
-        let is_shown = crate::chain::performed_pair(found.heard).is_some();
-        places.push(Place {
-            rec,
-            pair: if is_shown { None } else { pair },
-        })?;
+        places.push(Place { rec, pair })?;
     }
     Ok(Some(places))
 }

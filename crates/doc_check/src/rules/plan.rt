@@ -1,5 +1,6 @@
-use crate::rules::link::{Link, leaves_it};
+use crate::rules::link::{Link, leaves_it, needs};
 use crate::rules::lost::{Ask, Lost};
+use crate::rules::room::Rooms;
 use history::Rec;
 use std::alloc::Global;
 use version_pair::{NoMemory, Pair};
@@ -12,60 +13,51 @@ pub struct Plan {
     pub live: Vec<bool>,
     /// Of each stretch the pair that the document has, where it is there and its pair is known.
     pub pairs: Vec<Option<Pair>>,
-    /// Of each stretch the least reply of the writes after it.
-    pub limits: Vec<usize>,
-    // Of each stretch how many writes can still be inserted after it, by its gap between known pairs.
-    gaps: Vec<usize>,
-    rooms: Vec<u64>,
-    /// Of each stretch what is inserted after it.
-    pub inserted: Vec<Option<usize>>,
-    // All that is inserted: the stretch, its turn there, the place of a reply, the record.
+    // Of each stretch the least reply of the writes after it.
+    limits: Vec<usize>,
+    // Of each stretch but the first the greatest call of the writes before it.
+    calls: Vec<usize>,
+    rooms: Rooms,
+    // Of each stretch what was inserted in it last.
+    inserted: Vec<Option<usize>>,
+    // The greatest call of what is inserted.
+    inserted_call: usize,
+    // All that is inserted: the stretch, where in it, the turn, the record.
     news: Vec<(usize, usize, usize, usize)>,
 }
 
-/// The turns of insertions after one stretch.
+/// Where an insertion stands in its stretch.
 #[derive(Clone, Copy, Debug)]
-pub enum Turn {
-    /// For a call that asks for a change after the stretch's write.
+pub enum Side {
+    /// Directly after the stretch's write.
     After,
-    /// A conflict that was performed.
-    Refused,
-    /// For the flag of the next write.
+    /// Directly before the next write.
     Before,
 }
 
-// How many numbers are left between two pairs.
-fn room_between(last: Option<Pair>, next: Option<Pair>) -> u64 {
-    let Some(next) = next else {
-        return u64::MAX;
-    };
-    let (term, from) = match last {
-        Some(last) => (last.term(), last.seq().saturating_add(1)),
-        None => (1, 0),
-    };
-    if term < next.term() {
-        u64::MAX
-    } else {
-        next.seq().saturating_sub(from)
-    }
+// The place of the record's reply.
+fn reply_of(records: &[Rec], rec: usize) -> Option<usize> {
+    let (reply_at, _) = records.get(rec)?.heard?;
+    Some(reply_at)
 }
 
 impl Plan {
     /// The plan of a round over the chain.
     pub fn of(alloc: Global, records: &[Rec], links: Vec<Link>) -> Result<Plan, NoMemory> {
         let mut plan = Plan {
-            inserted: vec![in alloc; None; links.len().saturating_add(1)]?,
-            links,
             live: Vec::new(alloc),
             pairs: Vec::new(alloc),
             limits: Vec::new(alloc),
-            gaps: Vec::new(alloc),
-            rooms: Vec::new(alloc),
+            calls: Vec::new(alloc),
+            rooms: Rooms::of(alloc, &links)?,
+            inserted: vec![in alloc; None; links.len().saturating_add(1)]?,
+            inserted_call: 0,
             news: Vec::new(alloc),
+            links,
         };
         plan.note_states(records)?;
         plan.note_limits(records)?;
-        plan.note_gaps()?;
+        plan.note_calls(records)?;
         Ok(plan)
     }
 
@@ -90,10 +82,8 @@ impl Plan {
         self.limits.push(limit)?;
         for back in 0..self.links.len() {
             let link = self.links[self.links.len() - 1 - back];
-            if let Some(found) = records.get(link.rec) {
-                if let Some(heard) = found.heard {
-                    limit = limit.min(heard.0);
-                }
+            if let Some(reply_at) = reply_of(records, link.rec) {
+                limit = limit.min(reply_at);
             }
             self.limits.push(limit)?;
         }
@@ -101,78 +91,101 @@ impl Plan {
         Ok(())
     }
 
-    // Notes the gap of each stretch, and how many numbers are left in each gap.
-    fn note_gaps(&mut self) -> Result<(), NoMemory> {
-        let mut gap = 0;
-        let mut last = None;
-        let mut invented = 0u64;
-        self.gaps.push(0)?;
+    // Notes the greatest call of the writes up to each.
+    fn note_calls(&mut self, records: &[Rec]) -> Result<(), NoMemory> {
+        let mut latest = 0;
         for link in &self.links {
-            if link.pair.is_some() {
-                self.rooms
-                    .push(room_between(last, link.pair).saturating_sub(invented))?;
-                last = link.pair;
-                invented = 0;
-                gap = self.rooms.len();
-            } else {
-                invented = invented.saturating_add(1);
+            if let Some(found) = records.get(link.rec) {
+                latest = found.call_at.max(latest);
             }
-            self.gaps.push(gap)?;
+            self.calls.push(latest)?;
         }
-        self.rooms.push(u64::MAX)?;
         Ok(())
     }
 
-    // Whether a number is left after the stretch.
-    fn has_room(&self, stretch: usize) -> bool {
-        match self.gaps.get(stretch) {
-            Some(gap) => match self.rooms.get(*gap) {
-                Some(room) => *room > 0,
-                None => false,
-            },
-            None => false,
-        }
-    }
-
-    /// Inserts the record's write after the stretch, where a number is left for it.
+    /// Inserts the record's write in the stretch, where a number is left for it.
     pub fn insert(
         &mut self,
+        records: &[Rec],
         lost: &mut Lost,
         stretch: usize,
-        turn: Turn,
-        reply_at: usize,
+        side: Side,
         rec: usize,
     ) -> Result<bool, NoMemory> {
-        if !self.has_room(stretch) {
+        if !self.rooms.take(stretch) {
             return Ok(false);
         }
-        if let Some(gap) = self.gaps.get(stretch) {
-            if let Some(room) = self.rooms.get_mut(*gap) {
-                *room = room.saturating_sub(1);
-            }
-        }
-        self.news.push((stretch, turn as usize, reply_at, rec))?;
+        self.news
+            .push((stretch, side as usize, self.news.len(), rec))?;
         if let Some(place) = self.inserted.get_mut(stretch) {
             *place = Some(rec);
+        }
+        if let Some(found) = records.get(rec) {
+            self.inserted_call = self.inserted_call.max(found.call_at);
         }
         lost.take(rec);
         Ok(true)
     }
 
-    /// What an insertion after the stretch asks for.
-    pub fn ask(&self, stretch: usize, delete: bool, write: bool, limit: usize) -> Ask {
+    /// What was inserted in the stretch last.
+    pub fn inserted(&self, stretch: usize) -> Option<usize> {
+        match self.inserted.get(stretch) {
+            Some(rec) => *rec,
+            None => None,
+        }
+    }
+
+    /// Whether the document is there at the end of the stretch, with what is inserted.
+    pub fn ends_live(&self, records: &[Rec], stretch: usize) -> bool {
+        match self.inserted(stretch) {
+            Some(rec) => match records.get(rec) {
+                Some(found) => leaves_it(found.op),
+                None => false,
+            },
+            None => self.live.get(stretch) == Some(&true),
+        }
+    }
+
+    /// What the write at the end of the stretch needs the document to be.
+    pub fn next_needs(&self, records: &[Rec], stretch: usize) -> Option<bool> {
+        let next = self.links.get(stretch)?;
+        needs(*records.get(next.rec)?)
+    }
+
+    /// The first stretch whose next write is called after the place.
+    pub fn stretch_at(&self, place: usize) -> usize {
+        self.calls.partition_point(|call| *call <= place)
+    }
+
+    /// The greatest call of the writes before the end of the stretch, where nothing is inserted behind it.
+    pub fn latest_call(&self, stretch: usize) -> usize {
+        let before = match stretch.checked_sub(1) {
+            Some(link) => self.calls.get(link).copied().unwrap_or(0),
+            None => 0,
+        };
+        before.max(self.inserted_call)
+    }
+
+    /// What an insertion at the end of the stretch asks for.
+    pub fn ask(
+        &self,
+        records: &[Rec],
+        stretch: usize,
+        delete: bool,
+        write: bool,
+        limit: usize,
+    ) -> Ask {
+        let on = match self.inserted(stretch) {
+            Some(_) => None,
+            None => self.pairs.get(stretch).copied().unwrap_or(None),
+        };
+        let least = self.limits.get(stretch).copied().unwrap_or(limit);
         Ask {
             delete,
             write,
-            live: self.live.get(stretch) == Some(&true),
-            on: match self.pairs.get(stretch) {
-                Some(pair) => *pair,
-                None => None,
-            },
-            limit: match self.limits.get(stretch) {
-                Some(least) => limit.min(*least),
-                None => limit,
-            },
+            live: self.ends_live(records, stretch),
+            on,
+            limit: limit.min(least),
         }
     }
 

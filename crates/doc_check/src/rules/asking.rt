@@ -1,0 +1,71 @@
+use crate::rules::link::{condition, conflicts};
+use crate::rules::lost::Lost;
+use crate::rules::performing::perform;
+use crate::rules::plan::{Plan, Side};
+use crate::rules::stand::Stand;
+use doc_register::{Conflicts, Op};
+use history::Rec;
+use version_pair::NoMemory;
+
+// Inserts a write after the stretch for a call that finds no stretch: for a missing a delete, for a create's conflict a
+// write of the document, and for a conflict on a pair any such that the next write's flag still fits.
+fn serve(
+    records: &[Rec],
+    plan: &mut Plan,
+    lost: &mut Lost,
+    found: Rec,
+    reply_at: usize,
+    stretch: usize,
+) -> Result<bool, NoMemory> {
+    let (delete, write) = match found.op {
+        Op::Get => (true, false),
+        Op::Create { .. } => (false, true),
+        Op::Index { .. } | Op::Delete { .. } => {
+            let next = plan.next_needs(records, stretch);
+            (next != Some(true), next != Some(false))
+        }
+    };
+    let ask = plan.ask(records, stretch, delete, write, reply_at);
+    match lost.candidate(records, ask) {
+        Some(rec) => plan.insert(records, lost, stretch, Side::After, rec),
+        None => Ok(false),
+    }
+}
+
+/// The stretch of a missing or a conflict that no stretch up to the bound allows, once a write is inserted for it: for
+/// a conflict on a pair directly after the write of that pair, else after the last write that may stand before it.
+/// Under Maybe a conflict for which there is nothing to insert becomes a write itself. `None` where nothing is
+/// inserted.
+pub fn ask(
+    records: &[Rec],
+    plan: &mut Plan,
+    stand: &Stand,
+    lost: &mut Lost,
+    reading: Conflicts,
+    bound: usize,
+    rec: usize,
+) -> Result<Option<usize>, NoMemory> {
+    let Some(found) = records.get(rec) else {
+        return Ok(None);
+    };
+    let Some(heard) = found.heard else {
+        return Ok(None);
+    };
+    let stretch = match condition(found.op) {
+        Some(pair) => stand.of_pair(pair),
+        None => Some(bound),
+    };
+    if let Some(stretch) = stretch {
+        // What is inserted there already may serve it: the next round tells.
+        if plan.inserted(stretch).is_some()
+            || serve(records, plan, lost, *found, heard.0, stretch)?
+        {
+            return Ok(Some(stretch));
+        }
+    }
+    if reading == Conflicts::Maybe && conflicts(*found) {
+        perform(records, plan, stand, lost, *found, heard.0, rec)
+    } else {
+        Ok(None)
+    }
+}

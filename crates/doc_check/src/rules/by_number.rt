@@ -1,0 +1,60 @@
+use crate::rules::link::conflicts;
+use crate::rules::queue::is_left;
+use doc_register::{Conflicts, Op};
+use history::Rec;
+use std::alloc::Global;
+use version_pair::NoMemory;
+
+/// The writes that can have been shown with a number: the unanswered ones in the order of calls, and under Maybe after
+/// them those that answer a conflict.
+#[derive(Debug, Drop)]
+pub struct ByNumber {
+    // The number, whether a conflict is answered, the place of the call, the record.
+    entries: Vec<(u64, bool, usize, usize)>,
+    // At the first entry of a number: before which entry none of it is left.
+    left: Vec<usize>,
+}
+
+// The number of a write that may be completed.
+fn number_of(found: Rec, reading: Conflicts) -> Option<u64> {
+    let may_be = found.heard.is_none() || conflicts(found) && reading == Conflicts::Maybe;
+    match found.op {
+        Op::Index { k, .. } | Op::Create { k } if may_be => Some(k),
+        _ => None,
+    }
+}
+
+impl ByNumber {
+    /// The writes of a document by number.
+    pub fn of(alloc: Global, records: &[Rec], reading: Conflicts) -> Result<ByNumber, NoMemory> {
+        let mut entries = Vec::new(alloc);
+        let mut left = Vec::new(alloc);
+        for rec in 0..records.len() {
+            let found = records[rec];
+            if let Some(k) = number_of(found, reading) {
+                left.push(entries.len())?;
+                entries.push((k, found.heard.is_some(), found.call_at, rec))?;
+            }
+        }
+        entries.sort_unstable();
+        Ok(ByNumber { entries, left })
+    }
+
+    /// The first write of the number that is left.
+    pub fn first(&mut self, k: u64, taken: &[bool]) -> Option<usize> {
+        let start = self.entries.partition_point(|entry| entry.0 < k);
+        for i in *self.left.get(start)?..self.entries.len() {
+            let (number, _, _, rec) = *self.entries.get(i)?;
+            if number != k {
+                return None;
+            }
+            if let Some(place) = self.left.get_mut(start) {
+                *place = i;
+            }
+            if is_left(taken, rec) {
+                return Some(rec);
+            }
+        }
+        None
+    }
+}

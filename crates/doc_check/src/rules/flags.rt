@@ -1,0 +1,48 @@
+use crate::rules::lost::Lost;
+use crate::rules::plan::{Plan, Side};
+use crate::rules::refused::Refused;
+use history::Rec;
+use version_pair::NoMemory;
+
+/// The flag of the write at the end of a stretch: where it asks for the document, or for its absence, and that is not
+/// so, one write is inserted before it, the first conflict without a condition that has no place yet, else the first
+/// unanswered write. False where there is none to insert.
+pub fn fit_flag(
+    records: &[Rec],
+    plan: &mut Plan,
+    lost: &mut Lost,
+    refused: &mut Refused,
+    stretch: usize,
+) -> Result<bool, NoMemory> {
+    let Some(live) = plan.next_needs(records, stretch) else {
+        return Ok(true);
+    };
+    if plan.ends_live(records, stretch) == live {
+        return Ok(true);
+    }
+    let ask = plan.ask(records, stretch, !live, live, usize::MAX);
+    let first = refused.first(records, lost.taken(), ask, plan.latest_call(stretch));
+    let taken = match first {
+        Some(rec) => Some(rec),
+        None => lost.candidate(records, ask),
+    };
+    match taken {
+        Some(rec) => plan.insert(records, lost, stretch, Side::Before, rec),
+        None => Ok(false),
+    }
+}
+
+/// The flags of all writes of the chain. False where there is no write to insert for one.
+pub fn fit_flags(
+    records: &[Rec],
+    plan: &mut Plan,
+    lost: &mut Lost,
+    refused: &mut Refused,
+) -> Result<bool, NoMemory> {
+    for stretch in 0..plan.links.len() {
+        if !fit_flag(records, plan, lost, refused, stretch)? {
+            return Ok(false);
+        }
+    }
+    Ok(true)
+}

@@ -1,0 +1,55 @@
+use crate::rules::flags::fit_flag;
+use crate::rules::link::condition;
+use crate::rules::lost::Lost;
+use crate::rules::plan::{Plan, Side};
+use crate::rules::refused::Refused;
+use crate::rules::stand::Stand;
+use history::Rec;
+use version_pair::NoMemory;
+
+/// Makes a conflict a write: with a condition directly after the write of its pair, a create directly before the first
+/// write whose call stands after its reply. Its stretch, where there is one with a number left.
+pub fn perform(
+    records: &[Rec],
+    plan: &mut Plan,
+    stand: &Stand,
+    lost: &mut Lost,
+    found: Rec,
+    reply_at: usize,
+    rec: usize,
+) -> Result<Option<usize>, NoMemory> {
+    let (stretch, side) = match condition(found.op) {
+        Some(pair) => (stand.of_pair(pair), Side::After),
+        None => (Some(plan.stretch_at(reply_at)), Side::Before),
+    };
+    let Some(stretch) = stretch else {
+        return Ok(None);
+    };
+    if plan.insert(records, lost, stretch, side, rec)? {
+        Ok(Some(stretch))
+    } else {
+        Ok(None)
+    }
+}
+
+/// Conflicts without a condition that are left become writes, in the order of their replies: each directly before the
+/// first write whose call stands after its reply, or at the end of the chain. False where one finds no number, or there
+/// is no write to insert for the flag that follows it.
+pub fn perform_refused(
+    records: &[Rec],
+    plan: &mut Plan,
+    lost: &mut Lost,
+    refused: &mut Refused,
+) -> Result<bool, NoMemory> {
+    for i in 0..refused.len() {
+        let Some((reply_at, rec)) = refused.left(i, lost.taken()) else {
+            continue;
+        };
+        let stretch = plan.stretch_at(reply_at);
+        let has_place = plan.insert(records, lost, stretch, Side::Before, rec)?;
+        if !has_place || !fit_flag(records, plan, lost, refused, stretch)? {
+            return Ok(false);
+        }
+    }
+    Ok(true)
+}

@@ -1,0 +1,49 @@
+use std::alloc::Global;
+use version_pair::NoMemory;
+
+/// Records by a place each, with the first that is left.
+#[derive(Debug, Drop)]
+pub struct Queue {
+    entries: Vec<(usize, usize)>,
+    // Before it none is left.
+    first: usize,
+}
+
+/// Whether the record is not taken.
+pub fn is_left(taken: &[bool], rec: usize) -> bool {
+    taken.get(rec) == Some(&false)
+}
+
+impl Queue {
+    /// A queue without records.
+    pub fn new(alloc: Global) -> Queue {
+        Queue {
+            entries: Vec::new(alloc),
+            first: 0,
+        }
+    }
+
+    /// Adds a record. All are to be sorted before the first is asked for.
+    pub fn push(&mut self, place: usize, rec: usize) -> Result<(), NoMemory> {
+        self.entries.push((place, rec))?;
+        Ok(())
+    }
+
+    /// Sorts the records by place.
+    pub fn sort(&mut self) {
+        self.entries.sort_unstable();
+    }
+
+    /// The place and the record of the first that is left.
+    pub fn first(&mut self, taken: &[bool]) -> Option<(usize, usize)> {
+        for i in self.first..self.entries.len() {
+            let (place, rec) = *self.entries.get(i)?;
+            self.first = i;
+            if is_left(taken, rec) {
+                return Some((place, rec));
+            }
+        }
+        self.first = self.entries.len();
+        None
+    }
+}

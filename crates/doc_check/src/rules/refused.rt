@@ -1,0 +1,105 @@
+use crate::rules::link::is_free_conflict;
+use crate::rules::lost::Ask;
+use crate::rules::queue::is_left;
+use doc_register::Op;
+use history::Rec;
+use std::alloc::Global;
+use version_pair::NoMemory;
+
+/// The conflicts without a condition that have no place in the chain yet, in the order of their replies. They are taken
+/// along one walk from the first write of the chain to the last.
+#[derive(Debug, Drop)]
+pub struct Refused {
+    // The place of the reply, and the record.
+    entries: Vec<(usize, usize)>,
+    // Before them no delete, and no index, can stand where the walk is.
+    next_delete: usize,
+    next_index: usize,
+}
+
+impl Refused {
+    /// The conflicts of a document that are left.
+    pub fn of(alloc: Global, records: &[Rec], taken: &[bool]) -> Result<Refused, NoMemory> {
+        let mut entries = Vec::new(alloc);
+        for rec in 0..records.len() {
+            let found = records[rec];
+            if let Some(heard) = found.heard {
+                if is_free_conflict(found) && is_left(taken, rec) {
+                    entries.push((heard.0, rec))?;
+                }
+            }
+        }
+        entries.sort_unstable();
+        Ok(Refused {
+            entries,
+            next_delete: 0,
+            next_index: 0,
+        })
+    }
+
+    /// How many there were at first.
+    pub fn len(&self) -> usize {
+        self.entries.len()
+    }
+
+    /// Whether there were none.
+    pub fn is_empty(&self) -> bool {
+        self.entries.is_empty()
+    }
+
+    /// The place of the reply and the record of one of them, by reply, where it is still left.
+    pub fn left(&self, i: usize, taken: &[bool]) -> Option<(usize, usize)> {
+        let (reply_at, rec) = *self.entries.get(i)?;
+        if is_left(taken, rec) {
+            Some((reply_at, rec))
+        } else {
+            None
+        }
+    }
+
+    // The next one of the kind, from a place on, that is left and whose reply stands after the greatest call before it.
+    fn next(
+        &self,
+        records: &[Rec],
+        taken: &[bool],
+        is_delete: bool,
+        from: usize,
+        latest_call: usize,
+    ) -> usize {
+        for i in from..self.entries.len() {
+            if let Some((reply_at, rec)) = self.left(i, taken) {
+                if let Some(found) = records.get(rec) {
+                    let is_kind = matches!(found.op, Op::Delete { .. }) == is_delete;
+                    if is_kind && latest_call < reply_at {
+                        return i;
+                    }
+                }
+            }
+        }
+        self.entries.len()
+    }
+
+    /// The first by reply that is of the kind and whose reply stands after the calls of all writes before it, where it
+    /// is called in time.
+    pub fn first(
+        &mut self,
+        records: &[Rec],
+        taken: &[bool],
+        ask: Ask,
+        latest_call: usize,
+    ) -> Option<usize> {
+        let next = if ask.delete {
+            self.next_delete = self.next(records, taken, true, self.next_delete, latest_call);
+            self.next_delete
+        } else {
+            self.next_index = self.next(records, taken, false, self.next_index, latest_call);
+            self.next_index
+        };
+        let (_, rec) = self.left(next, taken)?;
+        if records.get(rec)?.call_at < ask.limit {
+            Some(rec)
+        } else {
+            None
+        }
+    }
+}
