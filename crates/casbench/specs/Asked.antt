@@ -7,26 +7,40 @@ use Rattle.std.specs.Str.Parse.{digits_value, without_leading_plus}
 use Rattle.clap.specs.Simple.{on_top}
 use Rattle.clap.specs.Words.{App, Kinds, Row, Rule, Text, first_of, fault_of, new_app, new_rule, subcommand_of, with_rule, with_subcommand}
 use Rattle.clap.specs.declared.builder.value_parser.ValueParser.TheVariants as parser
+use Rattle.doc_register.specs.declared.state.Conflicts.{Conflicts}
+use Rattle.doc_register.specs.declared.state.Conflicts.TheVariants.{Plain, Maybe}
 use Rattle.casbench.specs.declared.words.Words.{Words}
 use Rattle.casbench.specs.declared.words.Words.TheVariants as words
 
 -- a check of a history, a witness of one, both of standard input where no file is named, a check of a witness against a
--- history, or the lines of a bulk's body and its reply, the calls numbered from a number on
+-- history, each with a reading of conflicts; or the lines of a bulk's body and its reply, the calls numbered from a number on
 pub data Asked : Type 0 where
-  ToCheck : Option Text → Asked
-  ToWitness : Option Text → Asked
-  ToVerify : Text → Text → Asked
+  ToCheck : Option Text → Conflicts → Asked
+  ToWitness : Option Text → Conflicts → Asked
+  ToVerify : Text → Text → Conflicts → Asked
   ToWriteBulk : Text → Text → ℕ → Asked
 
 abbrev pub asked_by : Words → Asked
-asked_by (words.Check file) = ToCheck (option_map (λ f. f.now) file)
-asked_by (words.Witness file) = ToWitness (option_map (λ f. f.now) file)
-asked_by (words.Verify history witness) = ToVerify history.now witness.now
+asked_by (words.Check file reading) = ToCheck (option_map (λ f. f.now) file) reading
+asked_by (words.Witness file reading) = ToWitness (option_map (λ f. f.now) file) reading
+asked_by (words.Verify history witness reading) = ToVerify history.now witness.now reading
 asked_by (words.Bulk body reply first) = ToWriteBulk body.now reply.now first
 
-abbrev pub both_files : Option Text → Option Text → Option Asked
-both_files (Some history) (Some witness) = Some (ToVerify history witness)
-both_files _ _ = None
+-- the reading of conflicts of this name, which is plain where none is given
+abbrev pub reading_of : Option Text → Option Conflicts
+reading_of None = Some Plain
+reading_of (Some name) =
+    if bytes_eq name (codes "plain") then Some Plain else (if bytes_eq name (codes "maybe") then Some Maybe else None)
+
+abbrev pub check_of : Option Text → Option Text → Option Asked
+check_of file name = option_map (λ reading. ToCheck file reading) (reading_of name)
+
+abbrev pub witness_of : Option Text → Option Text → Option Asked
+witness_of file name = option_map (λ reading. ToWitness file reading) (reading_of name)
+
+abbrev pub verify_of : Option Text → Option Text → Option Text → Option Asked
+verify_of (Some history) (Some witness) name = option_map (λ reading. ToVerify history witness reading) (reading_of name)
+verify_of _ _ _ = None
 
 -- a number below 2^64: digits, with a plus before them or not
 abbrev pub is_number : Text → Bool
@@ -43,19 +57,21 @@ abbrev pub bulk_of : Option Text → Option Text → Option Text → Option Aske
 bulk_of (Some body) (Some reply) first = option_map (λ n. ToWriteBulk body reply n) (first_of_calls first)
 bulk_of _ _ _ = None
 
--- what a command of this name asks for, which was given these files by the names of its arguments
+-- what a command of this name asks for, which was given these texts by the names of its arguments
 abbrev pub asked_of_command : Text → List Row → Option Asked
 asked_of_command name rows =
-    if bytes_eq name (codes "check") then Some (ToCheck (first_of (codes "history") rows))
-    else (if bytes_eq name (codes "witness") then Some (ToWitness (first_of (codes "history") rows))
-    else (if bytes_eq name (codes "verify") then both_files (first_of (codes "history") rows) (first_of (codes "witness") rows)
+    if bytes_eq name (codes "check") then check_of (first_of (codes "history") rows) (first_of (codes "conflicts") rows)
+    else (if bytes_eq name (codes "witness")
+    then witness_of (first_of (codes "history") rows) (first_of (codes "conflicts") rows)
+    else (if bytes_eq name (codes "verify")
+    then verify_of (first_of (codes "history") rows) (first_of (codes "witness") rows) (first_of (codes "conflicts") rows)
     else (if bytes_eq name (codes "bulk")
     then bulk_of (first_of (codes "body") rows) (first_of (codes "reply") rows) (first_of (codes "first") rows)
     else None)))
 
 -- no command asks for a check of standard input
 abbrev pub asked_of : Option (Text × List Row) → Option Asked
-asked_of None = Some (ToCheck None)
+asked_of None = Some (ToCheck None Plain)
 asked_of (Some command) = asked_of_command command.0 command.1
 
 -- ---- the command line
@@ -70,14 +86,19 @@ needed_rule name = record (file_rule name) { required = true }
 abbrev pub first_rule : Rule
 first_rule = record (file_rule (codes "first")) { long = Some (codes "first"); parser = Some (parser.Unsigned 0 18446744073709551615) }
 
+-- `--conflicts READING`
+abbrev pub conflicts_rule : Rule
+conflicts_rule = record (file_rule (codes "conflicts")) { long = Some (codes "conflicts") }
+
 abbrev pub check_line : App
-check_line = with_rule (new_app (codes "check")) (file_rule (codes "history"))
+check_line = with_rule (with_rule (new_app (codes "check")) (file_rule (codes "history"))) conflicts_rule
 
 abbrev pub witness_line : App
-witness_line = with_rule (new_app (codes "witness")) (file_rule (codes "history"))
+witness_line = with_rule (with_rule (new_app (codes "witness")) (file_rule (codes "history"))) conflicts_rule
 
 abbrev pub verify_line : App
-verify_line = with_rule (with_rule (new_app (codes "verify")) (needed_rule (codes "history"))) (needed_rule (codes "witness"))
+verify_line =
+    with_rule (with_rule (with_rule (new_app (codes "verify")) (needed_rule (codes "history"))) (needed_rule (codes "witness"))) conflicts_rule
 
 abbrev pub bulk_line : App
 bulk_line = with_rule (with_rule (with_rule (new_app (codes "bulk")) (needed_rule (codes "body"))) (needed_rule (codes "reply"))) first_rule

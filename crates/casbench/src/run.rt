@@ -1,10 +1,10 @@
 ghost use Rattle.std.specs.Prelude.{◌≡◌, None, IfOk, IsErrOf};
 ghost use Rattle.std.specs.Io.KnownBytes.{Keeps};
+ghost use Rattle.doc_register.specs.declared.state.Conflicts.{Conflicts as Mode};
 ghost use Rattle.report.specs.Verdict.{HasAnswer, IsAnswered, WitnessesInput};
 
 use crate::files::{open_both, open_or};
 use crate::words::Words;
-use doc_register::Conflicts;
 use report::{Status, StreamFault, bulk_stream, check_stream, verify_stream, witness_stream};
 use std::alloc::Global;
 use std::io::{Read, Write};
@@ -22,14 +22,13 @@ pub fn run<R: Files + Eprint, I: Read + Drop, W: Write>(
     writer: &mut W,
     words: Words<'_>,
 ) -> Result<Status, StreamFault>
-    // A check of the input answers it.
-    ensures checked { words.entry ≡ Words.Check None
-        → IfOk result (IsAnswered Conflicts.Plain (I.remaining input) (W.contents writer.old)
+    // A check of the input answers it, with conflicts read as the words say.
+    ensures checked { (reading : Mode) → words.entry ≡ Words.Check None reading
+        → IfOk result (IsAnswered reading (I.remaining input) (W.contents writer.old)
         (W.contents writer.new)) }
-    // The witness of the input is written.
-    ensures witnessed { words.entry ≡ Words.Witness None
-        → IfOk result (λ status. HasAnswer (WitnessesInput Conflicts.Plain
-        (I.remaining input) status)
+    // The witness of the input is written, with conflicts read as the words say.
+    ensures witnessed { (reading : Mode) → words.entry ≡ Words.Witness None reading
+        → IfOk result (λ status. HasAnswer (WitnessesInput reading (I.remaining input) status)
         (W.contents writer.old) (W.contents writer.new)) }
     ensures unread { IsErrOf result StreamFault.Read → Keeps (W.contents writer.old)
         (W.contents writer.new) }
@@ -37,17 +36,21 @@ pub fn run<R: Files + Eprint, I: Read + Drop, W: Write>(
         (W.contents writer.new) }
 {
     match words {
-        Words::Check { file } => {
+        Words::Check { file, conflicts } => {
             let mut history = open_or(rt, file, input)?;
-            check_stream(alloc, &mut history, writer, 1, Conflicts::Plain)
+            check_stream(alloc, &mut history, writer, 1, conflicts)
         }
-        Words::Witness { file } => {
+        Words::Witness { file, conflicts } => {
             let mut history = open_or(rt, file, input)?;
-            witness_stream(alloc, &mut history, writer, Conflicts::Plain)
+            witness_stream(alloc, &mut history, writer, conflicts)
         }
-        Words::Verify { history, witness } => {
+        Words::Verify {
+            history,
+            witness,
+            conflicts,
+        } => {
             let (mut history, mut witness) = open_both(rt, history, witness)?;
-            verify_stream(alloc, &mut history, &mut witness, writer, Conflicts::Plain)
+            verify_stream(alloc, &mut history, &mut witness, writer, conflicts)
         }
         Words::Bulk { body, reply, first } => {
             let (mut body, mut reply) = open_both(rt, body, reply)?;

@@ -1,12 +1,13 @@
 ghost use Rattle.std.specs.Prelude.{◌≡◌, ◌⊎◌, [], Some, None, false, IfOk, IfErr, OnOk, codes, map, option_map};
 ghost use Rattle.clap.specs.Words.{FailsBy, HasKind, app_of, found_of, rows_of, rule_of, subcommand_rows_of};
 ghost use Rattle.clap.specs.declared.builder.command.Command.TheViews.{out-Command as fields_of};
-ghost use Rattle.casbench.specs.Asked.{asked_by, asked_of, asked_of_command, asked_on, both_files, bulk_of, faults_on, first_of_calls};
-ghost use Rattle.casbench.specs.Asked.{bulk_line, check_line, command_line, file_rule, first_rule, needed_rule, verify_line, witness_line};
+ghost use Rattle.casbench.specs.Asked.{asked_by, asked_of, asked_of_command, asked_on, bulk_of, check_of, faults_on, first_of_calls, reading_of, verify_of, witness_of};
+ghost use Rattle.casbench.specs.Asked.{bulk_line, check_line, command_line, conflicts_rule, file_rule, first_rule, needed_rule, verify_line, witness_line};
 
 use clap::builder::ValueParser;
 use clap::error::ErrorKind;
 use clap::{Arg, ArgMatches, Command, Error};
+use doc_register::Conflicts;
 use std::alloc::{AllocError, Global};
 use std::convert::AsStr;
 
@@ -16,15 +17,18 @@ pub enum Words<'a> {
     /// To check a history text: that of the file, or of standard input where none is named.
     Check {
         file: Option<&'a str>,
+        conflicts: Conflicts,
     },
     /// To write the witness of a history text: that of the file, or of standard input where none is named.
     Witness {
         file: Option<&'a str>,
+        conflicts: Conflicts,
     },
     /// To check the witness text of the one file against the history text of the other.
     Verify {
         history: &'a str,
         witness: &'a str,
+        conflicts: Conflicts,
     },
     /// To write the body of a bulk request and its reply, of these files, as lines of a history, its calls numbered from
     /// `first`.
@@ -52,6 +56,13 @@ const BODY: &str = "body";
 const REPLY: &str = "reply";
 
 const FIRST: &str = "first";
+
+const CONFLICTS: &str = "conflicts";
+
+// The readings of a conflict by their names.
+const PLAIN: &str = "plain";
+
+const MAYBE: &str = "maybe";
 
 // The file of the history text, which may be left out.
 fn history<'a>(alloc: Global) -> Arg<'a>
@@ -86,6 +97,19 @@ fn first<'a>(alloc: Global) -> Arg<'a>
         .help("The number of the first call; 0 where it is left out")
 }
 
+// How a conflict is read, which may be left out.
+fn conflicts<'a>(alloc: Global) -> Arg<'a>
+    ensures rule { rule_of result ≡ conflicts_rule }
+    ensures local { result.global ≡ false }
+{
+    Arg::new(alloc, CONFLICTS)
+        .long(CONFLICTS)
+        .value_name("READING")
+        .help(
+            "How a conflict is read: plain, as not performed, or maybe; plain where it is left out",
+        )
+}
+
 fn check_command<'a>(alloc: Global) -> Result<Command<'a>, AllocError>
     ensures line { IfOk result (λ command. app_of command ≡ check_line) }
     ensures local { IfOk result (λ command. (fields_of command).has_globals ≡ false) }
@@ -93,7 +117,8 @@ fn check_command<'a>(alloc: Global) -> Result<Command<'a>, AllocError>
     Command::new(alloc, CHECK)
         .about("Check a history; no command at all does so too")
         .after_help("Example:\n  casbench check history.ndjson")
-        .arg(history(alloc))
+        .arg(history(alloc))?
+        .arg(conflicts(alloc))
 }
 
 fn witness_command<'a>(alloc: Global) -> Result<Command<'a>, AllocError>
@@ -103,7 +128,8 @@ fn witness_command<'a>(alloc: Global) -> Result<Command<'a>, AllocError>
     Command::new(alloc, WITNESS)
         .about("Write the witness of a history")
         .after_help("Example:\n  casbench witness history.ndjson > history.witness")
-        .arg(history(alloc))
+        .arg(history(alloc))?
+        .arg(conflicts(alloc))
 }
 
 fn verify_command<'a>(alloc: Global) -> Result<Command<'a>, AllocError>
@@ -114,7 +140,8 @@ fn verify_command<'a>(alloc: Global) -> Result<Command<'a>, AllocError>
         .about("Check a witness against a history")
         .after_help("Example:\n  casbench verify history.ndjson history.witness")
         .arg(needed(alloc, HISTORY, "FILE", "The history text"))?
-        .arg(needed(alloc, WITNESS, "WITNESS", "The witness text"))
+        .arg(needed(alloc, WITNESS, "WITNESS", "The witness text"))?
+        .arg(conflicts(alloc))
 }
 
 fn bulk_command<'a>(alloc: Global) -> Result<Command<'a>, AllocError>
@@ -152,15 +179,56 @@ fn program<'a>(alloc: Global) -> Result<Command<'a>, AllocError>
         .subcommand(bulk_command(alloc)?)
 }
 
-// A check of a witness, where both files are named.
-fn verify_words<'a>(history: Option<&'a str>, witness: Option<&'a str>) -> Option<Words<'a>>
+// The reading of a conflict that is named: plain where none is, and none where the name is of no reading.
+fn reading(name: Option<&str>) -> Option<Conflicts>
+    ensures { result ≡ reading_of (option_map (λ t. t.now) name.entry) }
+{
+    match name {
+        None => Some(Conflicts::Plain),
+        Some(name) => match name {
+            PLAIN => Some(Conflicts::Plain),
+            MAYBE => Some(Conflicts::Maybe),
+            _ => None,
+        },
+    }
+}
+
+// A check of a history, where a reading is named or none.
+fn check_words<'a>(file: Option<&'a str>, conflicts: Option<&'a str>) -> Option<Words<'a>>
     ensures { option_map asked_by result
-        ≡ both_files (option_map (λ f. f.now) history.entry) (option_map
-        (λ f. f.now) witness.entry) }
+        ≡ check_of (option_map (λ f. f.now) file.entry) (option_map (λ t. t.now) conflicts.entry) }
+{
+    Some(Words::Check {
+        file,
+        conflicts: reading(conflicts)?,
+    })
+}
+
+// The witness of a history, where a reading is named or none.
+fn witness_words<'a>(file: Option<&'a str>, conflicts: Option<&'a str>) -> Option<Words<'a>>
+    ensures { option_map asked_by result
+        ≡ witness_of (option_map (λ f. f.now) file.entry) (option_map (λ t. t.now) conflicts.entry) }
+{
+    Some(Words::Witness {
+        file,
+        conflicts: reading(conflicts)?,
+    })
+}
+
+// A check of a witness, where both files are named, and a reading or none.
+fn verify_words<'a>(
+    history: Option<&'a str>,
+    witness: Option<&'a str>,
+    conflicts: Option<&'a str>,
+) -> Option<Words<'a>>
+    ensures { option_map asked_by result
+        ≡ verify_of (option_map (λ f. f.now) history.entry) (option_map (λ f. f.now) witness.entry) (option_map
+        (λ t. t.now) conflicts.entry) }
 {
     Some(Words::Verify {
         history: history?,
         witness: witness?,
+        conflicts: reading(conflicts)?,
     })
 }
 
@@ -201,9 +269,9 @@ fn asked_of_command<'a>(name: &str, given: &ArgMatches<'a>) -> Option<Words<'a>>
 {
     let file = given.get_str(HISTORY);
     match name {
-        CHECK => Some(Words::Check { file }),
-        WITNESS => Some(Words::Witness { file }),
-        VERIFY => verify_words(file, given.get_str(WITNESS)),
+        CHECK => check_words(file, given.get_str(CONFLICTS)),
+        WITNESS => witness_words(file, given.get_str(CONFLICTS)),
+        VERIFY => verify_words(file, given.get_str(WITNESS), given.get_str(CONFLICTS)),
         BULK => bulk_words(
             given.get_str(BODY),
             given.get_str(REPLY),
@@ -219,7 +287,10 @@ fn asked<'a>(matches: &ArgMatches<'a>) -> Option<Words<'a>>
 {
     match matches.subcommand() {
         Some((name, given)) => asked_of_command(name, given),
-        None => Some(Words::Check { file: None }),
+        None => Some(Words::Check {
+            file: None,
+            conflicts: Conflicts::Plain,
+        }),
     }
 }
 
@@ -232,11 +303,12 @@ fn parse<'a, S: AsStr>(alloc: Global, words: &'a [S]) -> Result<ArgMatches<'a>, 
     program(alloc)?.try_get_matches_from(words)
 }
 
-// The error of words that name no command of the program's, or not all its files. The parse refuses them before.
-fn no_command(alloc: Global) -> Result<Error, AllocError> {
+// The error of words that name a reading of a conflict that is none. That no command is named, or not all its files, the
+// parse refuses before.
+fn no_reading(alloc: Global) -> Result<Error, AllocError> {
     program(alloc)?.error(
-        ErrorKind::MissingSubcommand,
-        "a command with its files is missing",
+        ErrorKind::InvalidValue,
+        "a conflict is read as plain or as maybe",
     )
 }
 
@@ -247,14 +319,14 @@ pub fn read_words<'a, S: AsStr>(alloc: Global, words: &'a [S]) -> Result<Words<'
     ensures asked { IfOk result (λ asked. asked_on (map S.text words.entry.now)
         ≡ Some (asked_by asked)) }
     ensures taken { OnOk result (faults_on (map S.text words.entry.now) ≡ []) }
-    // The words have that fault, or what they name is none of the commands.
+    // The words have that fault, or what they name is none of the commands with its files and a reading of conflicts.
     ensures refused { IfErr result (λ error. HasKind (faults_on (map S.text words.entry.now)) error
         ⊎ (asked_on (map S.text words.entry.now) ≡ None)) }
 {
     let matches = parse(alloc, words)?;
     match asked(&matches) {
         Some(words) => Ok(words),
-        None => Err(no_command(alloc)?),
+        None => Err(no_reading(alloc)?),
     }
 }
 

@@ -1,2 +1,26 @@
+mod FilterLemmas
+mod ListedDocuments
+mod HeardLemmas
+mod RestrictedOrders
 mod CoverLemmas
-pub mod OneDocument
+mod UnpairedPlaces
+mod Restriction
+mod Sorting
+mod Filtering
+mod Points
+mod Gathering
+mod CalledDocuments
+mod Standing
+mod WholeRun
+mod Locality
+mod TakenLemmas
+mod FlatPlaces
+mod TakenPlaces
+mod SearchedLemmas
+pub mod CountedPlaces
+mod PositionLemmas
+mod VerifyLemmas
+mod FoundLemmas
+mod Yielded
+mod VerdictLemmas
+mod FaultLaws

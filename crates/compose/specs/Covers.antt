@@ -1,23 +1,24 @@
--- The witness of a history of at most one document, and covers: the entries of a witness text that are one.
-use Rattle.std.specs.Prelude.{◌≡◌, ℕ, List, [], ◌∷◌, Option, Some, None, slice_get}
+-- Covers: the entries of a witness text that explain a history of any number of documents.
+use Rattle.std.specs.Prelude.{◌≡◌, ℕ, List, Option, Some, None, slice_get}
+use Rattle.version_pair.specs.declared.pair.Pair.{Pair}
+use Rattle.doc_register.specs.declared.reply.Reply.{Reply}
 use Rattle.doc_register.specs.declared.state.Conflicts.{Conflicts}
+use Rattle.doc_register.specs.Run.{pair_taken}
 use Rattle.history.specs.declared.event.Event.{Event}
+use Rattle.history.specs.declared.record.Rec.{Rec}
 use Rattle.history.specs.Events.{documents_of, records_of}
-use Rattle.witness.specs.Places.{AreValid}
+use Rattle.witness.specs.declared.place.Place.{Place}
+use Rattle.witness.specs.Places.{AreValid, IsPlaceOf}
 use Rattle.witness.specs.Text.{DocPlaces}
-use Rattle.witness.specs.Witness.{Witness}
+use Rattle.doc_check.specs.NoOrders.{AreUnpaired}
 
--- there is no document and no witness; or the one document has valid places of its records, in this reading of conflicts
-abbrev pub IsWitnessOf : Conflicts → List Event → Option Witness → Type 0
-IsWitnessOf mode events None = documents_of events ≡ []
-IsWitnessOf mode events (Some w) =
-    (h : ℕ) × (documents_of events ≡ (w.doc, h) ∷ []) × (w.records ≡ records_of events w.doc) × AreValid mode w.records w.places
-
--- ---- covers
+-- the document is one of the history, and of this shard
+abbrev pub IsOfShard : List Event → List ℕ → ℕ → Type 0
+IsOfShard events d h = (k : ℕ) × (slice_get (documents_of events) k ≡ Some (d, h))
 
 -- the entry's document is one of the history
 abbrev pub IsKnown : List Event → DocPlaces → Type 0
-IsKnown events e = (k : ℕ) × (h : ℕ) × (slice_get (documents_of events) k ≡ Some (e.doc, h))
+IsKnown events e = (h : ℕ) × IsOfShard events e.doc h
 
 -- some entry is of the document
 abbrev pub IsEntered : List DocPlaces → List ℕ → Type 0
@@ -29,8 +30,46 @@ pub record AreFine (mode : Conflicts) (events : List Event) (entries : List DocP
   pub once : (i j : ℕ) (e f : DocPlaces) → slice_get entries i ≡ Some e → slice_get entries j ≡ Some f → e.doc ≡ f.doc → i ≡ j
   pub valid : (i : ℕ) (e : DocPlaces) → slice_get entries i ≡ Some e → AreValid mode (records_of events e.doc) e.places
 
--- The entries cover the documents: they are fine, and each document is entered. That no pair of a shard is taken by two
--- documents is no part of this yet: it is asked of histories of at most one document alone.
+-- each document of the history is entered
+abbrev pub AreComplete : List Event → List DocPlaces → Type 0
+AreComplete events entries = (k : ℕ) (d : List ℕ × ℕ) → slice_get (documents_of events) k ≡ Some d → IsEntered entries d.0
+
+-- ---- pairs
+
+-- the pair that a call takes: the one that its reply tells, or the one that is given to its place
+abbrev pub taken_by : Option (ℕ × Reply) → Option Pair → Option Pair
+taken_by None given = given
+taken_by (Some heard) given = pair_taken heard.1 given
+
+-- at the place j of the entry i a call takes the pair q of the shard h
+pub record IsTakenAt (events : List Event) (entries : List DocPlaces) (i j h : ℕ) (q : Pair) : Type 0 where
+  pub entry : DocPlaces
+  pub place : Place
+  pub called : Rec
+  pub entered : slice_get entries i ≡ Some entry
+  pub placed : slice_get entry.places j ≡ Some place
+  pub names : IsPlaceOf (records_of events entry.doc) place called
+  pub shard : IsOfShard events entry.doc h
+  pub takes : taken_by called.heard place.pair ≡ Some q
+
+-- no pair of a shard is taken at two places
+abbrev pub ArePairsDistinct : List Event → List DocPlaces → Type 0
+ArePairsDistinct events entries = (i j k l h : ℕ) (q : Pair) → IsTakenAt events entries i j h q
+    → IsTakenAt events entries k l h q → (i ≡ k) × (j ≡ l)
+
+-- ---- covers
+
+-- The entries cover the history: each document is entered once and no other, the places of each are valid, and no pair of a
+-- shard is taken at two places.
 pub record AreCover (mode : Conflicts) (events : List Event) (entries : List DocPlaces) : Type 0 where
   pub fine : AreFine mode events entries
-  pub complete : (k : ℕ) (d : List ℕ × ℕ) → slice_get (documents_of events) k ≡ Some d → IsEntered entries d.0
+  pub complete : AreComplete events entries
+  pub distinct : ArePairsDistinct events entries
+
+-- no place of an entry gives a pair
+abbrev pub AreAllUnpaired : List DocPlaces → Type 0
+AreAllUnpaired entries = (i : ℕ) (e : DocPlaces) → slice_get entries i ≡ Some e → AreUnpaired e.places
+
+-- no entries without a given pair cover the history
+abbrev pub HasNoUnpairedCover : Conflicts → List Event → Type 0
+HasNoUnpairedCover mode events = (entries : List DocPlaces) → AreAllUnpaired entries → ¬ AreCover mode events entries

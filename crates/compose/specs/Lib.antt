@@ -1,5 +1,7 @@
 pub mod Counts
 pub mod Covers
 pub mod VerifyFaults
-pub mod Explained
+pub mod Laws
+pub mod Verdicts
+pub mod Checked
 pub mod aids

@@ -1,11 +1,13 @@
 -- The first fault of entries that do not cover a history.
-use Rattle.std.specs.Prelude.{◌≡◌, ◌<◌, ℕ, List, Some, slice_get, take}
+use Rattle.std.specs.Prelude.{◌≡◌, ◌<◌, ◌⊎◌, ℕ, List, Some, slice_get, take}
+use Rattle.version_pair.specs.declared.pair.Pair.{Pair}
+use Rattle.version_pair.specs.PairOrder.{IsBelow}
 use Rattle.doc_register.specs.declared.state.Conflicts.{Conflicts}
 use Rattle.history.specs.declared.event.Event.{Event}
 use Rattle.history.specs.Events.{documents_of, records_of}
 use Rattle.witness.specs.Faults.{IsFirstFault}
 use Rattle.witness.specs.Text.{DocPlaces}
-use Rattle.compose.specs.Covers.{AreFine, IsEntered, IsKnown}
+use Rattle.compose.specs.Covers.{AreComplete, AreFine, IsEntered, IsKnown, IsTakenAt}
 use Rattle.compose.specs.declared.verify_fault.VerifyFault.{VerifyFault}
 use Rattle.compose.specs.declared.verify_fault.VerifyFault.TheVariants as fault
 
@@ -14,8 +16,23 @@ pub record IsAtEntry (mode : Conflicts) (events : List Event) (entries : List Do
   pub here : slice_get entries i ≡ Some e
   pub fine : AreFine mode events (take i entries)
 
+-- the pair of the shard is taken at two places
+pub record IsTakenTwice (events : List Event) (entries : List DocPlaces) (h : ℕ) (q : Pair) : Type 0 where
+  pub entry : ℕ
+  pub place : ℕ
+  pub other_entry : ℕ
+  pub other_place : ℕ
+  pub one : IsTakenAt events entries entry place h q
+  pub other : IsTakenAt events entries other_entry other_place h q
+  pub apart : (entry ≡ other_entry) × (place ≡ other_place) → ⊥
+
+-- the first shard is below the second, or it is the same and the first pair is not above the second
+abbrev pub IsAtMost : ℕ → Pair → ℕ → Pair → Type 0
+IsAtMost h q g p = (h < g) ⊎ ((h ≡ g) × ((q ≡ p) ⊎ IsBelow q p))
+
 -- The fault holds, and none that is told before it: entry by entry a document that the history lacks, one that was entered
--- before, places that are not valid; then the first document that is not entered.
+-- before, places that are not valid; then the first document that is not entered; then the least shard, and of it the least
+-- pair, that is taken at two places.
 abbrev pub IsFirstVerifyFault : Conflicts → List Event → List DocPlaces → VerifyFault → Type 0
 IsFirstVerifyFault mode events entries (fault.DocStranger i) = (e : DocPlaces) × IsAtEntry mode events entries i e × (¬ IsKnown events e)
 IsFirstVerifyFault mode events entries (fault.DocTwice i) =
@@ -26,5 +43,7 @@ IsFirstVerifyFault mode events entries (fault.Broken i broken) =
 IsFirstVerifyFault mode events entries (fault.DocMissing k) =
     (d : List ℕ × ℕ) × AreFine mode events entries × (slice_get (documents_of events) k ≡ Some d) × (¬ IsEntered entries d.0)
     × ((j : ℕ) (c : List ℕ × ℕ) → j < k → slice_get (documents_of events) j ≡ Some c → IsEntered entries c.0)
-IsFirstVerifyFault mode events entries (fault.PairTwice shard pair) = ⊥
+IsFirstVerifyFault mode events entries (fault.PairTwice shard pair) =
+    AreFine mode events entries × AreComplete events entries × IsTakenTwice events entries shard pair
+    × ((h : ℕ) (q : Pair) → IsTakenTwice events entries h q → IsAtMost shard pair h q)
 IsFirstVerifyFault mode events entries fault.NoMemory = ⊥

@@ -1,2 +1,3 @@
-pub mod Placed
-pub mod FirstEntry
+pub mod Taken
+pub mod Searched
+pub mod Verified

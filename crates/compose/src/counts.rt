@@ -1,11 +1,11 @@
-ghost use Rattle.std.specs.Prelude.{◌≡◌, cond};
-ghost use Rattle.doc_register.specs.declared.state.Conflicts.{Conflicts as Mode};
-ghost use Rattle.history.specs.Events.{IsHistory, is_any_call};
+ghost use Rattle.std.specs.Prelude.{◌≡◌, ◌<◌, ◌^◌, cond, map};
+ghost use Rattle.history.specs.Events.{is_any_call};
+ghost use Rattle.witness.specs.Documents.{witness_places};
 ghost use Rattle.compose.specs.Counts.{calls_of};
-ghost use Rattle.compose.specs.Explained.{HasOrder};
-ghost use Rattle.compose.specs.Covers.{IsWitnessOf};
-ghost use Rattle.compose.specs.aids.Placed.{placed_in};
+ghost use Rattle.compose.specs.Laws.{places_in};
+ghost use Rattle.compose.specs.Verdicts.{HasOrder};
 
+use crate::proof::Proof;
 use history::{Event, History};
 use witness::DocWitness;
 
@@ -27,8 +27,8 @@ fn calls_in(event: &Event) -> usize
     }
 }
 
-// How many calls a history has.
-fn count_calls(history: &History) -> usize
+/// How many calls a history has.
+pub fn count_calls(history: &History) -> usize
     ensures { result ≡ calls_of history.now }
 {
     let mut calls = 0;
@@ -38,29 +38,30 @@ fn count_calls(history: &History) -> usize
     calls
 }
 
-// How many calls stand in the order.
-fn placed(witness: &Option<DocWitness>) -> usize
-    ensures { result ≡ placed_in witness.now }
+/// How many places the witnesses have.
+pub fn count_places(witnesses: &[DocWitness]) -> usize
+    requires { places_in (map witness_places witnesses.now) < 2 ^ 64 }
+    ensures { result ≡ places_in (map witness_places witnesses.now) }
 {
-    match witness {
-        Some(witness) => witness.places().len(),
-        None => 0,
+    let mut places = 0;
+    for i in 0..witnesses.len() {
+        places += witnesses[i].places().len();
     }
+    places
 }
 
 impl Counts {
-    /// The counts of a history and its witness.
-    pub fn of(history: &History, witness: &Option<DocWitness>) -> Counts
-        requires history { IsHistory history.now }
-        requires witness { (mode : Mode) × IsWitnessOf mode history.now witness.now }
-        ensures { (mode : Mode) → IsWitnessOf mode history.now witness.now
-            → HasOrder mode history.now result.docs result.calls result.left_out }
+    /// The counts of a proof.
+    pub fn of(proof: &Proof) -> Counts
+        ensures { HasOrder proof.now.conflicts proof.now.events result.docs result.calls result.left_out }
     {
-        let calls = count_calls(history);
+        let history = proof.history();
+        // A look at the witnesses: that they cover the history is known from here on.
+        let _ = proof.witnesses();
         Counts {
             docs: history.docs(),
-            calls,
-            left_out: calls - placed(witness),
+            calls: count_calls(history),
+            left_out: proof.left_out(),
         }
     }
 }

@@ -1,147 +1,216 @@
-ghost use Rattle.std.specs.Prelude.{◌≡◌, ◌≢◌, ◌≤◌, ◌<◌, ◌↔◌, IsTrue, IfOk, IfErr, MatchOption, MatchResult, Err, Some, map, length};
-ghost use Rattle.history.specs.Events.{documents_of};
-ghost use Rattle.compose.specs.declared.verify_fault.VerifyFault.TheVariants.{DocMissing, DocStranger, NoMemory as Unverified};
-ghost use Rattle.witness.specs.Documents.{doc_places};
-ghost use Rattle.compose.specs.Covers.{AreCover, IsWitnessOf};
+ghost use Rattle.std.specs.Prelude.{◌≡◌, ◌≢◌, ◌<◌, ◌++◌, ◌∷◌, [], IfErr, IfOk, IsOk, List, MatchOption, MatchResult, OnOk, Some, false, true, ℕ, length, map, slice_get};
+ghost use Rattle.doc_register.specs.declared.state.Conflicts.{Conflicts as Mode};
+ghost use Rattle.history.specs.Events.{IsHistory, documents_of};
+ghost use Rattle.witness.specs.Documents.{doc_places, witness_places};
+ghost use Rattle.witness.specs.Text.{DocPlaces};
 ghost use Rattle.compose.specs.VerifyFaults.{IsFirstVerifyFault};
-ghost use Rattle.compose.specs.aids.FirstEntry.{IsFaultOfFirst, IsFaultOfPlaces, IsFaultOfSecond, IsFirstOf, IsWitnessOfFirst};
+ghost use Rattle.compose.specs.Verdicts.{AreWitnesses};
+ghost use Rattle.compose.specs.Covers.{AreCover};
+ghost use Rattle.compose.specs.aids.Verified.{AreVerified, IsFaultOfDocument, IsFaultOfEntry, IsFaultOfPlaces, IsOpen, IsWitnessAt};
+ghost use Rattle.compose.specs.declared.verify_fault.VerifyFault.TheVariants.{NoMemory as Unverified};
 
+use crate::proof::Proof;
+use crate::taken::pair_twice;
 use crate::verify_fault::VerifyFault;
 use doc_register::Conflicts;
 use history::History;
 use std::alloc::Global;
-use version_pair::DocId;
+use version_pair::{DocId, NoMemory};
 use witness::{Broken, DocWitness, Place};
 
-// Whether two ids are one.
-fn is_same(id: &DocId, other: &DocId) -> bool
-    ensures { IsTrue result ↔ (id.now ≡ other.now) }
-{
-    id == other
+// The entries that were verified: their witnesses, and of each document of the history whether it is entered.
+#[derive(Debug, Drop)]
+struct Verification {
+    entered: Vec<bool>,
+    witnesses: Vec<DocWitness>,
 }
 
-// The fault of the entries of a history without documents.
-fn fault_of_no_document(entries: &[(DocId, Vec<Place>)]) -> Option<VerifyFault>
-    ensures { MatchOption result (length entries.now ≡ 0) (λ fault. (0 < length entries.now)
-        × (fault ≡ DocStranger 0)) }
-{
-    if entries.is_empty() {
-        None
-    } else {
-        Some(VerifyFault::DocStranger(0))
-    }
-}
-
-// The fault of the first entry's document, for a history of this document alone.
-fn fault_of_first(entries: &[(DocId, Vec<Place>)], id: &DocId) -> Option<VerifyFault>
-    ensures { MatchOption result (IsFirstOf (map doc_places entries.now) id.now) (IsFaultOfFirst
-        (map doc_places entries.now) id.now) }
-{
-    if entries.is_empty() {
-        return Some(VerifyFault::DocMissing(0));
-    }
-    if is_same(&entries[0].0, id) {
-        None
-    } else {
-        Some(VerifyFault::DocStranger(0))
-    }
-}
-
-// The fault of the entry after the first, which is of the same document, where there is one.
-fn fault_of_second(entries: &[(DocId, Vec<Place>)], id: &DocId) -> Option<VerifyFault>
-    ensures { MatchOption result (length entries.now ≤ 1) (IsFaultOfSecond
-        (map doc_places entries.now) id.now) }
-{
-    if entries.len() < 2 {
-        return None;
-    }
-    if is_same(&entries[1].0, id) {
-        Some(VerifyFault::DocTwice(1))
-    } else {
-        Some(VerifyFault::DocStranger(1))
-    }
-}
-
-// The witness of the first entry, for a history of its document alone.
-fn verify_first(
+// The witness of a document with these places.
+fn witness_of(
     alloc: Global,
     history: &History,
-    entries: Vec<(DocId, Vec<Place>)>,
+    doc: usize,
+    entry: usize,
+    places: (DocId, Vec<Place>),
     conflicts: Conflicts,
 ) -> Result<DocWitness, VerifyFault>
-    requires one { length (documents_of history.now) ≡ 1 }
-    requires some { 0 < length entries.items }
-    ensures { MatchResult result (IsWitnessOfFirst conflicts history.now
-        (map doc_places entries.items))
-        (λ fault. fault ≢ Unverified → IsFaultOfPlaces conflicts history.now
-        (map doc_places entries.items) fault) }
+    requires { doc < length (documents_of history.now) }
+    ensures { MatchResult result (IsWitnessAt conflicts history.now doc (doc_places places))
+        (λ fault. fault ≢ Unverified
+        → IsFaultOfPlaces conflicts history.now doc entry (doc_places places) fault) }
 {
-    let Ok(records) = history.records(0) else {
+    let Ok(records) = history.records(doc) else {
         return Err(VerifyFault::NoMemory);
     };
-    let mut entries = entries;
-    let (id, places) = entries.swap_remove(0);
-    match DocWitness::check(alloc, id, records, places, conflicts) {
+    match DocWitness::check(alloc, places.0, records, places.1, conflicts) {
         Ok(witness) => Ok(witness),
         Err(back) => match back.0 {
             Broken::NoMemory => Err(VerifyFault::NoMemory),
-            fault => Err(VerifyFault::Broken(0, fault)),
+            broken => Err(VerifyFault::Broken(entry, broken)),
         },
     }
 }
 
-// The witness of the one document of a history, where the entries cover it.
-fn verify_document(
+impl Verification {
+    // No entries.
+    fn new(alloc: Global, history: &History) -> Result<Verification, VerifyFault>
+        ensures size { IfOk result (λ v. length v.entered.items ≡ length (documents_of history.now)) }
+        ensures ok { IfOk result (λ v. (mode : Mode) → AreVerified mode history.now [] v.entered.items v.witnesses.items) }
+        ensures fault { IfErr result (λ fault. fault ≡ Unverified) }
+    {
+        match vec![in alloc; false; history.docs()] {
+            Ok(entered) => Ok(Verification {
+                entered,
+                witnesses: Vec::new(alloc),
+            }),
+            Err(_) => Err(VerifyFault::NoMemory),
+        }
+    }
+
+    // The document of an entry, where it is one of the history and not entered yet.
+    fn document(&self, history: &History, entry: usize, id: &DocId) -> Result<usize, VerifyFault>
+        requires { length self.now.entered.items ≡ length (documents_of history.now) }
+        ensures { MatchResult result (IsOpen history.now self.now.entered.items id.now)
+            (IsFaultOfDocument history.now self.now.entered.items entry id.now) }
+    {
+        match history.doc_of(id) {
+            Some(doc) => {
+                if self.entered[doc] {
+                    Err(VerifyFault::DocTwice(entry))
+                } else {
+                    Ok(doc)
+                }
+            }
+            None => Err(VerifyFault::DocStranger(entry)),
+        }
+    }
+
+    // Verifies one more entry.
+    fn enter(
+        &mut self,
+        alloc: Global,
+        history: &History,
+        entry: usize,
+        places: (DocId, Vec<Place>),
+        conflicts: Conflicts,
+    ) -> Result<(), VerifyFault>
+        requires { length self.old.entered.items ≡ length (documents_of history.now) }
+        ensures size { length self.new.entered.items ≡ length (documents_of history.now) }
+        ensures ok { OnOk result ((before : List DocPlaces)
+            → AreVerified conflicts history.now before self.old.entered.items self.old.witnesses.items
+            → AreVerified conflicts history.now (before ++ doc_places places ∷ [])
+            self.new.entered.items self.new.witnesses.items) }
+        ensures fault { IfErr result (λ fault. fault ≢ Unverified → (before : List DocPlaces)
+            → AreVerified conflicts history.now before self.old.entered.items self.old.witnesses.items
+            → length before ≡ entry
+            → IsFaultOfEntry conflicts history.now before (doc_places places) fault) }
+    {
+        let doc = match self.document(history, entry, &places.0) {
+            Ok(doc) => doc,
+            Err(fault) => return Err(fault),
+        };
+        let witness = match witness_of(alloc, history, doc, entry, places, conflicts) {
+            Ok(witness) => witness,
+            Err(fault) => return Err(fault),
+        };
+        if self.witnesses.push(witness).is_err() {
+            return Err(VerifyFault::NoMemory);
+        }
+        self.entered[doc] = true;
+        Ok(())
+    }
+
+    // The first document that is not entered.
+    fn missing(&self) -> Option<usize>
+        ensures { MatchOption result
+            ((k : ℕ) → k < length self.now.entered.items → slice_get self.now.entered.items k ≡ Some true)
+            (λ doc. (slice_get self.now.entered.items doc ≡ Some false)
+            × ((k : ℕ) → k < doc → slice_get self.now.entered.items k ≡ Some true)) }
+    {
+        for doc in 0..self.entered.len() {
+            if !self.entered[doc] {
+                return Some(doc);
+            }
+        }
+        None
+    }
+}
+
+// The witnesses of entries that were verified, where they cover the history: each document is entered, and no pair of a shard
+// is taken twice.
+fn covering(
+    alloc: Global,
+    history: &History,
+    verification: Verification,
+    conflicts: Conflicts,
+) -> Result<Vec<DocWitness>, VerifyFault>
+    ensures ok { IfOk result (λ ws. (entries : List DocPlaces)
+        → AreVerified conflicts history.now entries verification.entered.items verification.witnesses.items
+        → (map witness_places ws.items ≡ entries) × AreWitnesses conflicts history.now ws.items) }
+    ensures fault { IfErr result (λ fault. fault ≢ Unverified → (entries : List DocPlaces)
+        → AreVerified conflicts history.now entries verification.entered.items verification.witnesses.items
+        → IsFirstVerifyFault conflicts history.now entries fault) }
+{
+    if let Some(doc) = verification.missing() {
+        return Err(VerifyFault::DocMissing(doc));
+    }
+    match pair_twice(alloc, history, &verification.witnesses) {
+        Ok(None) => Ok(verification.witnesses),
+        Ok(Some((shard, pair))) => Err(VerifyFault::PairTwice(shard, pair)),
+        Err(_) => Err(VerifyFault::NoMemory),
+    }
+}
+
+// The witnesses of the entries, where they cover the history.
+fn witnesses_of(
     alloc: Global,
     history: &History,
     entries: Vec<(DocId, Vec<Place>)>,
     conflicts: Conflicts,
-) -> Result<DocWitness, VerifyFault>
-    requires { length (documents_of history.now) ≡ 1 }
-    ensures { MatchResult result (λ w. IsWitnessOf conflicts history.now (Some w)
-        × AreCover conflicts history.now (map doc_places entries.items))
-        (λ fault. fault ≢ Unverified → IsFirstVerifyFault conflicts history.now
-        (map doc_places entries.items) fault) }
+) -> Result<Vec<DocWitness>, VerifyFault>
+    ensures ok { IfOk result (λ ws. (map witness_places ws.items ≡ map doc_places entries.items)
+        × AreWitnesses conflicts history.now ws.items) }
+    ensures fault { IfErr result (λ fault. fault ≢ Unverified
+        → IsFirstVerifyFault conflicts history.now (map doc_places entries.items) fault) }
 {
-    let id = history.doc(0);
-    if let Some(fault) = fault_of_first(&entries, id) {
-        return Err(fault);
+    let mut verification = match Verification::new(alloc, history) {
+        Ok(verification) => verification,
+        Err(fault) => return Err(fault),
+    };
+    let mut entry = 0;
+    for places in entries {
+        match verification.enter(alloc, history, entry, places, conflicts) {
+            Ok(()) => {}
+            Err(fault) => return Err(fault),
+        }
+        entry += 1;
     }
-    let later = fault_of_second(&entries, id);
-    match verify_first(alloc, history, entries, conflicts) {
-        Ok(witness) => match later {
-            Some(fault) => Err(fault),
-            None => Ok(witness),
-        },
-        Err(fault) => Err(fault),
-    }
+    covering(alloc, history, verification, conflicts)
 }
 
-/// The witness of a history whose documents the entries cover, for a history of at most one document; else the first
-/// fault. Entry by entry `DocStranger`, `DocTwice`, `Broken`; then `DocMissing`. `NoMemory` is told where a growth was
-/// refused. A history of two or more documents is told `DocMissing(1)`, for now, and its entries are not looked at.
+/// The proof of a history that the entries of a witness text cover; else the first fault, with the history.
+///
+/// Entry by entry `DocStranger`, `DocTwice`, `Broken`; then `DocMissing`, with the first document in the order of first calls;
+/// then `PairTwice`, with the least shard and then the least pair. `NoMemory` is told where a growth was refused.
 pub fn verify(
     alloc: Global,
-    history: &History,
+    history: History,
     entries: Vec<(DocId, Vec<Place>)>,
     conflicts: Conflicts,
-) -> Result<Option<DocWitness>, VerifyFault>
-    ensures ok { IfOk result (λ witness. IsWitnessOf conflicts history.now witness) }
-    ensures cover { IfOk result (λ _. AreCover conflicts history.now (map doc_places entries.items)) }
-    ensures fault { IfErr result (λ fault. fault ≢ Unverified
-        → length (documents_of history.now) ≤ 1
-        → IsFirstVerifyFault conflicts history.now (map doc_places entries.items) fault) }
-    ensures many { 2 ≤ length (documents_of history.now) → result ≡ Err (DocMissing 1) }
+) -> Result<Proof, (VerifyFault, History)>
+    ensures ok { IfOk result (λ proof. (proof.events ≡ history) × (proof.conflicts ≡ conflicts)
+        × (map witness_places proof.witnesses ≡ map doc_places entries.items)) }
+    ensures cover { IsOk result → AreCover conflicts history (map doc_places entries.items) }
+    ensures fault { IfErr result (λ e. e.0 ≢ Unverified
+        → IsFirstVerifyFault conflicts history (map doc_places entries.items) e.0) }
+    ensures no_cover { IfErr result (λ e. e.0 ≢ Unverified
+        → ¬ AreCover conflicts history (map doc_places entries.items)) }
+    ensures back { IfErr result (λ e. e.1 ≡ history) }
 {
-    match history.docs() {
-        0 => match fault_of_no_document(&entries) {
-            Some(fault) => Err(fault),
-            None => Ok(None),
-        },
-        1 => match verify_document(alloc, history, entries, conflicts) {
-            Ok(witness) => Ok(Some(witness)),
-            Err(fault) => Err(fault),
-        },
-        _ => Err(VerifyFault::DocMissing(1)),
+    // A look at the history: that it is one is known from here on.
+    let _ = history.len();
+    match witnesses_of(alloc, &history, entries, conflicts) {
+        Ok(witnesses) => Ok(Proof::of(history, witnesses, conflicts)),
+        Err(fault) => Err((fault, history)),
     }
 }

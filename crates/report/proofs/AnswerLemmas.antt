@@ -1,11 +1,10 @@
 -- What the lines and texts that are written say of the inputs.
-use Rattle.std.proofs.Common.{ℕ, ◌≡◌, ◌≤◌, None, List, length, map, sym, subst, ◌∙◌, arith, Option, Some, Ok, Err, inl, inr, codes, Vec, Global}
+use Rattle.std.proofs.Common.{ℕ, ◌≡◌, None, List, map, sym, subst, ◌∙◌, Option, Some, Ok, Err, inl, inr, codes, Vec, Global, arith}
 use Rattle.std.specs.Prelude.{IfSome}
-use Rattle.std.specs.Option.{option_to_list}
 use Rattle.doc_register.specs.declared.state.Conflicts.{Conflicts}
 use Rattle.history.specs.declared.event.Event.{Event}
 use Rattle.api_lines.specs.declared.text_fault.TextFault.{TextFault}
-use Rattle.history.specs.Events.{documents_of}
+use Rattle.history.specs.Order.{IsLinearizable}
 use Rattle.history.specs.Reading.{history_text}
 use Rattle.history.specs.Text.{IsHistoryText}
 use Rattle.history.proofs.TextLengths.{text_is_short}
@@ -13,23 +12,18 @@ use Rattle.witness.specs.Documents.{doc_places, witness_places}
 use Rattle.witness.specs.declared.place.Place.{Place}
 use Rattle.witness.specs.Text.{AreWithinLimits, witness_text}
 use Rattle.witness.specs.Witness.{Witness}
-use Rattle.report.specs.declared.status.Status.{Status}
-use Rattle.report.specs.declared.status.Status.TheVariants.{Yes, No, Refused}
-use Rattle.compose.specs.declared.explanation.Explanation.{Explanation}
-use Rattle.compose.specs.declared.explanation.Explanation.TheVariants.{Found}
-use Rattle.compose.specs.Explained.{IsExplanation}
-use Rattle.report.specs.Lines.{broken_line, no_line, refused_file_line, refused_line, verified_line, yes_line}
-use Rattle.report.specs.aids.Enough.{AreEnough}
-use Rattle.report.specs.Bulk.{AnswersBulk, IsBulkAnswer}
-use Rattle.compose.specs.Explained.{HasOrder}
-use Rattle.report.specs.Verdict.{IsAnswer, IsExplained, IsRefused, IsSomeHistory, IsVerifyAnswer, IsWitnessAnswer, IsWitnessed}
-use Rattle.witness.specs.Documents.{doc_places}
-use Rattle.compose.specs.Covers.{AreCover, IsWitnessOf}
+use Rattle.compose.specs.Covers.{AreCover}
+use Rattle.compose.specs.Verdicts.{AreWitnesses}
 use Rattle.compose.specs.VerifyFaults.{IsFirstVerifyFault}
 use Rattle.compose.specs.declared.verify_fault.VerifyFault.{VerifyFault}
-use Rattle.compose.specs.declared.verify_fault.VerifyFault.TheVariants.{DocMissing}
-use Rattle.compose.proofs.OneDocument.{witness_explains, within_limits}
+use Rattle.report.specs.declared.status.Status.{Status}
+use Rattle.report.specs.declared.status.Status.TheVariants.{Yes, No, Refused}
+use Rattle.report.specs.Lines.{broken_line, refused_file_line, refused_line}
+use Rattle.report.specs.aids.Enough.{AreEnough}
+use Rattle.report.specs.Bulk.{AnswersBulk, IsBulkAnswer}
+use Rattle.report.specs.Verdict.{IsAnswer, IsRefused, IsSomeHistory, IsUnexplained, IsVerifyAnswer, IsWitnessAnswer, IsWitnessed}
 use Rattle.report.proofs.CutTexts.{enough_history, enough_witness}
+use Rattle.report.proofs.WitnessLimits.{within_limits}
 
 -- ---- answers
 
@@ -41,36 +35,15 @@ pub is_witness_refusal : (mode : Conflicts) (input : List ℕ) (status : Status)
     → text ≡ refused_line told.line told.cause → history_text input ≡ Err told → IsWitnessAnswer mode input status text
 is_witness_refusal mode input status text told is line refused = subst (λ s. IsWitnessAnswer mode input s text) (sym is) (told, line, refused)
 
-explained : (mode : Conflicts) (input : List ℕ) (H : List Event) (docs calls left_out : ℕ) → IsHistoryText input H → HasOrder mode H docs calls left_out
-    → IsExplained mode input docs calls left_out
-explained mode input H docs calls left_out is order = record {
+pub witnessed : (mode : Conflicts) (input : List ℕ) (H : List Event) (ws : List Witness) (text : List ℕ) → IsHistoryText input H → AreWitnesses mode H ws → IsLinearizable mode H
+    → (AreWithinLimits (map witness_places ws) → witness_text text ≡ Ok (map witness_places ws)) → IsWitnessed mode input text
+witnessed mode input H ws text is are explained reads = record {
   events = H;
   is_text = is;
-  documents = order.documents;
-  one_at_most = order.one_at_most;
-  all_calls = order.all_calls;
-  order = order.order;
-  explains = order.explains;
-  the_rest = order.the_rest;
-}
-
-pub is_yes : (mode : Conflicts) (input : List ℕ) (H : List Event) (status : Status) (text : List ℕ) (docs calls left_out : ℕ) → status ≡ Yes → text ≡ yes_line docs calls left_out
-    → IsHistoryText input H → HasOrder mode H docs calls left_out → IsAnswer mode input status text
-is_yes mode input H status text docs calls left_out is line text_of order =
-    subst (λ s. IsAnswer mode input s text) (sym is) (docs, calls, left_out, line, explained mode input H docs calls left_out text_of order)
-
-pub found_of : (mode : Conflicts) (H : List Event) (e : Explanation) (o : Option Witness) → e ≡ Found o → IsExplanation mode H e → IsWitnessOf mode H o
-found_of mode H e o is found = subst (IsExplanation mode H) is found
-
-pub witnessed : (mode : Conflicts) (input : List ℕ) (H : List Event) (o : Option Witness) (text : List ℕ) → IsHistoryText input H → IsWitnessOf mode H o
-    → (AreWithinLimits (map witness_places (option_to_list o)) → witness_text text ≡ Ok (map witness_places (option_to_list o))) → IsWitnessed mode input text
-witnessed mode input H o text is witness reads = record {
-  events = H;
-  is_text = is;
-  witness = o;
-  is_witness = witness;
-  reads = reads (within_limits mode H o is.events_fit witness);
-  explained = witness_explains mode H o is.history witness;
+  entries = map witness_places ws;
+  reads = reads (within_limits mode H ws is.history is.events_fit are);
+  cover = are.cover;
+  explained = explained;
 }
 
 -- ---- what is told of bytes that are enough
@@ -83,6 +56,9 @@ whole_history bytes input H (inr (back, split, long)) is = let short = text_is_s
 some_history : (bytes input : List ℕ) → AreEnough bytes input → IsSomeHistory bytes → IsSomeHistory input
 some_history bytes input enough is = subst IsSomeHistory (whole_history bytes input is.0 enough is.1) is
 
+unexplained_input : (mode : Conflicts) (bytes input : List ℕ) → AreEnough bytes input → IsUnexplained mode bytes → IsUnexplained mode input
+unexplained_input mode bytes input enough is = subst (IsUnexplained mode) (whole_history bytes input is.events enough is.is_text) is
+
 refused_input : (bytes input line : List ℕ) → AreEnough bytes input → IsRefused bytes line → IsRefused input line
 refused_input bytes input line enough is = (is.0, is.1, sym (enough_history bytes input enough) ∙ is.2)
 
@@ -91,7 +67,7 @@ pub answer_of_input : (mode : Conflicts) (input : Option (List ℕ)) (bytes : Li
     → IfSome input (AreEnough bytes) → IsAnswer mode bytes status line → IfSome input (λ xs. IsAnswer mode xs status line)
 answer_of_input mode None bytes status line enough is = tt
 answer_of_input mode (Some xs) bytes Yes line enough is = subst (λ ys. IsAnswer mode ys Yes line) (whole_history bytes xs is.4.events enough is.4.is_text) is
-answer_of_input mode (Some xs) bytes No line enough is = (is.0, some_history bytes xs enough is.1)
+answer_of_input mode (Some xs) bytes No line enough is = (is.0, unexplained_input mode bytes xs enough is.1)
 answer_of_input mode (Some xs) bytes Refused line enough is = refused_input bytes xs line enough is
 
 -- what is told of the bytes of the witness holds of the whole input
@@ -109,7 +85,7 @@ verify_of_witness mode history bytes input No line enough is =
     let v = is.2 in (
       is.0,
       is.1,
-      record { events = v.events; is_text = v.is_text; entries = v.entries; reads = sym (enough_witness bytes input enough) ∙ v.reads; one = v.one; many = v.many },
+      record { events = v.events; is_text = v.is_text; entries = v.entries; reads = sym (enough_witness bytes input enough) ∙ v.reads; first = v.first; no_cover = v.no_cover },
     )
 verify_of_witness mode history bytes input Refused line enough (inl is) = inl is
 verify_of_witness mode history bytes input Refused line enough (inr is) = inr (is.0, is.1, is.2, sym (enough_witness bytes input enough) ∙ is.3)
@@ -140,7 +116,7 @@ pub witness_of_input : (mode : Conflicts) (input : Option (List ℕ)) (bytes : L
     → IsWitnessAnswer mode bytes status text → IfSome input (λ xs. IsWitnessAnswer mode xs status text)
 witness_of_input mode None bytes status text enough is = tt
 witness_of_input mode (Some xs) bytes Yes text enough is = subst (λ ys. IsWitnessAnswer mode ys Yes text) (whole_history bytes xs is.events enough is.is_text) is
-witness_of_input mode (Some xs) bytes No text enough is = (is.0, some_history bytes xs enough is.1)
+witness_of_input mode (Some xs) bytes No text enough is = (is.0, unexplained_input mode bytes xs enough is.1)
 witness_of_input mode (Some xs) bytes Refused text enough is = refused_input bytes xs text enough is
 
 -- ---- answers to both texts
@@ -155,27 +131,14 @@ pub verify_refused_witness : (mode : Conflicts) (history witness : List ℕ) (st
 verify_refused_witness mode history witness status text told is line some refused =
     subst (λ s. IsVerifyAnswer mode history witness s text) (sym is) (inr (told, line, some, refused))
 
-pub verify_yes : (mode : Conflicts) (input witness : List ℕ) (H : List Event) (es : List (List ℕ × Vec Place Global)) (status : Status) (text : List ℕ) (docs calls left_out : ℕ)
-    → status ≡ Yes → text ≡ verified_line docs calls left_out → IsHistoryText input H → witness_text witness ≡ Ok (map doc_places es) → AreCover mode H (map doc_places es)
-    → HasOrder mode H docs calls left_out → IsVerifyAnswer mode input witness status text
-verify_yes mode input witness H es status text docs calls left_out is line is_text reads cover order =
-    subst (λ s. IsVerifyAnswer mode input witness s text) (sym is) (
-      docs,
-      calls,
-      left_out,
-      line,
-      record { events = H; is_text = is_text; entries = map doc_places es; reads = reads; cover = cover; explained = order },
-    )
-
 pub verify_no : (mode : Conflicts) (input witness : List ℕ) (H : List Event) (es : List (List ℕ × Vec Place Global)) (status : Status) (text : List ℕ) (told : VerifyFault)
     → status ≡ No → text ≡ broken_line told → IsHistoryText input H → witness_text witness ≡ Ok (map doc_places es)
-    → (length (documents_of H) ≤ 1 → IsFirstVerifyFault mode H (map doc_places es) told) → (2 ≤ length (documents_of H) → told ≡ DocMissing 1)
-    → IsVerifyAnswer mode input witness status text
-verify_no mode input witness H es status text told is line is_text reads one many =
+    → IsFirstVerifyFault mode H (map doc_places es) told → (AreCover mode H (map doc_places es) → ⊥) → IsVerifyAnswer mode input witness status text
+verify_no mode input witness H es status text told is line is_text reads first no_cover =
     subst (λ s. IsVerifyAnswer mode input witness s text) (sym is) (
       told,
       line,
-      record { events = H; is_text = is_text; entries = map doc_places es; reads = reads; one = one; many = many },
+      record { events = H; is_text = is_text; entries = map doc_places es; reads = reads; first = first; no_cover = no_cover },
     )
 
 -- ---- a bulk

@@ -1,3 +1,4 @@
 mod StreamLemmas
 mod CutTexts
+mod WitnessLimits
 mod AnswerLemmas

@@ -1,6 +1,5 @@
 -- What a line that is written says of the bytes that were read.
-use Rattle.std.specs.Prelude.{◌≡◌, ℕ, ◌+◌, ◌≤◌, ◌⊎◌, List, codes, length, map, Ok, Err, Option, IfSome, take}
-use Rattle.std.specs.Option.{option_to_list}
+use Rattle.std.specs.Prelude.{◌≡◌, ℕ, ◌+◌, ◌⊎◌, List, codes, length, Ok, Err, Option, IfSome, take}
 use Rattle.std.specs.Io.KnownBytes.{Appends}
 use Rattle.doc_register.specs.declared.state.Conflicts.{Conflicts}
 use Rattle.history.specs.declared.event.Event.{Event}
@@ -10,60 +9,57 @@ use Rattle.history.specs.Order.{Explains, IsLinearizable, Placed}
 use Rattle.history.specs.Reading.{history_text}
 use Rattle.history.specs.Text.{IsHistoryText}
 use Rattle.compose.specs.Counts.{calls_of}
-use Rattle.witness.specs.Documents.{witness_places}
-use Rattle.witness.specs.Text.{witness_text}
-use Rattle.witness.specs.Witness.{Witness}
-use Rattle.report.specs.Lines.{broken_line, no_line, refused_file_line, refused_line, verified_line, yes_line}
-use Rattle.compose.specs.Explained.{HasOrder}
-use Rattle.witness.specs.Text.{DocPlaces}
-use Rattle.compose.specs.Covers.{AreCover, IsWitnessOf}
+use Rattle.compose.specs.Covers.{AreCover}
+use Rattle.compose.specs.Verdicts.{HasNoOrderFound, HasOrder}
 use Rattle.compose.specs.VerifyFaults.{IsFirstVerifyFault}
 use Rattle.compose.specs.declared.verify_fault.VerifyFault.{VerifyFault}
-use Rattle.compose.specs.declared.verify_fault.VerifyFault.TheVariants.{DocMissing}
+use Rattle.witness.specs.Text.{DocPlaces, witness_text}
+use Rattle.report.specs.Lines.{broken_line, no_line, refused_file_line, refused_line, verified_line, yes_line}
 use Rattle.report.specs.declared.status.Status.{Status}
 use Rattle.report.specs.declared.status.Status.TheVariants.{Yes, No, Refused}
 
--- The input is a text of a history with so many documents, one at most, and so many calls, and there is an order that
--- explains it, in which so many of its calls do not stand.
+-- The input is a text of a history with so many documents and so many calls, and there is an order that explains it, in
+-- which so many of its calls do not stand.
 pub record IsExplained (mode : Conflicts) (input : List ℕ) (docs calls left_out : ℕ) : Type 0 where
   pub events : List Event
   pub is_text : IsHistoryText input events
   pub documents : length (documents_of events) ≡ docs
-  pub one_at_most : docs ≤ 1
   pub all_calls : calls_of events ≡ calls
   pub order : List Placed
   pub explains : Explains mode events order
   pub the_rest : length order + left_out ≡ calls
 
--- the input is a text of some history
-abbrev pub IsSomeHistory : List ℕ → Type 0
-IsSomeHistory input = (events : List Event) × IsHistoryText input events
+-- The input is a text of a history for which no order was found: no entries without a given pair cover it, it is not plainly
+-- right, and where it is settled no order explains it.
+pub record IsUnexplained (mode : Conflicts) (input : List ℕ) : Type 0 where
+  pub events : List Event
+  pub is_text : IsHistoryText input events
+  pub none_found : HasNoOrderFound mode events
 
 -- the input is a text of no history: the line tells the first of its lines that is refused, with its first cause
 abbrev pub IsRefused : List ℕ → List ℕ → Type 0
 IsRefused input line = (told : TextFault) × (line ≡ refused_line told.line told.cause) × (history_text input ≡ Err told)
 
--- The line, and what it says of the input: `yes` says that it is explained, `no` that it is a text of some history, and
--- `refused` that it is none.
+-- The line, and what it says of the input: `yes` says that it is explained, `no` that no order was found for the history that it
+-- is a text of, and `refused` that it is a text of none.
 abbrev pub IsAnswer : Conflicts → List ℕ → Status → List ℕ → Type 0
 IsAnswer mode input Yes line = (docs calls left_out : ℕ) × (line ≡ yes_line docs calls left_out) × IsExplained mode input docs calls left_out
-IsAnswer mode input No line = (line ≡ no_line) × IsSomeHistory input
+IsAnswer mode input No line = (line ≡ no_line) × IsUnexplained mode input
 IsAnswer mode input Refused line = IsRefused input line
 
--- The witness of the history that the input is a text of, as a text: it reads as this witness, or as none where there is
--- no document; and its places are an order that explains the history.
+-- The input is a text of a history, and what is written reads as entries that cover it; so an order explains it.
 pub record IsWitnessed (mode : Conflicts) (input text : List ℕ) : Type 0 where
   pub events : List Event
   pub is_text : IsHistoryText input events
-  pub witness : Option Witness
-  pub is_witness : IsWitnessOf mode events witness
-  pub reads : witness_text text ≡ Ok (map witness_places (option_to_list witness))
+  pub entries : List DocPlaces
+  pub reads : witness_text text ≡ Ok entries
+  pub cover : AreCover mode events entries
   pub explained : IsLinearizable mode events
 
 -- what is written where a witness is asked for: the text of one, or the line of a check
 abbrev pub IsWitnessAnswer : Conflicts → List ℕ → Status → List ℕ → Type 0
 IsWitnessAnswer mode input Yes text = IsWitnessed mode input text
-IsWitnessAnswer mode input No text = (text ≡ no_line) × IsSomeHistory input
+IsWitnessAnswer mode input No text = (text ≡ no_line) × IsUnexplained mode input
 IsWitnessAnswer mode input Refused text = IsRefused input text
 
 -- The one input is a text of a history, and the other reads as entries that cover it; there is an order that explains it,
@@ -76,20 +72,24 @@ pub record IsVerified (mode : Conflicts) (history witness : List ℕ) (docs call
   pub cover : AreCover mode events entries
   pub explained : HasOrder mode events docs calls left_out
 
--- The one input is a text of a history, and the other reads as entries of which this is the first fault; a history of more
--- than one document is told to lack an entry for its second one, unread.
+-- The one input is a text of a history, and the other reads as entries of which this is the first fault; so they do not cover
+-- it.
 pub record IsBroken (mode : Conflicts) (history witness : List ℕ) (fault : VerifyFault) : Type 0 where
   pub events : List Event
   pub is_text : IsHistoryText history events
   pub entries : List DocPlaces
   pub reads : witness_text witness ≡ Ok entries
-  pub one : length (documents_of events) ≤ 1 → IsFirstVerifyFault mode events entries fault
-  pub many : 2 ≤ length (documents_of events) → fault ≡ DocMissing 1
+  pub first : IsFirstVerifyFault mode events entries fault
+  pub no_cover : ¬ AreCover mode events entries
 
 -- the one input is a text of no history: the line tells the first of its lines that is refused, with its first cause
 abbrev pub IsRefusedHistory : List ℕ → List ℕ → Type 0
 IsRefusedHistory history line =
     (told : TextFault) × (line ≡ refused_file_line (codes "history") told.line told.cause) × (history_text history ≡ Err told)
+
+-- the input is a text of some history
+abbrev pub IsSomeHistory : List ℕ → Type 0
+IsSomeHistory input = (events : List Event) × IsHistoryText input events
 
 -- the one input is a text of some history, and the other is no witness text: the line tells as much of that one
 abbrev pub IsRefusedWitness : List ℕ → List ℕ → List ℕ → Type 0

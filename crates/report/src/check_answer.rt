@@ -1,6 +1,5 @@
 ghost use Rattle.std.specs.Prelude.{◌≡◌, IfOk, ℕ, List, Err};
 ghost use Rattle.doc_register.specs.declared.state.Conflicts.{Conflicts as Mode};
-ghost use Rattle.history.specs.Events.{IsHistory};
 ghost use Rattle.history.specs.Reading.{history_text};
 ghost use Rattle.history.specs.Text.{IsHistoryText};
 ghost use Rattle.report.specs.Lines.{no_line, refused_line, yes_line};
@@ -10,7 +9,7 @@ use crate::answer::Answer;
 use crate::cause_name::cause_name;
 use crate::status::Status;
 use api_lines::{ReadFault, TextFault};
-use compose::{Counts, Explanation, explain};
+use compose::{Counts, Verdict, check_alone};
 use doc_register::Conflicts;
 use history::{History, read};
 use std::alloc::{AllocError, Global};
@@ -57,33 +56,31 @@ pub fn refusal(alloc: Global, fault: TextFault) -> Result<Answer, NoMemory>
 }
 
 // The answer to a text that was read as this history.
-fn history_answer(
-    alloc: Global,
-    history: &History,
-    conflicts: Conflicts,
-) -> Result<Answer, NoMemory>
-    requires { IsHistory history.now }
-    ensures { IfOk result (λ answer. (input : List ℕ) → IsHistoryText input history.now
+fn history_answer(alloc: Global, history: History, conflicts: Conflicts) -> Result<Answer, NoMemory>
+    ensures { IfOk result (λ answer. (input : List ℕ) → IsHistoryText input history
         → IsAnswer conflicts input answer.status answer.text.items) }
 {
-    match explain(alloc, history, conflicts)? {
-        Explanation::Found(witness) => {
-            let answer = yes(alloc, Counts::of(history, &witness))?;
+    match check_alone(alloc, history, conflicts) {
+        Ok(Verdict::Yes(proof)) => {
+            let answer = yes(alloc, Counts::of(&proof))?;
             Ok(answer)
         }
-        Explanation::NotFound => {
+        Ok(Verdict::No(_)) => {
             let answer = no(alloc)?;
             Ok(answer)
         }
+        Err(_) => Err(AllocError),
     }
 }
 
-/// The answer to a text: whether an order explains its history.
-pub fn check_answer(alloc: Global, text: &[u8], conflicts: Conflicts) -> Result<Answer, NoMemory>
-    ensures { IfOk result (λ answer. IsAnswer conflicts text.now answer.status answer.text.items) }
+/// The answer to a text: whether an order explains its history. The text is let go once it is read.
+pub fn check_answer(alloc: Global, text: Vec<u8>, conflicts: Conflicts) -> Result<Answer, NoMemory>
+    ensures { IfOk result (λ answer. IsAnswer conflicts text.items answer.status answer.text.items) }
 {
-    match read(alloc, text) {
-        Ok(history) => history_answer(alloc, &history, conflicts),
+    let found = read(alloc, &text);
+    drop(text);
+    match found {
+        Ok(history) => history_answer(alloc, history, conflicts),
         Err(ReadFault::Text(fault)) => {
             let answer = refusal(alloc, fault)?;
             Ok(answer)

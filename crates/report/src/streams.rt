@@ -42,10 +42,12 @@ fn write_answer<W: Write>(writer: &mut W, answer: &Answer) -> Result<Status, Str
 }
 
 /// Reads a history text to its end and writes one line: `yes docs=D calls=C left_out=L` where one order of its
-/// calls explains it, `no` where none was found, or `refused line=L cause=NAME` where it is no history text.
+/// calls, over all documents, explains it; `no` where none was found; `refused line=L cause=NAME` where it is no history
+/// text.
 ///
-/// An order is looked for in a history of at most one document: of the answered calls, and where they have none, one that
-/// completes unanswered writes by rules. `workers` is 1 to 16 and not used yet.
+/// Each document is searched for an order of its answered calls, and where they have none, for one that completes
+/// unanswered writes by rules; and no pair of a shard may be taken twice. Where each write was answered (under Maybe by
+/// another reply than a conflict), `no` says that there is no order. `workers` is 1 to 16 and not used yet.
 pub fn check_stream<R: Read, W: Write>(
     alloc: Global,
     reader: &mut R,
@@ -55,8 +57,10 @@ pub fn check_stream<R: Read, W: Write>(
 ) -> Result<Status, StreamFault>
     requires some_workers { 1 ≤ workers }
     requires few_workers { workers ≤ 16 }
-    // Where `yes` is answered, the bytes of the reader to its end are a text of a history that an order explains; where
-    // `no` is, of some history; and where `refused` is, of none, and the line tells the first that is refused.
+    // Where it answers yes, the bytes of the reader to its end are a text of a history that an order of calls explains, over
+    // all its documents, with the counts of the line. Where it answers no, they are a text of a history that no entries
+    // without a given pair cover: it is not plainly right, and where it is settled, so that each write was answered, no
+    // order explains it. Where it refuses, they are a text of none, and the line tells the first that is refused.
     ensures answered { IfOk result (IsAnswered conflicts (R.remaining reader.old)
         (W.contents writer.old) (W.contents writer.new)) }
     // After a write fault a front of such a line is written.
@@ -73,7 +77,7 @@ pub fn check_stream<R: Read, W: Write>(
         Ok(bytes) => bytes,
         Err(fault) => return Err(fault_of(fault)),
     };
-    match check_answer(alloc, &bytes, conflicts) {
+    match check_answer(alloc, bytes, conflicts) {
         Ok(answer) => write_answer(writer, &answer),
         Err(_) => Err(StreamFault::NoMemory),
     }
@@ -87,10 +91,12 @@ pub fn witness_stream<R: Read, W: Write>(
     writer: &mut W,
     conflicts: Conflicts,
 ) -> Result<Status, StreamFault>
-    // Where it answers yes, what it wrote reads as a witness of the history that the bytes are a text of; else as above.
+    // Where it answers yes, what it wrote reads as entries that cover the history that the bytes are a text of, each document
+    // once, so that an order explains it; else it wrote the line of a check, which says what it says above.
     ensures answered { IfOk result (λ status. HasAnswer (WitnessesInput conflicts
         (R.remaining reader.old) status)
         (W.contents writer.old) (W.contents writer.new)) }
+    // After a write fault a front of such a text is written, and after any other fault nothing is.
     ensures cut_off { IsErrOf result StreamFault.Write
         → HasFront (WitnessesInput conflicts (R.remaining reader.old)) (W.contents writer.old)
         (W.contents writer.new) }
@@ -103,7 +109,7 @@ pub fn witness_stream<R: Read, W: Write>(
         Ok(bytes) => bytes,
         Err(fault) => return Err(fault_of(fault)),
     };
-    match witness_answer(alloc, &bytes, conflicts) {
+    match witness_answer(alloc, bytes, conflicts) {
         Ok(answer) => write_answer(writer, &answer),
         Err(_) => Err(StreamFault::NoMemory),
     }
@@ -113,8 +119,6 @@ pub fn witness_stream<R: Read, W: Write>(
 /// left_out=L` where the witness covers the history; `broken` with the first fault where it does not;
 /// `refused file=history` or `refused file=witness` with the line and the cause where one of them is no such text.
 /// A witness is not read where the history's text is refused.
-///
-/// A history of two or more documents is answered `broken doc=1 cause=doc-missing`, for now, once both texts are read.
 pub fn verify_stream<R: Read, Q: Read, W: Write>(
     alloc: Global,
     history: &mut R,
@@ -122,11 +126,13 @@ pub fn verify_stream<R: Read, Q: Read, W: Write>(
     writer: &mut W,
     conflicts: Conflicts,
 ) -> Result<Status, StreamFault>
-    // Where it answers yes, the one's bytes are a text of a history, and the other's read as entries that cover it; where
-    // it answers no, as entries that do not; and a refusal tells the first line of the first text that is refused.
+    // Where it answers yes, the one's bytes are a text of a history, and the other's read as entries that cover it, so that an
+    // order explains it, with the counts of the line; where it answers no, as entries of which the line tells the first
+    // fault, so that they do not cover it; and a refusal tells the first line of the first text that is refused.
     ensures answered { IfOk result (λ status. HasAnswer (VerifiesInputs conflicts
         (R.remaining history.old) (Q.remaining witness.old) status)
         (W.contents writer.old) (W.contents writer.new)) }
+    // After a write fault a front of such a line is written, and after any other fault nothing is.
     ensures cut_off { IsErrOf result StreamFault.Write
         → HasFront (VerifiesInputs conflicts (R.remaining history.old) (Q.remaining witness.old))
         (W.contents writer.old) (W.contents writer.new) }
@@ -139,7 +145,7 @@ pub fn verify_stream<R: Read, Q: Read, W: Write>(
         Ok(bytes) => bytes,
         Err(fault) => return Err(fault_of(fault)),
     };
-    match verify_input(alloc, &bytes, witness, conflicts) {
+    match verify_input(alloc, bytes, witness, conflicts) {
         Ok(answer) => write_answer(writer, &answer),
         Err(fault) => Err(fault_of(fault)),
     }

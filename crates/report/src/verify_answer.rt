@@ -2,7 +2,6 @@ ghost use Rattle.std.specs.Prelude.{◌≡◌, IfOk, ℕ, List, Ok, Err, codes, 
 ghost use Rattle.witness.specs.Documents.{doc_places};
 ghost use Rattle.witness.specs.Text.{witness_text};
 ghost use Rattle.doc_register.specs.declared.state.Conflicts.{Conflicts as Mode};
-ghost use Rattle.history.specs.Events.{IsHistory};
 ghost use Rattle.history.specs.Reading.{history_text};
 ghost use Rattle.history.specs.Text.{IsHistoryText};
 ghost use Rattle.report.specs.Lines.{broken_line as told_line, refused_file_line, verified_line};
@@ -75,21 +74,20 @@ fn refused_witness(alloc: Global, fault: TextFault) -> Result<Answer, NoMemory>
 // The answer to entries that were read, for this history.
 fn entries_answer(
     alloc: Global,
-    history: &History,
+    history: History,
     entries: Vec<(DocId, Vec<Place>)>,
     conflicts: Conflicts,
 ) -> Result<Answer, NoMemory>
-    requires { IsHistory history.now }
-    ensures { IfOk result (λ answer. (input witness : List ℕ) → IsHistoryText input history.now
+    ensures { IfOk result (λ answer. (input witness : List ℕ) → IsHistoryText input history
         → witness_text witness ≡ Ok (map doc_places entries.items)
         → IsVerifyAnswer conflicts input witness answer.status answer.text.items) }
 {
     match verify(alloc, history, entries, conflicts) {
-        Ok(witness) => {
-            let answer = verified(alloc, Counts::of(history, &witness))?;
+        Ok(proof) => {
+            let answer = verified(alloc, Counts::of(&proof))?;
             Ok(answer)
         }
-        Err(fault) => match fault {
+        Err((fault, _)) => match fault {
             VerifyFault::NoMemory => Err(AllocError),
             told => {
                 let answer = broken(alloc, told)?;
@@ -99,18 +97,19 @@ fn entries_answer(
     }
 }
 
-/// The answer to a witness text, for this history.
+/// The answer to a witness text, for this history. The text is let go once it is read.
 pub fn verify_answer(
     alloc: Global,
-    history: &History,
-    text: &[u8],
+    history: History,
+    text: Vec<u8>,
     conflicts: Conflicts,
 ) -> Result<Answer, NoMemory>
-    requires { IsHistory history.now }
-    ensures { IfOk result (λ answer. (input : List ℕ) → IsHistoryText input history.now
-        → IsVerifyAnswer conflicts input text.now answer.status answer.text.items) }
+    ensures { IfOk result (λ answer. (input : List ℕ) → IsHistoryText input history
+        → IsVerifyAnswer conflicts input text.items answer.status answer.text.items) }
 {
-    match read_witness(alloc, text) {
+    let found = read_witness(alloc, &text);
+    drop(text);
+    match found {
         Ok(entries) => {
             let answer = entries_answer(alloc, history, entries, conflicts)?;
             Ok(answer)

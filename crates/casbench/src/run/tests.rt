@@ -1,6 +1,7 @@
 ghost use Rattle.std.specs.Prelude.{IsErr};
 
 use super::*;
+use doc_register::Conflicts;
 use std::alloc::Allocator;
 use std::cell::RefCell;
 use std::fmt::Display;
@@ -28,18 +29,34 @@ fn unsupported<T>() -> io::Result<T>
     Err(io::Error::from(ErrorKind::Unsupported))
 }
 
-// An open file: it has no bytes, or fails at its first read.
+// A conflict that may have been performed, and an order in which it was.
+const HIDDEN_CONFLICT: &str = r#"{"e":"call","n":0,"id":"d","op":"index","k":1}
+{"e":"reply","n":0,"status":201,"body":{"_index":"i","_id":"d","_version":1,"result":"created","_shards":{"total":2,"successful":1,"failed":0},"_seq_no":0,"_primary_term":1}}
+{"e":"call","n":2,"id":"d","op":"index","k":3,"if_primary_term":1,"if_seq_no":0}
+{"e":"reply","n":2,"status":409,"body":{"error":{"type":"version_conflict_engine_exception","reason":"x"},"status":409}}
+"#;
+
+const HIDDEN_CONFLICT_WITNESS: &str = r#"{"doc":"d"}
+{"rec":0}
+{"rec":1,"seq":2,"term":3}
+"#;
+
+// An open file: it gives its bytes, or fails at its first read.
 #[derive(Drop)]
 struct Opened<'a> {
     name: &'static str,
+    bytes: &'static [u8],
     fails: bool,
     steps: &'a Steps,
 }
 
 impl Read for Opened<'_> {
-    fn read(&mut self, _buf: &mut [u8]) -> io::Result<usize> {
+    fn read(&mut self, buf: &mut [u8]) -> io::Result<usize> {
         note(self.steps, "read ", self.name)?;
-        if self.fails { unsupported() } else { Ok(0) }
+        if self.fails {
+            return unsupported();
+        }
+        self.bytes.read(buf)
     }
 }
 
@@ -77,7 +94,7 @@ impl OpenFile for Opened<'_> {
     }
 }
 
-// A file system with the files `h`, `w` and `broken`.
+// A file system with the files `h`, `w` and `broken`, which are empty, and the two of a hidden conflict.
 #[derive(Drop)]
 struct Shelf<'a> {
     steps: &'a Steps,
@@ -90,14 +107,17 @@ impl<'a> Files for Shelf<'a> {
 
     fn open_file(&self, _how: &OpenOptions, path: &str) -> io::Result<Opened<'a>> {
         note(self.steps, "open ", path)?;
-        let name = match path {
-            "h" => "h",
-            "w" => "w",
-            "broken" => "broken",
+        let (name, text) = match path {
+            "h" => ("h", ""),
+            "w" => ("w", ""),
+            "broken" => ("broken", ""),
+            "hidden" => ("hidden", HIDDEN_CONFLICT),
+            "order" => ("order", HIDDEN_CONFLICT_WITNESS),
             _ => return Err(io::Error::from(ErrorKind::NotFound)),
         };
         Ok(Opened {
             name,
+            bytes: text.as_bytes(),
             fails: name == "broken",
             steps: self.steps,
         })
@@ -178,6 +198,7 @@ fn runs(
 fn files_of_a_check(rt: HostRuntime) -> Result<(), Fail> {
     let line = "yes docs=0 calls=0 left_out=0\n";
     let fault = Err(StreamFault::Read);
+    let conflicts = Conflicts::Plain;
     for (file, wanted, text, steps) in [
         (None, Ok(Status::Yes), line, ""),
         (Some("h"), Ok(Status::Yes), line, "open h;read h;"),
@@ -189,7 +210,8 @@ fn files_of_a_check(rt: HostRuntime) -> Result<(), Fail> {
             "open absent;tell casbench: absent: no such file;",
         ),
     ] {
-        runs(&rt, rt.alloc(), Words::Check { file }, wanted, text, steps)?;
+        let words = Words::Check { file, conflicts };
+        runs(&rt, rt.alloc(), words, wanted, text, steps)?;
     }
     Ok(())
 }
@@ -198,6 +220,7 @@ fn files_of_a_check(rt: HostRuntime) -> Result<(), Fail> {
 #[test]
 fn files_of_a_witness(rt: HostRuntime) -> Result<(), Fail> {
     let fault = Err(StreamFault::Read);
+    let conflicts = Conflicts::Plain;
     for (file, wanted, steps) in [
         (None, Ok(Status::Yes), ""),
         (Some("h"), Ok(Status::Yes), "open h;read h;"),
@@ -208,7 +231,8 @@ fn files_of_a_witness(rt: HostRuntime) -> Result<(), Fail> {
             "open absent;tell casbench: absent: no such file;",
         ),
     ] {
-        runs(&rt, rt.alloc(), Words::Witness { file }, wanted, "", steps)?;
+        let words = Words::Witness { file, conflicts };
+        runs(&rt, rt.alloc(), words, wanted, "", steps)?;
     }
     Ok(())
 }
@@ -255,14 +279,73 @@ fn files_of_a_verify(rt: HostRuntime) -> Result<(), Fail> {
             "open w;open lost;tell casbench: lost: no such file;",
         ),
     ] {
-        runs(
-            &rt,
-            rt.alloc(),
-            Words::Verify { history, witness },
-            wanted,
-            text,
+        let words = Words::Verify {
+            history,
+            witness,
+            conflicts: Conflicts::Plain,
+        };
+        runs(&rt, rt.alloc(), words, wanted, text, steps)?;
+    }
+    Ok(())
+}
+
+#[test]
+fn conflicts_as_the_words_say(rt: HostRuntime) -> Result<(), Fail> {
+    let file = Some("hidden");
+    let (history, witness) = ("hidden", "order");
+    let (plain, maybe) = (Conflicts::Plain, Conflicts::Maybe);
+    let steps = "open hidden;read hidden;read hidden;";
+    let more = "open hidden;open order;read hidden;read hidden;read order;read order;";
+    for (words, wanted, text, steps) in [
+        (
+            Words::Check {
+                file,
+                conflicts: plain,
+            },
+            Status::No,
+            "no\n",
             steps,
-        )?;
+        ),
+        (
+            Words::Check {
+                file,
+                conflicts: maybe,
+            },
+            Status::Yes,
+            "yes docs=1 calls=2 left_out=0\n",
+            steps,
+        ),
+        (
+            Words::Witness {
+                file,
+                conflicts: maybe,
+            },
+            Status::Yes,
+            HIDDEN_CONFLICT_WITNESS,
+            steps,
+        ),
+        (
+            Words::Verify {
+                history,
+                witness,
+                conflicts: plain,
+            },
+            Status::No,
+            "broken entry=0 cause=pair-given place=1\n",
+            more,
+        ),
+        (
+            Words::Verify {
+                history,
+                witness,
+                conflicts: maybe,
+            },
+            Status::Yes,
+            "verified docs=1 calls=2 left_out=0\n",
+            more,
+        ),
+    ] {
+        runs(&rt, rt.alloc(), words, Ok(wanted), text, steps)?;
     }
     Ok(())
 }

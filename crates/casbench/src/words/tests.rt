@@ -8,39 +8,40 @@ fn reads(rt: &impl Abort, alloc: Global, words: &[&str], wanted: Words<'_>) -> R
     Ok(())
 }
 
+// A check of the file, or of standard input, with conflicts read plainly.
+fn check(file: Option<&str>) -> Words<'_> {
+    Words::Check {
+        file,
+        conflicts: Conflicts::Plain,
+    }
+}
+
+// The witness of the file, or of standard input, with conflicts read plainly.
+fn witness(file: Option<&str>) -> Words<'_> {
+    Words::Witness {
+        file,
+        conflicts: Conflicts::Plain,
+    }
+}
+
 #[test]
 fn commands_and_their_files(rt: HostRuntime) -> Result<(), Fail> {
     let alloc = rt.alloc();
     let file = Some("h.ndjson");
-    let none: Option<&str> = None;
-    reads(&rt, alloc, &["casbench"], Words::Check { file: none })?;
-    reads(
-        &rt,
-        alloc,
-        &["casbench", "check"],
-        Words::Check { file: none },
-    )?;
-    reads(
-        &rt,
-        alloc,
-        &["casbench", "check", "h.ndjson"],
-        Words::Check { file },
-    )?;
-    reads(
-        &rt,
-        alloc,
-        &["casbench", "witness"],
-        Words::Witness { file: none },
-    )?;
+    reads(&rt, alloc, &["casbench"], check(None))?;
+    reads(&rt, alloc, &["casbench", "check"], check(None))?;
+    reads(&rt, alloc, &["casbench", "check", "h.ndjson"], check(file))?;
+    reads(&rt, alloc, &["casbench", "witness"], witness(None))?;
     reads(
         &rt,
         alloc,
         &["casbench", "witness", "h.ndjson"],
-        Words::Witness { file },
+        witness(file),
     )?;
     let both = Words::Verify {
         history: "h.ndjson",
         witness: "w.witness",
+        conflicts: Conflicts::Plain,
     };
     reads(
         &rt,
@@ -51,19 +52,49 @@ fn commands_and_their_files(rt: HostRuntime) -> Result<(), Fail> {
 }
 
 #[test]
+fn readings_of_conflicts(rt: HostRuntime) -> Result<(), Fail> {
+    let alloc = rt.alloc();
+    let file = Some("h");
+    for (words, conflicts) in [
+        (
+            &["casbench", "check", "h", "--conflicts", "plain"][..],
+            Conflicts::Plain,
+        ),
+        (
+            &["casbench", "check", "h", "--conflicts", "maybe"][..],
+            Conflicts::Maybe,
+        ),
+        (
+            &["casbench", "check", "--conflicts=maybe", "h"][..],
+            Conflicts::Maybe,
+        ),
+    ] {
+        reads(&rt, alloc, words, Words::Check { file, conflicts })?;
+    }
+    let conflicts = Conflicts::Maybe;
+    let words = &["casbench", "witness", "h", "--conflicts", "maybe"];
+    reads(&rt, alloc, words, Words::Witness { file, conflicts })?;
+    let words = &["casbench", "verify", "h", "w", "--conflicts", "maybe"];
+    let both = Words::Verify {
+        history: "h",
+        witness: "w",
+        conflicts,
+    };
+    reads(&rt, alloc, words, both)
+}
+
+#[test]
 fn files_with_names_of_their_own(rt: HostRuntime) -> Result<(), Fail> {
     let alloc = rt.alloc();
     for name in ["check", "help", "-", "a b", ""] {
-        let wanted = Words::Check { file: Some(name) };
-        reads(&rt, alloc, &["casbench", "check", name], wanted)?;
+        reads(&rt, alloc, &["casbench", "check", name], check(Some(name)))?;
     }
-    let dashed = Words::Witness {
-        file: Some("--help"),
-    };
+    let dashed = witness(Some("--help"));
     reads(&rt, alloc, &["casbench", "witness", "--", "--help"], dashed)?;
     let one_twice = Words::Verify {
         history: "verify",
         witness: "verify",
+        conflicts: Conflicts::Plain,
     };
     reads(
         &rt,
@@ -131,6 +162,42 @@ fn refused_words_of_a_bulk(rt: HostRuntime) -> Result<(), Fail> {
             ErrorKind::ArgumentConflict,
         ),
         (&["casbench", "check", "h", "--first=1"][..], unknown),
+    ] {
+        refuses(&rt, rt.alloc(), words, wanted)?;
+    }
+    Ok(())
+}
+
+#[test]
+fn refused_readings_of_conflicts(rt: HostRuntime) -> Result<(), Fail> {
+    let value = ErrorKind::InvalidValue;
+    let unknown = ErrorKind::UnknownArgument;
+    for (words, wanted) in [
+        (
+            &["casbench", "check", "h", "--conflicts", "Maybe"][..],
+            value,
+        ),
+        (&["casbench", "check", "--conflicts="][..], value),
+        (&["casbench", "check", "h", "--conflicts"][..], value),
+        (&["casbench", "witness", "--conflicts", "other"][..], value),
+        (
+            &["casbench", "verify", "h", "w", "--conflicts=no"][..],
+            value,
+        ),
+        (
+            &[
+                "casbench",
+                "check",
+                "--conflicts=maybe",
+                "--conflicts=maybe",
+            ][..],
+            ErrorKind::ArgumentConflict,
+        ),
+        (
+            &["casbench", "bulk", "b", "r", "--conflicts=maybe"][..],
+            unknown,
+        ),
+        (&["casbench", "--conflicts", "maybe"][..], unknown),
     ] {
         refuses(&rt, rt.alloc(), words, wanted)?;
     }

@@ -6,6 +6,8 @@ use std::test::Fail;
 
 mod bulks;
 mod checks;
+mod documents;
+mod drawn;
 mod faults;
 mod limits;
 mod verifying;

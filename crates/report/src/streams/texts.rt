@@ -341,3 +341,112 @@ pub const OTHER_PAIR_WITNESS: &str = r#"{"doc":"d"}
 {"rec":0,"seq":2,"term":4}
 {"rec":1}
 "#;
+
+pub const BULK_CHECKED: &str = r#"{"e":"call","id":"a","k":1,"n":0,"op":"index"}
+{"e":"call","id":"b","n":1,"op":"delete"}
+{"e":"call","id":"a","if_primary_term":1,"if_seq_no":0,"k":2,"n":2,"op":"index"}
+{"body":{"_id":"a","_primary_term":1,"_seq_no":0,"result":"created"},"e":"reply","n":0,"status":201}
+{"body":{"_id":"b","_primary_term":1,"_seq_no":1,"result":"not_found"},"e":"reply","n":1,"status":404}
+{"body":{"error":{"type":"version_conflict_engine_exception"}},"e":"reply","n":2,"status":409}
+"#;
+
+pub const SAME_PAIR_OTHER_SHARD: &str = r#"{"e":"call","n":0,"id":"a","op":"index","k":1,"shard":0}
+{"e":"reply","n":0,"status":201,"body":{"_index":"i","_id":"a","_version":1,"result":"created","_shards":{"total":2,"successful":1,"failed":0},"_seq_no":0,"_primary_term":1}}
+{"e":"call","n":1,"id":"b","op":"index","k":2,"shard":1}
+{"e":"reply","n":1,"status":201,"body":{"_index":"i","_id":"b","_version":1,"result":"created","_shards":{"total":2,"successful":1,"failed":0},"_seq_no":0,"_primary_term":1}}
+"#;
+
+pub const SCARCE_NUMBER: &str = r#"{"e":"call","n":0,"id":"a","op":"index","k":1}
+{"e":"reply","n":0,"status":201,"body":{"_index":"i","_id":"a","_version":1,"result":"created","_shards":{"total":2,"successful":1,"failed":0},"_seq_no":0,"_primary_term":1}}
+{"e":"call","n":1,"id":"b","op":"index","k":2}
+{"e":"reply","n":1,"status":201,"body":{"_index":"i","_id":"b","_version":1,"result":"created","_shards":{"total":2,"successful":1,"failed":0},"_seq_no":1,"_primary_term":1}}
+{"e":"call","n":2,"id":"a","op":"delete"}
+{"e":"lost","n":2}
+{"e":"call","n":3,"id":"b","op":"delete"}
+{"e":"lost","n":3}
+{"e":"call","n":4,"id":"a","op":"index","k":3}
+{"e":"reply","n":4,"status":201,"body":{"_index":"i","_id":"a","_version":1,"result":"created","_shards":{"total":2,"successful":1,"failed":0},"_seq_no":3,"_primary_term":1}}
+{"e":"call","n":5,"id":"b","op":"index","k":4}
+{"e":"reply","n":5,"status":201,"body":{"_index":"i","_id":"b","_version":1,"result":"created","_shards":{"total":2,"successful":1,"failed":0},"_seq_no":4,"_primary_term":1}}
+"#;
+
+pub const SCARCE_NUMBER_ENOUGH: &str = r#"{"e":"call","n":0,"id":"a","op":"index","k":1}
+{"e":"reply","n":0,"status":201,"body":{"_index":"i","_id":"a","_version":1,"result":"created","_shards":{"total":2,"successful":1,"failed":0},"_seq_no":0,"_primary_term":1}}
+{"e":"call","n":1,"id":"b","op":"index","k":2}
+{"e":"reply","n":1,"status":201,"body":{"_index":"i","_id":"b","_version":1,"result":"created","_shards":{"total":2,"successful":1,"failed":0},"_seq_no":1,"_primary_term":1}}
+{"e":"call","n":2,"id":"a","op":"delete"}
+{"e":"lost","n":2}
+{"e":"call","n":3,"id":"b","op":"delete"}
+{"e":"lost","n":3}
+{"e":"call","n":4,"id":"a","op":"index","k":3}
+{"e":"reply","n":4,"status":201,"body":{"_index":"i","_id":"a","_version":1,"result":"created","_shards":{"total":2,"successful":1,"failed":0},"_seq_no":3,"_primary_term":1}}
+{"e":"call","n":5,"id":"b","op":"index","k":4}
+{"e":"reply","n":5,"status":201,"body":{"_index":"i","_id":"b","_version":1,"result":"created","_shards":{"total":2,"successful":1,"failed":0},"_seq_no":5,"_primary_term":1}}
+"#;
+
+pub const SCARCE_NUMBER_TWO_SHARDS: &str = r#"{"e":"call","n":0,"id":"a","op":"index","k":1}
+{"e":"reply","n":0,"status":201,"body":{"_index":"i","_id":"a","_version":1,"result":"created","_shards":{"total":2,"successful":1,"failed":0},"_seq_no":0,"_primary_term":1}}
+{"e":"call","n":1,"id":"b","op":"index","k":2,"shard":1}
+{"e":"reply","n":1,"status":201,"body":{"_index":"i","_id":"b","_version":1,"result":"created","_shards":{"total":2,"successful":1,"failed":0},"_seq_no":1,"_primary_term":1}}
+{"e":"call","n":2,"id":"a","op":"delete"}
+{"e":"lost","n":2}
+{"e":"call","n":3,"id":"b","op":"delete","shard":1}
+{"e":"lost","n":3}
+{"e":"call","n":4,"id":"a","op":"index","k":3}
+{"e":"reply","n":4,"status":201,"body":{"_index":"i","_id":"a","_version":1,"result":"created","_shards":{"total":2,"successful":1,"failed":0},"_seq_no":3,"_primary_term":1}}
+{"e":"call","n":5,"id":"b","op":"index","k":4,"shard":1}
+{"e":"reply","n":5,"status":201,"body":{"_index":"i","_id":"b","_version":1,"result":"created","_shards":{"total":2,"successful":1,"failed":0},"_seq_no":4,"_primary_term":1}}
+"#;
+
+pub const HIDDEN_CONFLICT: &str = r#"{"e":"call","n":0,"id":"d","op":"index","k":1}
+{"e":"reply","n":0,"status":201,"body":{"_index":"i","_id":"d","_version":1,"result":"created","_shards":{"total":2,"successful":1,"failed":0},"_seq_no":0,"_primary_term":1}}
+{"e":"call","n":2,"id":"d","op":"index","k":3,"if_primary_term":1,"if_seq_no":0}
+{"e":"reply","n":2,"status":409,"body":{"error":{"type":"version_conflict_engine_exception","reason":"x"},"status":409}}
+"#;
+
+pub const CONFLICT_WITHOUT_CONDITION: &str = r#"{"e":"call","n":0,"id":"d","op":"index","k":1}
+{"e":"reply","n":0,"status":409,"body":{"error":{"type":"version_conflict_engine_exception","reason":"x"},"status":409}}
+"#;
+
+pub const VERIFY_TWO_DOCUMENTS_WITNESS: &str = r#"{"doc":"a"}
+{"rec":0}
+{"rec":1}
+{"doc":"b"}
+{"rec":0}
+{"rec":1}
+"#;
+
+pub const VERIFY_PAIR_TWICE_WITNESS: &str = r#"{"doc":"a"}
+{"rec":0}
+{"doc":"b"}
+{"rec":0}
+"#;
+
+pub const HIDDEN_CONFLICT_WITNESS: &str = r#"{"doc":"d"}
+{"rec":0}
+{"rec":1,"seq":2,"term":3}
+"#;
+
+pub const CONFLICT_WITHOUT_CONDITION_WITNESS: &str = r#"{"doc":"d"}
+{"rec":0,"seq":0,"term":1}
+"#;
+
+pub const SCARCE_NUMBER_ENOUGH_WITNESS: &str = r#"{"doc":"a"}
+{"rec":0}
+{"rec":1,"seq":2,"term":1}
+{"rec":2}
+{"doc":"b"}
+{"rec":0}
+{"rec":1,"seq":4,"term":1}
+{"rec":2}
+"#;
+
+pub const SCARCE_NUMBER_TWO_SHARDS_WITNESS: &str = r#"{"doc":"a"}
+{"rec":0}
+{"rec":1,"seq":1,"term":1}
+{"rec":2}
+{"doc":"b"}
+{"rec":0}
+{"rec":1,"seq":2,"term":1}
+{"rec":2}
+"#;

@@ -7,21 +7,27 @@ pub returns-in-check : goal.returns-in-check
 returns-in-check c =
     let file : option_map (λ f. f.now) c.get_str-file.result ≡ first_of (codes "history") (rows_of (found_of c.args.given.now)) =
     c.get_str-file.ensures ∙ first_value-rows (found_of c.args.given.now) (codes "history") in
-    rw (c.in-check.is, file) refl
+    let reading : option_map (λ t. t.now) c.get_str.result ≡ first_of (codes "conflicts") (rows_of (found_of c.args.given.now)) =
+    c.get_str.ensures ∙ first_value-rows (found_of c.args.given.now) (codes "conflicts") in
+    rw (c.in-check.is, c.check_words.ensures, file, reading) refl
 
 pub returns-in-witness : goal.returns-in-witness
 returns-in-witness c =
     let file : option_map (λ f. f.now) c.get_str-file.result ≡ first_of (codes "history") (rows_of (found_of c.args.given.now)) =
     c.get_str-file.ensures ∙ first_value-rows (found_of c.args.given.now) (codes "history") in
-    rw (c.in-witness.is, file) refl
+    let reading : option_map (λ t. t.now) c.get_str-in-witness.result ≡ first_of (codes "conflicts") (rows_of (found_of c.args.given.now)) =
+    c.get_str-in-witness.ensures ∙ first_value-rows (found_of c.args.given.now) (codes "conflicts") in
+    rw (c.in-witness.is, c.witness_words.ensures, file, reading) refl
 
 pub returns-in-verify : goal.returns-in-verify
 returns-in-verify c =
     let history : option_map (λ f. f.now) c.get_str-file.result ≡ first_of (codes "history") (rows_of (found_of c.args.given.now)) =
     c.get_str-file.ensures ∙ first_value-rows (found_of c.args.given.now) (codes "history") in
-    let witness : option_map (λ f. f.now) c.get_str.result ≡ first_of (codes "witness") (rows_of (found_of c.args.given.now)) =
-    c.get_str.ensures ∙ first_value-rows (found_of c.args.given.now) (codes "witness") in
-    rw (c.in-verify.is, c.verify_words.ensures, history, witness) refl
+    let witness : option_map (λ f. f.now) c.get_str-in-verify.result ≡ first_of (codes "witness") (rows_of (found_of c.args.given.now)) =
+    c.get_str-in-verify.ensures ∙ first_value-rows (found_of c.args.given.now) (codes "witness") in
+    let reading : option_map (λ t. t.now) c.get_str-in-verify-2.result ≡ first_of (codes "conflicts") (rows_of (found_of c.args.given.now)) =
+    c.get_str-in-verify-2.ensures ∙ first_value-rows (found_of c.args.given.now) (codes "conflicts") in
+    rw (c.in-verify.is, c.verify_words.ensures, history, witness, reading) refl
 
 pub returns-in-bulk : goal.returns-in-bulk
 returns-in-bulk c =

@@ -2,7 +2,7 @@ use Rattle.std.proofs.Common.{rules, ◌≡◌, ◌∙◌, false, codes, ap₂}
 use Rattle.std.proofs.lemmas.Result.{IfOk-weaker}
 use Rattle.clap.specs.Words.{app_of, new_app, with_rule}
 use Rattle.clap.specs.declared.builder.command.Command.TheViews.{out-Command as fields_of}
-use Rattle.casbench.specs.Asked.{first_rule, needed_rule}
+use Rattle.casbench.specs.Asked.{needed_rule}
 use Rattle.casbench.proofs.words.bulk_command.Goals as goal
 
 pub returns-clause-line : goal.returns-clause-line

@@ -10,9 +10,12 @@ returns-clause-line c =
     let bare : app_of c.after_help.result ≡ new_app (codes "verify") = search rules in
     let one : app_of c.in_ok-arg.field-0 ≡ with_rule (new_app (codes "verify")) (needed_rule (codes "history")) =
     c.in_ok-arg.ensures.shape (search rules) ∙ ap₂ with_rule bare (search rules) in
-    IfOk-weaker c.arg-2.result _ _ (λ r h. h.shape (search rules) ∙ ap₂ with_rule one (search rules)) c.arg-2.ensures
+    let two : app_of c.in_ok-arg-2.field-0 ≡ with_rule (with_rule (new_app (codes "verify")) (needed_rule (codes "history"))) (needed_rule (codes "witness")) =
+    c.in_ok-arg-2.ensures.shape (search rules) ∙ ap₂ with_rule one (search rules) in
+    IfOk-weaker c.arg-3.result _ _ (λ r h. h.shape (search rules) ∙ ap₂ with_rule two (search rules)) c.arg-3.ensures
 
 pub returns-clause-local : goal.returns-clause-local
 returns-clause-local c =
     let one : (fields_of c.in_ok-arg.field-0).has_globals ≡ false = search rules in
-    IfOk-weaker c.arg-2.result _ _ (λ r h. let same = h.globals in search rules) c.arg-2.ensures
+    let two : (fields_of c.in_ok-arg-2.field-0).has_globals ≡ false = search rules in
+    IfOk-weaker c.arg-3.result _ _ (λ r h. let same = h.globals in search rules) c.arg-3.ensures

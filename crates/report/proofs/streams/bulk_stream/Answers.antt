@@ -1,4 +1,3 @@
-use Rattle.std.proofs.Common.{◌∙◌}
 use Rattle.report.specs.Bulk.{AnswersBulk}
 use Rattle.report.proofs.AnswerLemmas.{bulk_of_inputs}
 use Rattle.report.proofs.StreamLemmas.{wrote_front}

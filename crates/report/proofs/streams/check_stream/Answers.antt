@@ -1,5 +1,4 @@
-use Rattle.std.proofs.Common.{subst}
-use Rattle.report.specs.Verdict.{AnswersInput, IsAnswer}
+use Rattle.report.specs.Verdict.{AnswersInput}
 use Rattle.report.proofs.AnswerLemmas.{answer_of_input}
 use Rattle.report.proofs.StreamLemmas.{wrote, wrote_front}
 use Rattle.report.proofs.streams.check_stream.Goals as goal
@@ -10,7 +9,7 @@ returns-in-Ok-check_answer-clause-answered g c =
     c.in-Ok-check_answer.answer.status c.in-Ok-check_answer.answer.text.items c.write_answer.ensures
     (answer_of_input c.args.conflicts (g.R.Read.remaining c.args.reader.now) c.in-Ok.bytes.items c.in-Ok-check_answer.answer.status
     c.in-Ok-check_answer.answer.text.items c.in-Ok.ensures
-    (subst (λ bytes. IsAnswer c.args.conflicts bytes c.in-Ok-check_answer.answer.status c.in-Ok-check_answer.answer.text.items) c.deref.ensures.value c.in-Ok-check_answer.ensures))
+    c.in-Ok-check_answer.ensures)
 
 pub returns-in-Ok-check_answer-clause-cut_off : goal.returns-in-Ok-check_answer-clause-cut_off
 returns-in-Ok-check_answer-clause-cut_off g c =
@@ -18,4 +17,4 @@ returns-in-Ok-check_answer-clause-cut_off g c =
     c.in-Ok-check_answer.answer.status c.in-Ok-check_answer.answer.text.items c.write_answer.ensures
     (answer_of_input c.args.conflicts (g.R.Read.remaining c.args.reader.now) c.in-Ok.bytes.items c.in-Ok-check_answer.answer.status
     c.in-Ok-check_answer.answer.text.items c.in-Ok.ensures
-    (subst (λ bytes. IsAnswer c.args.conflicts bytes c.in-Ok-check_answer.answer.status c.in-Ok-check_answer.answer.text.items) c.deref.ensures.value c.in-Ok-check_answer.ensures))
+    c.in-Ok-check_answer.ensures)

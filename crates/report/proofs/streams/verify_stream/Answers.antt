@@ -1,6 +1,4 @@
-use Rattle.std.proofs.Common.{subst}
-use Rattle.std.specs.Prelude.{IfSome}
-use Rattle.report.specs.Verdict.{VerifiesInputs, IsVerifyAnswer}
+use Rattle.report.specs.Verdict.{VerifiesInputs}
 use Rattle.report.proofs.AnswerLemmas.{verify_of_inputs}
 use Rattle.report.proofs.StreamLemmas.{wrote, wrote_front}
 use Rattle.report.proofs.streams.verify_stream.Goals as goal
@@ -11,8 +9,7 @@ returns-in-Ok-verify_input-clause-answered g c =
     c.in-Ok-verify_input.answer.status c.in-Ok-verify_input.answer.text.items c.write_answer.ensures
     (verify_of_inputs c.args.conflicts c.in-Ok.bytes.items (g.R.Read.remaining c.args.history.now) (g.Q.Read.remaining c.args.witness.now)
     c.in-Ok-verify_input.answer.status c.in-Ok-verify_input.answer.text.items c.in-Ok.ensures
-    (subst (λ bytes. IfSome (g.Q.Read.remaining c.args.witness.now)
-    (λ w. IsVerifyAnswer c.args.conflicts bytes w c.in-Ok-verify_input.answer.status c.in-Ok-verify_input.answer.text.items)) c.deref.ensures.value c.in-Ok-verify_input.ensures))
+    c.in-Ok-verify_input.ensures)
 
 pub returns-in-Ok-verify_input-clause-cut_off : goal.returns-in-Ok-verify_input-clause-cut_off
 returns-in-Ok-verify_input-clause-cut_off g c =
@@ -20,5 +17,4 @@ returns-in-Ok-verify_input-clause-cut_off g c =
     c.in-Ok-verify_input.answer.status c.in-Ok-verify_input.answer.text.items c.write_answer.ensures
     (verify_of_inputs c.args.conflicts c.in-Ok.bytes.items (g.R.Read.remaining c.args.history.now) (g.Q.Read.remaining c.args.witness.now)
     c.in-Ok-verify_input.answer.status c.in-Ok-verify_input.answer.text.items c.in-Ok.ensures
-    (subst (λ bytes. IfSome (g.Q.Read.remaining c.args.witness.now)
-    (λ w. IsVerifyAnswer c.args.conflicts bytes w c.in-Ok-verify_input.answer.status c.in-Ok-verify_input.answer.text.items)) c.deref.ensures.value c.in-Ok-verify_input.ensures))
+    c.in-Ok-verify_input.ensures)

@@ -1,5 +1,4 @@
-use Rattle.std.proofs.Common.{subst}
-use Rattle.report.specs.Verdict.{WitnessesInput, IsWitnessAnswer}
+use Rattle.report.specs.Verdict.{WitnessesInput}
 use Rattle.report.proofs.AnswerLemmas.{witness_of_input}
 use Rattle.report.proofs.StreamLemmas.{wrote, wrote_front}
 use Rattle.report.proofs.streams.witness_stream.Goals as goal
@@ -10,7 +9,7 @@ returns-in-Ok-witness_answer-clause-answered g c =
     c.in-Ok-witness_answer.answer.status c.in-Ok-witness_answer.answer.text.items c.write_answer.ensures
     (witness_of_input c.args.conflicts (g.R.Read.remaining c.args.reader.now) c.in-Ok.bytes.items c.in-Ok-witness_answer.answer.status
     c.in-Ok-witness_answer.answer.text.items c.in-Ok.ensures
-    (subst (λ bytes. IsWitnessAnswer c.args.conflicts bytes c.in-Ok-witness_answer.answer.status c.in-Ok-witness_answer.answer.text.items) c.deref.ensures.value c.in-Ok-witness_answer.ensures))
+    c.in-Ok-witness_answer.ensures)
 
 pub returns-in-Ok-witness_answer-clause-cut_off : goal.returns-in-Ok-witness_answer-clause-cut_off
 returns-in-Ok-witness_answer-clause-cut_off g c =
@@ -18,4 +17,4 @@ returns-in-Ok-witness_answer-clause-cut_off g c =
     c.in-Ok-witness_answer.answer.status c.in-Ok-witness_answer.answer.text.items c.write_answer.ensures
     (witness_of_input c.args.conflicts (g.R.Read.remaining c.args.reader.now) c.in-Ok.bytes.items c.in-Ok-witness_answer.answer.status
     c.in-Ok-witness_answer.answer.text.items c.in-Ok.ensures
-    (subst (λ bytes. IsWitnessAnswer c.args.conflicts bytes c.in-Ok-witness_answer.answer.status c.in-Ok-witness_answer.answer.text.items) c.deref.ensures.value c.in-Ok-witness_answer.ensures))
+    c.in-Ok-witness_answer.ensures)

@@ -1,7 +1,15 @@
-use Rattle.report.proofs.AnswerLemmas.{found_of, witnessed}
+use Rattle.std.proofs.Common.{◌≡◌, Ok, map, subst}
+use Rattle.witness.specs.Documents.{witness_places}
+use Rattle.witness.specs.Text.{AreWithinLimits, witness_text}
+use Rattle.compose.specs.Checked.{IsVerdictOn}
+use Rattle.compose.specs.declared.check.Verdict.TheVariants.{Yes}
+use Rattle.report.proofs.AnswerLemmas.{witnessed}
 use Rattle.report.proofs.witness_answer.history_witness.Goals as goal
 
-pub returns-in_ok-text-in-Found : goal.returns-in_ok-text-in-Found
-returns-in_ok-text-in-Found c = λ input is.
-    witnessed c.args.conflicts input c.args.history.now c.in-Found.witness c.in_ok-text-in-Found.text.items is
-    (found_of c.args.conflicts c.args.history.now c.in_ok-witness.field-0 c.in-Found.witness c.in-Found.is c.in_ok-witness.ensures) c.in_ok-text-in-Found.ensures
+pub returns-in-Ok-Yes : goal.returns-in-Ok-Yes
+returns-in-Ok-Yes c = λ input is.
+    let verdict : IsVerdictOn c.args.conflicts c.args.history (Yes c.in-Ok-Yes.proof) =
+    subst (IsVerdictOn c.args.conflicts c.args.history) c.in-Ok-Yes.field-0-is c.in-Ok-Yes.ensures.verdict in
+    witnessed c.args.conflicts input c.args.history c.in-Ok-Yes.proof.witnesses c.in_ok-text-in-Ok-Yes.text.items is verdict.2 verdict.3
+    (subst (λ ws. AreWithinLimits (map witness_places ws) → witness_text c.in_ok-text-in-Ok-Yes.text.items ≡ Ok (map witness_places ws)) c.witnesses.ensures.same
+    c.in_ok-text-in-Ok-Yes.ensures.reads_back)

@@ -259,35 +259,3 @@ fn refused_files(rt: HostRuntime) -> Result<(), Fail> {
     }
     Ok(())
 }
-
-// For now the entries of a history of two documents are not looked at.
-#[test]
-fn two_documents(rt: HostRuntime) -> Result<(), Fail> {
-    let history = texts::DOCUMENTS_INTERLEAVED;
-    let line = "broken doc=1 cause=doc-missing\n";
-    for (case, witness) in [
-        ("no entry", ""),
-        (
-            "verify-document-missing",
-            texts::VERIFY_DOCUMENT_MISSING_WITNESS,
-        ),
-        (
-            "verify-document-stranger",
-            texts::VERIFY_DOCUMENT_STRANGER_WITNESS,
-        ),
-        (
-            "verify-document-twice",
-            texts::VERIFY_DOCUMENT_TWICE_WITNESS,
-        ),
-    ] {
-        writes(
-            &rt,
-            rt.alloc(),
-            case,
-            PLAIN_VERIFY,
-            (history, witness),
-            line,
-        )?;
-    }
-    Ok(())
-}

@@ -1,0 +1,115 @@
+-- The gathered calls as a run: each document's part is a run of it alone, and no pair of a shard is taken twice.
+use Rattle.std.proofs.Common.{ℕ, zero, suc, ◌≡◌, List, [], ◌∷◌, refl, sym, ap, subst, ◌∙◌, Option, Some, None, slice_get}
+use Rattle.std.specs.Prelude.{option_map}
+use Rattle.std.specs.Cmp.Lexicographic.{bytes_decides}
+use Rattle.version_pair.specs.declared.pair.Pair.{Pair}
+use Rattle.doc_register.specs.declared.reply.Reply.{Reply as Answer}
+use Rattle.doc_register.specs.declared.state.Conflicts.{Conflicts}
+use Rattle.doc_register.specs.declared.state.DocState.{DocState}
+use Rattle.doc_register.specs.declared.state.DocState.TheVariants.{Never}
+use Rattle.doc_register.specs.Run.{Entry, IsDocRun, PairsDistinct, pair_taken, part_of, taken, taken_at}
+use Rattle.doc_register.proofs.RunLaws.{locality}
+use Rattle.history.specs.declared.event.Event.{Event}
+use Rattle.history.specs.declared.record.Rec.{Rec}
+use Rattle.history.specs.Events.{IsCallAt, IsHistory, records_of}
+use Rattle.history.specs.Order.{IsOfCall, Placed, run_of}
+use Rattle.history.proofs.ListLemmas.{none_is_not_some, same_some}
+use Rattle.witness.specs.declared.place.Place.{Place}
+use Rattle.witness.specs.Laws.{ArePlacedBy, IsPlacedBy, TellsOf}
+use Rattle.witness.specs.Text.{DocPlaces}
+use Rattle.compose.specs.Covers.{AreCover, IsOfShard, IsTakenAt, taken_by}
+use Rattle.compose.proofs.CalledDocuments.{document_called}
+use Rattle.compose.proofs.Filtering.{filter_all, part_from, rank, rank_once}
+use Rattle.compose.proofs.Gathering.{AreGathered, IsPartOf}
+use Rattle.compose.proofs.Points.{Pointed, is_of, part, part_run, placed_at, placed_of}
+use Rattle.compose.proofs.Standing.{IsListed, listed, passes}
+
+-- the part of a document is a run of it alone
+pub part_legal : (mode : Conflicts) (events : List Event) (entries : List DocPlaces) (ks : List Pointed) → AreGathered mode events entries ks → (d : List ℕ)
+    → (t : DocState) × IsDocRun Never (part_of d (run_of (placed_of ks))) t
+part_legal mode events entries ks all d = subst (λ es. (t : DocState) × IsDocRun Never es t) (sym (part_run d ks)) (by_part (part d ks) refl) where
+  twice : (c : List ℕ) → part c (part c ks) ≡ part c ks
+  twice c = filter_all (is_of c) (part c ks) (λ i k at. (part_from (is_of c) ks i k at).2)
+
+  entered_part : (e : DocPlaces) → IsPartOf mode events e (part e.doc ks) → (t : DocState) × IsDocRun Never (run_of (placed_of (part e.doc ks))) t
+  entered_part e is =
+      subst (λ es. (t : DocState) × IsDocRun Never es t) (part_run e.doc (part e.doc ks) ∙ ap (λ ls. run_of (placed_of ls)) (twice e.doc))
+      (((locality (run_of (placed_of (part e.doc ks)))).0 is.explains.legal).0 e.doc)
+
+  by_part : (ls : List Pointed) → part d ks ≡ ls → (t : DocState) × IsDocRun Never (run_of (placed_of (part d ks))) t
+  by_part [] is = (Never, subst (λ ls. IsDocRun Never (run_of (placed_of ls)) Never) (sym is) refl)
+  by_part (k ∷ ls) is =
+      let from = part_from (is_of d) ks 0 k (ap (λ xs. slice_get xs 0) is) in
+      let a = listed mode events entries ks all from.0 k from.1 in
+      let doc : a.entry.doc ≡ d = sym a.doc ∙ (bytes_decides k.placed.entry.doc d).0 from.2 in
+      subst (λ c. (t : DocState) × IsDocRun Never (run_of (placed_of (part c ks))) t) doc (entered_part a.entry a.own)
+
+-- the call at the place that takes a pair of a shard
+taken_by_call : (ks : List Pointed) (i : ℕ) (q : ℕ × Pair) → taken_at (run_of (placed_of ks)) i ≡ Some q → (k : Pointed) × (slice_get ks i ≡ Some k) × (taken k.placed.entry ≡ Some q)
+taken_by_call [] i q takes = absurd (none_is_not_some q takes)
+taken_by_call (k ∷ ks) zero q takes = (k, refl, takes)
+taken_by_call (k ∷ ks) (suc i) q takes = taken_by_call ks i q takes
+
+-- a pair with its shard, half by half
+taken_parts : (shard : ℕ) (o : Option Pair) (q : ℕ × Pair) → option_map (λ p. (shard, p)) o ≡ Some q → (shard ≡ q.0) × (o ≡ Some q.1)
+taken_parts shard None q takes = absurd (none_is_not_some q takes)
+taken_parts shard (Some p) q takes =
+    let same : (shard, p) ≡ q = same_some (shard, p) q takes in
+    (ap (λ (x : ℕ × Pair). x.0) same, ap (λ (x : ℕ × Pair). Some x.1) same)
+
+-- a place tells of what stands in the order
+told_by : (records : List Rec) (ps : List Place) (qs : List Placed) (i : ℕ) (q : Placed) → ArePlacedBy records ps qs → slice_get qs i ≡ Some q
+    → (p : Place) × (slice_get ps i ≡ Some p) × IsPlacedBy records p q
+told_by records [] [] i q all at = absurd (none_is_not_some q at)
+told_by records [] (u ∷ qs) i q all at = absurd all
+told_by records (p ∷ ps) [] i q all at = absurd all
+told_by records (p ∷ ps) (u ∷ qs) zero q all at = (p, refl, subst (λ k. IsPlacedBy records p k) (same_some u q at) all.0)
+told_by records (p ∷ ps) (u ∷ qs) (suc i) q all at = told_by records ps qs i q all.1 at
+
+-- and of the pair that it takes
+told_pair : (heard : Option (ℕ × Answer)) (given : Option Pair) (e : Entry) (q : Pair) → TellsOf heard given e → pair_taken e.reply e.hidden ≡ Some q → taken_by heard given ≡ Some q
+told_pair None given e q tells takes = sym tells.1 ∙ takes
+told_pair (Some heard) given e q tells takes = ap (λ h. pair_taken heard.1 h) (sym tells.1) ∙ (ap (λ r. pair_taken r e.hidden) (sym tells.0) ∙ takes)
+
+-- the shard of an entry's document is that of its calls
+own_shard : (mode : Conflicts) (events : List Event) (entries : List DocPlaces) → IsHistory events → AreCover mode events entries → (number : ℕ) (e : DocPlaces)
+    → slice_get entries number ≡ Some e → (p : Placed) → IsOfCall events p → p.entry.doc ≡ e.doc → IsOfShard events e.doc p.entry.shard
+own_shard mode events entries history cover number e entered p call doc =
+    let known = cover.fine.known number e entered in
+    let called = document_called events (e.doc, known.0) (known.1.0, known.1.1) in
+    let shard : known.0 ≡ p.entry.shard = history.one_shard called.0 call.0 called.1 p.no known.0 p.entry.shard e.doc called.2 p.entry.op called.3
+    (subst (λ d. IsCallAt events call.0 p.no p.entry.shard d p.entry.op) doc call.1) in
+    subst (λ h. IsOfShard events e.doc h) shard known.1
+
+-- the place of an entry takes the pair that the call takes
+taken_there : (mode : Conflicts) (events : List Event) (entries : List DocPlaces) (ks : List Pointed) → IsHistory events → AreCover mode events entries → (i : ℕ) (k : Pointed) (q : ℕ × Pair)
+    → (a : IsListed mode events entries ks i k) → taken k.placed.entry ≡ Some q → IsTakenAt events entries a.number (rank (is_of a.entry.doc) ks i) q.0 q.1
+taken_there mode events entries ks history cover i k q a takes =
+    let r : ℕ = rank (is_of a.entry.doc) ks i in
+    let told = told_by (records_of events a.entry.doc) a.entry.places (placed_of (part a.entry.doc ks)) r k.placed a.own.placed (placed_at (part a.entry.doc ks) r k a.stands) in
+    let pair = taken_parts k.placed.entry.shard (pair_taken k.placed.entry.reply k.placed.entry.hidden) q takes in
+    record {
+      entry = a.entry;
+      place = told.0;
+      called = told.2.named;
+      entered = a.entered;
+      placed = told.1;
+      names = told.2.names;
+      shard = subst (λ h. IsOfShard events a.entry.doc h) pair.0 (own_shard mode events entries history cover a.number a.entry a.entered k.placed a.call a.doc);
+      takes = told_pair told.2.named.heard told.0.pair k.placed.entry q.1 told.2.tells pair.1;
+    }
+
+-- no pair of a shard is taken at two places
+pub distinct : (mode : Conflicts) (events : List Event) (entries : List DocPlaces) (ks : List Pointed) → IsHistory events → AreCover mode events entries → AreGathered mode events entries ks
+    → PairsDistinct (run_of (placed_of ks))
+distinct mode events entries ks history cover all i j q one two =
+    let x = taken_by_call ks i q one in
+    let y = taken_by_call ks j q two in
+    let a = listed mode events entries ks all i x.0 x.1 in
+    let b = listed mode events entries ks all j y.0 y.1 in
+    let same = cover.distinct a.number (rank (is_of a.entry.doc) ks i) b.number (rank (is_of b.entry.doc) ks j) q.0 q.1
+    (taken_there mode events entries ks history cover i x.0 q a x.2) (taken_there mode events entries ks history cover j y.0 q b y.2) in
+    let entry : a.entry ≡ b.entry = same_some a.entry b.entry (sym a.entered ∙ (ap (λ n. slice_get entries n) same.0 ∙ b.entered)) in
+    let doc : b.entry.doc ≡ a.entry.doc = ap (λ e. e.doc) (sym entry) in
+    rank_once (is_of a.entry.doc) ks i j x.0 y.0 x.1 y.1 (passes a.entry.doc x.0 a.doc) (passes a.entry.doc y.0 (b.doc ∙ doc))
+    (same.1 ∙ ap (λ d. rank (is_of d) ks j) doc)

@@ -1,0 +1,86 @@
+-- Laws of covers: what they say of one order of all calls, and what such an order says of covers.
+use Rattle.std.specs.Prelude.{◌≡◌, ◌≢◌, ◌+◌, ℕ, List, [], ◌∷◌, Bool, true, false, Option, Some, None, length, filter, slice_get}
+use Rattle.version_pair.specs.declared.pair.Pair.{Pair}
+use Rattle.doc_register.specs.declared.op.Op.{Op}
+use Rattle.doc_register.specs.declared.op.Op.TheVariants.{Get}
+use Rattle.doc_register.specs.declared.reply.Reply.{Reply as Answer}
+use Rattle.doc_register.specs.declared.reply.Reply.TheVariants.{Conflict}
+use Rattle.doc_register.specs.declared.state.Conflicts.{Conflicts}
+use Rattle.doc_register.specs.declared.state.Conflicts.TheVariants.{Maybe}
+use Rattle.doc_register.specs.Run.{pair_taken}
+use Rattle.history.specs.declared.event.Event.{Event}
+use Rattle.history.specs.Events.{IsCallAt, IsHistory, IsReplyAt, heard_of, is_same, records_of}
+use Rattle.history.specs.Order.{Explains, IsLinearizable, IsPlainlyRight, Placed}
+use Rattle.witness.specs.Laws.{ArePlacedBy}
+use Rattle.witness.specs.Text.{DocPlaces}
+use Rattle.compose.specs.Covers.{AreAllUnpaired, AreCover, HasNoUnpairedCover, IsEntered}
+use Rattle.compose.specs.VerifyFaults.{IsFirstVerifyFault}
+use Rattle.compose.specs.declared.verify_fault.VerifyFault.{VerifyFault}
+
+-- ---- a cover is an order
+
+-- the calls of a document in an order
+abbrev pub part_of_order : List ℕ → List Placed → List Placed
+part_of_order d order = filter (λ p. is_same p.entry.doc d) order
+
+-- how many places the entries have
+abbrev pub places_in : List DocPlaces → ℕ
+places_in [] = 0
+places_in (e ∷ es) = length e.places + places_in es
+
+-- The order has exactly the places of the entries: the calls of each entry's document stand in it as its places tell, and no
+-- others stand in it.
+pub record IsOrderOf (events : List Event) (entries : List DocPlaces) (order : List Placed) : Type 0 where
+  pub placed : (i : ℕ) (e : DocPlaces) → slice_get entries i ≡ Some e
+      → ArePlacedBy (records_of events e.doc) e.places (part_of_order e.doc order)
+  pub entered : (i : ℕ) (p : Placed) → slice_get order i ≡ Some p → IsEntered entries p.entry.doc
+  pub count : length order ≡ places_in entries
+
+-- entries that cover a history make it linearizable, by an order of exactly their places
+abbrev pub CoversExplain : Type 0
+CoversExplain = (mode : Conflicts) (events : List Event) (entries : List DocPlaces) → IsHistory events → AreCover mode events entries
+    → (order : List Placed) × Explains mode events order × IsOrderOf events entries order
+
+-- ---- an order gives a cover
+
+-- whether a call is answered, or takes a pair
+abbrev pub is_kept : Option (ℕ × Answer) → Option Pair → Bool
+is_kept (Some heard) taken = true
+is_kept None (Some q) = true
+is_kept None None = false
+
+-- the calls of the document in an order, without unanswered ones that change nothing
+abbrev pub restricted : List Event → List ℕ → List Placed → List Placed
+restricted events d order =
+    filter (λ p. is_kept (heard_of events p.no) (pair_taken p.entry.reply p.entry.hidden)) (part_of_order d order)
+
+-- An order that explains a history, restricted to each document without its unanswered calls that change nothing, gives
+-- valid places of it, and all of them together are a cover.
+abbrev pub OrdersAreCovers : Type 0
+OrdersAreCovers = (mode : Conflicts) (events : List Event) (order : List Placed) → IsHistory events → Explains mode events order
+    → (entries : List DocPlaces) × AreCover mode events entries
+    × ((i : ℕ) (e : DocPlaces) → slice_get entries i ≡ Some e → ArePlacedBy (records_of events e.doc) e.places (restricted events e.doc order))
+
+-- ---- histories without a cover
+
+-- each write has a reply, under Maybe one other than a conflict
+abbrev pub IsSettled : Conflicts → List Event → Type 0
+IsSettled mode events = (i n h : ℕ) (d : List ℕ) (op : Op) → IsCallAt events i n h d op → op ≢ Get
+    → (k : ℕ) × (r : Answer) × IsReplyAt events k n r × (mode ≡ Maybe → r ≢ Conflict)
+
+-- a settled history that no entries without a given pair cover is not linearizable
+abbrev pub SettledHaveNoOrder : Type 0
+SettledHaveNoOrder = (mode : Conflicts) (events : List Event) → IsHistory events → IsSettled mode events → HasNoUnpairedCover mode events
+    → ¬ IsLinearizable mode events
+
+-- a plainly right history is covered by entries without a given pair
+abbrev pub PlainlyRightAreCovered : Type 0
+PlainlyRightAreCovered = (mode : Conflicts) (events : List Event) → IsHistory events → IsPlainlyRight events
+    → (entries : List DocPlaces) × AreAllUnpaired entries × AreCover mode events entries
+
+-- ---- faults
+
+-- entries that have a first fault are no cover
+abbrev pub FaultyAreNoCover : Type 0
+FaultyAreNoCover = (mode : Conflicts) (events : List Event) (entries : List DocPlaces) (told : VerifyFault)
+    → IsFirstVerifyFault mode events entries told → ¬ AreCover mode events entries

@@ -1,0 +1,61 @@
+-- What the search has found of the documents of a history.
+use Rattle.std.specs.Prelude.{◌≡◌, ℕ, Bool, true, List, [], ◌∷◌, Option, Some, None, Vec, slice_get}
+use Rattle.std.specs.declared.alloc.Global.{Global}
+use Rattle.doc_register.specs.declared.state.Conflicts.{Conflicts}
+use Rattle.history.specs.declared.event.Event.{Event}
+use Rattle.history.specs.Events.{documents_of, records_of}
+use Rattle.witness.specs.declared.place.Place.{Place}
+use Rattle.witness.specs.Places.{AreValid}
+use Rattle.witness.specs.Witness.{Witness}
+use Rattle.doc_check.specs.NoOrders.{AreUnpaired}
+use Rattle.doc_check.specs.Search.{FindsUnpaired, IsAbout}
+use Rattle.doc_check.specs.declared.search.DocAnswer.{DocAnswer}
+use Rattle.compose.specs.Covers.{HasNoUnpairedCover}
+use Rattle.compose.specs.Verdicts.{AreWitnesses}
+
+-- The witness is of the document: it has its records; and, where it is the first that the search gave, it gives no pair where any
+-- places without a given pair are valid for them.
+pub record IsSearched (mode : Conflicts) (events : List Event) (first : Bool) (d : List ℕ) (w : Witness) : Type 0 where
+  pub doc : w.doc ≡ d
+  pub own : w.records ≡ records_of events d
+  pub read : w.conflicts ≡ mode
+  pub valid : AreValid mode (records_of events d) w.places
+  pub unpaired : first ≡ true → (places : List Place) → AreUnpaired places → AreValid mode (records_of events d) places → AreUnpaired w.places
+
+-- the witnesses are of these documents, one by one
+abbrev pub AreSearched : Conflicts → List Event → Bool → List (List ℕ × ℕ) → List Witness → Type 0
+AreSearched mode events first [] [] = Unit {0}
+AreSearched mode events first [] (w ∷ ws) = ⊥
+AreSearched mode events first (d ∷ ds) [] = ⊥
+AreSearched mode events first (d ∷ ds) (w ∷ ws) = IsSearched mode events first d.0 w × AreSearched mode events first ds ws
+
+-- the answer is about the document at this place
+abbrev pub AnswersDocument : Conflicts → List Event → ℕ → DocAnswer → Type 0
+AnswersDocument mode events k answer = (d : List ℕ × ℕ) → slice_get (documents_of events) k ≡ Some d
+    → IsAbout d.0 (records_of events d.0) mode answer × FindsUnpaired mode (records_of events d.0) answer
+
+-- the witnesses are of all documents; where there are none, no entries without a given pair cover the history
+abbrev pub AreFound : Conflicts → List Event → Option (Vec Witness Global) → Type 0
+AreFound mode events None = HasNoUnpairedCover mode events
+AreFound mode events (Some ws) = AreSearched mode events true (documents_of events) ws.items
+
+-- the witnesses cover the history; where there are none, no entries without a given pair do
+abbrev pub IsCovering : Conflicts → List Event → Option (Vec Witness Global) → Type 0
+IsCovering mode events None = HasNoUnpairedCover mode events
+IsCovering mode events (Some ws) = AreWitnesses mode events ws.items
+
+-- ---- other places for the same records
+
+-- the witness has the id and the records of the other, and places that are valid for them
+pub record IsAlike (old new : Witness) : Type 0 where
+  pub doc : new.doc ≡ old.doc
+  pub own : new.records ≡ old.records
+  pub read : new.conflicts ≡ old.conflicts
+  pub valid : AreValid old.conflicts old.records new.places
+
+-- one by one
+abbrev pub AreAlike : List Witness → List Witness → Type 0
+AreAlike [] [] = Unit {0}
+AreAlike [] (w ∷ ws) = ⊥
+AreAlike (v ∷ vs) [] = ⊥
+AreAlike (v ∷ vs) (w ∷ ws) = IsAlike v w × AreAlike vs ws

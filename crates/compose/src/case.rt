@@ -1,0 +1,60 @@
+ghost use Rattle.std.specs.Prelude.{◌≡◌};
+ghost use Rattle.history.specs.Events.{IsHistory};
+ghost use Rattle.compose.specs.Covers.{HasNoUnpairedCover};
+ghost use Rattle.compose.specs.Verdicts.{HasNoOrderFound};
+
+use doc_register::Conflicts;
+use history::History;
+use std::marker::Model;
+
+/// A history for which no order was found.
+///
+/// Its type keeps that no witnesses without a given pair cover the history. So it is not plainly right, and where each
+/// write was answered (under Maybe by another reply than a conflict) no order of its calls explains it.
+#[derive(Debug, Drop)]
+pub struct Case {
+    history: History,
+    conflicts: Conflicts,
+}
+
+impl Model for Case {
+    ghost use Rattle.history.specs.Events.{IsHistory};
+    ghost use Rattle.compose.specs.Covers.{HasNoUnpairedCover};
+    ghost use Rattle.compose.specs.Verdicts.{Unproven};
+
+    ghost Value = { Unproven };
+
+    ghost view = { λ c. record { events = c.history; conflicts = c.conflicts } };
+
+    ghost invariant = { λ c. IsHistory c.history × HasNoUnpairedCover c.conflicts c.history };
+}
+
+impl Case {
+    // The case of a history that no witnesses without a given pair cover.
+    pub(crate) fn of(history: History, conflicts: Conflicts) -> Case
+        requires history { IsHistory history }
+        requires uncovered { HasNoUnpairedCover conflicts history }
+        ensures { result ≡ record { events = history; conflicts = conflicts } }
+    {
+        Case { history, conflicts }
+    }
+
+    /// The history.
+    #[tactic(auto, using(crate::proofs::VerdictLemmas::uncovered_has_none))]
+    pub fn history(&self) -> &History
+        ensures same { result.now ≡ self.now.events }
+        ensures history { IsHistory self.now.events }
+        ensures none { HasNoOrderFound self.now.conflicts self.now.events }
+    {
+        // A look at a field: what the type keeps is known from here on.
+        let _ = &self.conflicts;
+        &self.history
+    }
+
+    /// How a conflict is read.
+    pub fn conflicts(&self) -> Conflicts
+        ensures { result ≡ self.now.conflicts }
+    {
+        self.conflicts
+    }
+}

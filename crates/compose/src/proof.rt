@@ -1,0 +1,91 @@
+ghost use Rattle.std.specs.Prelude.{◌≡◌};
+ghost use Rattle.history.specs.Events.{IsHistory};
+ghost use Rattle.history.specs.Order.{IsLinearizable};
+ghost use Rattle.compose.specs.Verdicts.{AreWitnesses, left_out_of};
+
+use crate::counts::{count_calls, count_places};
+use doc_register::Conflicts;
+use history::History;
+use std::marker::Model;
+use witness::DocWitness;
+
+/// A history with the witnesses of its documents.
+///
+/// Its type keeps that the witnesses cover the history, each document once and no pair of a shard taken twice; so one order
+/// of all its calls explains it.
+#[derive(Debug, Drop)]
+pub struct Proof {
+    history: History,
+    witnesses: Vec<DocWitness>,
+    conflicts: Conflicts,
+}
+
+impl Model for Proof {
+    ghost use Rattle.history.specs.Events.{IsHistory};
+    ghost use Rattle.compose.specs.Verdicts.{AreWitnesses, Proven};
+
+    ghost Value = { Proven };
+
+    ghost view = { λ p. record {
+      events = p.history;
+      witnesses = p.witnesses.items;
+      conflicts = p.conflicts;
+    } };
+
+    ghost invariant = { λ p. IsHistory p.history × AreWitnesses p.conflicts p.history p.witnesses.items };
+}
+
+impl Proof {
+    // The proof of a history that these witnesses cover.
+    pub(crate) fn of(history: History, witnesses: Vec<DocWitness>, conflicts: Conflicts) -> Proof
+        requires history { IsHistory history }
+        requires cover { AreWitnesses conflicts history witnesses.items }
+        ensures { result ≡ record {
+          events = history;
+          witnesses = witnesses.items;
+          conflicts = conflicts;
+        } }
+    {
+        Proof {
+            history,
+            witnesses,
+            conflicts,
+        }
+    }
+
+    /// The history.
+    #[tactic(auto, using(crate::proofs::VerdictLemmas::witnesses_explain))]
+    pub fn history(&self) -> &History
+        ensures same { result.now ≡ self.now.events }
+        ensures history { IsHistory self.now.events }
+        ensures linearizable { IsLinearizable self.now.conflicts self.now.events }
+    {
+        // A look at a field: what the type keeps is known from here on.
+        let _ = &self.conflicts;
+        &self.history
+    }
+
+    /// The witnesses of its documents.
+    pub fn witnesses(&self) -> &[DocWitness]
+        ensures same { result.now ≡ self.now.witnesses }
+        ensures cover { AreWitnesses self.now.conflicts self.now.events self.now.witnesses }
+    {
+        // A look at a field: what the type keeps is known from here on.
+        let _ = &self.conflicts;
+        &self.witnesses
+    }
+
+    /// How many of its calls stand in no place: they are left out of the order.
+    pub fn left_out(&self) -> usize
+        ensures { result ≡ left_out_of self.now }
+    {
+        count_calls(&self.history) - count_places(&self.witnesses)
+    }
+
+    /// How a conflict is read.
+    pub fn conflicts(&self) -> Conflicts
+        ensures { result ≡ self.now.conflicts }
+    {
+        self.conflicts
+    }
+}

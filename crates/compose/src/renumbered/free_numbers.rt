@@ -1,0 +1,78 @@
+use crate::renumbered::gaps::{Gap, Gaps};
+use indexmap::IndexMap;
+use std::alloc::Global;
+use version_pair::{NoMemory, Pair};
+
+/// Which numbers of a shard are taken, each with a number to look on from: all between are taken.
+#[derive(Debug, Drop)]
+pub struct FreeNumbers {
+    next: IndexMap<(u32, Pair), u64>,
+}
+
+impl FreeNumbers {
+    /// All numbers are free.
+    pub fn new(alloc: Global) -> FreeNumbers {
+        FreeNumbers {
+            next: IndexMap::new(alloc),
+        }
+    }
+
+    /// Takes the pair.
+    pub fn take(&mut self, shard: u32, pair: Pair) -> Result<(), NoMemory> {
+        self.next
+            .insert((shard, pair), pair.seq().saturating_add(1))?;
+        Ok(())
+    }
+
+    // The number to look on from, where the pair is taken.
+    fn after(&self, shard: u32, term: u64, seq: u64) -> Option<u64> {
+        let pair = Pair::new(term, seq)?;
+        self.next.get(&(shard, pair)).copied()
+    }
+
+    // The least free number from this one on.
+    fn first(&self, shard: u32, term: u64, from: u64) -> u64 {
+        let mut seq = from;
+        for _ in 0..self.next.len() {
+            match self.after(shard, term, seq) {
+                Some(next) => seq = next,
+                None => return seq,
+            }
+        }
+        seq
+    }
+
+    // Lets the taken numbers on the way from one to the free number point to it.
+    fn point(&mut self, shard: u32, term: u64, from: u64, to: u64) -> Result<(), NoMemory> {
+        let mut seq = from;
+        for _ in 0..self.next.len() {
+            let Some(next) = self.after(shard, term, seq) else {
+                return Ok(());
+            };
+            let Some(pair) = Pair::new(term, seq) else {
+                return Ok(());
+            };
+            self.next.insert((shard, pair), to)?;
+            seq = next;
+        }
+        Ok(())
+    }
+
+    /// The least number from this one on, below the gap's upper end, that is free and that no call of the gap's document
+    /// names.
+    pub fn least(&mut self, gap: &Gap, from: u64, gaps: &Gaps) -> Result<Option<u64>, NoMemory> {
+        let mut start = from;
+        for _ in 0..gaps.names().saturating_add(1) {
+            let seq = self.first(gap.shard, gap.upper.term(), start);
+            self.point(gap.shard, gap.upper.term(), start, seq)?;
+            if seq >= gap.upper.seq() {
+                return Ok(None);
+            }
+            if !gaps.is_named(gap.witness, gap.upper.term(), seq) {
+                return Ok(Some(seq));
+            }
+            start = seq.saturating_add(1);
+        }
+        Ok(None)
+    }
+}

@@ -1,0 +1,167 @@
+use crate::renumbered::free_numbers::FreeNumbers;
+use crate::taken::{pair_of_place, shard_of};
+use doc_register::{Op, Reply};
+use history::{History, Rec};
+use indexmap::IndexSet;
+use std::alloc::Global;
+use version_pair::{NoMemory, Pair};
+use witness::{DocWitness, Place};
+
+/// Places with invented pairs between two other pairs of one term.
+#[derive(Debug, Drop)]
+pub struct Gap {
+    pub shard: u32,
+    /// The number of the witness.
+    pub witness: usize,
+    /// The least number above the lower end.
+    pub from: u64,
+    pub upper: Pair,
+    /// The numbers of the places, in their order.
+    pub places: Vec<usize>,
+}
+
+/// The gaps of all witnesses, and the pairs that calls name.
+#[derive(Debug, Drop)]
+pub struct Gaps {
+    pub list: Vec<Gap>,
+    // The pairs that conditions and gets of a document name, each with the number of its witness.
+    named: IndexSet<(usize, Pair)>,
+}
+
+// The pair that the call names: that of its condition, or the one that it found.
+fn named_by(found: Rec) -> Option<Pair> {
+    match (found.op, found.heard) {
+        (Op::Index { cond, .. } | Op::Delete { cond }, _) => cond,
+        (Op::Get, Some((_, Reply::Found { pair, .. }))) => Some(pair),
+        _ => None,
+    }
+}
+
+// The least number above the pair, where the upper end is of its term. Before the first pair the term counts as 1.
+fn from_above(lower: Option<Pair>, upper: Pair) -> Option<u64> {
+    match lower {
+        Some(pair) => {
+            if pair.term() == upper.term() {
+                Some(pair.seq().saturating_add(1))
+            } else {
+                None
+            }
+        }
+        None => { if upper.term() == 1 { Some(0) } else { None } }
+    }
+}
+
+impl Gaps {
+    /// No gaps.
+    pub fn new(alloc: Global) -> Gaps {
+        Gaps {
+            list: Vec::new(alloc),
+            named: IndexSet::new(alloc),
+        }
+    }
+
+    /// How many pairs are named.
+    pub fn names(&self) -> usize {
+        self.named.len()
+    }
+
+    /// Whether a call of the witness's document names the pair.
+    pub fn is_named(&self, witness: usize, term: u64, seq: u64) -> bool {
+        match Pair::new(term, seq) {
+            Some(pair) => self.named.contains(&(witness, pair)),
+            None => false,
+        }
+    }
+
+    // Notes the pairs that the calls of a document name, where some place of it gives a pair.
+    fn note_names(&mut self, number: usize, witness: &DocWitness) -> Result<(), NoMemory> {
+        if !witness.places().iter().any(|place| place.pair.is_some()) {
+            return Ok(());
+        }
+        for found in witness.records() {
+            if let Some(pair) = named_by(*found) {
+                self.named.insert((number, pair))?;
+            }
+        }
+        Ok(())
+    }
+
+    // Whether the place gives a pair that was invented.
+    fn is_invented(&self, number: usize, place: Place) -> bool {
+        match place.pair {
+            Some(pair) => !self.named.contains(&(number, pair)),
+            None => false,
+        }
+    }
+
+    /// Notes the gaps of a witness, and takes all other pairs of its calls.
+    pub fn note(
+        &mut self,
+        alloc: Global,
+        number: usize,
+        history: &History,
+        witness: &DocWitness,
+        free: &mut FreeNumbers,
+    ) -> Result<(), NoMemory> {
+        let Some(shard) = shard_of(history, witness.id()) else {
+            return Ok(());
+        };
+        self.note_names(number, witness)?;
+        let mut lower = None;
+        let mut invented = Vec::new(alloc);
+        let places = witness.places();
+        for i in 0..places.len() {
+            let Some(pair) = pair_of_place(witness.records(), places[i]) else {
+                continue;
+            };
+            if self.is_invented(number, places[i]) {
+                invented.push((i, pair))?;
+                continue;
+            }
+            free.take(shard, pair)?;
+            self.close(alloc, shard, number, lower, pair, &mut invented, free)?;
+            lower = Some(pair);
+        }
+        for (_, pair) in &invented {
+            free.take(shard, *pair)?;
+        }
+        Ok(())
+    }
+
+    // Closes what was invented before a pair: a gap where the pair before is of its term; else the pairs stay as they are.
+    fn close(
+        &mut self,
+        alloc: Global,
+        shard: u32,
+        number: usize,
+        lower: Option<Pair>,
+        upper: Pair,
+        invented: &mut Vec<(usize, Pair)>,
+        free: &mut FreeNumbers,
+    ) -> Result<(), NoMemory> {
+        match from_above(lower, upper) {
+            Some(from) => {
+                if !invented.is_empty() {
+                    let mut places = Vec::new(alloc);
+                    for (place, _) in invented.iter() {
+                        places.push(*place)?;
+                    }
+                    self.list.push(Gap {
+                        shard,
+                        witness: number,
+                        from,
+                        upper,
+                        places,
+                    })?;
+                }
+            }
+            None => {
+                for (_, pair) in invented.iter() {
+                    free.take(shard, *pair)?;
+                }
+            }
+        }
+        invented.clear();
+        Ok(())
+    }
+}
