@@ -1,0 +1,5 @@
+pub mod JobLemmas
+pub mod Lists
+pub mod MessageLemmas
+pub mod RecordLemmas
+pub mod SlotLemmas

@@ -1,0 +1,14 @@
+-- Which jobs a fault of the pool names.
+use Rattle.std.specs.Prelude.{◌<◌, List, length}
+use Rattle.check_pool.specs.declared.doc_job.DocJob.{DocJob}
+use Rattle.check_pool.specs.declared.pool_fault.PoolFault.{PoolFault}
+use Rattle.check_pool.specs.declared.pool_fault.PoolFault.TheVariants.{NoWorkers, TooMany, Lost, Double, Stranger, NoMemory}
+
+-- a job that is lost, or of which two messages came, is one of the jobs
+abbrev pub NamesJob : List DocJob → PoolFault → Type 0
+NamesJob jobs NoWorkers = Unit {0}
+NamesJob jobs TooMany = Unit {0}
+NamesJob jobs (Lost doc) = doc < length jobs
+NamesJob jobs (Double doc) = doc < length jobs
+NamesJob jobs (Stranger doc) = Unit {0}
+NamesJob jobs NoMemory = Unit {0}

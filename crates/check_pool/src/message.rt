@@ -1,0 +1,126 @@
+ghost use Rattle.std.specs.Prelude.{◌≡◌, ◌↔◌, IfOk, IsTrue};
+ghost use Rattle.check_pool.specs.Answers.{IsAnswerTo};
+ghost use Rattle.check_pool.specs.aids.Messages.{IsAboutJob, IsSearched, id_of, mode_of, records_of};
+
+use crate::doc_job::DocJob;
+use doc_check::{DocAnswer, answer};
+use doc_register::Conflicts;
+use history::Rec;
+use std::alloc::Global;
+use std::marker::Model;
+use version_pair::{DocId, NoMemory};
+
+/// What a worker sends: the number of a job, and an answer.
+///
+/// Its type keeps that the answer is what the search promises for the id, the records and the reading of conflicts that
+/// the answer itself is about.
+#[derive(Debug, Drop)]
+pub struct Message {
+    doc: usize,
+    answer: DocAnswer,
+}
+
+impl Model for Message {
+    ghost use Rattle.check_pool.specs.aids.Messages.{IsSearched, Sent};
+
+    ghost Value = { Sent };
+
+    ghost view = { λ m. record {
+      doc = m.doc;
+      answer = m.answer;
+    } };
+
+    ghost invariant = { λ m. IsSearched m.answer };
+}
+
+// The document that an answer is about.
+fn id(answer: &DocAnswer) -> &DocId
+    ensures { result.now ≡ id_of answer.now }
+{
+    match answer {
+        DocAnswer::Found(witness) => witness.id(),
+        DocAnswer::NotFound(none) => none.id(),
+    }
+}
+
+// The records that it is about.
+fn records(answer: &DocAnswer) -> &[Rec]
+    ensures { result.now ≡ records_of answer.now }
+{
+    match answer {
+        DocAnswer::Found(witness) => witness.records(),
+        DocAnswer::NotFound(none) => none.records(),
+    }
+}
+
+// The reading of conflicts that it is about.
+fn conflicts(answer: &DocAnswer) -> Conflicts
+    ensures { result ≡ mode_of answer.now }
+{
+    match answer {
+        DocAnswer::Found(witness) => witness.conflicts(),
+        DocAnswer::NotFound(none) => none.conflicts(),
+    }
+}
+
+// Whether two ids are one.
+fn is_same(id: &DocId, other: &DocId) -> bool
+    ensures { IsTrue result ↔ (id.now ≡ other.now) }
+{
+    id == other
+}
+
+// Whether the records are the same, in the same order.
+fn are_same(records: &[Rec], others: &[Rec]) -> bool
+    ensures { IsTrue result ↔ (records.now ≡ others.now) }
+{
+    records == others
+}
+
+// Whether the readings of conflicts are one.
+fn is_same_reading(conflicts: Conflicts, other: Conflicts) -> bool
+    ensures { IsTrue result ↔ (conflicts ≡ other) }
+{
+    conflicts == other
+}
+
+impl Message {
+    /// What the search of the job answers, under the job's number.
+    pub fn of(alloc: Global, job: &DocJob) -> Result<Message, NoMemory>
+        ensures number { IfOk result (λ m. m.doc ≡ job.now.doc) }
+        ensures answer { IfOk result (λ m. IsAnswerTo job.now m.answer) }
+    {
+        let id = job.id.copy()?;
+        let recs = Vec::from_slice(alloc, &job.recs)?;
+        let answer = answer(alloc, id, recs, job.seen, job.conflicts)?;
+        Ok(Message {
+            doc: job.doc,
+            answer,
+        })
+    }
+
+    /// The number of the job.
+    pub fn doc(&self) -> usize
+        ensures { result ≡ self.now.doc }
+    {
+        self.doc
+    }
+
+    /// Whether the answer is about the id, the records and the reading of conflicts of the job.
+    pub fn is_about(&self, job: &DocJob) -> bool
+        ensures { IsTrue result ↔ IsAboutJob job.now self.now.answer }
+    {
+        is_same(id(&self.answer), &job.id)
+            && are_same(records(&self.answer), &job.recs)
+            && is_same_reading(conflicts(&self.answer), job.conflicts)
+    }
+
+    /// The answer.
+    pub fn into_answer(self) -> DocAnswer
+        ensures same { result ≡ self.answer }
+        ensures searched { IsSearched result }
+    {
+        let Message { answer, .. } = self;
+        answer
+    }
+}

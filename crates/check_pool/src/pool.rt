@@ -1,0 +1,97 @@
+ghost use Rattle.std.specs.Prelude.{◌≡◌, ◌<◌, ◌≤◌, ◌↔◌, length, IfErr, IfOk, IsErrOf, IsOk};
+ghost use Rattle.check_pool.specs.Answers.{AreAnswers, AreNumbered};
+ghost use Rattle.check_pool.specs.Faults.{NamesJob};
+
+use crate::collector::collect;
+use crate::doc_job::DocJob;
+use crate::gate::Gate;
+use crate::message::Message;
+use crate::pool_fault::PoolFault;
+use crate::worker::work;
+use crossbeam_channel::{Receiver, Sender};
+use doc_check::DocAnswer;
+use std::alloc::Global;
+use std::sync::Wait;
+use std::thread;
+use std::thread::Threads;
+use version_pair::NoMemory;
+
+// The most workers.
+const MOST_WORKERS: usize = 16;
+
+// Runs the workers until each has ended. True where one was refused memory.
+fn run_workers<R: Threads + Wait + Sync, G: Gate + Sync>(
+    rt: &R,
+    alloc: Global,
+    jobs: &[DocJob],
+    workers: usize,
+    gate: &G,
+    sender: Sender<Message>,
+) -> bool
+    requires { 0 < workers }
+{
+    let to = &sender;
+    let ends = thread::map_indices(
+        rt,
+        alloc,
+        workers,
+        &|worker| { work(rt, alloc, jobs, worker, workers, gate, to) },
+    );
+    match ends {
+        Ok(ends) => ends.iter().any(|end| end.is_err()),
+        Err(_) => true,
+    }
+}
+
+// Takes in all messages that were sent, once each sender is gone.
+fn receive(
+    rt: &impl Wait,
+    receiver: &Receiver<Message>,
+    messages: &mut Vec<Message>,
+) -> Result<(), NoMemory> {
+    for _ in rt.forever() {
+        let Ok(message) = receiver.recv(rt) else {
+            break;
+        };
+        messages.push(message)?;
+    }
+    Ok(())
+}
+
+/// The answers of the jobs, in the order of the jobs, searched by at most this many workers, 1 to 16, each on a thread of
+/// its own where one can be made. Worker `w` takes the jobs whose number leaves `w` when divided by the number of workers,
+/// which is no greater than the number of jobs; it passes the gate before each.
+///
+/// A worker searches a copy of the job's records: what comes back is compared with the job itself.
+///
+/// `NoWorkers` and `TooMany` are told first. Then `Stranger` and `Double`, as the messages of the workers come; `NoMemory`,
+/// where a growth was refused, in a worker too; `Lost`, with the least number. It returns only if each call of the gate does.
+pub fn answers<R: Threads + Wait + Sync, G: Gate + Sync>(
+    rt: &R,
+    alloc: Global,
+    jobs: Vec<DocJob>,
+    workers: usize,
+    gate: &G,
+) -> Result<Vec<DocAnswer>, PoolFault>
+    requires { AreNumbered jobs.items }
+    ensures ok { IfOk result (λ answers. AreAnswers jobs.items answers.items) }
+    ensures no_workers { IsErrOf result PoolFault.NoWorkers ↔ (workers ≡ 0) }
+    ensures too_many { IsErrOf result PoolFault.TooMany ↔ (16 < workers) }
+    ensures named { IfErr result (NamesJob jobs.items) }
+    ensures no_jobs { length jobs.items ≡ 0 → 0 < workers → workers ≤ 16 → IsOk result }
+{
+    if workers == 0 {
+        return Err(PoolFault::NoWorkers);
+    }
+    if workers > MOST_WORKERS {
+        return Err(PoolFault::TooMany);
+    }
+    if jobs.is_empty() {
+        return Ok(Vec::new(alloc));
+    }
+    let (sender, receiver) = crossbeam_channel::unbounded(alloc)?;
+    let in_worker = run_workers(rt, alloc, &jobs, workers.min(jobs.len()), gate, sender);
+    let mut messages = Vec::new(alloc);
+    let at_receiver = receive(rt, &receiver, &mut messages).is_err();
+    collect(alloc, &jobs, messages, in_worker || at_receiver)
+}

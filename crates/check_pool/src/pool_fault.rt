@@ -1,0 +1,31 @@
+ghost use Rattle.std.specs.Prelude.{◌≡◌};
+
+use std::alloc::AllocError;
+
+/// Why the jobs have no answers. Jobs are numbered from 0.
+#[derive(Clone, Copy, Debug, PartialEq, Eq)]
+pub enum PoolFault {
+    /// There are no workers.
+    NoWorkers,
+    /// There are more than 16 workers.
+    TooMany,
+    /// No message came of this job, the first of those without one.
+    Lost(usize),
+    /// A second message came of this job.
+    Double(usize),
+    /// A message came whose number is no job's, or whose answer is about another id, other records or another reading
+    /// of conflicts than the job of this number.
+    Stranger(usize),
+    /// A growth was refused memory.
+    NoMemory,
+}
+
+impl From<AllocError> for PoolFault {
+    ghost use Rattle.check_pool.specs.declared.pool_fault.PoolFault.TheVariants.{NoMemory as Refused};
+
+    ghost from_gives = { λ _ fault. fault ≡ Refused };
+
+    fn from(_refused: AllocError) -> PoolFault {
+        PoolFault::NoMemory
+    }
+}
