@@ -11,7 +11,6 @@ use Rattle.history.specs.Events.{IsHistory, IsReplyAt, PassesAt, documents_of, i
 use Rattle.history.specs.Order.{Explains, IsOfCall, Placed, Respects, answered_by, call_with, placed_with, reply_order, run_of}
 use Rattle.history.proofs.ListLemmas.{IsMadeAt, compare, kept_at, kept_in_order, made_in_order, made_of, none_is_not_some, same_some}
 use Rattle.history.proofs.EventLemmas.{passes_element, place_of-passes, place_of-some}
-use Rattle.history.proofs.DocumentLemmas.{no_call}
 use Rattle.history.proofs.HistoryLemmas.{answered_call, reply_passes}
 
 -- ---- the calls that replies answer
@@ -120,17 +119,4 @@ reply_order_explains mode H history legal = record {
   };
   respects = respects H history;
   legal = legal;
-}
-
--- a history without a document is explained by the order of no call
-pub explains_none : (mode : Conflicts) (H : List Event) → IsHistory H → documents_of H ≡ [] → Explains mode H []
-explains_none mode H history none = record {
-  is_order = record {
-    calls = λ i p at. absurd (none_is_not_some p at);
-    once = λ i j p q at bt same. absurd (none_is_not_some p at);
-    answered = λ k n r at. let c = answered_call H history k n r at in absurd (no_call H none c.0 n c.1 c.2 c.3 c.4);
-    plain = λ mode_is i p at. absurd (none_is_not_some p at);
-  };
-  respects = λ i j p q at bt first. absurd (none_is_not_some p at);
-  legal = (start, refl);
 }

@@ -4,4 +4,3 @@ mod DocumentsLemmas
 mod WriteLemmas
 mod RoundTrip
 pub mod PlaceLemmas
-pub mod OneDocument
