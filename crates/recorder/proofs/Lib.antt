@@ -1,0 +1,4 @@
+mod NoteLemmas
+mod MergeLemmas
+mod AnswerLemmas
+mod RecordingLaws

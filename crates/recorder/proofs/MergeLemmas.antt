@@ -1,0 +1,78 @@
+-- Merging strands: the entries that were met are, in some order, the events with their places.
+use Rattle.std.proofs.Common.{ℕ, zero, suc, ◌≡◌, ◌+◌, List, [], ◌∷◌, ◌++◌, length, refl, sym, ap, subst, ◌∙◌, arith, add-zero, Some, None, slice_get, All, take, add-one, length-take, ◌<◌, Bool, true, false, get_or, ◌≤◌}
+use Rattle.std.specs.Prelude.{nat_lt, slice_set}
+use Rattle.std.specs.List.{enumerate_from}
+use Rattle.std.specs.List.Sorted.{IsPermutation}
+use Rattle.std.proofs.lemmas.List.{append-nil}
+use Rattle.std.proofs.lemmas.List.Elements.{All-head, All-tail}
+use Rattle.std.proofs.lemmas.Bool.{ltb-false, ltb-true}
+use Rattle.std.proofs.lemmas.Option.{slice_get-get_or, slice_get_within}
+use Rattle.std.proofs.lemmas.List.Sorted.{IsPermutation-append_right, IsPermutation-middle, IsPermutation-pop_more, IsPermutation-refl, IsPermutation-trans}
+use Rattle.history.specs.declared.event.Event.{Event}
+use Rattle.history.specs.Events.{HasShard}
+use Rattle.recorder.specs.Recordings.{IsRecordingOf, entries_of}
+
+-- one strand's first entry is taken out of all
+pub entries_taken : (lists : List (List (ℕ × Event))) (i : ℕ) (x : ℕ × Event) (rest : List (ℕ × Event)) → slice_get lists i ≡ Some (x ∷ rest)
+    → IsPermutation (entries_of lists) (x ∷ entries_of (slice_set lists i rest))
+entries_taken [] i x rest at = let impossible : None ≡ Some (x ∷ rest) = at in absurd (cc)
+entries_taken (l ∷ ls) zero x rest at =
+    let first : l ≡ x ∷ rest = (let same : Some l ≡ Some (x ∷ rest) = at in cc) in
+    let P : List (ℕ × Event) → Type 0 = λ m. IsPermutation (m ++ entries_of ls) (x ∷ (rest ++ entries_of ls)) in
+    subst P (sym first) (IsPermutation-refl (x ∷ (rest ++ entries_of ls)))
+entries_taken (l ∷ ls) (suc i) x rest at =
+    IsPermutation-trans (l ++ entries_of ls) (l ++ (x ∷ entries_of (slice_set ls i rest))) (x ∷ (l ++ entries_of (slice_set ls i rest)))
+    (IsPermutation-append_right l (entries_of ls) (x ∷ entries_of (slice_set ls i rest)) (entries_taken ls i x rest at))
+    (IsPermutation-middle l x (entries_of (slice_set ls i rest)))
+
+-- strands of which each is empty have no entry
+pub entries_none : (lists : List (List (ℕ × Event))) → All (λ list. list ≡ []) lists → entries_of lists ≡ []
+entries_none [] none = refl
+entries_none (l ∷ ls) none =
+    ap (λ m. m ++ entries_of ls) (All-head (λ list. list ≡ []) l ls none)
+    ∙ entries_none ls (All-tail (λ list. list ≡ []) l ls none)
+
+enumerate_more : (n : ℕ) (events : List Event) (e : Event) → enumerate_from n (events ++ e ∷ []) ≡ enumerate_from n events ++ (n + length events, e) ∷ []
+enumerate_more n [] e = ap (λ k. (k, e) ∷ []) (sym (add-zero n))
+enumerate_more n (x ∷ xs) e =
+    ap (λ rest. (n, x) ∷ rest)
+    (enumerate_more (n + 1) xs e ∙ ap (λ k. enumerate_from (n + 1) xs ++ (k, e) ∷ []) (omega arith))
+
+taken_more : (events : List Event) (i : ℕ) (e : Event) → slice_get events i ≡ Some e → take (suc i) events ≡ take i events ++ e ∷ []
+taken_more [] i e at = let impossible : None ≡ Some e = at in absurd (cc)
+taken_more (x ∷ xs) zero e at = let same : x ≡ e = (let both : Some x ≡ Some e = at in cc) in ap (λ y. y ∷ []) same
+taken_more (x ∷ xs) (suc i) e at = ap (λ rest. x ∷ rest) (taken_more xs i e at)
+
+-- what was met grows by one event, and what is left shrinks by its entry
+pub met_one_more : (all left rest : List (ℕ × Event)) (events : List Event) (i : ℕ) (e : Event) → slice_get events i ≡ Some e
+    → IsPermutation all (enumerate_from 0 (take i events) ++ left) → IsPermutation left ((i, e) ∷ rest)
+    → IsPermutation all (enumerate_from 0 (take (i + 1) events) ++ rest)
+met_one_more all left rest events i e at met taken =
+    let within : i < length events = slice_get_within events i e at in
+    let place : 0 + length (take i events) ≡ i = simp length-take (omega arith) in
+    let next : take (i + 1) events ≡ take i events ++ e ∷ [] = ap (λ n. take n events) (add-one i) ∙ taken_more events i e at in
+    let grown : enumerate_from 0 (take (i + 1) events) ≡ enumerate_from 0 (take i events) ++ (i, e) ∷ [] =
+    ap (enumerate_from 0) next ∙ (enumerate_more 0 (take i events) e ∙ ap (λ k. enumerate_from 0 (take i events) ++ (k, e) ∷ []) place) in
+    let P : List (ℕ × Event) → Type 0 = λ m. IsPermutation all (m ++ rest) in
+    subst P (sym grown) (IsPermutation-pop_more all (enumerate_from 0 (take i events)) left rest (i, e) met taken)
+
+-- where nothing is left, all was met
+pub all_met : (lists : List (List (ℕ × Event))) (left : List (ℕ × Event)) (events : List Event)
+    → IsPermutation (entries_of lists) (enumerate_from 0 events ++ left) → left ≡ [] → IsRecordingOf lists events
+all_met lists left events met none =
+    let end : enumerate_from 0 events ++ left ≡ enumerate_from 0 events = ap (λ m. enumerate_from 0 events ++ m) none ∙ append-nil (enumerate_from 0 events) in
+    subst (IsPermutation (entries_of lists)) end met
+
+-- each event up to a place names a shard, and so does the one that stands there
+pub shards_more : (events : List Event) (i : ℕ) (e : Event) → slice_get events i ≡ Some e → HasShard e
+    → ((k : ℕ) (d : Event) → k < i → HasShard (get_or events k d)) → (k : ℕ) (d : Event) → k < i + 1 → HasShard (get_or events k d)
+shards_more events i e at here before k d below = by_test (nat_lt k i) refl where
+  last : k ≡ i → HasShard (get_or events k d)
+  last same =
+      let within : i < length events = slice_get_within events i e at in
+      let read : get_or events i d ≡ e = (let both : Some (get_or events i d) ≡ Some e = sym (slice_get-get_or events i d within) ∙ at in cc) in
+      subst HasShard (sym (ap (λ n. get_or events n d) same ∙ read)) here
+
+  by_test : (b : Bool) → nat_lt k i ≡ b → HasShard (get_or events k d)
+  by_test true is = before k d (ltb-true k i is)
+  by_test false is = last (let up : i ≤ k = ltb-false k i is in omega arith)

@@ -1,0 +1,244 @@
+-- What a pen notes stays right where an entry is added.
+use Rattle.std.proofs.Common.{ℕ, suc, ◌≡◌, ◌<◌, ◌≤◌, List, [], ◌∷◌, ◌++◌, refl, sym, ap, subst, ◌∙◌, arith, Option, Some, None, slice_get, All, Bool, true, false}
+use Rattle.std.specs.Prelude.{◌==◌, ◌||◌, AllPairs, cond, if◌then◌else◌, option_and_then, option_map}
+use Rattle.std.specs.List.{list_any}
+use Rattle.std.specs.Map.{lookup}
+use Rattle.std.specs.Option.{option_map_or}
+use Rattle.std.proofs.lemmas.Bool.{eqb-true}
+use Rattle.std.proofs.lemmas.List.Elements.{All-head, All-tail, All-push}
+use Rattle.std.proofs.lemmas.List.Folds.{list_any-append}
+use Rattle.std.proofs.lemmas.List.Quantifiers.{all_pairs_push}
+use Rattle.doc_register.specs.declared.op.Op.{Op}
+use Rattle.doc_register.specs.Register.{fits}
+use Rattle.history.specs.declared.event.Event.{Event}
+use Rattle.history.specs.declared.event.Event.TheVariants.{Call, Reply, Lost}
+use Rattle.history.specs.Events.{is_call, is_ending, place_of}
+use Rattle.history.specs.Refusal.{op_named, op_of}
+use Rattle.recorder.specs.declared.fault.RecFault.{RecFault}
+use Rattle.recorder.specs.declared.fault.RecFault.TheVariants.{NotMine, Ended, Kind}
+use Rattle.recorder.specs.declared.own_call.OwnCall.{OwnCall}
+use Rattle.recorder.specs.declared.unnumbered.Unnumbered.{Unnumbered}
+use Rattle.recorder.specs.declared.unnumbered.Unnumbered.TheVariants as bare
+use Rattle.recorder.specs.Pens.{events_in, is_ended, refusal_of}
+use Rattle.recorder.specs.aids.Notes.{AreNoted, IsEntryAt, IsNotedAt, NotesEvent, numbered, own_call_of}
+
+-- ---- the operation of a call, entry by entry
+
+-- the first of two values that is there
+abbrev first_of_two : Option Op → Option Op → Option Op
+first_of_two None o = o
+first_of_two (Some op) o = Some op
+
+-- the operation of the call numbered n, where the event is that call
+abbrev op_if : ℕ → Event → Option Op
+op_if n e = if is_call n e then op_named e else None
+
+op_of-cons : (e : Event) (es : List Event) (n : ℕ) → op_of (e ∷ es) n ≡ first_of_two (op_if n e) (op_of es n)
+op_of-cons (Call m h d op) es n = by_number (m == n) refl where
+  later : (o : Option ℕ) → option_and_then op_named (option_and_then (slice_get (Call m h d op ∷ es)) (option_map suc o))
+      ≡ option_and_then op_named (option_and_then (slice_get es) o)
+  later None = refl
+  later (Some i) = refl
+
+  by_number : (b : Bool) → (m == n) ≡ b
+      → option_and_then op_named (option_and_then (slice_get (Call m h d op ∷ es)) (if b then Some 0 else option_map suc (place_of (is_call n) es)))
+      ≡ first_of_two (if b then Some op else None) (op_of es n)
+  by_number true is = refl
+  by_number false is = later (place_of (is_call n) es)
+op_of-cons (Reply m r) es n = later (place_of (is_call n) es) where
+  later : (o : Option ℕ) → option_and_then op_named (option_and_then (slice_get (Reply m r ∷ es)) (option_map suc o))
+      ≡ option_and_then op_named (option_and_then (slice_get es) o)
+  later None = refl
+  later (Some i) = refl
+op_of-cons (Lost m) es n = later (place_of (is_call n) es) where
+  later : (o : Option ℕ) → option_and_then op_named (option_and_then (slice_get (Lost m ∷ es)) (option_map suc o))
+      ≡ option_and_then op_named (option_and_then (slice_get es) o)
+  later None = refl
+  later (Some i) = refl
+
+first_assoc : (a b c : Option Op) → first_of_two a (first_of_two b c) ≡ first_of_two (first_of_two a b) c
+first_assoc None b c = refl
+first_assoc (Some op) b c = refl
+
+op_of-snoc : (list : List (ℕ × Event)) (x : ℕ × Event) (n : ℕ) → op_of (events_in (list ++ x ∷ [])) n ≡ first_of_two (op_of (events_in list) n) (op_if n x.1)
+op_of-snoc [] x n = op_of-cons x.1 [] n ∙ last (op_if n x.1) where
+  last : (o : Option Op) → first_of_two o None ≡ o
+  last None = refl
+  last (Some op) = refl
+op_of-snoc (e ∷ es) x n =
+    op_of-cons e.1 (events_in (es ++ x ∷ [])) n
+    ∙ (ap (first_of_two (op_if n e.1)) (op_of-snoc es x n)
+    ∙ (first_assoc (op_if n e.1) (op_of (events_in es) n) (op_if n x.1)
+    ∙ ap (λ o. first_of_two o (op_if n x.1)) (sym (op_of-cons e.1 (events_in es) n))))
+
+events_in-snoc : (list : List (ℕ × Event)) (x : ℕ × Event) → events_in (list ++ x ∷ []) ≡ events_in list ++ x.1 ∷ []
+events_in-snoc [] x = refl
+events_in-snoc (e ∷ es) x = ap (λ es. e.1 ∷ es) (events_in-snoc es x)
+
+is_ended-snoc : (list : List (ℕ × Event)) (x : ℕ × Event) (n : ℕ) → is_ended (list ++ x ∷ []) n ≡ (is_ended list n || is_ending n x.1)
+is_ended-snoc list x n =
+    ap (list_any (is_ending n)) (events_in-snoc list x)
+    ∙ (list_any-append (is_ending n) (events_in list) (x.1 ∷ []) ∙ ap (λ b. is_ended list n || b) (or_false (is_ending n x.1))) where
+      or_false : (b : Bool) → (b || false) ≡ b
+      or_false true = refl
+      or_false false = refl
+
+-- ---- a number above all in the list is in no entry
+
+abbrev AreFormed : List (ℕ × Event) → Type 0
+AreFormed list = All (λ entry. IsEntryAt entry.0 entry.1) list
+
+abbrev AreBelow : List (ℕ × Event) → ℕ → Type 0
+AreBelow list k = All (λ entry. entry.0 < k) list
+
+other : (m n k : ℕ) → m ≤ n → n < k → (m == k) ≡ false
+other m n k up below = by_test (m == k) refl where
+  by_test : (b : Bool) → (m == k) ≡ b → b ≡ false
+  by_test true is = let same : m ≡ k = eqb-true m k is in absurd (omega arith)
+  by_test false is = refl
+
+no_op : (n k : ℕ) (e : Event) → IsEntryAt n e → n < k → op_if k e ≡ None
+no_op n k (Call m h d op) formed below = ap (λ b. if b then Some op else None) (other m n k (let same : m ≡ n = formed.0 in omega arith) below)
+no_op n k (Reply m r) formed below = refl
+no_op n k (Lost m) formed below = refl
+
+no_ending : (n k : ℕ) (e : Event) → IsEntryAt n e → n < k → is_ending k e ≡ false
+no_ending n k (Call m h d op) formed below = refl
+no_ending n k (Reply m r) formed below = other m n k (omega arith) below
+no_ending n k (Lost m) formed below = other m n k (omega arith) below
+
+uncalled : (list : List (ℕ × Event)) (k : ℕ) → AreFormed list → AreBelow list k → op_of (events_in list) k ≡ None
+uncalled [] k formed below = refl
+uncalled (e ∷ es) k formed below =
+    let here : op_if k e.1 ≡ None = no_op e.0 k e.1 (All-head (λ entry. IsEntryAt entry.0 entry.1) e es formed) (All-head (λ entry. entry.0 < k) e es below) in
+    op_of-cons e.1 (events_in es) k
+    ∙ (ap (λ o. first_of_two o (op_of (events_in es) k)) here
+    ∙ uncalled es k (All-tail (λ entry. IsEntryAt entry.0 entry.1) e es formed) (All-tail (λ entry. entry.0 < k) e es below))
+
+unended : (list : List (ℕ × Event)) (k : ℕ) → AreFormed list → AreBelow list k → is_ended list k ≡ false
+unended [] k formed below = refl
+unended (e ∷ es) k formed below =
+    let here : is_ending k e.1 ≡ false = no_ending e.0 k e.1 (All-head (λ entry. IsEntryAt entry.0 entry.1) e es formed) (All-head (λ entry. entry.0 < k) e es below) in
+    ap (λ b. b || is_ended es k) here
+    ∙ unended es k (All-tail (λ entry. IsEntryAt entry.0 entry.1) e es formed) (All-tail (λ entry. entry.0 < k) e es below)
+
+-- a call in the list has a number below one that is above all
+called_below : (list : List (ℕ × Event)) (k m : ℕ) (op : Op) → AreFormed list → AreBelow list k → op_of (events_in list) m ≡ Some op → m < k
+called_below [] k m op formed below called = let impossible : None ≡ Some op = called in absurd (cc)
+called_below (e ∷ es) k m op formed below called =
+    by_entry e.1 (op_if m e.1) refl (All-head (λ entry. IsEntryAt entry.0 entry.1) e es formed)
+    (λ found. called_below es k m op (All-tail (λ entry. IsEntryAt entry.0 entry.1) e es formed) (All-tail (λ entry. entry.0 < k) e es below) found)
+    (sym (op_of-cons e.1 (events_in es) m) ∙ called) where
+      by_call : (n : ℕ) (o : Op) (b : Bool) → (n == m) ≡ b → n ≡ e.0 → (if b then Some o else None) ≡ Some op → m < k
+      by_call n o true is same some =
+          let number : n ≡ m = eqb-true n m is in
+          let first : e.0 < k = All-head (λ entry. entry.0 < k) e es below in omega arith
+      by_call n o false is same some = let impossible : None ≡ Some op = some in absurd (cc)
+
+      by_event : (x : Event) → IsEntryAt e.0 x → op_if m x ≡ Some op → m < k
+      by_event (Call n h d o) formed some = by_call n o (n == m) refl formed.0 some
+      by_event (Reply n r) formed some = let impossible : None ≡ Some op = some in absurd (cc)
+      by_event (Lost n) formed some = let impossible : None ≡ Some op = some in absurd (cc)
+
+      by_entry : (x : Event) (o : Option Op) → op_if m x ≡ o → IsEntryAt e.0 x → (op_of (events_in es) m ≡ Some op → m < k) → first_of_two o (op_of (events_in es) m) ≡ Some op → m < k
+      by_entry x None is entry later found = later found
+      by_entry x (Some o) is entry later found = by_event x entry (is ∙ found)
+
+-- ---- what is noted
+
+abbrev own : Option Op → Bool → Option OwnCall
+own o b = option_map (λ op. record { op = op; is_ended = b }) o
+
+own-snoc : (list : List (ℕ × Event)) (x : ℕ × Event) (n : ℕ)
+    → own_call_of (list ++ x ∷ []) n ≡ own (first_of_two (op_of (events_in list) n) (op_if n x.1)) (is_ended list n || is_ending n x.1)
+own-snoc list x n =
+    ap (λ o. own o (is_ended (list ++ x ∷ []) n)) (op_of-snoc list x n)
+    ∙ ap (own (first_of_two (op_of (events_in list) n) (op_if n x.1))) (is_ended-snoc list x n)
+
+no_more : (o : Option Op) → first_of_two o None ≡ o
+no_more None = refl
+no_more (Some op) = refl
+
+never : (b : Bool) → (b || false) ≡ b
+never true = refl
+never false = refl
+
+always : (b : Bool) → (b || true) ≡ true
+always true = refl
+always false = refl
+
+found_after_call : (list : List (ℕ × Event)) (old new : List (ℕ × OwnCall)) (k : ℕ) (d : List ℕ) (op : Op)
+    → AreNoted list old → AreBelow list k → IsNotedAt k (record { op = op; is_ended = false }) old new
+    → (n : ℕ) → lookup (◌==◌ n) new ≡ own_call_of (list ++ (k, Call k 0 d op) ∷ []) n
+found_after_call list old new k d op noted below at n =
+    at n ∙ (by_number (k == n) refl ∙ sym (own-snoc list (k, Call k 0 d op) n)) where
+      by_number : (b : Bool) → (k == n) ≡ b
+          → cond b (Some (record { op = op; is_ended = false })) (lookup (◌==◌ n) old)
+          ≡ own (first_of_two (op_of (events_in list) n) (if b then Some op else None)) (is_ended list n || false)
+      by_number true is =
+          let number : k ≡ n = eqb-true k n is in
+          let bare : op_of (events_in list) n ≡ None = subst (λ m. op_of (events_in list) m ≡ None) number (uncalled list k noted.formed below) in
+          let open_ : is_ended list n ≡ false = subst (λ m. is_ended list m ≡ false) number (unended list k noted.formed below) in
+          sym (ap (λ o. own (first_of_two o (Some op)) (is_ended list n || false)) bare ∙ ap (λ b. own (Some op) (b || false)) open_)
+      by_number false is =
+          noted.found n ∙ sym (ap (λ o. own o (is_ended list n || false)) (no_more (op_of (events_in list) n)) ∙ ap (own (op_of (events_in list) n)) (never (is_ended list n)))
+
+-- an ending of the call numbered m
+record Ends (m : ℕ) (e : Event) : Type 0 where
+  pub no_call : (n : ℕ) → op_if n e ≡ None
+  pub ending : (n : ℕ) → is_ending n e ≡ (m == n)
+
+found_after_ending : (list : List (ℕ × Event)) (old new : List (ℕ × OwnCall)) (k m : ℕ) (e : Event) (op : Op)
+    → AreNoted list old → Ends m e → op_of (events_in list) m ≡ Some op → IsNotedAt m (record { op = op; is_ended = true }) old new
+    → (n : ℕ) → lookup (◌==◌ n) new ≡ own_call_of (list ++ (k, e) ∷ []) n
+found_after_ending list old new k m e op noted ends called at n =
+    at n ∙ (by_number (m == n) refl ∙ (sym (tidy ∙ ap (λ b. own (op_of (events_in list) n) (is_ended list n || b)) (ends.ending n)) ∙ sym (own-snoc list (k, e) n))) where
+      tidy : own (first_of_two (op_of (events_in list) n) (op_if n e)) (is_ended list n || is_ending n e) ≡ own (op_of (events_in list) n) (is_ended list n || is_ending n e)
+      tidy = ap (λ o. own (first_of_two (op_of (events_in list) n) o) (is_ended list n || is_ending n e)) (ends.no_call n)
+          ∙ ap (λ o. own o (is_ended list n || is_ending n e)) (no_more (op_of (events_in list) n))
+
+      by_number : (b : Bool) → (m == n) ≡ b
+          → cond b (Some (record { op = op; is_ended = true })) (lookup (◌==◌ n) old) ≡ own (op_of (events_in list) n) (is_ended list n || b)
+      by_number true is =
+          let number : m ≡ n = eqb-true m n is in
+          let here : op_of (events_in list) n ≡ Some op = subst (λ q. op_of (events_in list) q ≡ Some op) number called in
+          sym (ap (λ o. own o (is_ended list n || true)) here ∙ ap (own (Some op)) (always (is_ended list n)))
+      by_number false is = noted.found n ∙ ap (own (op_of (events_in list) n)) (sym (never (is_ended list n)))
+
+-- ---- all together
+
+rising_more : (list : List (ℕ × Event)) (k : ℕ) (e : Event) → AllPairs (λ x y. x.0 < y.0) list → AreBelow list k → AllPairs (λ x y. x.0 < y.0) (list ++ (k, e) ∷ [])
+rising_more list k e rising below = all_pairs_push (λ (x y : ℕ × Event). x.0 < y.0) list (k, e) rising below
+
+after_ending : (list : List (ℕ × Event)) (old new : List (ℕ × OwnCall)) (k m : ℕ) (e : Event) (op : Op)
+    → AreNoted list old → AreBelow list k → Ends m e → (m < k → IsEntryAt k e) → op_of (events_in list) m ≡ Some op
+    → ((call : OwnCall) → lookup (◌==◌ m) old ≡ Some call → IsNotedAt m (record call { is_ended = true }) old new)
+    → AreNoted (list ++ (k, e) ∷ []) new
+after_ending list old new k m e op noted below ends formed called at =
+    let was : lookup (◌==◌ m) old ≡ Some (record { op = op; is_ended = is_ended list m }) = noted.found m ∙ ap (λ o. own o (is_ended list m)) called in
+    record {
+      rising = rising_more list k e noted.rising below;
+      formed = All-push (λ entry. IsEntryAt entry.0 entry.1) list (k, e) noted.formed (formed (called_below list k m op noted.formed below called));
+      found = found_after_ending list old new k m e op noted ends called (at (record { op = op; is_ended = is_ended list m }) was);
+    }
+
+-- a call whose ending isn't refused is in the list
+called_reply : (o : Option Op) (b : Bool) (r : Op → Option RecFault) → option_map_or (λ op. if b then Some Ended else r op) o (Some NotMine) ≡ None → (op : Op) × (o ≡ Some op)
+called_reply None b r accepted = let impossible : Some NotMine ≡ None = accepted in absurd (cc)
+called_reply (Some op) b r accepted = (op, refl)
+
+-- the notes are right after an event that the list doesn't refuse
+pub noted_after : (list : List (ℕ × Event)) (old new : List (ℕ × OwnCall)) (k : ℕ) (event : Unnumbered)
+    → AreNoted list old → All (λ entry. entry.0 < k) list → refusal_of list (numbered event k) ≡ None → NotesEvent event k old new
+    → AreNoted (list ++ (k, numbered event k) ∷ []) new
+noted_after list old new k (bare.Call d op) noted below accepted at = record {
+  rising = rising_more list k (Call k 0 d op) noted.rising below;
+  formed = All-push (λ entry. IsEntryAt entry.0 entry.1) list (k, Call k 0 d op) noted.formed (refl, refl);
+  found = found_after_call list old new k d op noted below at;
+}
+noted_after list old new k (bare.Reply m r) noted below accepted at =
+    let call = called_reply (op_of (events_in list) m) (is_ended list m) (λ op. if fits op r then None else Some Kind) accepted in
+    after_ending list old new k m (Reply m r) call.0 noted below (record { no_call = λ n. refl; ending = λ n. refl }) (λ less. less) call.1 at
+noted_after list old new k (bare.Lost m) noted below accepted at =
+    let call = called_reply (op_of (events_in list) m) (is_ended list m) (λ op. None) accepted in
+    after_ending list old new k m (Lost m) call.0 noted below (record { no_call = λ n. refl; ending = λ n. refl }) (λ less. less) call.1 at

@@ -1,0 +1,58 @@
+-- A recording of pens is by number, and there is one at most.
+use Rattle.std.proofs.Common.{ℕ, suc, ◌≡◌, ◌+◌, ◌<◌, List, [], ◌∷◌, length, refl, sym, ap, subst, ◌∙◌, arith, Some, slice_get, get_or}
+use Rattle.std.specs.Prelude.{Contains}
+use Rattle.std.specs.List.{enumerate_from}
+use Rattle.std.proofs.lemmas.List.FromFn.{get_or-enumerate_from, length-enumerate_from}
+use Rattle.std.proofs.lemmas.List.Sorted.{Contains-permutation, IsPermutation-sym, length_permutation}
+use Rattle.std.proofs.lemmas.Option.{slice_get-get_or, slice_get_within}
+use Rattle.history.specs.declared.event.Event.{Event}
+use Rattle.recorder.specs.Recordings.{IsRecordingOf, entries_of}
+use Rattle.recorder.specs.Laws.{IsByNumber, RecordingsAreByNumber}
+
+-- what stands at a place is listed with the place
+listed : (events : List Event) (n : ℕ) (e : Event) → slice_get events n ≡ Some e → Contains (enumerate_from 0 events) (n, e)
+listed events n e at =
+    let within : n < length events = slice_get_within events n e at in
+    let here : get_or events n e ≡ e = (let both : Some (get_or events n e) ≡ Some e = sym (slice_get-get_or events n e within) ∙ at in cc) in
+    let first : 0 + n ≡ n = omega arith in (
+      n,
+      (let size : length (enumerate_from 0 events) ≡ length events = length-enumerate_from 0 events in omega arith),
+      get_or-enumerate_from 0 events n (n, e) within ∙ (ap (λ (k : ℕ). (k, get_or events n e)) first ∙ ap (λ (x : Event). (n, x)) here),
+    )
+
+-- what is listed stands at its place
+stands : (events : List Event) (n : ℕ) (e : Event) → Contains (enumerate_from 0 events) (n, e) → slice_get events n ≡ Some e
+stands events n e found =
+    let size : length (enumerate_from 0 events) ≡ length events = length-enumerate_from 0 events in
+    let within : found.0 < length events = (let inside : found.0 < length (enumerate_from 0 events) = found.1 in omega arith) in
+    let same : (0 + found.0, get_or events found.0 e) ≡ (n, e) = sym (get_or-enumerate_from 0 events found.0 (n, e) within) ∙ found.2 in
+    let place : 0 + found.0 ≡ n = ap (λ (x : ℕ × Event). x.0) same in
+    let here : get_or events found.0 e ≡ e = ap (λ (x : ℕ × Event). x.1) same in
+    let at : slice_get events found.0 ≡ Some e = slice_get-get_or events found.0 e within ∙ ap (λ x. Some x) here in
+    subst (λ (k : ℕ). slice_get events k ≡ Some e) (let k : found.0 ≡ n = omega arith in k) at
+
+by_number : (lists : List (List (ℕ × Event))) (events : List Event) → IsRecordingOf lists events → IsByNumber (entries_of lists) events
+by_number lists events recording = record {
+  placed = λ n e found. stands events n e (Contains-permutation (entries_of lists) (enumerate_from 0 events) (n, e) recording found);
+  entered = λ n e at. Contains-permutation (enumerate_from 0 events) (entries_of lists) (n, e) (IsPermutation-sym (entries_of lists) (enumerate_from 0 events) recording) (listed events n e at);
+  count = sym (length_permutation (entries_of lists) (enumerate_from 0 events) recording) ∙ length-enumerate_from 0 events;
+}
+
+-- lists that have the same at each place are the same
+same_by_place : (xs ys : List Event) → ((n : ℕ) (e : Event) → slice_get xs n ≡ Some e → slice_get ys n ≡ Some e) → length xs ≡ length ys → xs ≡ ys
+same_by_place [] [] same size = refl
+same_by_place [] (y ∷ ys) same size = absurd (omega arith)
+same_by_place (x ∷ xs) [] same size = absurd (omega arith)
+same_by_place (x ∷ xs) (y ∷ ys) same size =
+    let first : y ≡ x = (let both : Some y ≡ Some x = same 0 x refl in cc) in
+    let rest : xs ≡ ys = same_by_place xs ys (λ n e at. same (suc n) e at) (let less : length xs ≡ length ys = omega arith in less) in
+    ap (λ (e : Event). e ∷ xs) (sym first) ∙ ap (λ es. y ∷ es) rest
+
+pub recordings_are_by_number : RecordingsAreByNumber
+recordings_are_by_number = record {
+  by_number = by_number;
+  only_one = λ lists events others recording other.
+      let first = by_number lists events recording in
+      let second = by_number lists others other in
+      same_by_place events others (λ n e at. second.placed n e (first.entered n e at)) (sym first.count ∙ second.count);
+}

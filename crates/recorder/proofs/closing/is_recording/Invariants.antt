@@ -1,0 +1,13 @@
+use Rattle.std.proofs.Common.{◌++◌, ℕ, ◌<◌, get_or, take}
+use Rattle.std.specs.List.{enumerate_from}
+use Rattle.std.specs.List.Sorted.{IsPermutation}
+use Rattle.history.specs.declared.event.Event.{Event}
+use Rattle.history.specs.Events.{HasShard}
+use Rattle.recorder.specs.Recordings.{entries_of}
+use Rattle.recorder.proofs.closing.is_recording.Given as goal
+
+abbrev pub invariant-loop-place : goal.invariant-loop-place
+invariant-loop-place l = record {
+  met : IsPermutation (entries_of l.initial.strands.items) (enumerate_from 0 (take l.place l.events) ++ entries_of l.strands.items);
+  shards : (k : ℕ) (d : Event) → k < l.place → HasShard (get_or l.events k d);
+}

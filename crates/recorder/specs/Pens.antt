@@ -1,0 +1,79 @@
+-- Pens: what was recorded through a pen, what its list refuses, and what a recording tells.
+use Rattle.std.specs.Prelude.{◌≡◌, ℕ, ◌<◌, ◌≤◌, ◌||◌, Bool, true, false, List, [], ◌∷◌, ◌++◌, Option, Some, None, Result, Ok, Err, IfOk, OnErr, All, Any, if◌then◌else◌, map}
+use Rattle.std.specs.List.{list_any}
+use Rattle.std.specs.Option.{option_map_or}
+use Rattle.doc_register.specs.Register.{fits}
+use Rattle.history.specs.declared.event.Event.{Event}
+use Rattle.history.specs.declared.event.Event.TheVariants.{Call, Reply, Lost}
+use Rattle.history.specs.Events.{is_ending}
+use Rattle.history.specs.Refusal.{most_events, op_of}
+use Rattle.recorder.specs.declared.fault.RecFault.{RecFault}
+use Rattle.recorder.specs.declared.fault.RecFault.TheVariants.{NotMine, Ended, Kind, Full, NoMemory, Rewound}
+
+-- What is known of a pen: its list, the events that were recorded through it in their order, each with its number; and
+-- whether a recording through it was answered that the recording is full.
+pub record PenState : Type 0 where
+  pub list : List (ℕ × Event)
+  pub is_full : Bool
+
+-- a pen through which nothing was recorded yet
+abbrev pub new_pen : PenState
+new_pen = record { list = []; is_full = false }
+
+-- the events of a list, without their numbers
+abbrev pub events_in : List (ℕ × Event) → List Event
+events_in list = map (λ entry. entry.1) list
+
+-- ---- what a pen's list refuses
+
+-- the call numbered n has its ending in the list
+abbrev pub is_ended : List (ℕ × Event) → ℕ → Bool
+is_ended list n = list_any (is_ending n) (events_in list)
+
+-- the first reason that a pen's list has to refuse an event: for an ending that its call isn't in the list, that it was
+-- ended, that the reply doesn't fit its operation
+abbrev pub refusal_of : List (ℕ × Event) → Event → Option RecFault
+refusal_of list (Call n h d op) = None
+refusal_of list (Reply n r) =
+    option_map_or (λ op. if is_ended list n then Some Ended else (if fits op r then None else Some Kind))
+    (op_of (events_in list) n) (Some NotMine)
+refusal_of list (Lost n) =
+    option_map_or (λ op. if is_ended list n then Some Ended else None) (op_of (events_in list) n) (Some NotMine)
+
+-- the reason by the pen's list that an answer tells
+abbrev pub told_by_list : Result ℕ RecFault → Option RecFault
+told_by_list (Ok n) = None
+told_by_list (Err NotMine) = Some NotMine
+told_by_list (Err Ended) = Some Ended
+told_by_list (Err Kind) = Some Kind
+told_by_list (Err Full) = None
+told_by_list (Err NoMemory) = None
+told_by_list (Err (Rewound n)) = None
+
+-- ---- what a recording tells
+
+abbrev pub tells_full : Result ℕ RecFault → Bool
+tells_full (Ok n) = false
+tells_full (Err NotMine) = false
+tells_full (Err Ended) = false
+tells_full (Err Kind) = false
+tells_full (Err Full) = true
+tells_full (Err NoMemory) = false
+tells_full (Err (Rewound n)) = false
+
+-- What a recording answers, and what it makes of the pen. Recorded is the event that there is at each number; the reason
+-- is the one for which the pen's list refuses it, if it does.
+pub record Records (old : PenState) (reason : Option RecFault) (recorded : ℕ → Event) (answer : Result ℕ RecFault) (new : PenState) : Type 0 where
+  -- where a number is answered, the list grows by the number and its event; else it stays
+  pub grows : IfOk answer (λ n. new.list ≡ old.list ++ (n, recorded n) ∷ [])
+  pub stays : OnErr answer (new.list ≡ old.list)
+  -- the number is above all in the list, and below the most events that there are
+  pub above : IfOk answer (λ n. All (λ entry. entry.0 < n) old.list)
+  pub below : IfOk answer (λ n. n < most_events)
+  -- a reason by the list is told just where the list has it
+  pub by_list : told_by_list answer ≡ reason
+  -- a pen that was answered Full is full from then on, and is answered so where its list refuses nothing
+  pub full : reason ≡ None → old.is_full ≡ true → answer ≡ Err Full
+  pub full_from_then : new.is_full ≡ (old.is_full || tells_full answer)
+  -- that there are only n events is told only where the pen's list has a number of at least n
+  pub rewound : (n : ℕ) → answer ≡ Err (Rewound n) → Any (λ entry. n ≤ entry.0) old.list

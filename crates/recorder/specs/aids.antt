@@ -1,0 +1,3 @@
+pub mod Notes
+pub mod Appending
+pub mod Merging

@@ -1,0 +1,23 @@
+//! A recorder of histories: client threads record calls, replies and lost calls through pens, and what all pens recorded
+//! becomes one history.
+#![tactic(auto)]
+
+mod closing;
+mod fault;
+pub mod laws;
+mod notes;
+mod own_call;
+mod pen;
+mod recorded;
+mod recorder;
+mod recording;
+mod same_event;
+mod strand;
+#[cfg(test)]
+mod testing;
+mod unnumbered;
+
+pub use fault::{CloseFault, RecFault, StartFault};
+pub use pen::Pen;
+pub use recorder::{MOST_PENS, Recorder};
+pub use recording::Recording;

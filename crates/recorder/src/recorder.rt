@@ -1,0 +1,149 @@
+ghost use Rattle.std.specs.Prelude.{◌≡◌, ℕ, ◌<◌, ◌⊎◌, ◌↔◌, Err, IfOk, None, replicate, vec_len};
+ghost use Rattle.history.specs.declared.event.Event.TheVariants.{Call, Reply as Answered, Lost as Missed};
+ghost use Rattle.recorder.specs.Closing.{IsPenMissing};
+ghost use Rattle.recorder.specs.Pens.{Records, new_pen, refusal_of};
+ghost use Rattle.recorder.specs.Recordings.{IsRecordingOf, lists_of};
+ghost use Rattle.recorder.specs.aids.Notes.{numbered};
+
+use crate::closing::{history_of, is_recording, strands_of};
+use crate::fault::{CloseFault, RecFault, StartFault};
+use crate::pen::Pen;
+use crate::recorded::Recorded;
+use crate::unnumbered::Unnumbered;
+use doc_register::{Op, Reply};
+use history::{HistFault, History};
+use std::alloc::Global;
+use std::marker::Model;
+use std::sync::{Mutex, Wait};
+use version_pair::DocId;
+
+/// The most pens that a recorder is started with.
+pub const MOST_PENS: usize = 8;
+
+/// A recorder whose pens record under one lock.
+///
+/// An event is recorded at one moment, while the lock is held, and its number is how many were recorded before it.
+/// Contracts see a recorder as the number of pens that it was started with.
+#[derive(Drop)]
+pub struct Recorder {
+    pens: usize,
+    recorded: Mutex<Recorded>,
+}
+
+impl Model for Recorder {
+    ghost use Rattle.std.specs.Prelude.{ℕ};
+
+    ghost Value = { ℕ };
+
+    ghost view = { λ r. r.pens };
+}
+
+impl Recorder {
+    /// A recorder with this many pens, 1 to 8, through which nothing was recorded; else `Count`. Last `NoMemory`.
+    pub fn start(alloc: Global, pens: usize) -> Result<(Recorder, Vec<Pen>), StartFault>
+        ensures ok { IfOk result (λ started. (started.0 ≡ pens) × (started.1.items ≡ replicate pens new_pen)) }
+        ensures count { (result ≡ Err StartFault.Count) ↔ ((pens ≡ 0) ⊎ (8 < pens)) }
+    {
+        if pens == 0 || pens > MOST_PENS {
+            return Err(StartFault::Count);
+        }
+        let Ok(mut started) = Vec::with_capacity(alloc, pens) else {
+            return Err(StartFault::NoMemory);
+        };
+        for _ in 0..pens {
+            started.push_reserved(Pen::new(alloc));
+        }
+        let recorder = Recorder {
+            pens,
+            recorded: Mutex::new(Recorded::new(alloc)),
+        };
+        Ok((recorder, started))
+    }
+
+    /// Records what the pen's list does not refuse.
+    fn record<R: Wait>(&self, rt: &R, pen: &mut Pen, event: Unnumbered) -> Result<u64, RecFault>
+        requires { (n : ℕ) → refusal_of pen.old.list (numbered event n) ≡ None }
+        ensures { Records pen.old None (numbered event) result pen.new }
+    {
+        if pen.notes.is_full() {
+            return Err(RecFault::Full);
+        }
+        pen.notes.reserve()?;
+        let last = pen.notes.last_number();
+        let copy = event.copy()?;
+        let answer = self.recorded.lock(rt).append(last, copy);
+        pen.notes.settle(answer, event);
+        answer
+    }
+
+    /// Records that an operation on a document is called, and answers the event's number, which is the call's; or
+    /// refuses it: `Full` where the pen was answered so before, `NoMemory` of the pen's list, `Rewound`, `Full`,
+    /// `NoMemory` of the recording.
+    ///
+    /// It may wait for the lock. A refusal leaves the pen's list as it was. A pen that was answered `Full` is answered
+    /// so from then on.
+    pub fn call<R: Wait>(&self, rt: &R, pen: &mut Pen, id: DocId, op: Op) -> Result<u64, RecFault>
+        ensures { Records pen.old None (λ n. Call n 0 id op) result pen.new }
+    {
+        self.record(rt, pen, Unnumbered::Call { id, op })
+    }
+
+    /// Records the reply to the call numbered `no` of this pen, and answers the event's number; or refuses it:
+    /// `NotMine`, `Ended`, `Kind`, then as `call` does.
+    pub fn reply<R: Wait>(
+        &self,
+        rt: &R,
+        pen: &mut Pen,
+        no: u64,
+        reply: Reply,
+    ) -> Result<u64, RecFault>
+        ensures { Records pen.old (refusal_of pen.old.list (Answered no reply)) (λ _. Answered no reply)
+            result pen.new }
+    {
+        if let Some(fault) = pen.notes.reply_refusal(no, &reply) {
+            return Err(fault);
+        }
+        self.record(rt, pen, Unnumbered::Reply { no, reply })
+    }
+
+    /// Records that the outcome of the call numbered `no` of this pen will never be known, and answers the event's
+    /// number; or refuses it: `NotMine`, `Ended`, then as `call` does.
+    pub fn lost<R: Wait>(&self, rt: &R, pen: &mut Pen, no: u64) -> Result<u64, RecFault>
+        ensures { Records pen.old (refusal_of pen.old.list (Missed no)) (λ _. Missed no) result pen.new }
+    {
+        if let Some(fault) = pen.notes.lost_refusal(no) {
+            return Err(fault);
+        }
+        self.record(rt, pen, Unnumbered::Lost { no })
+    }
+
+    /// The history that the pens recorded together; or `PenMissing`, with both handed back, where fewer pens come than
+    /// were started; `Mismatch` where the lists of the pens and what was recorded under the lock disagree; `NoMemory`.
+    /// Where `Mismatch` or `NoMemory` is answered the recording is lost.
+    pub fn close(self, pens: Vec<Pen>) -> Result<History, CloseFault<Recorder, Pen>>
+        ensures recording { IfOk result (λ history. IsRecordingOf (lists_of pens.items) history) }
+        ensures missing { IsPenMissing result ↔ (vec_len pens < self) }
+        ensures handed_back { IsPenMissing result → result ≡ Err (CloseFault.PenMissing self pens) }
+    {
+        if pens.len() < self.pens {
+            return Err(CloseFault::PenMissing(self, pens));
+        }
+        let alloc = *pens.allocator();
+        let Ok(mut strands) = strands_of(alloc, pens) else {
+            return Err(CloseFault::NoMemory);
+        };
+        let Recorder { recorded, .. } = self;
+        let events = recorded.into_inner().into_events();
+        if !is_recording(&mut strands, &events) {
+            return Err(CloseFault::Mismatch);
+        }
+        match history_of(alloc, events) {
+            Ok(history) => Ok(history),
+            Err(HistFault::NoMemory) => Err(CloseFault::NoMemory),
+            Err(_) => Err(CloseFault::Mismatch),
+        }
+    }
+}
+
+#[cfg(test)]
+mod tests;

@@ -1,0 +1,180 @@
+use super::*;
+use crate::recording::Recording;
+use crate::testing::{close_told, document};
+use std::test::Fail;
+use std::thread::join;
+
+// Two pens of one recorder.
+fn two_pens(alloc: Global) -> Result<(Recorder, Pen, Pen), Fail> {
+    let (recorder, mut pens) = Recorder::start(alloc, 2)?;
+    let second = pens.pop().ok_or("a second pen")?;
+    let first = pens.pop().ok_or("a first pen")?;
+    Ok((recorder, first, second))
+}
+
+const TOLD: &str = "call 0 of d on 0: Get; call 1 of d on 0: Get; reply 0: Missing; lost 1; ";
+
+// Two pens record in turns what `TOLD` says, with refusals in between. Each number is answered at its call.
+fn record_in_turns(
+    rt: &(impl Wait + std::process::Abort),
+    alloc: Global,
+    recorder: &Recorder,
+    first: &mut Pen,
+    second: &mut Pen,
+) -> Result<(), Fail> {
+    assert_eq!(rt; recorder.call(rt, first, document(alloc)?, Op::Get), Ok(0));
+    assert_eq!(rt; recorder.call(rt, second, document(alloc)?, Op::Get), Ok(1));
+    assert_eq!(rt; recorder.reply(rt, first, 0, Reply::Missing), Ok(2));
+    assert_eq!(rt;
+        recorder.reply(rt, first, 0, Reply::Missing),
+        Err(RecFault::Ended)
+    );
+    assert_eq!(rt; recorder.lost(rt, first, 1), Err(RecFault::NotMine));
+    assert_eq!(rt;
+        recorder.reply(rt, second, 1, Reply::Conflict),
+        Err(RecFault::Kind)
+    );
+    assert_eq!(rt; recorder.lost(rt, second, 1), Ok(3));
+    assert_eq!(rt; recorder.lost(rt, second, 1), Err(RecFault::Ended));
+    Ok(())
+}
+
+#[test]
+fn pens_meet(rt: HostRuntime) -> Result<(), Fail> {
+    let alloc = rt.alloc();
+    let (recorder, mut first, mut second) = two_pens(alloc)?;
+    record_in_turns(&rt, alloc, &recorder, &mut first, &mut second)?;
+    let closed = recorder.close(vec![in alloc; first, second]?);
+    assert_eq!(rt; close_told(alloc, closed)?.as_str(), TOLD);
+    Ok(())
+}
+
+#[test]
+fn pens_handed_back(rt: HostRuntime) -> Result<(), Fail> {
+    let alloc = rt.alloc();
+    let (recorder, mut first, mut second) = two_pens(alloc)?;
+    record_in_turns(&rt, alloc, &recorder, &mut first, &mut second)?;
+    let Err(CloseFault::PenMissing(recorder, mut pens)) = recorder.close(vec![in alloc; first]?)
+    else {
+        return Err("a pen is missing".into());
+    };
+    assert_eq!(rt; pens.len(), 1);
+    pens.push(second)?;
+    assert_eq!(rt; close_told(alloc, recorder.close(pens))?.as_str(), TOLD);
+    Ok(())
+}
+
+#[test]
+fn pen_counts(rt: HostRuntime) -> Result<(), Fail> {
+    let alloc = rt.alloc();
+    assert_eq!(rt; Recorder::start(alloc, 0).err(), Some(StartFault::Count));
+    assert_eq!(rt; Recorder::start(alloc, 9).err(), Some(StartFault::Count));
+    let (recorder, pens) = Recorder::start(alloc, 8)?;
+    assert_eq!(rt; pens.len(), 8);
+    assert_eq!(rt; close_told(alloc, recorder.close(pens))?.as_str(), "");
+    Ok(())
+}
+
+#[test]
+fn pen_of_another_recorder(rt: HostRuntime) -> Result<(), Fail> {
+    let alloc = rt.alloc();
+    let (recorder, mut pens) = Recorder::start(alloc, 1)?;
+    let mut pen = pens.pop().ok_or("a pen")?;
+    assert_eq!(rt;
+        recorder.call(&rt, &mut pen, document(alloc)?, Op::Get),
+        Ok(0)
+    );
+    let (other, _) = Recorder::start(alloc, 1)?;
+    assert_eq!(rt;
+        other.reply(&rt, &mut pen, 0, Reply::Missing),
+        Err(RecFault::Rewound(0))
+    );
+    let closed = other.close(vec![in alloc; pen]?);
+    assert_eq!(rt; close_told(alloc, closed)?.as_str(), "mismatch");
+    Ok(())
+}
+
+// Records gets of `d`, in turns answered and lost, through any recorder; tells whether all were recorded.
+fn record_gets<X: Recording, R: Wait>(
+    rt: &R,
+    alloc: Global,
+    recorder: &X,
+    pen: &mut X::Pen,
+    count: usize,
+) -> bool
+    requires { X.has_pen recorder.now pen.old }
+    ensures { X.has_pen recorder.now pen.new }
+{
+    for turn in 0..count {
+        let Ok(id) = DocId::new(alloc, "d") else {
+            return false;
+        };
+        let Ok(no) = recorder.call(rt, pen, id, Op::Get) else {
+            return false;
+        };
+        let ended = if turn % 2 == 0 {
+            recorder.reply(rt, pen, no, Reply::Missing)
+        } else {
+            recorder.lost(rt, pen, no)
+        };
+        if ended.is_err() {
+            return false;
+        }
+    }
+    true
+}
+
+#[test]
+fn pens_in_two_threads(rt: HostRuntime) -> Result<(), Fail> {
+    let alloc = rt.alloc();
+    let (recorder, mut first, mut second) = two_pens(alloc)?;
+    let (one, two) = join(
+        &rt,
+        || record_gets(&rt, alloc, &recorder, &mut first, 1000),
+        || record_gets(&rt, alloc, &recorder, &mut second, 1000),
+    );
+    assert!(rt; one && two);
+    let Ok(history) = recorder.close(vec![in alloc; first, second]?) else {
+        return Err("a history".into());
+    };
+    assert_eq!(rt; history.len(), 4000);
+    assert_eq!(rt; history.docs(), 1);
+    Ok(())
+}
+
+// Fills the recording by gets of `d`, each called and answered; tells the last number.
+fn fill<R: Wait>(rt: &R, alloc: Global, recorder: &Recorder, pen: &mut Pen) -> Option<u64> {
+    let mut last = None;
+    for _ in 0..524_288 {
+        let id = DocId::new(alloc, "d").ok()?;
+        let no = recorder.call(rt, pen, id, Op::Get).ok()?;
+        last = Some(recorder.reply(rt, pen, no, Reply::Missing).ok()?);
+    }
+    last
+}
+
+#[test]
+fn full(rt: HostRuntime) -> Result<(), Fail> {
+    let alloc = rt.alloc();
+    let (recorder, mut first, mut second) = two_pens(alloc)?;
+    assert_eq!(rt; fill(&rt, alloc, &recorder, &mut first), Some(1_048_575));
+    for _ in 0..2 {
+        assert_eq!(rt;
+            recorder.call(&rt, &mut first, document(alloc)?, Op::Get),
+            Err(RecFault::Full)
+        );
+        assert_eq!(rt;
+            recorder.call(&rt, &mut second, document(alloc)?, Op::Get),
+            Err(RecFault::Full)
+        );
+        assert_eq!(rt;
+            recorder.reply(&rt, &mut first, 0, Reply::Missing),
+            Err(RecFault::Ended)
+        );
+    }
+    let Ok(history) = recorder.close(vec![in alloc; first, second]?) else {
+        return Err("a history".into());
+    };
+    assert_eq!(rt; history.len(), 1_048_576);
+    Ok(())
+}

@@ -1,0 +1,79 @@
+ghost use Rattle.std.specs.Prelude.{None};
+ghost use Rattle.history.specs.declared.event.Event.TheVariants.{Call, Reply as Answered, Lost as Missed};
+ghost use Rattle.recorder.specs.Pens.{PenState, Records, refusal_of};
+
+use crate::fault::RecFault;
+use crate::pen::Pen;
+use crate::recorder::Recorder;
+use doc_register::{Op, Reply};
+use std::sync::Wait;
+use version_pair::DocId;
+
+/// A recorder through whose pens client threads record calls, replies and lost calls.
+pub trait Recording {
+    type Pen;
+
+    /// A pen's list, and whether it was answered `Full`.
+    ghost pen_state: { Self.Pen → PenState };
+
+    /// Whether a pen is this recorder's.
+    ghost has_pen: { Self → Self.Pen → Type 0 };
+
+    /// Records that an operation on a document is called, and answers the event's number, which is the call's; or
+    /// refuses it: `Full` where the pen was answered so before, `NoMemory` of the pen's list, `Rewound`, `Full`,
+    /// `NoMemory` of what the pens share.
+    ///
+    /// A refusal leaves the pen's list as it was. A pen that was answered `Full` is answered so from then on.
+    fn call<R: Wait>(&self, rt: &R, pen: &mut Self::Pen, id: DocId, op: Op) -> Result<u64, RecFault>
+        requires { has_pen self.now pen.old }
+        ensures records { Records (pen_state pen.old) None (λ n. Call n 0 id op) result (pen_state pen.new) }
+        ensures keeps { has_pen self.now pen.new };
+
+    /// Records the reply to the call numbered `no` of this pen, and answers the event's number; or refuses it:
+    /// `NotMine`, `Ended`, `Kind`, then as `call` does.
+    fn reply<R: Wait>(
+        &self,
+        rt: &R,
+        pen: &mut Self::Pen,
+        no: u64,
+        reply: Reply,
+    ) -> Result<u64, RecFault>
+        requires { has_pen self.now pen.old }
+        ensures records { Records (pen_state pen.old) (refusal_of (pen_state pen.old).list (Answered no reply))
+            (λ _. Answered no reply) result (pen_state pen.new) }
+        ensures keeps { has_pen self.now pen.new };
+
+    /// Records that the outcome of the call numbered `no` of this pen will never be known, and answers the event's
+    /// number; or refuses it: `NotMine`, `Ended`, then as `call` does.
+    fn lost<R: Wait>(&self, rt: &R, pen: &mut Self::Pen, no: u64) -> Result<u64, RecFault>
+        requires { has_pen self.now pen.old }
+        ensures records { Records (pen_state pen.old) (refusal_of (pen_state pen.old).list (Missed no))
+            (λ _. Missed no) result (pen_state pen.new) }
+        ensures keeps { has_pen self.now pen.new };
+}
+
+impl Recording for Recorder {
+    type Pen = Pen;
+
+    ghost pen_state = { λ pen. pen };
+
+    ghost has_pen = { λ _ _. Unit {0} };
+
+    fn call<R: Wait>(&self, rt: &R, pen: &mut Pen, id: DocId, op: Op) -> Result<u64, RecFault> {
+        Recorder::call(self, rt, pen, id, op)
+    }
+
+    fn reply<R: Wait>(
+        &self,
+        rt: &R,
+        pen: &mut Pen,
+        no: u64,
+        reply: Reply,
+    ) -> Result<u64, RecFault> {
+        Recorder::reply(self, rt, pen, no, reply)
+    }
+
+    fn lost<R: Wait>(&self, rt: &R, pen: &mut Pen, no: u64) -> Result<u64, RecFault> {
+        Recorder::lost(self, rt, pen, no)
+    }
+}
