@@ -9,3 +9,6 @@ pub mod BulkLaws
 pub mod WrittenReplies
 pub mod WrittenLines
 pub mod ReadingLemmas
+pub mod TokenLemmas
+pub mod MemberLemmas
+pub mod ScanLemmas

@@ -56,7 +56,7 @@ pub fn body_fields(body: &Value) -> BodyFields<'_>
 }
 
 // The fields of a body that is absent.
-fn no_body<'v>() -> BodyFields<'v>
+pub(crate) fn no_body<'v>() -> BodyFields<'v>
     ensures { body_seen result ≡ body_values null }
 {
     BodyFields {

@@ -1,10 +1,14 @@
-ghost use Rattle.std.specs.Prelude.{◌≡◌, MatchResult, Ok, Err, option_map};
+ghost use Rattle.std.specs.Prelude.{◌≡◌, IfSome, MatchResult, Some, Ok, Err, option_map};
+ghost use Rattle.serde_json.specs.Data.{Data};
 ghost use Rattle.serde_json.specs.View.{view};
 ghost use Rattle.api_lines.specs.Faults.{IfTold};
+ghost use Rattle.api_lines.specs.Fields.{line_seen, line_values};
 ghost use Rattle.api_lines.specs.Texts.{line_given};
 
+use crate::fields::LineFields;
 use crate::lines::{LONGEST_LINE, MOST_LINES, is_blank, line_value};
 use crate::text_fault::{LineFault, TextCause};
+use crate::token_fields::quick_fields;
 use serde_json::Value;
 use std::alloc::Global;
 
@@ -27,5 +31,21 @@ pub fn given_line(alloc: Global, number: u64, line: &[u8]) -> Result<Option<Valu
     match line_value(alloc, line) {
         Ok(value) => Ok(Some(value)),
         Err(fault) => Err(fault),
+    }
+}
+
+/// The fields of the line of a text with this number, from 1, where `quick_fields` tells them. Nothing is said of a
+/// line that gives none: it may be blank, or refused, or have a value of another form. Then `given_line` tells.
+pub fn given_fields(number: u64, line: &[u8]) -> Option<LineFields<'_>>
+    ensures { IfSome result (λ fields. (v : Data)
+        × (line_given number line.now ≡ Ok (Some v))
+        × (line_seen fields ≡ line_values v)) }
+{
+    if number > MOST_LINES || line.len() > LONGEST_LINE || is_blank(line) {
+        return None;
+    }
+    match str::from_utf8(line) {
+        Ok(text) => quick_fields(text),
+        Err(_) => None,
     }
 }

@@ -14,9 +14,12 @@ pub mod laws;
 pub mod lines;
 mod number;
 mod reply_table;
+mod scanner;
 #[cfg(test)]
 mod testing;
 mod text_fault;
+mod token_field;
+mod token_fields;
 mod written_reply;
 
 pub use bulk::read_bulk;
@@ -24,11 +27,12 @@ pub use bulk_fault::BulkFault;
 pub use bulk_reply::read_bulk_reply;
 pub use field::{Field, field_of, inner_field_of};
 pub use fields::{BodyFields, LineFields, body_fields, line_fields};
-pub use given::given_line;
+pub use given::{given_fields, given_line};
 pub use history_line::{LineSaid, SHARDS, call_of, line_said, lost_of, reply_of};
 pub use ids::document_id;
 pub use lines::{LONGEST_LINE, MOST_LINES};
 pub use number::{Number, pair_of, pair_of_numbers};
 pub use reply_table::{Heard, heard_of, read_reply};
 pub use text_fault::{LineFault, ReadFault, TextCause, TextFault};
+pub use token_fields::quick_fields;
 pub use written_reply::write_reply;

@@ -17,7 +17,8 @@ pub const LONGEST_LINE: usize = 65_536;
 pub const MOST_LINES: u64 = 4_194_304;
 
 // A space, a tab or a carriage return.
-fn is_space(byte: u8) -> bool
+#[inline(always)]
+pub(crate) fn is_space(byte: u8) -> bool
     ensures { result ≡ space byte }
 {
     byte == b' ' || byte == b'\t' || byte == b'\r'
