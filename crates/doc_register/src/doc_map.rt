@@ -31,8 +31,8 @@ impl Model for DocMap {
     ghost view = { λ m. record { states = m.states.entries; used = reverse m.used.keys } };
 }
 
-// What a get shows.
-fn shown_reply(state: DocState) -> Reply
+/// What a get shows.
+pub fn shown_reply(state: DocState) -> Reply
     ensures { result ≡ shown state }
 {
     match state {
@@ -51,8 +51,8 @@ fn unperformed_reply(state: DocState, op: &Op) -> Reply
     }
 }
 
-// The document after a performed write that takes the pair.
-fn state_after(state: DocState, op: &Op, pair: Pair) -> DocState
+/// The document after a performed write that takes the pair; a get leaves it.
+pub fn state_after(state: DocState, op: &Op, pair: Pair) -> DocState
     ensures { result ≡ performed_state state op.now pair }
 {
     match op {

@@ -9,9 +9,9 @@ mod reply;
 mod state;
 mod transition;
 
-pub use doc_map::DocMap;
+pub use doc_map::{DocMap, shown_reply, state_after};
 pub use map_fault::MapFault;
 pub use op::Op;
 pub use reply::Reply;
 pub use state::{Conflicts, DocState};
-pub use transition::{performed_reply, step};
+pub use transition::{is_performed, performed_reply, step};

@@ -1,14 +1,11 @@
 -- The documents of a history, and the calls of each.
-use Rattle.std.proofs.Common.{ℕ, zero, suc, ◌≡◌, ◌≤◌, List, [], ◌∷◌, length, refl, sym, ap, subst, ◌∙◌, arith, Option, Some, None, Bool, true, false, cond, ◌+◌, nat_lt}
-use Rattle.std.specs.Prelude.{fold, map, not, position, if◌then◌else◌, is_some}
+use Rattle.std.proofs.Common.{ℕ, suc, ◌≡◌, List, [], ◌∷◌, length, refl, sym, ap, ◌∙◌, Option, Some, None, Bool, true, false, cond, ◌+◌, nat_lt}
+use Rattle.std.specs.Prelude.{map, not, position, if◌then◌else◌, is_some}
 use Rattle.std.specs.Cmp.Lexicographic.{bytes_decides}
 use Rattle.std.specs.List.{position_or_len}
 use Rattle.std.specs.Map.{lookup}
 use Rattle.indexmap.specs.IndexMap.{insert_entry}
-use Rattle.doc_register.specs.declared.op.Op.{Op}
-use Rattle.history.specs.declared.event.Event.{Event}
-use Rattle.history.specs.declared.event.Event.TheVariants.{Call, Reply, Lost}
-use Rattle.history.specs.Events.{IsCallAt, documents_of, is_same, with_document, with_event}
+use Rattle.history.specs.Events.{is_same, with_document}
 
 -- ---- ids
 

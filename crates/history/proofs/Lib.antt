@@ -22,3 +22,6 @@ mod OpenCalls
 mod PlaceLemmas
 mod WrittenText
 mod BulkTextLemmas
+mod CutLemmas
+mod FrontLemmas
+mod LateCalls

@@ -14,6 +14,12 @@ same_some x y h = cc
 pub compare : (i j : ℕ) → (i < j → ⊥) → (j < i → ⊥) → i ≡ j
 compare i j f g = elim (cases_lt i j) as (λ _. i ≡ j) [ inl below ↦ absurd (f below) | inr b ↦ elim (cases_lt j i) as (λ _. i ≡ j) [ inl below ↦ absurd (g below) | inr e ↦ (omega arith) ] ]
 
+-- at each place within a list something stands
+pub get_within : {X : Type 0} (xs : List X) (i : ℕ) → i < length xs → (x : X) × (slice_get xs i ≡ Some x)
+get_within [] i below = absurd (omega arith)
+get_within (x ∷ xs) zero below = (x, refl)
+get_within (x ∷ xs) (suc i) below = get_within xs i (omega arith)
+
 -- what stands at a place stands there still when the list goes on
 pub get_front : {X : Type 0} (xs ys : List X) (i : ℕ) (y : X) → slice_get xs i ≡ Some y → slice_get (xs ++ ys) i ≡ Some y
 get_front [] ys i y h = let impossible : None ≡ Some y = h in cc

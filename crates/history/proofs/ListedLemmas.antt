@@ -5,7 +5,7 @@ use Rattle.std.specs.List.{position_or_len}
 use Rattle.std.proofs.lemmas.List.{length-map}
 use Rattle.std.specs.Map.{lookup}
 use Rattle.std.specs.Cmp.Lexicographic.{bytes_decides}
-use Rattle.std.proofs.lemmas.Bool.{eqb-true, le-ltb, lt-ltb, ltb-false, ltb-true}
+use Rattle.std.proofs.lemmas.Bool.{both_ways, eqb-true, le-ltb, lt-ltb, ltb-false, ltb-true}
 use Rattle.doc_register.specs.declared.op.Op.{Op}
 use Rattle.history.specs.declared.event.Event.{Event}
 use Rattle.history.specs.declared.event.Event.TheVariants.{Call, Reply, Lost}
@@ -58,6 +58,19 @@ other_of (f ∷ fs) q (suc k) e none at = by_test (is_same q f.0) (λ missing. o
   by_test : (b : Bool) → (lookup (is_same q) fs ≡ None → is_same q e.0 ≡ false) → cond b (Some f.1) (lookup (is_same q) fs) ≡ None → is_same q e.0 ≡ false
   by_test true later none = absurd (none_is_not_some f.1 (sym none))
   by_test false later none = later none
+
+-- no document stands at two places
+pub distinct_place : (ds : List (List ℕ × ℕ)) (i j : ℕ) (e f : List ℕ × ℕ) → AreDistinct ds → slice_get ds i ≡ Some e → slice_get ds j ≡ Some f → e.0 ≡ f.0 → i ≡ j
+unfolding AreDistinct
+distinct_place [] i j e f distinct at bt same = absurd (none_is_not_some e at)
+distinct_place (g ∷ gs) zero zero e f distinct at bt same = refl
+distinct_place (g ∷ gs) zero (suc j) e f distinct at bt same =
+    let first : g.0 ≡ f.0 = ap (λ (y : List ℕ × ℕ). y.0) (same_some g e at) ∙ same in
+    absurd (both_ways (is_same g.0 f.0) (other_of gs g.0 j f distinct.0 bt) ((bytes_decides g.0 f.0).1 first))
+distinct_place (g ∷ gs) (suc i) zero e f distinct at bt same =
+    let first : g.0 ≡ e.0 = ap (λ (y : List ℕ × ℕ). y.0) (same_some g f bt) ∙ sym same in
+    absurd (both_ways (is_same g.0 e.0) (other_of gs g.0 i e distinct.0 at) ((bytes_decides g.0 e.0).1 first))
+distinct_place (g ∷ gs) (suc i) (suc j) e f distinct at bt same = ap suc (distinct_place gs i j e f distinct.1 at bt same)
 
 -- ---- the calls of a document after one more event
 
@@ -199,12 +212,12 @@ endings_after_ending H x n c es history call fresh no_call ends size found i m p
 
 -- ---- the lists as the code changes them
 
-first_position : {X : Type 0} (p : X → Bool) (x : X) (xs : List X) → p x ≡ true → position p (x ∷ xs) ≡ Some 0
+pub first_position : {X : Type 0} (p : X → Bool) (x : X) (xs : List X) → p x ≡ true → position p (x ∷ xs) ≡ Some 0
 first_position p x xs is =
     ap (λ b. cond (nat_lt (cond (not b) (1 + position_or_len p xs) 0) (suc (length xs))) (Some (cond (not b) (1 + position_or_len p xs) 0)) None) is
     ∙ ap (λ b. cond b (Some 0) None) (lt-ltb 0 (suc (length xs)) (omega arith))
 
-later_position : {X : Type 0} (p : X → Bool) (x : X) (xs : List X) → p x ≡ false → position p (x ∷ xs) ≡ option_map suc (position p xs)
+pub later_position : {X : Type 0} (p : X → Bool) (x : X) (xs : List X) → p x ≡ false → position p (x ∷ xs) ≡ option_map suc (position p xs)
 later_position p x xs is =
     ap (λ b. cond (nat_lt (cond (not b) (1 + position_or_len p xs) 0) (suc (length xs))) (Some (cond (not b) (1 + position_or_len p xs) 0)) None) is
     ∙ (ap (λ k. cond (nat_lt k (suc (length xs))) (Some k) None) (let same : 1 + position_or_len p xs ≡ suc (position_or_len p xs) = omega arith in same)

@@ -17,7 +17,7 @@ use Rattle.history.proofs.HistoryLemmas.{call_passes}
 
 -- ---- the first elements
 
-first_passes : (n : ℕ) (t : Event → Bool) (H : List Event) (i : ℕ) → PassesAt t (take n H) i → (i < n) × PassesAt t H i
+pub first_passes : (n : ℕ) (t : Event → Bool) (H : List Event) (i : ℕ) → PassesAt t (take n H) i → (i < n) × PassesAt t H i
 first_passes n t H i p =
     let e = passes_element t (take n H) i p in
     let g = get_take H n i e.0 e.1 in
@@ -28,7 +28,7 @@ passes_first n t H i below p = let e = passes_element t H i p in element_passes 
 
 -- ---- a prefix is a history
 
-prefix_history : (H : List Event) (n : ℕ) → IsHistory H → IsHistory (take n H)
+pub prefix_history : (H : List Event) (n : ℕ) → IsHistory H → IsHistory (take n H)
 prefix_history H n history = record {
   called_once = λ m i j p q. history.called_once m i j (first_passes n _ H i p).1 (first_passes n _ H j q).1;
   ended_once = λ m i j p q. history.ended_once m i j (first_passes n _ H i p).1 (first_passes n _ H j q).1;
@@ -144,7 +144,7 @@ legal_front front back legal =
 
 -- ---- the law
 
-in_front_or_back : {X : Type 0} (xs ys : List X) (i : ℕ) (z : X) → slice_get (xs ++ ys) i ≡ Some z → (slice_get xs i ≡ Some z) ⊎ ((j : ℕ) × (slice_get ys j ≡ Some z))
+pub in_front_or_back : {X : Type 0} (xs ys : List X) (i : ℕ) (z : X) → slice_get (xs ++ ys) i ≡ Some z → (slice_get xs i ≡ Some z) ⊎ ((j : ℕ) × (slice_get ys j ≡ Some z))
 in_front_or_back [] ys i z at = inr (i, at)
 in_front_or_back (x ∷ xs) ys zero z at = inl at
 in_front_or_back (x ∷ xs) ys (suc i) z at = in_front_or_back xs ys i z at

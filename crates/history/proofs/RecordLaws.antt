@@ -20,7 +20,7 @@ passes_here : (t : Event → Bool) (x : Event) (xs : List Event) → t x ≡ tru
 passes_here t x xs e = element_passes t (x ∷ xs) 0 x refl e
 
 -- what stands in the list is a place at which the test passes
-place_passes : (k : ℕ) (t : Event → Bool) (xs : List Event) (j i : ℕ) → slice_get (places_from k t xs) j ≡ Some i → (m : ℕ) × (i ≡ k + m) × PassesAt t xs m
+pub place_passes : (k : ℕ) (t : Event → Bool) (xs : List Event) (j i : ℕ) → slice_get (places_from k t xs) j ≡ Some i → (m : ℕ) × (i ≡ k + m) × PassesAt t xs m
 place_passes k t [] j i at = absurd (none_is_not_some i at)
 place_passes k t (x ∷ xs) j i at = by_test (t x) refl j at (λ a e. place_passes (suc k) t xs a i e) where
   by_test : (b : Bool) → t x ≡ b → (j : ℕ) → slice_get (if b then k ∷ places_from (suc k) t xs else places_from (suc k) t xs) j ≡ Some i
@@ -47,7 +47,7 @@ places_rise k t (x ∷ xs) j l a b below at bt = by_test (t x) j l below at bt (
   by_test false j l below at bt later = later j l below at bt
 
 -- each place at which the test passes is in the list
-place_listed : (k : ℕ) (t : Event → Bool) (xs : List Event) (m : ℕ) → PassesAt t xs m → (j : ℕ) × (slice_get (places_from k t xs) j ≡ Some (k + m))
+pub place_listed : (k : ℕ) (t : Event → Bool) (xs : List Event) (m : ℕ) → PassesAt t xs m → (j : ℕ) × (slice_get (places_from k t xs) j ≡ Some (k + m))
 place_listed k t [] m p = absurd (none_is_not_some true p)
 place_listed k t (x ∷ xs) zero p = (zero, ap (λ c. slice_get (if c then k ∷ places_from (suc k) t xs else places_from (suc k) t xs) zero) (same_some (t x) true p) ∙ ap (λ i. Some i) (omega arith))
 place_listed k t (x ∷ xs) (suc m) p = by_test (t x) (place_listed (suc k) t xs m p) where

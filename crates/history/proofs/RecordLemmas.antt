@@ -29,7 +29,7 @@ places_snoc k t (y ∷ xs) x = by_test (t y) (places_snoc (suc k) t xs x) where
 
 -- ---- the places of a document's calls
 
-place_within : (k : ℕ) (t : Event → Bool) (xs : List Event) (j i : ℕ) → slice_get (places_from k t xs) j ≡ Some i → i < k + length xs
+pub place_within : (k : ℕ) (t : Event → Bool) (xs : List Event) (j i : ℕ) → slice_get (places_from k t xs) j ≡ Some i → i < k + length xs
 place_within k t [] j i at = let impossible : None ≡ Some i = at in absurd (cc)
 place_within k t (x ∷ xs) j i at =
     by_test (t x) j (λ l found. (let below : i < suc k + length xs = place_within (suc k) t xs l i found in omega (arith, below))) at where

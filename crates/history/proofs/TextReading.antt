@@ -12,6 +12,7 @@ use Rattle.api_lines.specs.HistoryLines.{call_told, line_told, lost_told, reply_
 use Rattle.api_lines.specs.Json.{text, whole}
 use Rattle.api_lines.specs.Kinds.{required_text}
 use Rattle.api_lines.specs.ReplyTable.{IsHeard, IsStranger, heard}
+use Rattle.api_lines.specs.Texts.{line_given, read_line, taken}
 use Rattle.api_lines.specs.declared.history_line.LineSaid.{LineSaid}
 use Rattle.api_lines.specs.declared.history_line.LineSaid.TheVariants as said
 use Rattle.api_lines.specs.declared.reply_table.Heard.{Heard}
@@ -27,7 +28,7 @@ use Rattle.history.specs.Events.{HasShard, IsCallAt, is_call, is_ending, place_o
 use Rattle.history.specs.declared.fault.HistFault.{HistFault}
 use Rattle.history.specs.declared.fault.HistFault.TheVariants as event
 use Rattle.history.specs.Faults.{line_fault}
-use Rattle.history.specs.Reading.{adds, ending_told, event_heard, event_said, event_told, heard_of_call, with_more}
+use Rattle.history.specs.Reading.{adds, ending_told, event_heard, event_said, event_told, heard_of_call, takes_line, takes_value, with_more}
 use Rattle.history.specs.Refusal.{first_event, refusal_of, refusal_told}
 use Rattle.api_lines.specs.declared.text_fault.LineFault.{LineFault}
 use Rattle.history.specs.aids.Indexes.{open_call_of, opened}
@@ -299,3 +300,9 @@ pub answer_refused : (H : List Event) (n i status : ℕ) (body : BodyValues) (e 
 answer_refused H n i status body e r pushed answer opens at tells is reason =
     subst (λ t. IfErr answer (λ fault. IfTold fault (λ cause. t ≡ Err cause))) (sym (reply_taken H n i status body e (heard.Reply r) opens at tells))
     (line_err H (Reply n r) pushed answer is reason)
+
+-- ---- a line of these fields
+
+pub line_taken : (n : ℕ) (events : List Event) (line : List ℕ) (v : Data) (fields : LineValues) → line_given n line ≡ Ok (Some v) → fields ≡ line_values v
+    → read_line takes_value n events line ≡ takes_line events fields
+line_taken n events line v fields given seen = ap (λ r. r >>= taken takes_value events) given ∙ ap (takes_line events) (sym seen)

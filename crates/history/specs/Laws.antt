@@ -42,6 +42,11 @@ pub record PrefixesStay : Type 0 where
   pub linearizable : (mode : Conflicts) (events : List Event) (n : ℕ) → IsLinearizable mode events
       → IsLinearizable mode (prefix events n)
 
+-- where no reply stands at the place n or later, a history is plainly right where its first n events are
+abbrev pub LateCallsChangeNothing : Type 0
+LateCallsChangeNothing = (events : List Event) (n : ℕ) → IsHistory events → ((k m : ℕ) (r : Answer) → IsReplyAt events k m r → k < n)
+    → IsPlainlyRight (prefix events n) → IsPlainlyRight events
+
 -- ---- the records of documents
 
 -- the record stands at the place j among those of the document d

@@ -61,9 +61,13 @@ with_more events e (Some fault) = Err (cause_of fault)
 abbrev pub adds : List Event → Event → Result (List Event) TextCause
 adds events e = with_more events e (refusal_of events e)
 
+-- the events after a line of these fields
+abbrev pub takes_line : List Event → LineValues → Result (List Event) TextCause
+takes_line events line = event_told events line >>= adds events
+
 -- the events after the value of a line
 abbrev pub takes_value : List Event → Data → Result (List Event) TextCause
-takes_value events v = event_told events (line_values v) >>= adds events
+takes_value events v = takes_line events (line_values v)
 
 -- the events of a history text; or the first line that is refused, with its first cause
 abbrev pub history_text : List ℕ → Result (List Event) TextFault

@@ -1,3 +1,4 @@
+pub mod Fronts
 pub mod Indexes
 pub mod Taking
 pub mod Writing

@@ -1,7 +1,8 @@
 ghost use Rattle.std.specs.Prelude.{◌≡◌, ℕ, ◌<◌, ◌≤◌, ◌↔◌, List, [], ◌∷◌, ◌++◌, length, IsTrue, IfSome, OnOk, OnErr, None, Some, option_map, position, slice_get};
 ghost use Rattle.history.specs.declared.event.Event.TheVariants.{Call};
-ghost use Rattle.history.specs.Events.{HasShard, IsHistory, PassesAt, documents_of, is_call, is_ending, is_same, place_of};
+ghost use Rattle.history.specs.Events.{HasShard, IsHistory, PassesAt, documents_of, is_call, is_ending, is_same, place_of, prefix as first_events};
 ghost use Rattle.history.specs.Refusal.{most_events as limit, refusal_of, refusal_told, shard_of};
+ghost use Rattle.history.specs.aids.Fronts.{starts_below};
 ghost use Rattle.history.specs.aids.Indexes.{IsEndingOf, calls_at};
 
 use crate::event::Event;
@@ -237,6 +238,14 @@ impl History {
         self.document_calls[doc].as_slice()
     }
 
+    /// How many documents have their first call before the place; these are the first ones.
+    pub(crate) fn docs_called_before(&self, end: usize) -> usize
+        ensures { result ≡ length (documents_of (first_events self.now end)) }
+    {
+        self.document_calls
+            .partition_point(|calls| starts_below(calls.as_slice(), end))
+    }
+
     /// The shard of a document, that of its first call: 0 to 1,023.
     pub fn shard(&self, doc: usize) -> u32
         requires { doc < length (documents_of self.now) }
@@ -246,6 +255,16 @@ impl History {
             Some((_, shard)) => *shard,
             None => unreachable!(),
         }
+    }
+}
+
+// Whether the first of the places is below the bound.
+fn starts_below(places: &[usize], bound: usize) -> bool
+    ensures { result ≡ starts_below bound places.now }
+{
+    match places.first() {
+        Some(place) => *place < bound,
+        None => false,
     }
 }
 

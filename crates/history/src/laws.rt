@@ -1,6 +1,6 @@
 //! Laws of the definitions, each the contract of a function that does nothing.
 
-ghost use Rattle.history.specs.Laws.{PlainlyRightIsLinearizable, PrecedenceIsStrict, PrefixesStay, SplitByDocument, TextOfOneHistory, TextsAreRead, UnansweredLeftOut};
+ghost use Rattle.history.specs.Laws.{LateCallsChangeNothing, PlainlyRightIsLinearizable, PrecedenceIsStrict, PrefixesStay, SplitByDocument, TextOfOneHistory, TextsAreRead, UnansweredLeftOut};
 
 /// Shows that no call of a history precedes itself, that precedence passes on, and that a pending call precedes none.
 #[tactic(auto, using(crate::proofs::OrderLaws::precedence_is_strict))]
@@ -25,6 +25,11 @@ pub fn leaving_out()
 #[tactic(auto, using(crate::proofs::PrefixLaws::prefixes_stay))]
 pub fn prefixes()
     ensures { PrefixesStay }
+{}
+
+/// Shows that calls after the last reply, and news of lost ones, leave a history plainly right.
+pub fn late_calls()
+    ensures { LateCallsChangeNothing }
 {}
 
 /// Shows that each call of a history has its record among those of its document, and nowhere else; that a record

@@ -4,6 +4,7 @@
 mod bulk_writer;
 mod event;
 mod fault;
+mod front;
 mod history;
 pub mod laws;
 mod line_event;
@@ -23,6 +24,7 @@ mod written_line;
 pub use bulk_writer::bulk_text;
 pub use event::Event;
 pub use fault::HistFault;
+pub use front::Front;
 pub use history::{History, MOST_EVENTS};
 pub use reader::read;
 pub use record::Rec;

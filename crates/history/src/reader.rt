@@ -1,28 +1,48 @@
 ghost use Rattle.std.specs.Prelude.{◌≡◌, ◌≤◌, IfErr, IfOk, OnErr, OnOk, Ok, Err};
-ghost use Rattle.serde_json.specs.View.{view};
 ghost use Rattle.api_lines.specs.Faults.{IfTextTold, IfTold};
+ghost use Rattle.api_lines.specs.Fields.{line_seen};
 ghost use Rattle.api_lines.specs.Lines.{most_lines};
 ghost use Rattle.api_lines.specs.Texts.{read_line};
-ghost use Rattle.history.specs.Reading.{history_text, takes_value};
+ghost use Rattle.history.specs.Reading.{history_text, takes_line, takes_value};
 ghost use Rattle.history.specs.Text.{IsHistoryText};
 
 use crate::history::History;
 use crate::line_event::take_said;
 use api_lines::lines::first_line;
-use api_lines::{LineFault, ReadFault, given_line, line_fields, line_said};
-use serde_json::Value;
+use api_lines::{
+    LineFault, LineFields, ReadFault, given_fields, given_line, line_fields, line_said,
+};
 use std::alloc::Global;
 
-// Takes the value of one more line. A line that is refused leaves the history as it was.
-fn take_value(alloc: Global, history: &mut History, value: &Value) -> Result<(), LineFault>
-    ensures ok { OnOk result (takes_value history.old (view value.now) ≡ Ok history.new) }
+// Takes the fields of one more line. A line that is refused leaves the history as it was.
+fn take_fields(alloc: Global, history: &mut History, line: &LineFields<'_>) -> Result<(), LineFault>
+    ensures ok { OnOk result (takes_line history.old (line_seen line.now) ≡ Ok history.new) }
     ensures err { IfErr result (λ fault. IfTold fault
-        (λ cause. takes_value history.old (view value.now) ≡ Err cause)) }
+        (λ cause. takes_line history.old (line_seen line.now) ≡ Err cause)) }
     ensures unchanged { OnErr result (history.new ≡ history.old) }
 {
-    let line = line_fields(value);
-    match line_said(alloc, &line) {
+    match line_said(alloc, line) {
         Ok(said) => take_said(history, said, &line.body),
+        Err(fault) => Err(fault),
+    }
+}
+
+// Takes the value of one more line, by way of `serde_json`. A line that is refused leaves the history as it was.
+fn take_value(
+    alloc: Global,
+    history: &mut History,
+    number: u64,
+    line: &[u8],
+) -> Result<(), LineFault>
+    ensures ok { OnOk result (read_line takes_value number history.old line.now ≡ Ok history.new) }
+    ensures within { OnOk result (number ≤ most_lines) }
+    ensures err { IfErr result (λ fault. IfTold fault
+        (λ cause. read_line takes_value number history.old line.now ≡ Err cause)) }
+    ensures unchanged { OnErr result (history.new ≡ history.old) }
+{
+    match given_line(alloc, number, line) {
+        Ok(Some(value)) => take_fields(alloc, history, &line_fields(&value)),
+        Ok(None) => Ok(()),
         Err(fault) => Err(fault),
     }
 }
@@ -40,10 +60,9 @@ fn take_line(
         (λ cause. read_line takes_value number history.old line.now ≡ Err cause)) }
     ensures unchanged { OnErr result (history.new ≡ history.old) }
 {
-    match given_line(alloc, number, line) {
-        Ok(Some(value)) => take_value(alloc, history, &value),
-        Ok(None) => Ok(()),
-        Err(fault) => Err(fault),
+    match given_fields(number, line) {
+        Some(fields) => take_fields(alloc, history, &fields),
+        None => take_value(alloc, history, number, line),
     }
 }
 
@@ -71,5 +90,7 @@ pub fn read(alloc: Global, text: &[u8]) -> Result<History, ReadFault>
     Ok(history)
 }
 
+#[cfg(test)]
+mod drawn;
 #[cfg(test)]
 mod tests;

@@ -3,12 +3,13 @@ ghost use Rattle.std.specs.Option.{option_to_list};
 ghost use Rattle.history.specs.Events.{PassesAt, documents_of, heard_of, is_call, record_at, records_of};
 
 use crate::event::Event;
+use crate::front::Front;
 use crate::history::History;
 use crate::record::Rec;
 use doc_register::Reply;
 use version_pair::NoMemory;
 
-impl History {
+impl Front<'_> {
     // What was heard of the call that stands at this place: the place of its reply, and the reply.
     fn heard_at_call(&self, place: usize) -> Option<(usize, Reply)>
         requires { place < length self.now }
@@ -52,6 +53,17 @@ impl History {
             push_some(&mut records, self.record(*place))?;
         }
         Ok(records)
+    }
+}
+
+impl History {
+    /// The calls of a document in their order, each with what was heard of it.
+    pub fn records(&self, doc: usize) -> Result<Vec<Rec>, NoMemory>
+        requires { doc < length (documents_of self.now) }
+        ensures { IfOk result (λ records. option_map (λ d. records_of self.now d.0)
+            (slice_get (documents_of self.now) doc) ≡ Some records.items) }
+    {
+        self.whole().records(doc)
     }
 }
 

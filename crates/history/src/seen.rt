@@ -2,6 +2,7 @@ ghost use Rattle.std.specs.Prelude.{◌≡◌};
 ghost use Rattle.history.specs.Seen.{condition_of, pair_named, pair_of_reply, seen_in, seen_with};
 
 use crate::event::Event;
+use crate::front::Front;
 use crate::history::History;
 use doc_register::{Op, Reply};
 use version_pair::Pair;
@@ -64,7 +65,7 @@ fn event_pair(event: &Event) -> Option<Pair>
     }
 }
 
-impl History {
+impl Front<'_> {
     /// The greatest primary term and the greatest sequence number in any reply or condition.
     pub fn seen(&self) -> Seen
         ensures { result ≡ seen_in self.now }
@@ -74,6 +75,15 @@ impl History {
             seen = seen.with(event_pair(self.event(place)));
         }
         seen
+    }
+}
+
+impl History {
+    /// The greatest primary term and the greatest sequence number in any reply or condition.
+    pub fn seen(&self) -> Seen
+        ensures { result ≡ seen_in self.now }
+    {
+        self.whole().seen()
     }
 }
 

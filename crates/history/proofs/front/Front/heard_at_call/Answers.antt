@@ -1,7 +1,7 @@
 use Rattle.std.proofs.Common.{sym, ap}
 use Rattle.history.specs.Events.{heard_at}
 use Rattle.history.proofs.OpenCalls.{heard_event, heard_no_reply, heard_nothing}
-use Rattle.history.proofs.history.History.heard_at_call.Goals as goal
+use Rattle.history.proofs.front.Front.heard_at_call.Goals as goal
 
 pub returns-in_default : goal.returns-in_default
 returns-in_default c n passes = heard_nothing c.args.self.now n (c.in_default.ensures.ending n passes)

@@ -1,5 +1,5 @@
 use Rattle.history.proofs.OpenCalls.{call_at_place, record_is_at}
-use Rattle.history.proofs.history.History.record.Goals as goal
+use Rattle.history.proofs.front.Front.record.Goals as goal
 
 pub returns-in-Call : goal.returns-in-Call
 returns-in-Call c =

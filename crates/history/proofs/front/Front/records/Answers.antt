@@ -4,7 +4,7 @@ use Rattle.std.specs.Prelude.{slice_get}
 use Rattle.std.proofs.lemmas.Option.{slice_get-get_or}
 use Rattle.history.specs.Events.{documents_of}
 use Rattle.history.proofs.RecordLemmas.{listed_within, records_at_places, records_done, records_listed, records_none, records_one_more}
-use Rattle.history.proofs.history.History.records.Goals as goal
+use Rattle.history.proofs.front.Front.records.Goals as goal
 
 pub loop-place-init : goal.loop-place-init
 loop-place-init c = c.in_ok-records.ensures.items ∙ records_none c.args.self.now c.calls_of_document-places.result.now

@@ -1,7 +1,7 @@
 use Rattle.std.proofs.Common.{◌∙◌, ap}
 use Rattle.history.specs.Seen.{seen_with}
 use Rattle.history.proofs.PlaceLemmas.{seen_one_more}
-use Rattle.history.proofs.history.History.seen.Goals as goal
+use Rattle.history.proofs.front.Front.seen.Goals as goal
 
 pub loop-place-preserved : goal.loop-place-preserved
 loop-place-preserved c =

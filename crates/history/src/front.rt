@@ -1,0 +1,151 @@
+ghost use Rattle.std.specs.Prelude.{◌≡◌, ◌<◌, ◌≤◌, ℕ, IfSome, Some, length, option_map, position, slice_get};
+ghost use Rattle.history.specs.Events.{IsHistory, PassesAt, documents_of, is_call, is_ending, is_same, place_of, prefix as first_events};
+ghost use Rattle.history.specs.Refusal.{most_events as limit};
+ghost use Rattle.history.specs.aids.Indexes.{calls_at};
+ghost use Rattle.history.specs.aids.Fronts.{when_below};
+
+use crate::event::Event;
+use crate::history::History;
+use std::alloc::Global;
+use std::marker::Model;
+use version_pair::DocId;
+
+/// The first events of a history, as a history of its own, without a copy of them. A reply past its end is not heard,
+/// and a document that is first called past its end is none of its documents.
+#[derive(Debug, Drop)]
+pub struct Front<'h> {
+    history: &'h History,
+    // How many events it has.
+    end: usize,
+    // How many documents are called in it: the first ones of the history.
+    docs: usize,
+}
+
+impl<'h> Model for Front<'h> {
+    ghost use Rattle.std.specs.Prelude.{List, take};
+    ghost use Rattle.history.specs.declared.event.Event.{Event};
+
+    ghost Value = { List Event };
+
+    ghost use Rattle.history.specs.aids.Fronts.{IsFront};
+
+    ghost view = { λ f. take f.end f.history.now };
+
+    ghost invariant = { λ f. IsFront f.history.now f.end f.docs };
+}
+
+impl History {
+    /// The whole history as a front.
+    pub fn whole(&self) -> Front<'_>
+        ensures { result ≡ self.now }
+    {
+        Front {
+            history: self,
+            end: self.len(),
+            docs: self.docs(),
+        }
+    }
+
+    /// The first `end` events, or all where there are fewer. It costs a binary search among the documents.
+    pub fn front(&self, end: usize) -> Front<'_>
+        ensures { result ≡ first_events self.now end }
+    {
+        let end = end.min(self.len());
+        Front {
+            history: self,
+            end,
+            docs: self.docs_called_before(end),
+        }
+    }
+}
+
+// The number, where it is below the bound.
+fn below(number: Option<usize>, bound: usize) -> Option<usize>
+    ensures { result ≡ when_below bound number }
+{
+    match number {
+        Some(number) if number < bound => Some(number),
+        _ => None,
+    }
+}
+
+impl<'h> Front<'h> {
+    /// How many events there are, at most 1,048,576.
+    pub fn len(&self) -> usize
+        ensures count { result ≡ length self.now }
+        ensures within { length self.now ≤ limit }
+        ensures history { IsHistory self.now }
+    {
+        // What the history's own length tells is known: its events are a history, and within the limit.
+        let _ = self.history.len();
+        self.end
+    }
+
+    /// The event at a place, from 0.
+    pub fn event(&self, place: usize) -> &'h Event
+        requires { place < length self.now }
+        ensures { slice_get self.now place ≡ Some result.now }
+    {
+        self.history.event(place)
+    }
+
+    /// The place of the ending of the call that stands at this place.
+    pub(crate) fn ending_of_call(&self, place: usize) -> Option<usize>
+        requires { place < length self.now }
+        ensures ending { (n : ℕ) → PassesAt (is_call n) self.now place
+            → result ≡ place_of (is_ending n) self.now }
+        ensures within { IfSome result (λ ending. ending < length self.now) }
+    {
+        below(self.history.ending_of_call(place), self.end)
+    }
+
+    /// The allocator that the history was made with.
+    pub(crate) fn allocator(&self) -> Global {
+        self.history.allocator()
+    }
+
+    /// How many documents there are.
+    pub fn docs(&self) -> usize
+        ensures { result ≡ length (documents_of self.now) }
+    {
+        self.docs
+    }
+
+    /// The id of a document; documents are numbered from 0 in the order of their first calls.
+    pub fn doc(&self, doc: usize) -> &'h DocId
+        requires { doc < length (documents_of self.now) }
+        ensures { option_map (λ d. d.0) (slice_get (documents_of self.now) doc) ≡ Some result.now }
+    {
+        self.history.doc(doc)
+    }
+
+    /// The number of the document with this id, where it was called.
+    pub fn doc_of(&self, id: &DocId) -> Option<usize>
+        ensures { result ≡ position (λ d. is_same id.now d.0) (documents_of self.now) }
+    {
+        below(self.history.doc_of(id), self.docs)
+    }
+
+    /// The shard of a document, that of its first call: 0 to 1,023.
+    pub fn shard(&self, doc: usize) -> u32
+        requires { doc < length (documents_of self.now) }
+        ensures { option_map (λ d. d.1) (slice_get (documents_of self.now) doc) ≡ Some result }
+    {
+        self.history.shard(doc)
+    }
+
+    /// The places of the calls of a document, in their order.
+    pub(crate) fn calls_of_document(&self, doc: usize) -> &'h [usize]
+        requires { doc < length (documents_of self.now) }
+        ensures { option_map (λ d. calls_at self.now d.0) (slice_get (documents_of self.now) doc)
+            ≡ Some result.now }
+    {
+        let calls = self.history.calls_of_document(doc);
+        let end = self.end;
+        let count = calls.partition_point(|place| *place < end);
+        &calls[..count]
+    }
+}
+
+#[cfg(test)]
+mod tests;
