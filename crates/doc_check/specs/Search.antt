@@ -15,6 +15,21 @@ abbrev pub IsAbout : List ℕ → List Rec → Conflicts → DocAnswer → Type 
 IsAbout doc records mode (Found w) = (w.doc ≡ doc) × (w.records ≡ records) × (w.conflicts ≡ mode) × AreValid mode records w.places
 IsAbout doc records mode (NotFound n) = (n.doc ≡ doc) × (n.records ≡ records) × (n.conflicts ≡ mode) × HasNoOrder mode records
 
+-- the id of the document that an answer is about
+abbrev pub id_of : DocAnswer → List ℕ
+id_of (Found w) = w.doc
+id_of (NotFound n) = n.doc
+
+-- its records
+abbrev pub records_of : DocAnswer → List Rec
+records_of (Found w) = w.records
+records_of (NotFound n) = n.records
+
+-- and its reading of conflicts
+abbrev pub mode_of : DocAnswer → Conflicts
+mode_of (Found w) = w.conflicts
+mode_of (NotFound n) = n.conflicts
+
 -- an order is found, with just these places
 abbrev pub IsFoundWith : List Place → DocAnswer → Type 0
 IsFoundWith places (Found w) = w.places ≡ places

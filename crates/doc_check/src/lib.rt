@@ -2,6 +2,7 @@
 #![tactic(auto)]
 
 mod chain;
+mod forward;
 mod latest;
 pub mod laws;
 mod moments;
@@ -10,11 +11,13 @@ mod order;
 mod reply_order;
 mod rules;
 mod search;
+mod settled;
 mod stretches;
 mod sweep;
 
 pub use no_order::NoOrder;
-pub use search::{DocAnswer, answer};
+pub use search::{DocAnswer, answer, answer_among};
+pub use settled::is_settled;
 
 #[cfg(test)]
 mod tests;

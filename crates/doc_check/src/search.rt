@@ -1,21 +1,23 @@
-ghost use Rattle.std.specs.Prelude.{◌≡◌, IfOk, MatchOption};
+ghost use Rattle.std.specs.Prelude.{◌≡◌, IfOk, IfSome, MatchOption};
 ghost use Rattle.doc_register.specs.declared.state.Conflicts.{Conflicts as Mode};
 ghost use Rattle.witness.specs.Places.{AreValid};
 ghost use Rattle.doc_check.specs.NoOrders.{HasNoOrder};
-ghost use Rattle.doc_check.specs.Search.{FindsUnpaired, FollowsReplies, IsAbout};
+ghost use Rattle.doc_check.specs.Search.{FindsUnpaired, FollowsReplies, IsAbout, id_of, mode_of, records_of};
 ghost use Rattle.doc_check.specs.aids.Sweep.{IsOfSweep};
 
 use crate::chain::{chain_of, rises};
+use crate::forward::searched;
 use crate::no_order::NoOrder;
 use crate::order::order_of;
 use crate::reply_order::reply_order;
 use crate::rules::completed;
+use crate::settled::is_settled;
 use crate::stretches::Stretches;
 use crate::sweep::sweep;
 use doc_register::Conflicts;
 use history::{Rec, Seen};
 use std::alloc::{AllocError, Global};
-use version_pair::{DocId, NoMemory};
+use version_pair::{DocId, NoMemory, Pair};
 use witness::{Broken, DocWitness, Place};
 
 /// What the search found for a document.
@@ -25,6 +27,38 @@ pub enum DocAnswer {
     Found(DocWitness),
     /// No order was found, and there is none of the answered calls alone.
     NotFound(NoOrder),
+}
+
+impl DocAnswer {
+    /// The id of the document that it is about.
+    pub fn id(&self) -> &DocId
+        ensures { result.now ≡ id_of self.now }
+    {
+        match self {
+            DocAnswer::Found(witness) => witness.id(),
+            DocAnswer::NotFound(none) => none.id(),
+        }
+    }
+
+    /// The records that it is about.
+    pub fn records(&self) -> &[Rec]
+        ensures { result.now ≡ records_of self.now }
+    {
+        match self {
+            DocAnswer::Found(witness) => witness.records(),
+            DocAnswer::NotFound(none) => none.records(),
+        }
+    }
+
+    /// How a conflict is read.
+    pub fn conflicts(&self) -> Conflicts
+        ensures { result ≡ mode_of self.now }
+    {
+        match self {
+            DocAnswer::Found(witness) => witness.conflicts(),
+            DocAnswer::NotFound(none) => none.conflicts(),
+        }
+    }
 }
 
 // The order of the answered records that the sweep gives; `None` where it finds that there is none.
@@ -43,8 +77,35 @@ fn swept(alloc: Global, records: &[Rec]) -> Result<Option<Vec<Place>>, NoMemory>
     }
 }
 
+// What is found where the rules find no valid order: an order that completes unanswered writes by a search forward in
+// time, where that is valid.
+fn answer_forward(
+    alloc: Global,
+    id: DocId,
+    recs: Vec<Rec>,
+    seen: Seen,
+    conflicts: Conflicts,
+) -> Result<DocAnswer, NoMemory>
+    requires { HasNoOrder conflicts recs.items }
+    ensures { IfOk result (IsAbout id recs.items conflicts) }
+{
+    if is_settled(&recs, conflicts) {
+        return Ok(DocAnswer::NotFound(NoOrder::of(id, recs, conflicts)));
+    }
+    match searched(alloc, &recs, seen, conflicts, &[])? {
+        Some(places) => match DocWitness::check(alloc, id, recs, places, conflicts) {
+            Ok(witness) => Ok(DocAnswer::Found(witness)),
+            Err((fault, id, recs, _)) => match fault {
+                Broken::NoMemory => Err(AllocError),
+                _ => Ok(DocAnswer::NotFound(NoOrder::of(id, recs, conflicts))),
+            },
+        },
+        None => Ok(DocAnswer::NotFound(NoOrder::of(id, recs, conflicts))),
+    }
+}
+
 // What is found where no order of the answered calls alone is valid: an order that completes unanswered writes by rules,
-// where that is valid.
+// where that is valid, else by the search forward.
 fn answer_by_rules(
     alloc: Global,
     id: DocId,
@@ -60,10 +121,10 @@ fn answer_by_rules(
             Ok(witness) => Ok(DocAnswer::Found(witness)),
             Err((fault, id, recs, _)) => match fault {
                 Broken::NoMemory => Err(AllocError),
-                _ => Ok(DocAnswer::NotFound(NoOrder::of(id, recs, conflicts))),
+                _ => answer_forward(alloc, id, recs, seen, conflicts),
             },
         },
-        None => Ok(DocAnswer::NotFound(NoOrder::of(id, recs, conflicts))),
+        None => answer_forward(alloc, id, recs, seen, conflicts),
     }
 }
 
@@ -93,7 +154,8 @@ fn answer_by_sweep(
 /// An order of a document's calls that explains them, where one is found.
 ///
 /// First the order of the replies is tried; then the sweep, which finds an order of the answered calls alone where
-/// there is one; then the rules, which complete unanswered writes.
+/// there is one; then the rules, which complete unanswered writes; last the search forward in time, which completes them
+/// too.
 pub fn answer(
     alloc: Global,
     id: DocId,
@@ -112,5 +174,34 @@ pub fn answer(
             Broken::NoMemory => Err(AllocError),
             _ => answer_by_sweep(alloc, id, recs, seen, conflicts),
         },
+    }
+}
+
+/// An order of a document's calls that explains them, where the search forward in time finds one that knows which pairs
+/// the documents of the shard use, by rising pair; the document's own may be among them. It invents pairs only where one
+/// is left.
+///
+/// That nothing is found says nothing.
+pub fn answer_among(
+    alloc: Global,
+    id: DocId,
+    recs: Vec<Rec>,
+    seen: Seen,
+    conflicts: Conflicts,
+    used: &[Pair],
+) -> Result<Option<DocWitness>, NoMemory>
+    ensures { IfOk result (λ found. IfSome found (λ w. (w.doc ≡ id) × (w.records ≡ recs.items)
+        × (w.conflicts ≡ conflicts) × AreValid conflicts recs.items w.places)) }
+{
+    if is_settled(&recs, conflicts) {
+        return Ok(None);
+    }
+    match searched(alloc, &recs, seen, conflicts, used)? {
+        Some(places) => match DocWitness::check(alloc, id, recs, places, conflicts) {
+            Ok(witness) => Ok(Some(witness)),
+            Err((Broken::NoMemory, ..)) => Err(AllocError),
+            Err(_) => Ok(None),
+        },
+        None => Ok(None),
     }
 }

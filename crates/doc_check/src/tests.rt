@@ -1,17 +1,20 @@
 use super::*;
 use crate::rules::completed;
+use crate::settled::is_settled;
 use crate::tests::drawn::drawn;
+use crate::tests::honest::{Recording, honest, setting_of};
 use crate::tests::naive::naive;
 use doc_register::Conflicts;
 use history::{History, read};
 use std::alloc::Global;
 use std::process::Abort;
 use std::test::Fail;
-use version_pair::Pair;
+use version_pair::{DocId, Pair};
 use witness::Place;
 
 mod drawn;
 mod draws;
+mod honest;
 mod naive;
 
 // The case shown-and-taken-back.
@@ -306,5 +309,52 @@ fn rules_followed_word_by_word(rt: HostRuntime) -> Result<(), Fail> {
     // The draws reach both answers.
     assert!(rt; completing >= 150, "{completing}");
     assert!(rt; none >= 20, "{none}");
+    Ok(())
+}
+
+// Whether an order is found for a recording: by all tries, and by the search forward alone that knows which numbers the
+// other documents use. Where each write was answered, there is nothing that it could search.
+fn finds(alloc: Global, recording: Recording, conflicts: Conflicts) -> Result<(bool, bool), Fail> {
+    let id = DocId::new(alloc, "d").map_err(|_| "an id")?;
+    let records = recording.records.clone()?;
+    let has_nothing_to_search = is_settled(&records, conflicts);
+    let among = answer_among(
+        alloc,
+        id.copy()?,
+        records,
+        recording.seen,
+        conflicts,
+        &recording.used,
+    )?;
+    let by_all = answer(alloc, id, recording.records, recording.seen, conflicts)?;
+    Ok((
+        matches!(by_all, DocAnswer::Found(_)),
+        among.is_some() || has_nothing_to_search,
+    ))
+}
+
+// How many of two hundred recordings of an honest index get no order, by all tries and by the search forward alone.
+fn missed(alloc: Global, conflicts: Conflicts) -> Result<(usize, usize), Fail> {
+    let mut by_all = 0usize;
+    let mut among = 0usize;
+    for seed in 0..200 {
+        let recording = honest(alloc, setting_of(seed, conflicts), seed)?;
+        let (is_found, is_found_among) = finds(alloc, recording, conflicts)?;
+        by_all = by_all.saturating_add(usize::from(!is_found));
+        among = among.saturating_add(usize::from(!is_found_among));
+    }
+    Ok((by_all, among))
+}
+
+#[test]
+fn honest_recordings_have_orders(rt: HostRuntime) -> Result<(), Fail> {
+    for (conflicts, most) in [(Conflicts::Plain, 0), (Conflicts::Maybe, 2)] {
+        let (by_all, among) = missed(rt.alloc(), conflicts)?;
+        assert!(rt; by_all <= most, "{by_all} by all tries, {conflicts:?}");
+        assert!(rt;
+            among <= most,
+            "{among} by the search forward, {conflicts:?}"
+        );
+    }
     Ok(())
 }

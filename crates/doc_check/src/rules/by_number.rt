@@ -15,8 +15,8 @@ pub struct ByNumber {
     left: Vec<usize>,
 }
 
-// The number of a write that may be completed.
-fn number_of(found: Rec, reading: Conflicts) -> Option<u64> {
+/// The number of a write that may be completed.
+pub fn number_of(found: Rec, reading: Conflicts) -> Option<u64> {
     let may_be = found.heard.is_none() || conflicts(found) && reading == Conflicts::Maybe;
     match found.op {
         Op::Index { k, .. } | Op::Create { k } if may_be => Some(k),

@@ -34,6 +34,23 @@ impl Queue {
         self.entries.sort_unstable();
     }
 
+    /// Puts a record back that was taken.
+    pub fn put_back(&mut self, place: usize, rec: usize) {
+        let at = self.entries.partition_point(|entry| *entry < (place, rec));
+        self.first = self.first.min(at);
+    }
+
+    /// The places and records, from a place on, that may be left.
+    pub fn rest(&self, from: usize) -> &[(usize, usize)] {
+        let at = self.entries.partition_point(|entry| entry.0 < from);
+        self.entries.get(at.max(self.first)..).unwrap_or(&[])
+    }
+
+    /// All places and records.
+    pub fn all(&self) -> &[(usize, usize)] {
+        &self.entries
+    }
+
     /// The place and the record of the first that is left.
     pub fn first(&mut self, taken: &[bool]) -> Option<(usize, usize)> {
         for i in self.first..self.entries.len() {

@@ -34,8 +34,8 @@ struct Document {
     at: usize,
 }
 
-// The pair that a reply shows.
-fn shown_pair(reply: Reply) -> Option<Pair> {
+/// The pair that a reply shows.
+pub fn shown_pair(reply: Reply) -> Option<Pair> {
     match reply {
         Reply::Indexed { pair, .. } | Reply::Deleted { pair, .. } | Reply::Found { pair, .. } => {
             Some(pair)
@@ -212,8 +212,8 @@ fn seen_with_call(seen: Seen, found: Rec) -> Seen {
     seen_with(seen_with(seen, shown), condition(found.op))
 }
 
-// The greatest numbers of the replies and conditions.
-fn seen_in(records: &[Rec]) -> Seen {
+/// The greatest numbers of the replies and conditions.
+pub fn seen_in(records: &[Rec]) -> Seen {
     let mut seen = Seen { term: 0, seq: 0 };
     for found in records {
         seen = seen_with_call(seen, *found);

@@ -1,0 +1,104 @@
+use crate::rules::by_number::number_of;
+use crate::rules::queue::Queue;
+use doc_register::Conflicts;
+use history::Rec;
+use std::alloc::Global;
+use version_pair::NoMemory;
+
+/// The writes that a get can have shown without a reply of theirs that tells it, by number: the unanswered ones, and
+/// under Maybe those that answer a conflict.
+#[derive(Drop)]
+pub struct Numbers {
+    // The numbers, rising, and the writes of each by call.
+    numbers: Vec<u64>,
+    lines: Vec<Queue>,
+}
+
+// The writes by number, call and record.
+fn numbered(
+    alloc: Global,
+    records: &[Rec],
+    reading: Conflicts,
+) -> Result<Vec<(u64, usize, usize)>, NoMemory> {
+    let mut writes = Vec::new(alloc);
+    for rec in 0..records.len() {
+        if let Some(k) = number_of(records[rec], reading) {
+            writes.push((k, records[rec].call_at, rec))?;
+        }
+    }
+    writes.sort_unstable();
+    Ok(writes)
+}
+
+impl Numbers {
+    /// The writes of a document by number.
+    pub fn of(alloc: Global, records: &[Rec], reading: Conflicts) -> Result<Numbers, NoMemory> {
+        let mut numbers = Numbers {
+            numbers: Vec::new(alloc),
+            lines: Vec::new(alloc),
+        };
+        for (k, call_at, rec) in &numbered(alloc, records, reading)? {
+            numbers.add(alloc, *k, *call_at, *rec)?;
+        }
+        Ok(numbers)
+    }
+
+    // Adds a write, after all of a lesser number or an earlier call.
+    fn add(&mut self, alloc: Global, k: u64, call_at: usize, rec: usize) -> Result<(), NoMemory> {
+        if self.numbers.last() != Some(&k) {
+            self.numbers.push(k)?;
+            self.lines.push(Queue::new(alloc))?;
+        }
+        match self.lines.last_mut() {
+            Some(line) => line.push(call_at, rec),
+            None => Ok(()),
+        }
+    }
+
+    // The place of a number's line.
+    fn place(&self, k: u64) -> Option<usize> {
+        let at = self.numbers.partition_point(|number| *number < k);
+        if *self.numbers.get(at)? == k {
+            Some(at)
+        } else {
+            None
+        }
+    }
+
+    /// The write of the number, where it is the only one.
+    pub fn only(&self, k: u64) -> Option<usize> {
+        match self.lines.get(self.place(k)?)?.all() {
+            [(_, rec)] => Some(*rec),
+            _ => None,
+        }
+    }
+
+    /// Puts a write back that was taken.
+    pub fn put_back(&mut self, k: u64, call_at: usize, rec: usize) {
+        if let Some(at) = self.place(k) {
+            if let Some(line) = self.lines.get_mut(at) {
+                line.put_back(call_at, rec);
+            }
+        }
+    }
+
+    /// Passes over the writes of the number that are not left.
+    pub fn pass(&mut self, k: u64, placed: &[bool]) {
+        if let Some(at) = self.place(k) {
+            if let Some(line) = self.lines.get_mut(at) {
+                let _ = line.first(placed);
+            }
+        }
+    }
+
+    /// The writes of the number that may be left and are called there or later.
+    pub fn waiting(&self, k: u64, from: usize) -> &[(usize, usize)] {
+        match self.place(k) {
+            Some(at) => match self.lines.get(at) {
+                Some(line) => line.rest(from),
+                None => &[],
+            },
+            None => &[],
+        }
+    }
+}
