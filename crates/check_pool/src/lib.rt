@@ -11,7 +11,7 @@ mod worker;
 
 pub use doc_job::DocJob;
 pub use gate::{Gate, NoGate};
-pub use pool::answers;
+pub use pool::{answers, check_workers};
 pub use pool_fault::PoolFault;
 
 #[cfg(test)]

@@ -1,6 +1,6 @@
 ghost use Rattle.std.specs.Prelude.{◌≡◌, ◌↔◌, IfOk, IsTrue};
 ghost use Rattle.check_pool.specs.Answers.{IsAnswerTo};
-ghost use Rattle.check_pool.specs.aids.Messages.{IsAboutJob, IsSearched, id_of, mode_of, records_of};
+ghost use Rattle.check_pool.specs.aids.Messages.{IsAboutJob, IsSearched};
 
 use crate::doc_job::DocJob;
 use doc_check::{DocAnswer, answer};
@@ -31,36 +31,6 @@ impl Model for Message {
     } };
 
     ghost invariant = { λ m. IsSearched m.answer };
-}
-
-// The document that an answer is about.
-fn id(answer: &DocAnswer) -> &DocId
-    ensures { result.now ≡ id_of answer.now }
-{
-    match answer {
-        DocAnswer::Found(witness) => witness.id(),
-        DocAnswer::NotFound(none) => none.id(),
-    }
-}
-
-// The records that it is about.
-fn records(answer: &DocAnswer) -> &[Rec]
-    ensures { result.now ≡ records_of answer.now }
-{
-    match answer {
-        DocAnswer::Found(witness) => witness.records(),
-        DocAnswer::NotFound(none) => none.records(),
-    }
-}
-
-// The reading of conflicts that it is about.
-fn conflicts(answer: &DocAnswer) -> Conflicts
-    ensures { result ≡ mode_of answer.now }
-{
-    match answer {
-        DocAnswer::Found(witness) => witness.conflicts(),
-        DocAnswer::NotFound(none) => none.conflicts(),
-    }
 }
 
 // Whether two ids are one.
@@ -110,9 +80,9 @@ impl Message {
     pub fn is_about(&self, job: &DocJob) -> bool
         ensures { IsTrue result ↔ IsAboutJob job.now self.now.answer }
     {
-        is_same(id(&self.answer), &job.id)
-            && are_same(records(&self.answer), &job.recs)
-            && is_same_reading(conflicts(&self.answer), job.conflicts)
+        is_same(self.answer.id(), &job.id)
+            && are_same(self.answer.records(), &job.recs)
+            && is_same_reading(self.answer.conflicts(), job.conflicts)
     }
 
     /// The answer.

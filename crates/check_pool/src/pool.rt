@@ -1,6 +1,7 @@
-ghost use Rattle.std.specs.Prelude.{◌≡◌, ◌<◌, ◌≤◌, ◌↔◌, length, IfErr, IfOk, IsErrOf, IsOk};
+ghost use Rattle.std.specs.Prelude.{◌≡◌, ◌<◌, ◌≤◌, ◌↔◌, List, length, IfErr, IfOk, IsErrOf, IsOk};
 ghost use Rattle.check_pool.specs.Answers.{AreAnswers, AreNumbered};
 ghost use Rattle.check_pool.specs.Faults.{NamesJob};
+ghost use Rattle.check_pool.specs.declared.doc_job.DocJob.{DocJob as Job};
 
 use crate::collector::collect;
 use crate::doc_job::DocJob;
@@ -58,6 +59,22 @@ fn receive(
     Ok(())
 }
 
+/// Whether there may be so many workers: `NoWorkers` where there are none, `TooMany` where there are more than 16.
+pub fn check_workers(workers: usize) -> Result<(), PoolFault>
+    ensures ok { 0 < workers → workers ≤ 16 → IsOk result }
+    ensures no_workers { IsErrOf result PoolFault.NoWorkers ↔ (workers ≡ 0) }
+    ensures too_many { IsErrOf result PoolFault.TooMany ↔ (16 < workers) }
+    ensures named { IfErr result (λ fault. (jobs : List Job) → NamesJob jobs fault) }
+{
+    if workers == 0 {
+        Err(PoolFault::NoWorkers)
+    } else if workers > MOST_WORKERS {
+        Err(PoolFault::TooMany)
+    } else {
+        Ok(())
+    }
+}
+
 /// The answers of the jobs, in the order of the jobs, searched by at most this many workers, 1 to 16, each on a thread of
 /// its own where one can be made. Worker `w` takes the jobs whose number leaves `w` when divided by the number of workers,
 /// which is no greater than the number of jobs; it passes the gate before each.
@@ -80,11 +97,8 @@ pub fn answers<R: Threads + Wait + Sync, G: Gate + Sync>(
     ensures named { IfErr result (NamesJob jobs.items) }
     ensures no_jobs { length jobs.items ≡ 0 → 0 < workers → workers ≤ 16 → IsOk result }
 {
-    if workers == 0 {
-        return Err(PoolFault::NoWorkers);
-    }
-    if workers > MOST_WORKERS {
-        return Err(PoolFault::TooMany);
+    if let Err(fault) = check_workers(workers) {
+        return Err(fault);
     }
     if jobs.is_empty() {
         return Ok(Vec::new(alloc));

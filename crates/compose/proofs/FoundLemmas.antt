@@ -1,5 +1,5 @@
 -- What the search of one document after another finds.
-use Rattle.std.proofs.Common.{ℕ, zero, suc, true, false, ◌≡◌, ◌+◌, ◌<◌, ◌≤◌, ◌++◌, List, [], ◌∷◌, sym, ap, subst, ◌∙◌, arith, Some, slice_get, map, length, take, Ok, Err, Result}
+use Rattle.std.proofs.Common.{ℕ, zero, suc, Bool, true, false, refl, ◌≡◌, ◌+◌, ◌<◌, ◌≤◌, ◌++◌, List, [], ◌∷◌, sym, ap, subst, ◌∙◌, arith, Some, slice_get, map, length, take, Ok, Err, Result}
 use Rattle.std.specs.Prelude.{IfOk, option_map}
 use Rattle.std.specs.declared.alloc.AllocError.{AllocError}
 use Rattle.std.proofs.Math.Numerals.{add-one}
@@ -9,7 +9,7 @@ use Rattle.doc_register.specs.declared.state.Conflicts.{Conflicts}
 use Rattle.history.specs.declared.event.Event.{Event}
 use Rattle.history.specs.declared.record.Rec.{Rec}
 use Rattle.history.specs.Events.{documents_of, records_of}
-use Rattle.history.proofs.ListLemmas.{same_some, take_one_more}
+use Rattle.history.proofs.ListLemmas.{none_is_not_some, same_some, take_one_more}
 use Rattle.witness.specs.Documents.{witness_places}
 use Rattle.witness.specs.Places.{AreValid}
 use Rattle.witness.specs.Witness.{Witness}
@@ -18,7 +18,7 @@ use Rattle.doc_check.specs.declared.search.DocAnswer.{DocAnswer}
 use Rattle.doc_check.specs.declared.search.DocAnswer.TheVariants.{Found, NotFound}
 use Rattle.compose.specs.Covers.{HasNoUnpairedCover}
 use Rattle.compose.specs.Laws.{places_in}
-use Rattle.compose.specs.aids.Searched.{AnswersDocument, AreAlike, AreSearched, IsAlike, IsSearched}
+use Rattle.compose.specs.aids.Searched.{AnswersDocument, AreAlike, AreAnswersFor, AreKept, AreSearched, HasLost, IsAlike, IsAnswerFor, Keeps}
 use Rattle.compose.specs.aids.Taken.{IsTwice, pairs_taken}
 use Rattle.compose.specs.Verdicts.{AreWitnesses}
 use Rattle.compose.proofs.PositionLemmas.{element_at}
@@ -37,49 +37,98 @@ answers_document mode events k id records (Ok answer) own named about complete =
       subst (λ rs. FindsUnpaired mode rs answer) recorded complete,
     )
 
--- a witness that is found is one of the document
-found_is_searched : (mode : Conflicts) (events : List Event) (d : List ℕ) (w : Witness) → IsAbout d (records_of events d) mode (Found w) → FindsUnpaired mode (records_of events d) (Found w)
-    → IsSearched mode events true d w
-found_is_searched mode events d w about complete = record { doc = about.0; own = about.1; read = about.2; valid = about.3; unpaired = λ is. complete }
+-- ---- the answers for all documents
 
-searched_snoc : (mode : Conflicts) (events : List Event) (ds : List (List ℕ × ℕ)) (ws : List Witness) (d : List ℕ × ℕ) (w : Witness) → AreSearched mode events true ds ws
-    → IsSearched mode events true d.0 w → AreSearched mode events true (ds ++ d ∷ []) (ws ++ w ∷ [])
-searched_snoc mode events [] [] d w are is = (is, tt)
-searched_snoc mode events [] (v ∷ vs) d w are is = absurd are
-searched_snoc mode events (c ∷ cs) [] d w are is = absurd are
-searched_snoc mode events (c ∷ cs) (v ∷ vs) d w are is = (are.0, searched_snoc mode events cs vs d w are.1 is)
+answered_snoc : (mode : Conflicts) (events : List Event) (first : Bool) (ds : List (List ℕ × ℕ)) (xs : List DocAnswer) (d : List ℕ × ℕ) (x : DocAnswer) → AreAnswersFor mode events first ds xs
+    → IsAnswerFor mode events first d.0 x → AreAnswersFor mode events first (ds ++ d ∷ []) (xs ++ x ∷ [])
+answered_snoc mode events first [] [] d x are is = (is, tt)
+answered_snoc mode events first [] (y ∷ ys) d x are is = absurd are
+answered_snoc mode events first (c ∷ cs) [] d x are is = absurd are
+answered_snoc mode events first (c ∷ cs) (y ∷ ys) d x are is = (are.0, answered_snoc mode events first cs ys d x are.1 is)
 
 -- one more document
-pub searched_next : (mode : Conflicts) (events : List Event) (ws : List Witness) (k : ℕ) (d : List ℕ × ℕ) (w : Witness) → slice_get (documents_of events) k ≡ Some d
-    → AreSearched mode events true (take k (documents_of events)) ws → AnswersDocument mode events k (Found w)
-    → AreSearched mode events true (take (k + 1) (documents_of events)) (ws ++ w ∷ [])
-searched_next mode events ws k d w at are answers =
-    let is = answers d at in
-    subst (λ ds. AreSearched mode events true ds (ws ++ w ∷ [])) (sym (ap (λ n. take n (documents_of events)) (add-one k) ∙ take_one_more (documents_of events) k d at))
-    (searched_snoc mode events (take k (documents_of events)) ws d w are (found_is_searched mode events d.0 w is.0 is.1))
+pub answered_one_more : (mode : Conflicts) (events : List Event) (xs : List DocAnswer) (k : ℕ) (x : DocAnswer) → k < length (documents_of events)
+    → AreAnswersFor mode events true (take k (documents_of events)) xs → AnswersDocument mode events k x
+    → AreAnswersFor mode events true (take (k + 1) (documents_of events)) (xs ++ x ∷ [])
+answered_one_more mode events xs k x within are answers =
+    let d = element_at (documents_of events) k within in
+    let is = answers d.0 d.1 in
+    subst (λ ds. AreAnswersFor mode events true ds (xs ++ x ∷ [])) (sym (ap (λ n. take n (documents_of events)) (add-one k) ∙ take_one_more (documents_of events) k d.0 d.1))
+    (answered_snoc mode events true (take k (documents_of events)) xs d.0 x are (is.0, λ yes. is.1))
 
-pub searched_one_more : (mode : Conflicts) (events : List Event) (ws : List Witness) (k : ℕ) (w : Witness) → k < length (documents_of events)
-    → AreSearched mode events true (take k (documents_of events)) ws → AnswersDocument mode events k (Found w)
-    → AreSearched mode events true (take (k + 1) (documents_of events)) (ws ++ w ∷ [])
-searched_one_more mode events ws k w within are answers = let d = element_at (documents_of events) k within in searched_next mode events ws k d.0 w d.1 are answers
+-- a document has its answer
+answer_at : (mode : Conflicts) (events : List Event) (first : Bool) (ds : List (List ℕ × ℕ)) (xs : List DocAnswer) (k : ℕ) (x : DocAnswer) → AreAnswersFor mode events first ds xs
+    → slice_get xs k ≡ Some x → (d : List ℕ × ℕ) × (slice_get ds k ≡ Some d) × IsAnswerFor mode events first d.0 x
+answer_at mode events first ds [] k x are at = absurd (none_is_not_some x at)
+answer_at mode events first [] (y ∷ ys) k x are at = absurd are
+answer_at mode events first (d ∷ ds) (y ∷ ys) zero x are at = (d, refl, subst (IsAnswerFor mode events first d.0) (same_some y x at) are.0)
+answer_at mode events first (d ∷ ds) (y ∷ ys) (suc k) x are at = answer_at mode events first ds ys k x are.1 at
 
 -- a document without an order leaves the history without a cover
-pub not_found : (mode : Conflicts) (events : List Event) (k : ℕ) (n : _) → k < length (documents_of events) → AnswersDocument mode events k (NotFound n) → HasNoUnpairedCover mode events
-not_found mode events k n within answers =
-    let d = element_at (documents_of events) k within in
-    unordered_uncovered mode events k d.0 d.1 (answers d.0 d.1).0.3
+pub lost_uncovered : (mode : Conflicts) (events : List Event) (first : Bool) (xs : List DocAnswer) → AreAnswersFor mode events first (documents_of events) xs → HasLost xs → HasNoUnpairedCover mode events
+lost_uncovered mode events first xs are (k, n, at) =
+    let a = answer_at mode events first (documents_of events) xs k (NotFound n) are at in
+    unordered_uncovered mode events k a.0 a.1 a.2.0.3
+
+-- the answers are about the documents, whether they are the first or not
+pub answered_anyway : (mode : Conflicts) (events : List Event) (first : Bool) (ds : List (List ℕ × ℕ)) (xs : List DocAnswer) → AreAnswersFor mode events first ds xs
+    → AreAnswersFor mode events false ds xs
+answered_anyway mode events first [] [] are = tt
+answered_anyway mode events first [] (x ∷ xs) are = absurd are
+answered_anyway mode events first (d ∷ ds) [] are = absurd are
+answered_anyway mode events first (d ∷ ds) (x ∷ xs) are = ((are.0.0, λ is. absurd (false≢true is)), answered_anyway mode events first ds xs are.1)
+
+-- witnesses that are the answers are of the documents
+pub found_searched : (mode : Conflicts) (events : List Event) (first : Bool) (ds : List (List ℕ × ℕ)) (ws : List Witness) → AreAnswersFor mode events first ds (map Found ws)
+    → AreSearched mode events first ds ws
+found_searched mode events first [] [] are = tt
+found_searched mode events first [] (w ∷ ws) are = absurd are
+found_searched mode events first (d ∷ ds) [] are = absurd are
+found_searched mode events first (d ∷ ds) (w ∷ ws) are = (
+  record { doc = are.0.0.0; own = are.0.0.1; read = are.0.0.2; valid = are.0.0.3; unpaired = are.0.1 },
+  found_searched mode events first ds ws are.1,
+)
+
+-- and witnesses of the documents are answers
+pub searched_found : (mode : Conflicts) (events : List Event) (first : Bool) (ds : List (List ℕ × ℕ)) (ws : List Witness) → AreSearched mode events first ds ws
+    → AreAnswersFor mode events first ds (map Found ws)
+searched_found mode events first [] [] are = tt
+searched_found mode events first [] (w ∷ ws) are = absurd are
+searched_found mode events first (d ∷ ds) [] are = absurd are
+searched_found mode events first (d ∷ ds) (w ∷ ws) are = (
+  ((are.0.doc, are.0.own, are.0.read, are.0.valid), are.0.unpaired),
+  searched_found mode events first ds ws are.1,
+)
+
+-- ---- other answers about the same
+
+pub kept_snoc : (olds news : List DocAnswer) (y x : DocAnswer) → AreKept olds news → Keeps y x → AreKept (olds ++ y ∷ []) (news ++ x ∷ [])
+kept_snoc [] [] y x are is = (is, tt)
+kept_snoc [] (v ∷ vs) y x are is = absurd are
+kept_snoc (u ∷ us) [] y x are is = absurd are
+kept_snoc (u ∷ us) (v ∷ vs) y x are is = (are.0, kept_snoc us vs y x are.1 is)
+
+pub kept_answers : (mode : Conflicts) (events : List Event) (ds : List (List ℕ × ℕ)) (olds news : List DocAnswer) → AreAnswersFor mode events false ds olds → AreKept olds news
+    → AreAnswersFor mode events false ds news
+kept_answers mode events [] [] [] are kept = tt
+kept_answers mode events [] [] (x ∷ xs) are kept = absurd kept
+kept_answers mode events [] (y ∷ ys) news are kept = absurd are
+kept_answers mode events (d ∷ ds) [] news are kept = absurd are
+kept_answers mode events (d ∷ ds) (y ∷ ys) [] are kept = absurd kept
+kept_answers mode events (d ∷ ds) (y ∷ ys) (x ∷ xs) are kept =
+    ((kept.0 d.0 (records_of events d.0) mode are.0.0, λ is. absurd (false≢true is)), kept_answers mode events ds ys xs are.1 kept.1)
 
 -- ---- other places for the same records
 
 -- a witness that is alike is of the same document
-alike_searched : (mode : Conflicts) (events : List Event) (ds : List (List ℕ × ℕ)) (olds news : List Witness) → AreSearched mode events true ds olds → AreAlike olds news
+alike_searched : (mode : Conflicts) (events : List Event) (first : Bool) (ds : List (List ℕ × ℕ)) (olds news : List Witness) → AreSearched mode events first ds olds → AreAlike olds news
     → AreSearched mode events false ds news
-alike_searched mode events [] [] [] are alike = tt
-alike_searched mode events [] [] (w ∷ ws) are alike = absurd alike
-alike_searched mode events [] (v ∷ vs) news are alike = absurd are
-alike_searched mode events (d ∷ ds) [] news are alike = absurd are
-alike_searched mode events (d ∷ ds) (v ∷ vs) [] are alike = absurd alike
-alike_searched mode events (d ∷ ds) (v ∷ vs) (w ∷ ws) are alike = (
+alike_searched mode events first [] [] [] are alike = tt
+alike_searched mode events first [] [] (w ∷ ws) are alike = absurd alike
+alike_searched mode events first [] (v ∷ vs) news are alike = absurd are
+alike_searched mode events first (d ∷ ds) [] news are alike = absurd are
+alike_searched mode events first (d ∷ ds) (v ∷ vs) [] are alike = absurd alike
+alike_searched mode events first (d ∷ ds) (v ∷ vs) (w ∷ ws) are alike = (
   record {
     doc = alike.0.doc ∙ are.0.doc;
     own = alike.0.own ∙ are.0.own;
@@ -87,14 +136,14 @@ alike_searched mode events (d ∷ ds) (v ∷ vs) (w ∷ ws) are alike = (
     valid = subst (λ rs. AreValid mode rs w.places) are.0.own (subst (λ m. AreValid m v.records w.places) are.0.read alike.0.valid);
     unpaired = λ is. absurd (false≢true is);
   },
-  alike_searched mode events ds vs ws are.1 alike.1,
+  alike_searched mode events first ds vs ws are.1 alike.1,
 )
 
 -- witnesses that are alike cover the history where they take no pair twice
-pub alike_cover : (mode : Conflicts) (events : List Event) (olds news : List Witness) → AreSearched mode events true (documents_of events) olds → AreAlike olds news
+pub alike_cover : (mode : Conflicts) (events : List Event) (first : Bool) (olds news : List Witness) → AreSearched mode events first (documents_of events) olds → AreAlike olds news
     → ((x : ℕ × Pair) → IsTwice (pairs_taken events news) x → ⊥) → AreWitnesses mode events news
-alike_cover mode events olds news are alike distinct =
-    searched_cover mode events false news (alike_searched mode events (documents_of events) olds news are alike) distinct
+alike_cover mode events first olds news are alike distinct =
+    searched_cover mode events false news (alike_searched mode events first (documents_of events) olds news are alike) distinct
 
 -- one more witness that is alike
 pub alike_snoc : (olds news : List Witness) (v w : Witness) → AreAlike olds news → IsAlike v w → AreAlike (olds ++ v ∷ []) (news ++ w ∷ [])

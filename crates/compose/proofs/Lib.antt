@@ -23,4 +23,9 @@ mod VerifyLemmas
 mod FoundLemmas
 mod Yielded
 mod VerdictLemmas
+mod WorkerLemmas
 mod FaultLaws
+mod EarlierSteps
+mod EvidenceLaws
+mod CallsByNumber
+mod EvidenceLemmas

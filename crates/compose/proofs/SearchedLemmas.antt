@@ -150,7 +150,7 @@ taken_too mode events ws entries i j h q all unpaired cover t =
 -- ---- no cover
 
 -- where they take a pair twice, no entries without a given pair cover the history
-pub searched_collide : (mode : Conflicts) (events : List Event) (ws : List Witness) (x : ℕ × Pair) → AreSearched mode events true (documents_of events) ws
+searched_collide : (mode : Conflicts) (events : List Event) (ws : List Witness) (x : ℕ × Pair) → AreSearched mode events true (documents_of events) ws
     → IsTwice (pairs_taken events ws) x → HasNoUnpairedCover mode events
 searched_collide mode events ws x all twice entries unpaired cover = by_places (twice_taken events ws x.0 x.1 (searched_own mode events true ws all) twice) where
   by_places : IsTakenTwice events (entries_of ws) x.0 x.1 → ⊥
@@ -168,6 +168,11 @@ searched_collide mode events ws x all twice entries unpaired cover = by_places (
       let one : t.other.entry ≡ t.one.entry = same_some t.other.entry t.one.entry (sym t.other.entered ∙ (ap (slice_get (entries_of ws)) (sym here) ∙ t.one.entered)) in
       let placed : slice_get t.one.entry.places t.other_place ≡ Some t.other.place = ap (λ (e : DocPlaces). slice_get e.places t.other_place) (sym one) ∙ t.other.placed in
       t.apart (here, s.valid.right.once t.place t.other_place t.one.place t.other.place t.one.placed placed names)
+
+-- the same of the first witnesses that the search gave
+pub first_collide : (mode : Conflicts) (events : List Event) (first : Bool) (ws : List Witness) (x : ℕ × Pair) → AreSearched mode events first (documents_of events) ws
+    → IsTwice (pairs_taken events ws) x → first ≡ true → HasNoUnpairedCover mode events
+first_collide mode events first ws x all twice is = searched_collide mode events ws x (subst (λ b. AreSearched mode events b (documents_of events) ws) is all) twice
 
 -- where a document has no order of its answered calls alone, no entries without a given pair cover the history
 pub unordered_uncovered : (mode : Conflicts) (events : List Event) (k : ℕ) (d : List ℕ × ℕ) → slice_get (documents_of events) k ≡ Some d

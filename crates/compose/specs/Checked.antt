@@ -1,13 +1,15 @@
 -- What a check of a history answers.
-use Rattle.std.specs.Prelude.{◌≡◌, List}
+use Rattle.std.specs.Prelude.{◌≡◌, ◌≢◌, ◌<◌, List, length}
 use Rattle.doc_register.specs.declared.state.Conflicts.{Conflicts}
 use Rattle.history.specs.declared.event.Event.{Event}
+use Rattle.history.specs.Events.{documents_of}
 use Rattle.history.specs.Order.{IsLinearizable}
 use Rattle.compose.specs.Verdicts.{AreWitnesses, HasNoOrderFound}
-use Rattle.compose.specs.declared.check.CheckFault.{CheckFault}
-use Rattle.compose.specs.declared.check.CheckFault.TheVariants as check_fault
-use Rattle.compose.specs.declared.check.Verdict.{Verdict}
-use Rattle.compose.specs.declared.check.Verdict.TheVariants.{Yes, No}
+use Rattle.check_pool.specs.declared.pool_fault.PoolFault.TheVariants as pool_fault
+use Rattle.compose.specs.declared.checking.CheckFault.{CheckFault}
+use Rattle.compose.specs.declared.checking.CheckFault.TheVariants as check_fault
+use Rattle.compose.specs.declared.checking.Verdict.{Verdict}
+use Rattle.compose.specs.declared.checking.Verdict.TheVariants.{Yes, No}
 
 -- The verdict is on this history and this reading of conflicts: `Yes` with witnesses that cover it, so that it is
 -- linearizable, `No` where none without a given pair do.
@@ -20,6 +22,17 @@ abbrev pub IsYes : Verdict → Type 0
 IsYes (Yes p) = Unit {0}
 IsYes (No c) = ⊥
 
--- the fault hands the history back
+-- the fault hands the history back; want of memory is told as that, in a worker too
 abbrev pub HandsBack : List Event → CheckFault → Type 0
+HandsBack events (check_fault.Pool fault back) = (back ≡ events) × (fault ≢ pool_fault.NoMemory)
 HandsBack events (check_fault.NoMemory back) = back ≡ events
+
+-- a job that is lost, or of which two messages came, is that of a document of the history
+abbrev pub NamesDocument : List Event → CheckFault → Type 0
+NamesDocument events (check_fault.Pool (pool_fault.Lost doc) back) = doc < length (documents_of events)
+NamesDocument events (check_fault.Pool (pool_fault.Double doc) back) = doc < length (documents_of events)
+NamesDocument events (check_fault.Pool pool_fault.NoWorkers back) = Unit {0}
+NamesDocument events (check_fault.Pool pool_fault.TooMany back) = Unit {0}
+NamesDocument events (check_fault.Pool (pool_fault.Stranger doc) back) = Unit {0}
+NamesDocument events (check_fault.Pool pool_fault.NoMemory back) = Unit {0}
+NamesDocument events (check_fault.NoMemory back) = Unit {0}

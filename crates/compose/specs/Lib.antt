@@ -5,3 +5,4 @@ pub mod Laws
 pub mod Verdicts
 pub mod Checked
 pub mod aids
+pub mod Evidence

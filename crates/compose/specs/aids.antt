@@ -1,3 +1,6 @@
 pub mod Taken
 pub mod Searched
+pub mod Joined
+pub mod Worked
 pub mod Verified
+pub mod AnsweredCalls

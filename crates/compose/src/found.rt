@@ -1,19 +1,18 @@
-ghost use Rattle.std.specs.Prelude.{◌≡◌, ◌<◌, IfOk, List, length, slice_get, Some};
+ghost use Rattle.std.specs.Prelude.{◌≡◌, ◌<◌, IfOk, List, length, slice_get, Some, true};
 ghost use Rattle.doc_register.specs.declared.state.Conflicts.{Conflicts as Mode};
 ghost use Rattle.history.specs.Events.{IsHistory, documents_of};
-ghost use Rattle.compose.specs.aids.Searched.{AnswersDocument, AreFound};
+ghost use Rattle.compose.specs.aids.Searched.{AnswersDocument, AreAnswersFor};
 
 use doc_check::{DocAnswer, answer};
 use doc_register::Conflicts;
-use history::{History, Seen};
+use history::{Front, Seen};
 use std::alloc::Global;
 use version_pair::NoMemory;
-use witness::DocWitness;
 
 // What the search finds for a document of the history.
 fn document_answer(
     alloc: Global,
-    history: &History,
+    history: &Front<'_>,
     doc: usize,
     seen: Seen,
     conflicts: Conflicts,
@@ -26,22 +25,18 @@ fn document_answer(
     answer(alloc, id, records, seen, conflicts)
 }
 
-/// The witnesses of the documents, in their order, each searched by itself; `None` where for one of them no order was
-/// found.
-pub fn witnesses_found(
+/// What the search finds for the documents, in their order, each searched by itself.
+pub fn answers_found(
     alloc: Global,
-    history: &History,
+    history: &Front<'_>,
     conflicts: Conflicts,
-) -> Result<Option<Vec<DocWitness>>, NoMemory>
-    ensures { IfOk result (AreFound conflicts history.now) }
+) -> Result<Vec<DocAnswer>, NoMemory>
+    ensures { IfOk result (λ answers. AreAnswersFor conflicts history.now true (documents_of history.now) answers.items) }
 {
     let seen = history.seen();
-    let mut witnesses = Vec::new(alloc);
+    let mut answers = Vec::with_capacity(alloc, history.docs())?;
     for doc in 0..history.docs() {
-        match document_answer(alloc, history, doc, seen, conflicts)? {
-            DocAnswer::Found(witness) => witnesses.push(witness)?,
-            DocAnswer::NotFound(_) => return Ok(None),
-        }
+        answers.push(document_answer(alloc, history, doc, seen, conflicts)?)?;
     }
-    Ok(Some(witnesses))
+    Ok(answers)
 }

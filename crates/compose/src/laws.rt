@@ -1,5 +1,6 @@
 //! Laws of covers, each the contract of a function that does nothing.
 
+ghost use Rattle.compose.specs.Evidence.{EvidenceRefutes};
 ghost use Rattle.compose.specs.Laws.{CoversExplain, FaultyAreNoCover, OrdersAreCovers, PlainlyRightAreCovered, SettledHaveNoOrder};
 
 /// Shows that entries which cover a history make it linearizable, by an order of exactly their places.
@@ -31,4 +32,10 @@ pub fn plainly_right_are_covered()
 #[tactic(auto, using(crate::proofs::FaultLaws::faulty_are_no_cover))]
 pub fn faulty_are_no_cover()
     ensures { FaultyAreNoCover }
+{}
+
+/// Shows that a history in which evidence holds is not linearizable, however its pending calls are completed.
+#[tactic(auto, using(crate::proofs::EvidenceLaws::evidence_refutes))]
+pub fn evidence_refutes()
+    ensures { EvidenceRefutes }
 {}

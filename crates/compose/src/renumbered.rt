@@ -3,16 +3,16 @@ ghost use Rattle.compose.specs.aids.Searched.{AreAlike, IsAlike};
 
 use crate::renumbered::free_numbers::FreeNumbers;
 use crate::renumbered::gaps::{Gap, Gaps};
-use history::History;
+use history::Front;
 use std::alloc::{AllocError, Global};
 use version_pair::{NoMemory, Pair};
 use witness::{Broken, DocWitness};
 
-mod free_numbers;
-mod gaps;
+pub mod free_numbers;
+pub mod gaps;
 
-// Another pair for a place: the number of the witness, that of the place, the pair.
-type Change = (usize, usize, Pair);
+/// Another pair for a place: the number of the witness, that of the place, the pair.
+pub type Change = (usize, usize, Pair);
 
 // Other pairs for the places of a gap, in their order: each takes the least number above the one before that is free in the
 // shard and that no call of the document names. False where the gap has no such number left.
@@ -38,7 +38,7 @@ fn fill(
 }
 
 // Other pairs for all gaps, the one with the least upper end first; `None` where a gap has too few numbers.
-fn changes_of(
+fn changes_in(
     alloc: Global,
     gaps: &Gaps,
     free: FreeNumbers,
@@ -115,8 +115,8 @@ fn with_changes(
     changed(alloc, witness, changes)
 }
 
-// The witnesses with their changes, which are in their order; `None` where one is not valid any more.
-fn with_all(
+/// The witnesses with their changes, which are in their order; `None` where one is not valid any more.
+pub fn with_all(
     alloc: Global,
     witnesses: Vec<DocWitness>,
     changes: &[Change],
@@ -142,25 +142,19 @@ fn with_all(
     Ok(Some(others))
 }
 
-/// The witnesses with other numbers for the pairs that were invented between two pairs of one term: over all documents of a
-/// shard, the gap with the least upper end first, each takes the least number that is free in the shard. `None` where a gap
-/// has too few, or a changed order is not valid.
+/// Other pairs for those that were invented between two pairs of one term: over all documents of a shard, the gap with the
+/// least upper end first, each takes the least number that is free in the shard. `None` where a gap has too few.
 ///
 /// Nothing is promised of the numbers: whether they are distinct is looked at again.
-pub fn renumbered(
+pub fn changes_of(
     alloc: Global,
-    history: &History,
-    witnesses: Vec<DocWitness>,
-) -> Result<Option<Vec<DocWitness>>, NoMemory>
-    ensures { IfOk result (λ others. IfSome others (λ ws. AreAlike witnesses.items ws.items)) }
-{
+    history: &Front<'_>,
+    witnesses: &[DocWitness],
+) -> Result<Option<Vec<Change>>, NoMemory> {
     let mut gaps = Gaps::new(alloc);
     let mut free = FreeNumbers::new(alloc);
     for i in 0..witnesses.len() {
         gaps.note(alloc, i, history, &witnesses[i], &mut free)?;
     }
-    match changes_of(alloc, &gaps, free)? {
-        Some(changes) => with_all(alloc, witnesses, &changes),
-        None => Ok(None),
-    }
+    changes_in(alloc, &gaps, free)
 }

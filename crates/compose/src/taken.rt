@@ -5,7 +5,7 @@ ghost use Rattle.compose.specs.Covers.{taken_by};
 ghost use Rattle.compose.specs.aids.Taken.{AreNoted, IsLeastTwice, IsLesser, pair_at, pairs_at, pairs_of_document, pairs_taken, shard_in};
 
 use doc_register::Reply;
-use history::{History, Rec};
+use history::{Front, Rec};
 use indexmap::IndexSet;
 use std::alloc::Global;
 use version_pair::{DocId, NoMemory, Pair};
@@ -47,7 +47,7 @@ fn pair_taken(heard: Option<(usize, Reply)>, given: Option<Pair>) -> Option<Pair
 }
 
 /// The shard of the document, where the history has it.
-pub fn shard_of(history: &History, id: &DocId) -> Option<u32>
+pub fn shard_of(history: &Front<'_>, id: &DocId) -> Option<u32>
     ensures { result ≡ shard_in history.now id.now }
 {
     match history.doc_of(id) {
@@ -115,7 +115,7 @@ impl Taken {
     }
 
     // Notes the pairs that the calls of a document of the history take.
-    fn note_witness(&mut self, history: &History, witness: &DocWitness) -> Result<(), NoMemory>
+    fn note_witness(&mut self, history: &Front<'_>, witness: &DocWitness) -> Result<(), NoMemory>
         ensures { OnOk result ((xs : List (ℕ × Version)) → AreNoted xs self.old
             → AreNoted (xs ++ pairs_of_document (shard_in history.now witness.now.doc) witness.now) self.new) }
     {
@@ -129,7 +129,7 @@ impl Taken {
 /// The least pair that two calls of a shard take, by shard and then by pair.
 pub fn pair_twice(
     alloc: Global,
-    history: &History,
+    history: &Front<'_>,
     witnesses: &[DocWitness],
 ) -> Result<Option<(u32, Pair)>, NoMemory>
     ensures { IfOk result (IsLeastTwice (pairs_taken history.now witnesses.now)) }

@@ -1,3 +1,5 @@
+mod refutations;
+
 use super::*;
 use doc_register::Conflicts;
 use history::{History, read};
@@ -6,6 +8,9 @@ use std::process::Abort;
 use std::test::Fail;
 use version_pair::{DocId, Pair};
 use witness::{Broken, Place};
+
+mod honest;
+mod workers;
 
 // The case index-then-get.
 const INDEX_THEN_GET: &str = r#"{"e":"call","n":0,"id":"d","op":"index","k":1}

@@ -154,7 +154,7 @@ fn covering(
     if let Some(doc) = verification.missing() {
         return Err(VerifyFault::DocMissing(doc));
     }
-    match pair_twice(alloc, history, &verification.witnesses) {
+    match pair_twice(alloc, &history.whole(), &verification.witnesses) {
         Ok(None) => Ok(verification.witnesses),
         Ok(Some((shard, pair))) => Err(VerifyFault::PairTwice(shard, pair)),
         Err(_) => Err(VerifyFault::NoMemory),

@@ -3,13 +3,15 @@ use Rattle.std.specs.Prelude.{◌≡◌, ℕ, Bool, true, List, [], ◌∷◌, O
 use Rattle.std.specs.declared.alloc.Global.{Global}
 use Rattle.doc_register.specs.declared.state.Conflicts.{Conflicts}
 use Rattle.history.specs.declared.event.Event.{Event}
+use Rattle.history.specs.declared.record.Rec.{Rec}
 use Rattle.history.specs.Events.{documents_of, records_of}
 use Rattle.witness.specs.declared.place.Place.{Place}
 use Rattle.witness.specs.Places.{AreValid}
 use Rattle.witness.specs.Witness.{Witness}
-use Rattle.doc_check.specs.NoOrders.{AreUnpaired}
+use Rattle.doc_check.specs.NoOrders.{AreUnpaired, Unordered}
 use Rattle.doc_check.specs.Search.{FindsUnpaired, IsAbout}
 use Rattle.doc_check.specs.declared.search.DocAnswer.{DocAnswer}
+use Rattle.doc_check.specs.declared.search.DocAnswer.TheVariants.{NotFound}
 use Rattle.compose.specs.Covers.{HasNoUnpairedCover}
 use Rattle.compose.specs.Verdicts.{AreWitnesses}
 
@@ -34,10 +36,33 @@ abbrev pub AnswersDocument : Conflicts → List Event → ℕ → DocAnswer → 
 AnswersDocument mode events k answer = (d : List ℕ × ℕ) → slice_get (documents_of events) k ≡ Some d
     → IsAbout d.0 (records_of events d.0) mode answer × FindsUnpaired mode (records_of events d.0) answer
 
--- the witnesses are of all documents; where there are none, no entries without a given pair cover the history
-abbrev pub AreFound : Conflicts → List Event → Option (Vec Witness Global) → Type 0
-AreFound mode events None = HasNoUnpairedCover mode events
-AreFound mode events (Some ws) = AreSearched mode events true (documents_of events) ws.items
+-- What an answer says of a document: it is about it and its records; where it is the first that the search gave, such places are
+-- found where any places without a given pair are valid.
+abbrev pub IsAnswerFor : Conflicts → List Event → Bool → List ℕ → DocAnswer → Type 0
+IsAnswerFor mode events first d answer =
+    IsAbout d (records_of events d) mode answer × (first ≡ true → FindsUnpaired mode (records_of events d) answer)
+
+-- the answers are for these documents, one by one
+abbrev pub AreAnswersFor : Conflicts → List Event → Bool → List (List ℕ × ℕ) → List DocAnswer → Type 0
+AreAnswersFor mode events first [] [] = Unit {0}
+AreAnswersFor mode events first [] (x ∷ xs) = ⊥
+AreAnswersFor mode events first (d ∷ ds) [] = ⊥
+AreAnswersFor mode events first (d ∷ ds) (x ∷ xs) = IsAnswerFor mode events first d.0 x × AreAnswersFor mode events first ds xs
+
+-- one of the answers has no order
+abbrev pub HasLost : List DocAnswer → Type 0
+HasLost answers = (k : ℕ) × (n : Unordered) × (slice_get answers k ≡ Some (NotFound n))
+
+-- the other answer is about what the one is about
+abbrev pub Keeps : DocAnswer → DocAnswer → Type 0
+Keeps old new = (d : List ℕ) (records : List Rec) (mode : Conflicts) → IsAbout d records mode old → IsAbout d records mode new
+
+-- one by one
+abbrev pub AreKept : List DocAnswer → List DocAnswer → Type 0
+AreKept [] [] = Unit {0}
+AreKept [] (x ∷ xs) = ⊥
+AreKept (y ∷ ys) [] = ⊥
+AreKept (y ∷ ys) (x ∷ xs) = Keeps y x × AreKept ys xs
 
 -- the witnesses cover the history; where there are none, no entries without a given pair do
 abbrev pub IsCovering : Conflicts → List Event → Option (Vec Witness Global) → Type 0

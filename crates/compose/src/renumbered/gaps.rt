@@ -1,7 +1,7 @@
 use crate::renumbered::free_numbers::FreeNumbers;
 use crate::taken::{pair_of_place, shard_of};
 use doc_register::{Op, Reply};
-use history::{History, Rec};
+use history::{Front, Rec};
 use indexmap::IndexSet;
 use std::alloc::Global;
 use version_pair::{NoMemory, Pair};
@@ -99,7 +99,7 @@ impl Gaps {
         &mut self,
         alloc: Global,
         number: usize,
-        history: &History,
+        history: &Front<'_>,
         witness: &DocWitness,
         free: &mut FreeNumbers,
     ) -> Result<(), NoMemory> {

@@ -1,0 +1,18 @@
+use Rattle.std.proofs.Common.{arith, true, ◌≡◌, ◌<◌, ◌∙◌, ap, length, subst, sym, take}
+use Rattle.std.proofs.Math.Seq.{take-length}
+use Rattle.history.specs.Events.{documents_of}
+use Rattle.compose.specs.aids.Searched.{AreAnswersFor}
+use Rattle.compose.proofs.FoundLemmas.{answered_one_more}
+use Rattle.compose.proofs.found.answers_found.Goals as goal
+
+pub loop-doc-preserved : goal.loop-doc-preserved
+loop-doc-preserved c =
+    let within : c.loop-doc.doc < length (documents_of c.args.history.now) = omega (arith, c.loop-doc-test.true, c.docs-doc-end.ensures) in
+    subst (AreAnswersFor c.args.conflicts c.args.history.now true (take _ (documents_of c.args.history.now))) (sym c.in_ok-push.ensures.items)
+    (answered_one_more c.args.conflicts c.args.history.now c.loop-doc.answers.items c.loop-doc.doc c.in_ok-document_answer.field-0 within c.loop-doc.invariant c.in_ok-document_answer.ensures)
+
+pub returns : goal.returns
+returns c =
+    let docs = documents_of c.args.history.now in
+    let end : c.loop-doc.doc ≡ length docs = omega (arith, c.loop-doc-test.false, c.loop-doc.auto.doc-end, c.docs-doc-end.ensures) in
+    subst (λ ds. AreAnswersFor c.args.conflicts c.args.history.now true ds c.loop-doc.answers.items) (ap (λ n. take n docs) end ∙ take-length docs) c.loop-doc.invariant

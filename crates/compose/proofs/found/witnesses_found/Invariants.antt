@@ -1,7 +1,0 @@
-use Rattle.std.proofs.Common.{take, true}
-use Rattle.history.specs.Events.{documents_of}
-use Rattle.compose.specs.aids.Searched.{AreSearched}
-use Rattle.compose.proofs.found.witnesses_found.Given as goal
-
-abbrev pub invariant-loop-doc : goal.invariant-loop-doc
-invariant-loop-doc l = AreSearched l.conflicts l.history true (take l.doc (documents_of l.history)) l.witnesses.items

@@ -1,0 +1,153 @@
+ghost use Rattle.std.specs.Prelude.{◌≡◌, ◌<◌, ◌↔◌, IfErr, IfOk, IsErrOf, false, true};
+ghost use Rattle.history.specs.Events.{IsHistory, documents_of};
+ghost use Rattle.history.specs.Order.{IsLinearizable, IsPlainlyRight};
+ghost use Rattle.compose.specs.Checked.{HandsBack, IsVerdictOn, IsYes, NamesDocument};
+ghost use Rattle.compose.specs.declared.checking.CheckFault.TheVariants.{NoMemory as Unchecked, Pool as Unpooled};
+ghost use Rattle.compose.specs.Covers.{HasNoUnpairedCover};
+ghost use Rattle.compose.specs.Verdicts.{HasNoOrderFound};
+ghost use Rattle.compose.specs.aids.Searched.{AreAnswersFor, IsCovering};
+
+use crate::case::Case;
+use crate::found::answers_found;
+use crate::joined::{Joined, join_answers};
+use crate::proof::Proof;
+use crate::second_look::looked_again;
+use crate::workers::answers_of_workers;
+use check_pool::{Gate, PoolFault, check_workers};
+use doc_check::DocAnswer;
+use doc_register::Conflicts;
+use history::{Front, History};
+use std::alloc::Global;
+use std::sync::Wait;
+use std::thread::Threads;
+use version_pair::NoMemory;
+use witness::DocWitness;
+
+/// Whether one order of all calls was found for a history.
+#[derive(Debug, Drop)]
+pub enum Verdict {
+    /// One was.
+    Yes(Proof),
+    /// None was.
+    No(Case),
+}
+
+/// Why a history was not checked.
+#[derive(Debug, Drop)]
+pub enum CheckFault {
+    /// The workers gave no answers, for another reason than want of memory; the history. Jobs are numbered as the documents
+    /// are.
+    Pool(PoolFault, History),
+    /// A growth was refused memory; the history.
+    NoMemory(History),
+}
+
+// Witnesses that cover the history, where the answers of the search are such, or a second look at some documents finds them.
+fn covering(
+    alloc: Global,
+    history: &Front<'_>,
+    answers: Vec<DocAnswer>,
+    conflicts: Conflicts,
+) -> Result<Option<Vec<DocWitness>>, NoMemory>
+    requires { AreAnswersFor conflicts history.now true (documents_of history.now) answers.items }
+    ensures { IfOk result (IsCovering conflicts history.now) }
+{
+    let answers = match join_answers(alloc, history, answers)? {
+        Joined::Cover(witnesses) => return Ok(Some(witnesses)),
+        Joined::Open(answers) => answers,
+        Joined::Spent => return Ok(None),
+    };
+    let Some(others) = looked_again(alloc, history, answers)? else {
+        return Ok(None);
+    };
+    match join_answers(alloc, history, others)? {
+        Joined::Cover(witnesses) => Ok(Some(witnesses)),
+        Joined::Open(_) | Joined::Spent => Ok(None),
+    }
+}
+
+/// Whether one order of all calls explains these events, as `check_alone` looks for one in a history that has no others.
+pub fn is_explained(
+    alloc: Global,
+    history: &Front<'_>,
+    conflicts: Conflicts,
+) -> Result<bool, NoMemory>
+    ensures found { IfOk result (λ found. found ≡ true → IsLinearizable conflicts history.now) }
+    ensures none { IfOk result (λ found. found ≡ false → HasNoOrderFound conflicts history.now) }
+{
+    // A look at the events: that they are a history is known from here on.
+    let _ = history.len();
+    let answers = answers_found(alloc, history, conflicts)?;
+    match covering(alloc, history, answers, conflicts) {
+        Ok(Some(_)) => Ok(true),
+        Ok(None) => Ok(false),
+        Err(refused) => Err(refused),
+    }
+}
+
+// The verdict on a history, by the answers of the search for its documents.
+fn verdict_of(
+    alloc: Global,
+    history: History,
+    answers: Vec<DocAnswer>,
+    conflicts: Conflicts,
+) -> Result<Verdict, CheckFault>
+    requires { AreAnswersFor conflicts history true (documents_of history) answers.items }
+    ensures verdict { IfOk result (IsVerdictOn conflicts history) }
+    ensures accepts { IfOk result (λ verdict. IsPlainlyRight history → IsYes verdict) }
+    ensures back { IfErr result (λ fault. fault ≡ Unchecked history) }
+{
+    // A look at the history: that it is one is known from here on.
+    let _ = history.len();
+    match covering(alloc, &history.whole(), answers, conflicts) {
+        Ok(Some(witnesses)) => Ok(Verdict::Yes(Proof::of(history, witnesses, conflicts))),
+        Ok(None) => Ok(Verdict::No(Case::of(history, conflicts))),
+        Err(_) => Err(CheckFault::NoMemory(history)),
+    }
+}
+
+/// Whether one order of all calls explains the history, over all documents: each document is searched by itself, and no
+/// pair of a shard may be taken twice. `NoMemory` hands the history back.
+pub fn check_alone(
+    alloc: Global,
+    history: History,
+    conflicts: Conflicts,
+) -> Result<Verdict, CheckFault>
+    ensures verdict { IfOk result (IsVerdictOn conflicts history) }
+    ensures accepts { IfOk result (λ verdict. IsPlainlyRight history → IsYes verdict) }
+    ensures back { IfErr result (λ fault. fault ≡ Unchecked history) }
+{
+    match answers_found(alloc, &history.whole(), conflicts) {
+        Ok(answers) => verdict_of(alloc, history, answers, conflicts),
+        Err(_) => Err(CheckFault::NoMemory(history)),
+    }
+}
+
+/// The same, the documents being searched by at most this many workers, 1 to 16, each on a thread of its own where one can
+/// be made; each passes the gate before each document. With one document there is one worker.
+///
+/// The workers' number is looked at first. Each fault hands the history back.
+pub fn check<R: Threads + Wait + Sync, G: Gate + Sync>(
+    rt: &R,
+    alloc: Global,
+    history: History,
+    workers: usize,
+    conflicts: Conflicts,
+    gate: &G,
+) -> Result<Verdict, CheckFault>
+    ensures verdict { IfOk result (IsVerdictOn conflicts history) }
+    ensures accepts { IfOk result (λ verdict. IsPlainlyRight history → IsYes verdict) }
+    ensures no_workers { IsErrOf result (Unpooled PoolFault.NoWorkers history) ↔ (workers ≡ 0) }
+    ensures too_many { IsErrOf result (Unpooled PoolFault.TooMany history) ↔ (16 < workers) }
+    ensures named { IfErr result (NamesDocument history) }
+    ensures back { IfErr result (HandsBack history) }
+{
+    if let Err(fault) = check_workers(workers) {
+        return Err(CheckFault::Pool(fault, history));
+    }
+    match answers_of_workers(rt, alloc, &history.whole(), workers, conflicts, gate) {
+        Ok(answers) => verdict_of(alloc, history, answers, conflicts),
+        Err(PoolFault::NoMemory) => Err(CheckFault::NoMemory(history)),
+        Err(fault) => Err(CheckFault::Pool(fault, history)),
+    }
+}

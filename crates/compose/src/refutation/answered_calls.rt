@@ -1,0 +1,117 @@
+use crate::answered_call::{FoundGet, PerformedWrite, heard, pair_shown};
+use doc_register::{Op, Reply};
+use history::{Event, History};
+use std::alloc::Global;
+use version_pair::{DocId, NoMemory, Pair};
+
+/// A get that found its document. Documents are numbered as in the history.
+#[derive(Clone, Copy, Debug)]
+pub struct AnsweredGet {
+    pub no: u64,
+    pub doc: usize,
+    pub found: FoundGet,
+    /// The greatest pair that the document's writes had shown when the get was called.
+    pub newest: Option<Pair>,
+}
+
+/// A write that was performed. Documents are numbered as in the history.
+#[derive(Clone, Copy, Debug)]
+pub struct AnsweredWrite {
+    pub no: u64,
+    pub doc: usize,
+    pub performed: PerformedWrite,
+}
+
+/// The answered calls of a history that evidence may name: the gets in the order of their calls, the writes in that of
+/// their replies.
+#[derive(Debug, Drop)]
+pub struct AnsweredCalls {
+    pub gets: Vec<AnsweredGet>,
+    pub writes: Vec<AnsweredWrite>,
+    // Of each document the greatest pair that was shown.
+    newest: Vec<Option<Pair>>,
+}
+
+impl AnsweredCalls {
+    /// The answered calls of the history.
+    pub fn of(alloc: Global, history: &History) -> Result<AnsweredCalls, NoMemory> {
+        let mut calls = AnsweredCalls {
+            gets: Vec::new(alloc),
+            writes: Vec::new(alloc),
+            newest: vec![in alloc; None; history.docs()]?,
+        };
+        for place in 0..history.len() {
+            match history.event(place) {
+                Event::Call { no, id, .. } => calls.note_call(history, *no, id, place)?,
+                Event::Reply { no, reply } => calls.note_reply(history, *no, *reply, place)?,
+                Event::Lost { .. } => {}
+            }
+        }
+        Ok(calls)
+    }
+
+    // Notes the call, where it is a get that found its document.
+    fn note_call(
+        &mut self,
+        history: &History,
+        no: u64,
+        id: &DocId,
+        called: usize,
+    ) -> Result<(), NoMemory> {
+        let Some((replied, Reply::Found { pair, k })) = heard(history, no) else {
+            return Ok(());
+        };
+        let Some(doc) = history.doc_of(id) else {
+            return Ok(());
+        };
+        self.gets.push(AnsweredGet {
+            no,
+            doc,
+            found: FoundGet {
+                called,
+                replied,
+                pair,
+                k,
+            },
+            newest: self.newest.get(doc).copied().unwrap_or(None),
+        })?;
+        Ok(())
+    }
+
+    // Notes the call that the reply answers, where it is a write that was performed.
+    fn note_reply(
+        &mut self,
+        history: &History,
+        no: u64,
+        reply: Reply,
+        replied: usize,
+    ) -> Result<(), NoMemory> {
+        let Some(pair) = pair_shown(reply) else {
+            return Ok(());
+        };
+        let Some(called) = history.call(no) else {
+            return Ok(());
+        };
+        let Event::Call { shard, id, op, .. } = history.event(called) else {
+            return Ok(());
+        };
+        let Some(doc) = history.doc_of(id) else {
+            return Ok(());
+        };
+        if let Some(newest) = self.newest.get_mut(doc) {
+            *newest = (*newest).max(Some(pair));
+        }
+        self.writes.push(AnsweredWrite {
+            no,
+            doc,
+            performed: PerformedWrite {
+                called,
+                replied,
+                shard: *shard,
+                op: *op,
+                pair,
+            },
+        })?;
+        Ok(())
+    }
+}
