@@ -1,0 +1,121 @@
+-- The copies that follow a new primary.
+use Rattle.std.proofs.Common.{ℕ, zero, suc, ◌≡◌, ◌≤◌, ◌+◌, ◌-◌, ◌<◌, List, [], ◌∷◌, ◌++◌, length, take, drop, get_or, refl, sym, ap, ◌∙◌, arith, Some, None, Bool, true, false, cond, true≢false}
+use Rattle.std.specs.Prelude.{◌&&◌, count_by, if◌then◌else◌, map, not, replicate, slice_get, slice_set}
+use Rattle.std.proofs.Math.Seq.{drop-cons}
+use Rattle.std.proofs.lemmas.Grind.{replicate_next}
+use Rattle.std.proofs.lemmas.List.{length-replicate}
+use Rattle.std.proofs.lemmas.List.Edits.{map_over_more}
+use Rattle.std.proofs.lemmas.List.Sums.{sum_by-cons}
+use Rattle.repl_group.specs.declared.held_write.HeldWrite.{HeldWrite}
+use Rattle.repl_group.specs.declared.shard_copy.ShardCopy.{ShardCopy}
+use Rattle.repl_group.specs.Group.{led_by}
+use Rattle.repl_group.specs.aids.Following.{follows}
+use Rattle.repl_group.proofs.ListLemmas.{same_some}
+
+abbrev Held : Type 0
+Held = List (ℕ × HeldWrite)
+
+-- ---- one copy
+
+pub led-follower : (y : ShardCopy) (writes : Held) → follows y ≡ true → record y { writes = writes } ≡ led_by writes y
+led-follower y writes is = by_flags y.is_in_sync y.is_cut is where
+  by_flags : (a b : Bool) → (a && not b) ≡ true → record y { writes = writes } ≡ (if a then (if b then record y { is_in_sync = false } else record y { writes = writes }) else y)
+  by_flags true false is = refl
+  by_flags true true is = absurd (true≢false (sym is))
+  by_flags false b is = absurd (true≢false (sym is))
+
+pub led-other : (y : ShardCopy) (writes : Held) → follows y ≡ false → record y { is_in_sync = false } ≡ led_by writes y
+led-other y writes is = by_flags y.is_in_sync y.is_cut refl is where
+  by_flags : (a b : Bool) → y.is_in_sync ≡ a → (a && not b) ≡ false → record y { is_in_sync = false } ≡ (if a then (if b then record y { is_in_sync = false } else record y { writes = writes }) else y)
+  by_flags true true sync is = refl
+  by_flags true false sync is = absurd (true≢false is)
+  by_flags false b sync is = ap (λ v. record y { is_in_sync = v }) (sym sync)
+
+-- ---- a set taken from equal ones
+
+module _ {X : Type 0} where
+  get_or-replicate : (n i : ℕ) (w : X) → get_or (replicate n w) i w ≡ w
+  get_or-replicate zero i w = refl
+  get_or-replicate (suc n) zero w = refl
+  get_or-replicate (suc n) (suc i) w = get_or-replicate n i w
+
+  take-replicate : (n : ℕ) (w : X) → take n (replicate (suc n) w) ≡ replicate n w
+  take-replicate zero w = refl
+  take-replicate (suc n) w = ap (λ ws. w ∷ ws) (take-replicate n w)
+
+  pub popped : (old new : List X) (r : X) (n len : ℕ) (w : X) → old ≡ replicate (n + 1) w → len ≡ length old
+      → ((d : X) → 0 < len → Some r ≡ Some (get_or old (len - 1) d)) → new ≡ take (len - 1) old → (r ≡ w) × (new ≡ replicate n w)
+  popped old new r n len w equal len_is value rest =
+      let whole : length old ≡ n + 1 = ap length equal ∙ length-replicate (n + 1) w in
+      let less : len - 1 ≡ n = omega arith in
+      let some : 0 < len = omega arith in (
+        same_some (value w some) ∙ (ap (λ l. get_or l (len - 1) w) equal ∙ get_or-replicate (n + 1) (len - 1) w),
+        rest ∙ (ap (λ l. take (len - 1) l) equal ∙ (ap (λ k. take k (replicate (n + 1) w)) less ∙ (ap (λ k. take n (replicate k w)) (one_more n) ∙ take-replicate n w))),
+      ) where
+        one_more : (k : ℕ) → k + 1 ≡ suc k
+        one_more k = omega arith
+
+  count-cons : (p : X → Bool) (x : X) (xs : List X) → count_by p (x ∷ xs) ≡ cond (p x) 1 0 + count_by p xs
+  count-cons p x xs = sum_by-cons (λ (z : X). cond (p z) 1 0) x xs
+
+  pub count-set : (p : X → Bool) (xs : List X) (i : ℕ) (x y : X) → slice_get xs i ≡ Some x → p y ≡ p x → count_by p (slice_set xs i y) ≡ count_by p xs
+  count-set p [] i x y at same = refl
+  count-set p (z ∷ zs) zero x y at same =
+      count-cons p y zs ∙ (ap (λ b. cond b 1 0 + count_by p zs) (same ∙ ap p (sym (same_some at))) ∙ sym (count-cons p z zs))
+  count-set p (z ∷ zs) (suc i) x y at same =
+      count-cons p z (slice_set zs i y) ∙ (ap (λ n. cond (p z) 1 0 + n) (count-set p zs i x y at same) ∙ sym (count-cons p z zs))
+
+  pub map-set : {Y : Type 0} (f : X → Y) (xs : List X) (i : ℕ) (x y : X) → slice_get xs i ≡ Some x → f y ≡ f x → map f (slice_set xs i y) ≡ map f xs
+  map-set f [] i x y at same = refl
+  map-set f (z ∷ zs) zero x y at same = ap (λ v. v ∷ map f zs) (same ∙ ap f (sym (same_some at)))
+  map-set f (z ∷ zs) (suc i) x y at same = ap (λ vs. f z ∷ vs) (map-set f zs i x y at same)
+
+  pub count-some : (p : X → Bool) (xs : List X) (i : ℕ) (x : X) → slice_get xs i ≡ Some x → p x ≡ true → 1 ≤ count_by p xs
+  count-some p [] i x at is = let impossible : None ≡ Some x = at in absurd (cc)
+  count-some p (z ∷ zs) zero x at is =
+      let flag : cond {A = ℕ} (p z) 1 0 ≡ 1 = ap (λ b. cond {A = ℕ} b 1 0) (ap p (same_some at) ∙ is) in
+      let whole : count_by p (z ∷ zs) ≡ cond {A = ℕ} (p z) 1 0 + count_by p zs = count-cons p z zs in omega arith
+  count-some p (z ∷ zs) (suc i) x at is =
+      let rest : 1 ≤ count_by p zs = count-some p zs i x at is in
+      let whole : count_by p (z ∷ zs) ≡ cond {A = ℕ} (p z) 1 0 + count_by p zs = count-cons p z zs in omega arith
+
+  pub popped_some : {P : Type 0} (old : List X) (n len : ℕ) (w : X) → old ≡ replicate (n + 1) w → len ≡ length old → ((d : X) → 0 < len → None ≡ Some (get_or old (len - 1) d)) → P
+  popped_some old n len w equal len_is value =
+      let whole : length old ≡ n + 1 = ap length equal ∙ length-replicate (n + 1) w in
+      let some : 0 < len = omega arith in
+      let impossible : None ≡ Some (get_or old (len - 1) w) = value w some in absurd (cc)
+
+-- ---- all copies
+
+-- what is left of the sets, and what has become of the copies, one copy further
+pub led_more : (old now : List ShardCopy) (i : ℕ) (x new : ShardCopy) (sets sets' : List Held) (writes : Held)
+    → i < length old → x ≡ get_or now i x
+    → (now ≡ map (led_by writes) (take i old) ++ drop i old) × (sets ≡ replicate (count_by follows (drop i old)) writes)
+    → ((n : ℕ) → sets ≡ replicate (n + cond (follows x) 1 0) writes → (new ≡ led_by writes x) × (sets' ≡ replicate n writes))
+    → (slice_set now i new ≡ map (led_by writes) (take (i + 1) old) ++ drop (i + 1) old) × (sets' ≡ replicate (count_by follows (drop (i + 1) old)) writes)
+led_more old now i x new sets sets' writes within is (done, left) leads =
+    let item : get_or old i x ≡ x = sym (is ∙ (ap (λ l. get_or l i x) done ∙ past old i x within)) in
+    let cut : drop i old ≡ x ∷ drop (i + 1) old = drop-cons old i x within ∙ (ap (λ v. v ∷ drop (suc i) old) item ∙ ap (λ k. x ∷ drop k old) (one_more i)) in
+    let step = leads (count_by follows (drop (i + 1) old)) (left ∙ ap (λ k. replicate k writes) (ap (count_by follows) cut ∙ (count-cons follows x (drop (i + 1) old) ∙ swap (cond (follows x) 1 0) (count_by follows (drop (i + 1) old))))) in
+    (ap (slice_set now i) step.0 ∙ map_over_more (led_by writes) old now i x within done is, step.1) where
+      one_more : (k : ℕ) → suc k ≡ k + 1
+      one_more k = omega arith
+
+      swap : (a b : ℕ) → a + b ≡ b + a
+      swap a b = omega arith
+
+      past : (xs : List ShardCopy) (k : ℕ) (d : ShardCopy) → k < length xs → get_or (map (led_by writes) (take k xs) ++ drop k xs) k d ≡ get_or xs k d
+      past [] k d less = absurd (omega (arith, less))
+      past (z ∷ zs) zero d less = refl
+      past (z ∷ zs) (suc k) d less = past zs k d (omega (arith, less))
+
+-- the sets of the followers, of which the primary's own is the last
+pub sets_are : (copies : List ShardCopy) (p : ℕ) (y : ShardCopy) (count others : ℕ) (sets sets' : List Held) (w own : Held)
+    → slice_get copies p ≡ Some y → follows y ≡ true → count ≡ count_by follows copies → others ≡ count - 1
+    → sets ≡ replicate others w → w ≡ y.writes → own ≡ y.writes → sets' ≡ sets ++ own ∷ []
+    → sets' ≡ replicate (count_by follows copies) y.writes
+sets_are copies p y count others sets sets' w own at is count_is others_is sets_is w_is own_is pushed =
+    let some : 1 ≤ count_by follows copies = count-some follows copies p y at is in
+    let number : others + 1 ≡ count_by follows copies = omega arith in
+    pushed ∙ (ap (λ l. l ++ own ∷ []) (sets_is ∙ ap (replicate others) w_is) ∙ (ap (λ v. replicate others y.writes ++ v ∷ []) own_is
+    ∙ (sym (replicate_next others y.writes) ∙ ap (λ k. replicate k y.writes) number)))

@@ -1,0 +1,7 @@
+mod FollowLemmas
+mod HonestLemmas
+mod ListLemmas
+mod MachineLemmas
+mod RequestLemmas
+mod RunLemmas
+mod WriteLemmas

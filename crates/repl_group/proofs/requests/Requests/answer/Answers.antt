@@ -1,0 +1,11 @@
+use Rattle.std.proofs.Common.{◌≡◌, ◌∙◌, Some, ap, refl}
+use Rattle.std.specs.Prelude.{slice_get}
+use Rattle.repl_group.specs.declared.request.Stage.TheVariants.{Answered}
+use Rattle.repl_group.specs.aids.Tracking.{RequestsState}
+use Rattle.repl_group.proofs.RequestLemmas.{listed_answered}
+use Rattle.repl_group.proofs.requests.Requests.answer.Goals as goal
+
+pub invariant_of-self : goal.invariant_of-self
+invariant_of-self c =
+    let at : slice_get c.self.inside.list.items c.args.ticket ≡ Some c.args.request = ap (λ (r : RequestsState). slice_get r.list c.args.ticket) c.self.view_is ∙ c.requires.found in
+    rw c.set_stage.ensures (listed_answered _ _ _ c.self.invariant c.args.ticket c.args.request at (Answered c.args.reply) c.requires.is_queued refl)

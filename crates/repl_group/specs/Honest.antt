@@ -1,0 +1,49 @@
+-- What holds of an honest group at each moment.
+use Rattle.std.specs.Prelude.{◌≡◌, ℕ, ◌<◌, ◌==◌, List, Option, Some, None, slice_get, true}
+use Rattle.std.specs.Map.{lookup}
+use Rattle.version_pair.specs.declared.pair.Pair.{Pair}
+use Rattle.doc_register.specs.Run.{pair_taken}
+use Rattle.repl_group.specs.declared.fault.Fault.TheVariants as fault
+use Rattle.repl_group.specs.declared.request.Request.{Request}
+use Rattle.repl_group.specs.declared.request.Stage.{Stage}
+use Rattle.repl_group.specs.declared.request.Stage.TheVariants.{Queued, InFlight, Answered, Lost}
+use Rattle.repl_group.specs.declared.shard_copy.ShardCopy.{ShardCopy}
+use Rattle.repl_group.specs.declared.step.Step.{Step}
+use Rattle.repl_group.specs.Group.{GroupState, IsRun, start, write_of}
+
+-- the pair that was given to the ticket, if one was: while it is in flight, when it is answered Indexed or Deleted, and
+-- after it is lost
+abbrev pub pair_given : Stage → Option Pair
+pair_given Queued = None
+pair_given (InFlight q before) = Some q
+pair_given (Answered r) = pair_taken r None
+pair_given (Lost q) = Some q
+
+-- the pair of a write that is answered Indexed or Deleted
+abbrev pub pair_acknowledged : Stage → Option Pair
+pair_acknowledged Queued = None
+pair_acknowledged (InFlight q before) = None
+pair_acknowledged (Answered r) = pair_taken r None
+pair_acknowledged (Lost q) = None
+
+-- no pair is given to two tickets
+abbrev pub GivesNoPairTwice : GroupState → Type 0
+GivesNoPairTwice w = (t u : ℕ) (x y : Request) (q : Pair) → slice_get w.requests t ≡ Some x → slice_get w.requests u ≡ Some y
+    → pair_given x.stage ≡ Some q → pair_given y.stage ≡ Some q → t ≡ u
+
+-- each copy in sync holds each write that is answered Indexed or Deleted, with the pair of that answer
+abbrev pub HoldsAcknowledged : GroupState → Type 0
+HoldsAcknowledged w = (t c : ℕ) (x : Request) (y : ShardCopy) (q : Pair) → slice_get w.requests t ≡ Some x → slice_get w.copies c ≡ Some y
+    → pair_acknowledged x.stage ≡ Some q → y.is_in_sync ≡ true → lookup (◌==◌ t) y.writes ≡ Some (write_of x q)
+
+pub record IsHonest (w : GroupState) : Type 0 where
+  pub pairs : GivesNoPairTwice w
+  pub acknowledged : HoldsAcknowledged w
+
+-- where the group does nothing wrong, no pair is given twice, and what is acknowledged is held
+abbrev pub IsHonestUnlessFaulty : GroupState → Type 0
+IsHonestUnlessFaulty w = w.fault ≡ fault.None → IsHonest w
+
+-- whatever steps an honest group takes from its start
+pub record HonestGroups : Type 0 where
+  pub always : (count : ℕ) (steps : List Step) (n : GroupState) → 0 < count → IsRun (start fault.None count) steps n → IsHonest n

@@ -1,0 +1,64 @@
+-- What one submission and one poll do to a group.
+use Rattle.std.specs.Prelude.{◌≡◌, ℕ, ◌/◌, ◌%◌, ◌==◌, List, Option, Some, MatchOption, MatchResult, Result, Ok, if◌then◌else◌, length, nat_lt, option_map, slice_get}
+use Rattle.std.specs.Option.{option_map_or}
+use Rattle.rand_pcg.specs.Lcg.{Lcg}
+use Rattle.rand_pcg.specs.Pcg.{pcg32}
+use Rattle.doc_register.specs.declared.op.Op.{Op}
+use Rattle.workload.specs.declared.target.Progress.{Progress}
+use Rattle.workload.specs.declared.target.Progress.TheVariants as progress
+use Rattle.workload.specs.declared.target.TargetFault.{TargetFault}
+use Rattle.workload.specs.declared.target.TargetFault.TheVariants as refusal
+use Rattle.workload.specs.declared.target.Ticket.{Ticket}
+use Rattle.repl_group.specs.declared.step.Answer.{Answer}
+use Rattle.repl_group.specs.declared.step.Answer.TheVariants as answer
+use Rattle.repl_group.specs.declared.step.Step.{Step}
+use Rattle.repl_group.specs.declared.step.Step.TheVariants as step
+use Rattle.repl_group.specs.Group.{GroupState, Takes, result_of}
+use Rattle.repl_group.specs.Requests.{in_flight_from}
+
+-- the ticket in flight at y modulo their number, in rising order; none where none is in flight
+abbrev pub flight_drawn : GroupState → ℕ → Option ℕ
+flight_drawn w y = slice_get (in_flight_from 0 w.requests) (y % length (in_flight_from 0 w.requests))
+
+-- The step of a poll of the ticket t, by its kind, the copy c and the number y that were drawn. Copy and Ack are no step
+-- where nothing is in flight.
+abbrev pub step_of_kind : GroupState → ℕ → ℕ → ℕ → ℕ → Option Step
+step_of_kind w t kind c y =
+    if nat_lt kind 24 then Some (step.Serve t)
+    else (if nat_lt kind 48 then option_map (λ u. step.Copy u c) (flight_drawn w y)
+    else (if nat_lt kind 60 then option_map step.Ack (flight_drawn w y)
+    else (if kind == 60 then Some (step.Cut c)
+    else (if nat_lt kind 63 then Some (step.Heal c)
+    else (if y % 2 == 0 then Some (step.Drop c) else Some (step.Promote c))))))
+
+-- The step of a poll of the ticket t that draws the word: the word modulo 64 is the kind; what is left, modulo the number of
+-- copies, is the copy, and divided by it the number y.
+abbrev pub step_drawn : GroupState → ℕ → ℕ → Option Step
+step_drawn w t word = step_of_kind w t (word % 64) (word / 64 % length w.copies) (word / 64 / length w.copies)
+
+-- what is told of the ticket: its reply, or that it waits
+abbrev pub progress_of : GroupState → ℕ → Progress
+progress_of w t = option_map_or progress.Done (result_of w t) progress.Waiting
+
+-- The step is taken, and it is told what has become of the ticket; or it is refused memory, which changes nothing.
+abbrev pub TellsAfter : GroupState → Step → ℕ → Result Progress TargetFault → GroupState → Type 0
+TellsAfter w s t told n =
+    MatchResult told (λ p. (a : Answer) × Takes w s a n × (p ≡ progress_of n t)) (λ fault. (fault ≡ refusal.NoMemory) × (n ≡ w))
+
+-- A poll of a ticket with a result tells it, and changes nothing. Any other draws one word, and makes the step that the
+-- word says, if it says one.
+abbrev pub Polls : GroupState → Lcg → ℕ → Result Progress TargetFault → GroupState → Lcg → Type 0
+Polls w random t told n random' =
+    MatchOption (result_of w t)
+    ((random' ≡ (pcg32 random).1)
+    × MatchOption (step_drawn w t (pcg32 random).0) ((told ≡ Ok progress.Waiting) × (n ≡ w)) (λ s. TellsAfter w s t told n))
+    (λ r. (told ≡ Ok (progress.Done r)) × (n ≡ w) × (random' ≡ random))
+
+abbrev pub RefusesSubmission : GroupState → List ℕ → Op → TargetFault → GroupState → Type 0
+RefusesSubmission w id op refusal.Full n = Takes w (step.Submit id op) answer.Full n
+RefusesSubmission w id op refusal.NoMemory n = n ≡ w
+
+-- A submission makes the step Submit, and answers its ticket or Full; or it is refused memory, which changes nothing.
+abbrev pub Submits : GroupState → List ℕ → Op → Result Ticket TargetFault → GroupState → Type 0
+Submits w id op told n =
+    MatchResult told (λ ticket. Takes w (step.Submit id op) (answer.Ticket ticket.0) n) (λ fault. RefusesSubmission w id op fault n)

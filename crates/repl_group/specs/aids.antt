@@ -1,0 +1,4 @@
+pub mod Tracking
+pub mod Following
+pub mod Forming
+pub mod Sound

@@ -1,0 +1,91 @@
+ghost use Rattle.std.specs.Prelude.{◌≡◌, ◌<◌, ◌⊎◌, ◌↔◌, Err};
+
+use crate::fault::{CoreFault, Fault};
+use crate::group_core::Core;
+use crate::polling::{poll_step, submit_step};
+use doc_register::Op;
+use rand_pcg::Lcg64Xsh32;
+use std::alloc::Global;
+use std::marker::Model;
+use std::sync::{Mutex, Wait};
+use version_pair::DocId;
+use workload::{Progress, Target, TargetFault, Ticket};
+
+// The stream of words from which a group draws its steps.
+const STREAM: u64 = 55;
+
+// What lies under the lock of a group: its core, and the generator from which its steps are drawn. Where the core has no
+// fault, it is honest each time the lock is taken.
+#[derive(Drop)]
+struct Locked {
+    core: Core,
+    random: Lcg64Xsh32,
+}
+
+impl Model for Locked {
+    ghost use Rattle.repl_group.specs.Group.{GroupState};
+    ghost use Rattle.repl_group.specs.Honest.{IsHonestUnlessFaulty};
+    ghost use Rattle.rand_pcg.specs.Lcg.{Lcg};
+
+    ghost Value = { GroupState × Lcg };
+
+    ghost view = { λ l. (l.core, l.random) };
+
+    ghost invariant = { λ l. IsHonestUnlessFaulty l.core };
+}
+
+impl Locked {
+    ghost use Rattle.repl_group.specs.Polling.{Polls, Submits};
+
+    fn submit(&mut self, id: &DocId, op: &Op) -> Result<Ticket, TargetFault>
+        ensures submits { Submits self.old.0 id.now op.now result self.new.0 }
+        ensures random { self.new.1 ≡ self.old.1 }
+    {
+        submit_step(&mut self.core, id, op)
+    }
+
+    fn poll(&mut self, ticket: Ticket) -> Result<Progress, TargetFault>
+        ensures { Polls self.old.0 self.old.1 ticket.0 result self.new.0 self.new.1 }
+    {
+        poll_step(&mut self.core, &mut self.random, ticket)
+    }
+}
+
+/// A replication group that threads share as a target: each submission and each poll is one hold of its lock.
+///
+/// A poll makes the group take a step that is drawn at random from its seed, so the group goes on as it is polled.
+#[derive(Drop)]
+pub struct Group {
+    locked: Mutex<Locked>,
+}
+
+impl Group {
+    /// A group with so many copies, 1 to 5, at the start, whose steps are drawn from the seed; else `Copies`. Last
+    /// `NoMemory`.
+    pub fn new(alloc: Global, copies: u32, fault: Fault, seed: u64) -> Result<Group, CoreFault>
+        ensures { (result ≡ Err CoreFault.Copies) ↔ ((copies ≡ 0) ⊎ (5 < copies)) }
+    {
+        let core = Core::new(alloc, copies, fault)?;
+        let random = Lcg64Xsh32::new(seed, STREAM);
+        Ok(Group {
+            locked: Mutex::new(Locked { core, random }),
+        })
+    }
+}
+
+impl Target for Group {
+    ghost issued = { λ _ _ _. Unit {0} };
+
+    ghost gave = { λ _ _. Unit {0} };
+
+    fn submit<R: Wait>(&self, rt: &R, id: &DocId, op: &Op) -> Result<Ticket, TargetFault> {
+        self.locked.lock(rt).submit(id, op)
+    }
+
+    fn poll<R: Wait>(&self, rt: &R, ticket: Ticket) -> Result<Progress, TargetFault> {
+        self.locked.lock(rt).poll(ticket)
+    }
+}
+
+#[cfg(test)]
+mod tests;

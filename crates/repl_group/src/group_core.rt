@@ -1,0 +1,128 @@
+ghost use Rattle.std.specs.Prelude.{◌≡◌, ◌<◌, ◌⊎◌, ◌↔◌, Err, IfOk, OnErr, length, nat_lt, not, slice_get};
+ghost use Rattle.repl_group.specs.Group.{IsCopyCount, Takes, is_in_sync, most_tickets, result_of, start};
+ghost use Rattle.repl_group.specs.Honest.{IsHonestUnlessFaulty};
+ghost use Rattle.repl_group.specs.Requests.{in_flight_from};
+
+use crate::fault::{CoreFault, Fault};
+use crate::machine::Machine;
+use crate::step::{Answer, Step};
+use doc_register::Reply;
+use std::alloc::Global;
+use std::marker::Model;
+use version_pair::NoMemory;
+
+/// The most copies that a group has.
+pub const MOST_COPIES: u32 = 5;
+
+/// The core of a replication group: a state machine that takes one step at a time.
+///
+/// Contracts see it as a `GroupState`: what it does wrong, its term and primary, its tickets and its copies.
+#[derive(Debug, Drop)]
+pub struct Core {
+    machine: Machine,
+}
+
+impl Model for Core {
+    ghost use Rattle.repl_group.specs.Group.{GroupState};
+
+    ghost Value = { GroupState };
+
+    ghost use Rattle.repl_group.specs.aids.Sound.{IsSoundUnlessFaulty};
+
+    ghost view = { λ c. c.machine };
+
+    ghost invariant = { λ c. IsSoundUnlessFaulty c.machine };
+}
+
+impl Core {
+    /// The core of a group with so many copies, 1 to 5, at the start: term 1, copy 0 the primary, all copies in sync, none
+    /// cut off, nothing submitted; else `Copies`. Last `NoMemory`.
+    pub fn new(alloc: Global, copies: u32, fault: Fault) -> Result<Core, CoreFault>
+        ensures ok { IfOk result (λ core. core ≡ start fault copies) }
+        ensures copies { (result ≡ Err CoreFault.Copies) ↔ ((copies ≡ 0) ⊎ (5 < copies)) }
+        ensures honest { IfOk result IsHonestUnlessFaulty }
+    {
+        if copies == 0 || copies > MOST_COPIES {
+            return Err(CoreFault::Copies);
+        }
+        match Machine::new(alloc, copies, fault) {
+            Ok(machine) => Ok(Core { machine }),
+            Err(_) => Err(CoreFault::NoMemory),
+        }
+    }
+
+    /// Takes one step, or refuses it for want of memory.
+    ///
+    /// Every answer but `Ticket` and `Done` leaves the group as it was, and so does a refusal. A step takes the time of
+    /// looking its documents, tickets and copies up, and at most that of the tickets in flight; `Heal` and `Promote` take
+    /// the time of the writes that they hand over, `Promote` that of all tickets too.
+    pub fn step(&mut self, step: Step) -> Result<Answer, NoMemory>
+        ensures ok { IfOk result (λ answer. Takes self.old step answer self.new) }
+        ensures err { OnErr result (self.new ≡ self.old) }
+        ensures honest { IsHonestUnlessFaulty self.new }
+    {
+        self.machine.step(step)
+    }
+
+    /// The reply to a ticket, where it is answered; `None` too where there is no such ticket.
+    pub fn result(&self, ticket: u64) -> Option<Reply>
+        ensures reply { result ≡ result_of self.now ticket }
+        ensures honest { IsHonestUnlessFaulty self.now }
+    {
+        self.machine.result(ticket)
+    }
+
+    /// The term.
+    pub fn term(&self) -> u64
+        ensures { result ≡ self.now.term }
+    {
+        self.machine.term()
+    }
+
+    /// The number of the primary.
+    pub fn primary(&self) -> u32
+        ensures { result ≡ self.now.primary }
+    {
+        self.machine.primary()
+    }
+
+    /// Whether a copy is in sync; false where there is no such copy.
+    pub fn in_sync(&self, copy: u32) -> bool
+        ensures { result ≡ is_in_sync self.now copy }
+    {
+        self.machine.in_sync(copy)
+    }
+
+    // Whether no more tickets are given.
+    pub(crate) fn is_full(&self) -> bool
+        ensures full { result ≡ not (nat_lt (length self.now.requests) most_tickets) }
+        ensures honest { IsHonestUnlessFaulty self.now }
+    {
+        self.machine.is_full()
+    }
+
+    // How many copies there are, 1 to 5.
+    pub(crate) fn copy_count(&self) -> u32
+        ensures count { result ≡ length self.now.copies }
+        ensures range { IsCopyCount result }
+    {
+        self.machine.copy_count()
+    }
+
+    // How many tickets are in flight.
+    pub(crate) fn in_flight_len(&self) -> usize
+        ensures { result ≡ length (in_flight_from 0 self.now.requests) }
+    {
+        self.machine.in_flight_len()
+    }
+
+    // The ticket at this place of those in flight, in rising order.
+    pub(crate) fn in_flight_at(&self, place: usize) -> Option<u64>
+        ensures { result ≡ slice_get (in_flight_from 0 self.now.requests) place }
+    {
+        self.machine.in_flight_at(place)
+    }
+}
+
+#[cfg(test)]
+mod tests;

@@ -1,0 +1,25 @@
+//! A replication group: copies of a shard that serve submitted operations step by step, honestly or with a fault.
+#![tactic(auto)]
+
+mod copies;
+mod fault;
+mod group;
+mod group_core;
+mod held_write;
+pub mod laws;
+mod machine;
+mod polling;
+mod request;
+mod requests;
+mod shard_copy;
+mod step;
+#[cfg(test)]
+mod testing;
+mod writes;
+
+pub use fault::{CoreFault, Fault};
+pub use group::Group;
+pub use group_core::{Core, MOST_COPIES};
+pub use machine::MOST_TICKETS;
+pub use polling::{poll_step, submit_step};
+pub use step::{Answer, Step};

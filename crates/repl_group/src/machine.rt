@@ -1,0 +1,447 @@
+ghost use Rattle.std.specs.Prelude.{◌≡◌, ◌==◌, ◌&&◌, ◌||◌, Some, false, length, nat_lt, not, slice_get, true, IfOk, OnErr};
+ghost use Rattle.repl_group.specs.Group.{IsCopyCount, Performs, ServesGet, ServesWrite, Shows, Gives, document_at as document_seen, greatest, is_held as held, is_in_sync, is_primary_cut as primary_cut, most_tickets, op_read as read_of, result_of, start};
+ghost use Rattle.repl_group.specs.Copies.{document_in, next_seq};
+ghost use Rattle.repl_group.specs.Requests.{in_flight_from, is_busy as busy, is_queued as queued};
+ghost use Rattle.repl_group.specs.declared.shard_copy.ShardCopy.{ShardCopy as CopyState};
+ghost use Rattle.repl_group.specs.declared.step.Step.TheVariants as steps;
+
+use crate::copies::{
+    add_write, find_copy, follow, is_on_all_in_sync, new_copies, renew, set_cut, set_in_sync,
+};
+use crate::fault::Fault;
+use crate::request::{Request, is_get, unconditional};
+use crate::requests::Requests;
+use crate::shard_copy::ShardCopy;
+use crate::step::{Answer, Step};
+use doc_register::{DocState, Op, Reply, is_performed, performed_reply, shown_reply};
+use indexmap::IndexSet;
+use std::alloc::Global;
+use std::marker::Model;
+use version_pair::{DocId, NoMemory, Pair};
+
+/// The most tickets that a group gives.
+pub const MOST_TICKETS: usize = 524_288;
+
+// The greatest term.
+const GREATEST_TERM: u64 = 0x7fff_ffff_ffff_ffff;
+
+/// The machine of a group: its copies and its tickets, and the steps that they take.
+#[derive(Debug, Drop)]
+pub struct Machine {
+    fault: Fault,
+    term: u64,
+    primary: u32,
+    docs: IndexSet<DocId>,
+    requests: Requests,
+    copies: Vec<ShardCopy>,
+}
+
+impl Model for Machine {
+    ghost use Rattle.repl_group.specs.Group.{GroupState};
+
+    ghost Value = { GroupState };
+
+    ghost use Rattle.repl_group.specs.aids.Forming.{IsFormed};
+
+    ghost view = { λ m. record {
+      fault = m.fault;
+      term = m.term;
+      primary = m.primary;
+      docs = m.docs.keys;
+      requests = m.requests.list;
+      copies = m.copies.items;
+    } };
+
+    ghost invariant = { λ m. IsFormed m.term m.primary m.copies.items };
+}
+
+impl Machine {
+    /// The machine of a group with 1 to 5 copies, at the start.
+    pub fn new(alloc: Global, count: u32, fault: Fault) -> Result<Machine, NoMemory>
+        requires { IsCopyCount count }
+        ensures { IfOk result (λ machine. machine ≡ start fault count) }
+    {
+        let copies = new_copies(alloc, count)?;
+        Ok(Machine {
+            fault,
+            term: 1,
+            primary: 0,
+            docs: IndexSet::new(alloc),
+            requests: Requests::new(alloc),
+            copies,
+        })
+    }
+
+    /// Whether the primary is cut off.
+    fn is_primary_cut(&self) -> bool
+        ensures { result ≡ primary_cut self.now }
+    {
+        match find_copy(&self.copies, self.primary) {
+            Some(copy) => copy.is_cut,
+            None => false,
+        }
+    }
+
+    /// The document of this number, as a copy has it.
+    fn document_at(&self, copy: u32, doc: usize) -> DocState
+        ensures { result ≡ document_seen self.now copy doc }
+    {
+        match find_copy(&self.copies, copy) {
+            Some(copy) => copy.writes.document(doc),
+            None => DocState::Never,
+        }
+    }
+
+    /// Whether the write of a ticket may be acknowledged.
+    fn is_held(&self, ticket: u64) -> bool
+        ensures { result ≡ held self.now ticket }
+    {
+        if !self.fault.is_early() {
+            return is_on_all_in_sync(&self.copies, ticket);
+        }
+        match find_copy(&self.copies, self.primary) {
+            Some(copy) => copy.writes.holds(ticket),
+            None => false,
+        }
+    }
+
+    /// The operation as the primary reads it.
+    fn op_read(&self, request: Request) -> Op
+        ensures { result ≡ read_of self.now request }
+    {
+        if self.fault.is_blind() {
+            unconditional(request.op)
+        } else {
+            request.op
+        }
+    }
+
+    /// Whether a copy may take a write in flight.
+    fn may_take_write(&self, copy: &ShardCopy) -> bool
+        ensures { result ≡ (copy.now.is_in_sync && not copy.now.is_cut && not (primary_cut self.now)) }
+    {
+        copy.is_in_sync && !copy.is_cut && !self.is_primary_cut()
+    }
+
+    /// Whether the copy of this number takes nothing from the primary when it is reached again.
+    fn is_left_alone(&self, number: u32) -> bool
+        ensures { result ≡ ((number == self.now.primary) || primary_cut self.now) }
+    {
+        number == self.primary || self.is_primary_cut()
+    }
+
+    /// Whether the copy of this number may leave those in sync.
+    fn may_drop(&self, number: u32, copy: &ShardCopy) -> bool
+        ensures { result ≡ (copy.now.is_in_sync && copy.now.is_cut && not (number == self.now.primary) && not (primary_cut self.now)) }
+    {
+        copy.is_in_sync && copy.is_cut && number != self.primary && !self.is_primary_cut()
+    }
+
+    /// Whether the copy of this number may become the primary.
+    fn may_lead(&self, number: u32, copy: &ShardCopy) -> bool
+        ensures { result ≡ (copy.now.is_in_sync && not copy.now.is_cut && not (number == self.now.primary) && nat_lt self.now.term greatest) }
+    {
+        copy.is_in_sync && !copy.is_cut && number != self.primary && self.term < GREATEST_TERM
+    }
+
+    /// Submits an operation. A refusal changes nothing.
+    fn submit(&mut self, id: DocId, op: Op) -> Result<Answer, NoMemory>
+        ensures ok { IfOk result (λ answer. Gives self.old (steps.Submit id op) answer self.new) }
+        ensures err { OnErr result (self.new ≡ self.old) }
+    {
+        if self.is_full() {
+            return Ok(Answer::Full);
+        }
+        let ticket = self.requests.len();
+        self.docs.reserve(1)?;
+        let doc = self.docs.get_index_of(&id).unwrap_or(self.docs.len());
+        self.requests.add(doc, op)?;
+        match self.docs.insert(id) {
+            Ok(_) => {}
+            Err(_) => unreachable!(),
+        }
+        Ok(Answer::Ticket(ticket as u64))
+    }
+
+    /// Answers a queued get by what a copy shows.
+    fn show(&mut self, ticket: u64, request: Request, copy: u32) -> Answer
+        requires found { slice_get self.old.requests ticket ≡ Some request }
+        requires is_queued { queued request.stage ≡ true }
+        ensures { Shows self.old ticket request copy result self.new }
+    {
+        let state = self.document_at(copy, request.doc);
+        self.requests.answer(ticket, request, shown_reply(state));
+        Answer::Done
+    }
+
+    /// Serves a queued get.
+    fn serve_get(&mut self, ticket: u64, request: Request) -> Answer
+        requires found { slice_get self.old.requests ticket ≡ Some request }
+        requires is_queued { queued request.stage ≡ true }
+        ensures { ServesGet self.old ticket request result self.new }
+    {
+        if self.fault.is_stale() {
+            let copy = ticket % self.copies.len() as u64;
+            return self.show(ticket, request, copy as u32);
+        }
+        if self.is_primary_cut() {
+            return Answer::NotNow;
+        }
+        if self.requests.is_busy(request.doc) && !self.fault.is_dirty() {
+            return Answer::Waits;
+        }
+        self.show(ticket, request, self.primary)
+    }
+
+    /// Performs a queued write at the primary, where a sequence number is left. No write is in flight on its document,
+    /// which was so before. A refusal changes nothing.
+    fn perform(
+        &mut self,
+        ticket: u64,
+        request: Request,
+        seq: u64,
+        before: DocState,
+    ) -> Result<Answer, NoMemory>
+        requires found { slice_get self.old.requests ticket ≡ Some request }
+        requires is_queued { queued request.stage ≡ true }
+        requires free { busy self.old.requests request.doc ≡ false }
+        requires seen { (y : CopyState) → slice_get self.old.copies self.old.primary ≡ Some y
+            → (seq ≡ next_seq y.writes) × (before ≡ document_in y.writes request.doc) }
+        ensures ok { IfOk result (λ answer. (y : CopyState) → slice_get self.old.copies self.old.primary ≡ Some y
+            → Performs self.old ticket request y answer self.new) }
+        ensures err { OnErr result (self.new ≡ self.old) }
+    {
+        let Some(pair) = Pair::new(self.term, seq) else {
+            return Ok(Answer::NotNow);
+        };
+        self.requests.reserve()?;
+        add_write(&mut self.copies, self.primary, ticket, request.write(pair))?;
+        self.requests.launch(ticket, request, pair, before);
+        Ok(Answer::Done)
+    }
+
+    /// Serves a queued write. A refusal changes nothing.
+    fn serve_write(&mut self, ticket: u64, request: Request) -> Result<Answer, NoMemory>
+        requires found { slice_get self.old.requests ticket ≡ Some request }
+        requires is_queued { queued request.stage ≡ true }
+        ensures ok { IfOk result (λ answer. ServesWrite self.old ticket request answer self.new) }
+        ensures err { OnErr result (self.new ≡ self.old) }
+    {
+        let Some(primary) = find_copy(&self.copies, self.primary) else {
+            return Ok(Answer::NotNow);
+        };
+        if primary.is_cut {
+            return Ok(Answer::NotNow);
+        }
+        if self.requests.is_busy(request.doc) {
+            return Ok(Answer::Waits);
+        }
+        let before = primary.writes.document(request.doc);
+        let seq = primary.writes.next_seq();
+        if is_performed(before, self.op_read(request)) {
+            return self.perform(ticket, request, seq, before);
+        }
+        self.requests.answer(ticket, request, Reply::Conflict);
+        Ok(Answer::Done)
+    }
+
+    /// Serves the operation of a ticket. A refusal changes nothing.
+    fn serve(&mut self, ticket: u64) -> Result<Answer, NoMemory>
+        ensures ok { IfOk result (λ answer. Gives self.old (steps.Serve ticket) answer self.new) }
+        ensures err { OnErr result (self.new ≡ self.old) }
+    {
+        let Some(request) = self.requests.get(ticket) else {
+            return Ok(Answer::NotNow);
+        };
+        if !request.stage.is_queued() {
+            return Ok(Answer::NotNow);
+        }
+        if is_get(request.op) {
+            return Ok(self.serve_get(ticket, request));
+        }
+        self.serve_write(ticket, request)
+    }
+
+    /// Copies the write of a ticket. A refusal changes nothing.
+    fn copy(&mut self, ticket: u64, copy: u32) -> Result<Answer, NoMemory>
+        ensures ok { IfOk result (λ answer. Gives self.old (steps.Copy ticket copy) answer self.new) }
+        ensures err { OnErr result (self.new ≡ self.old) }
+    {
+        let Some(request) = self.requests.get(ticket) else {
+            return Ok(Answer::NotNow);
+        };
+        let Some(target) = find_copy(&self.copies, copy) else {
+            return Ok(Answer::NotNow);
+        };
+        let Some((pair, _)) = request.stage.flight() else {
+            return Ok(Answer::NotNow);
+        };
+        if !self.may_take_write(target) {
+            return Ok(Answer::NotNow);
+        }
+        add_write(&mut self.copies, copy, ticket, request.write(pair))?;
+        Ok(Answer::Done)
+    }
+
+    /// Acknowledges the write of a ticket.
+    fn acknowledge(&mut self, ticket: u64) -> Answer
+        ensures { Gives self.old (steps.Ack ticket) result self.new }
+    {
+        let Some(request) = self.requests.get(ticket) else {
+            return Answer::NotNow;
+        };
+        let Some((pair, before)) = request.stage.flight() else {
+            return Answer::NotNow;
+        };
+        let may = !self.is_primary_cut() && self.is_held(ticket);
+        if !may {
+            return Answer::NotNow;
+        }
+        let reply = performed_reply(before, request.op, pair);
+        self.requests.acknowledge(ticket, request, reply);
+        Answer::Done
+    }
+
+    /// Cuts a copy off.
+    fn cut(&mut self, copy: u32) -> Answer
+        ensures { Gives self.old (steps.Cut copy) result self.new }
+    {
+        let Some(target) = find_copy(&self.copies, copy) else {
+            return Answer::NotNow;
+        };
+        if target.is_cut {
+            return Answer::NotNow;
+        }
+        set_cut(&mut self.copies, copy, true);
+        Answer::Done
+    }
+
+    /// Reaches a copy again. A refusal changes nothing. Where the copy takes what the primary holds, it takes the time of
+    /// all that.
+    fn heal(&mut self, copy: u32) -> Result<Answer, NoMemory>
+        ensures ok { IfOk result (λ answer. Gives self.old (steps.Heal copy) answer self.new) }
+        ensures err { OnErr result (self.new ≡ self.old) }
+    {
+        if find_copy(&self.copies, copy).is_none() {
+            return Ok(Answer::NotNow);
+        }
+        if self.is_left_alone(copy) {
+            set_cut(&mut self.copies, copy, false);
+            return Ok(Answer::Done);
+        }
+        let writes = self.copies[self.primary as usize].writes.copy()?;
+        renew(&mut self.copies, copy, writes);
+        Ok(Answer::Done)
+    }
+
+    /// Gives a copy that is cut off out of those in sync.
+    fn drop_copy(&mut self, copy: u32) -> Answer
+        ensures { Gives self.old (steps.Drop copy) result self.new }
+    {
+        let Some(target) = find_copy(&self.copies, copy) else {
+            return Answer::NotNow;
+        };
+        if !self.may_drop(copy, target) {
+            return Answer::NotNow;
+        }
+        set_in_sync(&mut self.copies, copy, false);
+        Answer::Done
+    }
+
+    /// Makes a copy the primary. A refusal changes nothing. It takes the time of all that the copy holds.
+    fn promote(&mut self, copy: u32) -> Result<Answer, NoMemory>
+        ensures ok { IfOk result (λ answer. Gives self.old (steps.Promote copy) answer self.new) }
+        ensures err { OnErr result (self.new ≡ self.old) }
+    {
+        let Some(target) = find_copy(&self.copies, copy) else {
+            return Ok(Answer::NotNow);
+        };
+        if !self.may_lead(copy, target) {
+            return Ok(Answer::NotNow);
+        }
+        follow(&mut self.copies, copy)?;
+        self.requests.lose_flights();
+        if !self.fault.is_same_term() {
+            self.term += 1;
+        }
+        self.primary = copy;
+        Ok(Answer::Done)
+    }
+
+    /// Gives one step. A refusal changes nothing.
+    pub fn step(&mut self, step: Step) -> Result<Answer, NoMemory>
+        ensures ok { IfOk result (λ answer. Gives self.old step answer self.new) }
+        ensures err { OnErr result (self.new ≡ self.old) }
+    {
+        match step {
+            Step::Submit(id, op) => self.submit(id, op),
+            Step::Serve(ticket) => self.serve(ticket),
+            Step::Copy(ticket, copy) => self.copy(ticket, copy),
+            Step::Ack(ticket) => Ok(self.acknowledge(ticket)),
+            Step::Cut(copy) => Ok(self.cut(copy)),
+            Step::Heal(copy) => self.heal(copy),
+            Step::Drop(copy) => Ok(self.drop_copy(copy)),
+            Step::Promote(copy) => self.promote(copy),
+        }
+    }
+
+    /// The reply to a ticket, where it is answered.
+    pub fn result(&self, ticket: u64) -> Option<Reply>
+        ensures { result ≡ result_of self.now ticket }
+    {
+        self.requests.get(ticket)?.stage.answer()
+    }
+
+    /// The term.
+    pub fn term(&self) -> u64
+        ensures { result ≡ self.now.term }
+    {
+        self.term
+    }
+
+    /// The number of the primary.
+    pub fn primary(&self) -> u32
+        ensures { result ≡ self.now.primary }
+    {
+        self.primary
+    }
+
+    /// Whether a copy is in sync; false where there is none.
+    pub fn in_sync(&self, copy: u32) -> bool
+        ensures { result ≡ is_in_sync self.now copy }
+    {
+        match find_copy(&self.copies, copy) {
+            Some(copy) => copy.is_in_sync,
+            None => false,
+        }
+    }
+
+    /// Whether no more tickets are given.
+    pub fn is_full(&self) -> bool
+        ensures { result ≡ not (nat_lt (length self.now.requests) most_tickets) }
+    {
+        self.requests.len() >= MOST_TICKETS
+    }
+
+    /// How many copies there are, 1 to 5.
+    pub fn copy_count(&self) -> u32
+        ensures count { result ≡ length self.now.copies }
+        ensures range { IsCopyCount result }
+    {
+        self.copies.len() as u32
+    }
+
+    /// How many tickets are in flight.
+    pub fn in_flight_len(&self) -> usize
+        ensures { result ≡ length (in_flight_from 0 self.now.requests) }
+    {
+        self.requests.in_flight_len()
+    }
+
+    /// The ticket at this place of those in flight, in rising order.
+    pub fn in_flight_at(&self, place: usize) -> Option<u64>
+        ensures { result ≡ slice_get (in_flight_from 0 self.now.requests) place }
+    {
+        self.requests.in_flight_at(place)
+    }
+}

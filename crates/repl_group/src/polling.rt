@@ -1,0 +1,112 @@
+ghost use Rattle.std.specs.Prelude.{◌≡◌};
+ghost use Rattle.repl_group.specs.Honest.{IsHonestUnlessFaulty};
+ghost use Rattle.repl_group.specs.Polling.{Polls, Submits, flight_drawn as flight_by, progress_of, step_drawn as step_by, step_of_kind as step_by_kind};
+
+use crate::group_core::Core;
+use crate::step::{Answer, Step};
+use doc_register::Op;
+use rand_core::utils::NextWord;
+use rand_pcg::Lcg64Xsh32;
+use version_pair::DocId;
+use workload::{Progress, TargetFault, Ticket};
+
+// The ticket in flight at this number, modulo how many there are.
+fn flight_drawn(core: &Core, number: u32) -> Option<u64>
+    ensures { result ≡ flight_by core.now number }
+{
+    let count = core.in_flight_len();
+    if count == 0 {
+        return None;
+    }
+    core.in_flight_at(number as usize % count)
+}
+
+// The step of a poll, by its kind from 0 to 63, and the copy and the number that were drawn.
+fn step_of_kind(core: &Core, ticket: u64, kind: u32, copy: u32, number: u32) -> Option<Step>
+    ensures { result ≡ step_by_kind core.now ticket kind copy number }
+{
+    if kind < 24 {
+        return Some(Step::Serve(ticket));
+    }
+    if kind < 48 {
+        let flight = flight_drawn(core, number)?;
+        return Some(Step::Copy(flight, copy));
+    }
+    if kind < 60 {
+        let flight = flight_drawn(core, number)?;
+        return Some(Step::Ack(flight));
+    }
+    if kind == 60 {
+        return Some(Step::Cut(copy));
+    }
+    if kind < 63 {
+        return Some(Step::Heal(copy));
+    }
+    if number % 2 == 0 {
+        Some(Step::Drop(copy))
+    } else {
+        Some(Step::Promote(copy))
+    }
+}
+
+// The step of a poll that draws the word.
+fn step_drawn(core: &Core, ticket: u64, word: u32) -> Option<Step>
+    ensures { result ≡ step_by core.now ticket word }
+{
+    let copies = core.copy_count();
+    let rest = word / 64;
+    step_of_kind(core, ticket, word % 64, rest % copies, rest / copies)
+}
+
+// What is told of a ticket.
+fn progress(core: &Core, ticket: u64) -> Progress
+    ensures { result ≡ progress_of core.now ticket }
+{
+    match core.result(ticket) {
+        Some(reply) => Progress::Done(reply),
+        None => Progress::Waiting,
+    }
+}
+
+/// What a submission does in one hold of the group's lock: the step `Submit`.
+pub fn submit_step(core: &mut Core, id: &DocId, op: &Op) -> Result<Ticket, TargetFault>
+    ensures submits { Submits core.old id.now op.now result core.new }
+    ensures honest { IsHonestUnlessFaulty core.new }
+{
+    if core.is_full() {
+        return Err(TargetFault::Full);
+    }
+    let Ok(id) = id.copy() else {
+        return Err(TargetFault::NoMemory);
+    };
+    match core.step(Step::Submit(id, *op)) {
+        Ok(Answer::Ticket(ticket)) => Ok(Ticket(ticket)),
+        Ok(_) => Err(TargetFault::Full),
+        Err(_) => Err(TargetFault::NoMemory),
+    }
+}
+
+/// What a poll does in one hold of the group's lock: one step at most, which a word of the generator says.
+///
+/// A ticket with a result is told it, and no word is drawn. Where the step is refused memory the core stays as it was, and
+/// the word is spent. A ticket that the group does not know makes its step too, and is told to wait.
+pub fn poll_step(
+    core: &mut Core,
+    random: &mut Lcg64Xsh32,
+    ticket: Ticket,
+) -> Result<Progress, TargetFault>
+    ensures polls { Polls core.old random.old ticket.0 result core.new random.new }
+    ensures honest { IsHonestUnlessFaulty core.new }
+{
+    if let Some(reply) = core.result(ticket.0) {
+        return Ok(Progress::Done(reply));
+    }
+    let word = random.next_word();
+    let Some(step) = step_drawn(core, ticket.0, word) else {
+        return Ok(Progress::Waiting);
+    };
+    match core.step(step) {
+        Ok(_) => Ok(progress(core, ticket.0)),
+        Err(_) => Err(TargetFault::NoMemory),
+    }
+}
