@@ -1,5 +1,5 @@
 -- What the words of the command line ask for.
-use Rattle.std.specs.Prelude.{ℕ, Bool, true, List, Option, Some, None, ◌&&◌, ◌^◌, codes, if◌then◌else◌, length, nat_lt, option_map}
+use Rattle.std.specs.Prelude.{ℕ, Bool, true, List, Option, Some, None, ◌&&◌, ◌^◌, codes, if◌then◌else◌, length, nat_lt, option_and_then, option_map}
 use Rattle.std.specs.Char.{digit_value}
 use Rattle.std.specs.List.{list_all}
 use Rattle.std.specs.Str.{bytes_eq}
@@ -12,16 +12,16 @@ use Rattle.doc_register.specs.declared.state.Conflicts.TheVariants.{Plain, Maybe
 use Rattle.casbench.specs.declared.words.Words.{Words}
 use Rattle.casbench.specs.declared.words.Words.TheVariants as words
 
--- a check of a history, a witness of one, both of standard input where no file is named, a check of a witness against a
--- history, each with a reading of conflicts; or the lines of a bulk's body and its reply, the calls numbered from a number on
+-- a check of a history, with a number of workers, a witness of one, both of standard input where no file is named, a check of a
+-- witness against a history, each with a reading of conflicts; or the lines of a bulk's body and its reply, the calls numbered from a number on
 pub data Asked : Type 0 where
-  ToCheck : Option Text → Conflicts → Asked
+  ToCheck : Option Text → Conflicts → ℕ → Asked
   ToWitness : Option Text → Conflicts → Asked
   ToVerify : Text → Text → Conflicts → Asked
   ToWriteBulk : Text → Text → ℕ → Asked
 
 abbrev pub asked_by : Words → Asked
-asked_by (words.Check file reading) = ToCheck (option_map (λ f. f.now) file) reading
+asked_by (words.Check file reading workers) = ToCheck (option_map (λ f. f.now) file) reading workers
 asked_by (words.Witness file reading) = ToWitness (option_map (λ f. f.now) file) reading
 asked_by (words.Verify history witness reading) = ToVerify history.now witness.now reading
 asked_by (words.Bulk body reply first) = ToWriteBulk body.now reply.now first
@@ -32,8 +32,21 @@ reading_of None = Some Plain
 reading_of (Some name) =
     if bytes_eq name (codes "plain") then Some Plain else (if bytes_eq name (codes "maybe") then Some Maybe else None)
 
-abbrev pub check_of : Option Text → Option Text → Option Asked
-check_of file name = option_map (λ reading. ToCheck file reading) (reading_of name)
+-- a number below 2^64: digits, with a plus before them or not
+abbrev pub is_number : Text → Bool
+is_number text =
+    let digits = without_leading_plus text in
+    (nat_lt 0 (length digits) && list_all (λ c. nat_lt (digit_value c) 10) digits) && nat_lt (digits_value 10 digits) (2 ^ 64)
+
+-- the number that is given, or another one where none is
+abbrev pub number_or : ℕ → Option Text → Option ℕ
+number_or other None = Some other
+number_or other (Some text) = if is_number text then Some (digits_value 10 (without_leading_plus text)) else None
+
+-- one worker where no number is given
+abbrev pub check_of : Option Text → Option Text → Option Text → Option Asked
+check_of file name workers =
+    option_and_then (λ reading. option_map (λ n. ToCheck file reading n) (number_or 1 workers)) (reading_of name)
 
 abbrev pub witness_of : Option Text → Option Text → Option Asked
 witness_of file name = option_map (λ reading. ToWitness file reading) (reading_of name)
@@ -42,25 +55,15 @@ abbrev pub verify_of : Option Text → Option Text → Option Text → Option As
 verify_of (Some history) (Some witness) name = option_map (λ reading. ToVerify history witness reading) (reading_of name)
 verify_of _ _ _ = None
 
--- a number below 2^64: digits, with a plus before them or not
-abbrev pub is_number : Text → Bool
-is_number text =
-    let digits = without_leading_plus text in
-    (nat_lt 0 (length digits) && list_all (λ c. nat_lt (digit_value c) 10) digits) && nat_lt (digits_value 10 digits) (2 ^ 64)
-
--- the number of the first call, which is 0 where none is given
-abbrev pub first_of_calls : Option Text → Option ℕ
-first_of_calls None = Some 0
-first_of_calls (Some text) = if is_number text then Some (digits_value 10 (without_leading_plus text)) else None
-
+-- the calls are numbered from 0 where no number is given
 abbrev pub bulk_of : Option Text → Option Text → Option Text → Option Asked
-bulk_of (Some body) (Some reply) first = option_map (λ n. ToWriteBulk body reply n) (first_of_calls first)
+bulk_of (Some body) (Some reply) first = option_map (λ n. ToWriteBulk body reply n) (number_or 0 first)
 bulk_of _ _ _ = None
 
 -- what a command of this name asks for, which was given these texts by the names of its arguments
 abbrev pub asked_of_command : Text → List Row → Option Asked
 asked_of_command name rows =
-    if bytes_eq name (codes "check") then check_of (first_of (codes "history") rows) (first_of (codes "conflicts") rows)
+    if bytes_eq name (codes "check") then check_of (first_of (codes "history") rows) (first_of (codes "conflicts") rows) (first_of (codes "workers") rows)
     else (if bytes_eq name (codes "witness")
     then witness_of (first_of (codes "history") rows) (first_of (codes "conflicts") rows)
     else (if bytes_eq name (codes "verify")
@@ -69,9 +72,9 @@ asked_of_command name rows =
     then bulk_of (first_of (codes "body") rows) (first_of (codes "reply") rows) (first_of (codes "first") rows)
     else None)))
 
--- no command asks for a check of standard input
+-- no command asks for a check of standard input by one worker
 abbrev pub asked_of : Option (Text × List Row) → Option Asked
-asked_of None = Some (ToCheck None Plain)
+asked_of None = Some (ToCheck None Plain 1)
 asked_of (Some command) = asked_of_command command.0 command.1
 
 -- ---- the command line
@@ -90,8 +93,12 @@ first_rule = record (file_rule (codes "first")) { long = Some (codes "first"); p
 abbrev pub conflicts_rule : Rule
 conflicts_rule = record (file_rule (codes "conflicts")) { long = Some (codes "conflicts") }
 
+-- `--workers N`, N from 1 to 16
+abbrev pub workers_rule : Rule
+workers_rule = record (file_rule (codes "workers")) { long = Some (codes "workers"); parser = Some (parser.Unsigned 1 16) }
+
 abbrev pub check_line : App
-check_line = with_rule (with_rule (new_app (codes "check")) (file_rule (codes "history"))) conflicts_rule
+check_line = with_rule (with_rule (with_rule (new_app (codes "check")) (file_rule (codes "history"))) conflicts_rule) workers_rule
 
 abbrev pub witness_line : App
 witness_line = with_rule (with_rule (new_app (codes "witness")) (file_rule (codes "history"))) conflicts_rule

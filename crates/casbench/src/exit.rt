@@ -25,6 +25,7 @@ pub fn fault_code(fault: StreamFault) -> u8
     match fault {
         StreamFault::NoMemory => 3,
         StreamFault::Read | StreamFault::Write => 4,
+        StreamFault::Worker(_) => 5,
     }
 }
 
@@ -51,6 +52,7 @@ mod tests {
         assert_eq!(rt; fault_code(StreamFault::NoMemory), 3);
         assert_eq!(rt; fault_code(StreamFault::Read), 4);
         assert_eq!(rt; fault_code(StreamFault::Write), 4);
+        assert_eq!(rt; fault_code(StreamFault::Worker(0)), 5);
         assert_eq!(rt; words_code(ErrorKind::DisplayHelp), 0);
         assert_eq!(rt; words_code(ErrorKind::DisplayVersion), 0);
         assert_eq!(rt; words_code(ErrorKind::OutOfMemory), 3);

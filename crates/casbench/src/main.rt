@@ -57,7 +57,7 @@ fn main(rt: HostRuntime) -> ExitCode {
         Ok(asked) => asked,
         Err(error) => return ExitCode::from(tell_words(&rt, &error)),
     };
-    match run(alloc, &rt, rt.stdin(), &mut rt.stdout(), asked) {
+    match run(alloc, &rt, &rt, rt.stdin(), &mut rt.stdout(), asked) {
         Ok(status) => ExitCode::from(status_code(status)),
         Err(fault) => ExitCode::from(tell_fault(&rt, fault)),
     }

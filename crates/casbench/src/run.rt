@@ -1,4 +1,4 @@
-ghost use Rattle.std.specs.Prelude.{◌≡◌, None, IfOk, IsErrOf};
+ghost use Rattle.std.specs.Prelude.{◌≡◌, ◌≤◌, ℕ, None, IfOk, IsErrOf};
 ghost use Rattle.std.specs.Io.KnownBytes.{Keeps};
 ghost use Rattle.doc_register.specs.declared.state.Conflicts.{Conflicts as Mode};
 ghost use Rattle.report.specs.Verdict.{HasAnswer, IsAnswered, WitnessesInput};
@@ -9,21 +9,38 @@ use report::{Status, StreamFault, bulk_stream, check_stream, verify_stream, witn
 use std::alloc::Global;
 use std::io::{Read, Write};
 use std::rt::Files;
+use std::sync::Wait;
+use std::thread::Threads;
+
+// A number of workers from 1 to 16: the nearest one where the number is another, which words never name.
+fn worker_count(workers: u64) -> usize
+    ensures some { 1 ≤ result }
+    ensures few { result ≤ 16 }
+{
+    if workers < 1 {
+        1
+    } else if workers > 16 {
+        16
+    } else {
+        workers as usize
+    }
+}
 
 /// Does what the words ask for: opens the files in the order in which they were named, then reads, and writes the
-/// answer.
+/// answer. Workers run on `threads`.
 ///
 /// A file that can't be opened is told on standard error by its name, and is a read fault: then nothing was read, nor
 /// written to the writer.
-pub fn run<R: Files + Eprint, I: Read + Drop, W: Write>(
+pub fn run<R: Files + Eprint, T: Threads + Wait + Sync, I: Read + Drop, W: Write>(
     alloc: Global,
     rt: &R,
+    threads: &T,
     input: I,
     writer: &mut W,
     words: Words<'_>,
 ) -> Result<Status, StreamFault>
     // A check of the input answers it, with conflicts read as the words say.
-    ensures checked { (reading : Mode) → words.entry ≡ Words.Check None reading
+    ensures checked { (reading : Mode) (workers : ℕ) → words.entry ≡ Words.Check None reading workers
         → IfOk result (IsAnswered reading (I.remaining input) (W.contents writer.old)
         (W.contents writer.new)) }
     // The witness of the input is written, with conflicts read as the words say.
@@ -36,9 +53,14 @@ pub fn run<R: Files + Eprint, I: Read + Drop, W: Write>(
         (W.contents writer.new) }
 {
     match words {
-        Words::Check { file, conflicts } => {
+        Words::Check {
+            file,
+            conflicts,
+            workers,
+        } => {
             let mut history = open_or(rt, file, input)?;
-            check_stream(alloc, &mut history, writer, 1, conflicts)
+            let workers = worker_count(workers);
+            check_stream(threads, alloc, &mut history, writer, workers, conflicts)
         }
         Words::Witness { file, conflicts } => {
             let mut history = open_or(rt, file, input)?;

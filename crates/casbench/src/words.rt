@@ -1,8 +1,8 @@
 ghost use Rattle.std.specs.Prelude.{◌≡◌, ◌⊎◌, [], Some, None, false, IfOk, IfErr, OnOk, codes, map, option_map};
 ghost use Rattle.clap.specs.Words.{FailsBy, HasKind, app_of, found_of, rows_of, rule_of, subcommand_rows_of};
 ghost use Rattle.clap.specs.declared.builder.command.Command.TheViews.{out-Command as fields_of};
-ghost use Rattle.casbench.specs.Asked.{asked_by, asked_of, asked_of_command, asked_on, bulk_of, check_of, faults_on, first_of_calls, reading_of, verify_of, witness_of};
-ghost use Rattle.casbench.specs.Asked.{bulk_line, check_line, command_line, conflicts_rule, file_rule, first_rule, needed_rule, verify_line, witness_line};
+ghost use Rattle.casbench.specs.Asked.{asked_by, asked_of, asked_of_command, asked_on, bulk_of, check_of, faults_on, number_or as number_told, reading_of, verify_of, witness_of};
+ghost use Rattle.casbench.specs.Asked.{bulk_line, check_line, command_line, conflicts_rule, file_rule, first_rule, needed_rule, verify_line, witness_line, workers_rule};
 
 use clap::builder::ValueParser;
 use clap::error::ErrorKind;
@@ -14,10 +14,11 @@ use std::convert::AsStr;
 /// What the program is asked for.
 #[derive(Clone, Copy, Debug, PartialEq, Eq)]
 pub enum Words<'a> {
-    /// To check a history text: that of the file, or of standard input where none is named.
+    /// To check a history text: that of the file, or of standard input where none is named; by so many workers, 1 to 16.
     Check {
         file: Option<&'a str>,
         conflicts: Conflicts,
+        workers: u64,
     },
     /// To write the witness of a history text: that of the file, or of standard input where none is named.
     Witness {
@@ -58,6 +59,8 @@ const REPLY: &str = "reply";
 const FIRST: &str = "first";
 
 const CONFLICTS: &str = "conflicts";
+
+const WORKERS: &str = "workers";
 
 // The readings of a conflict by their names.
 const PLAIN: &str = "plain";
@@ -110,6 +113,18 @@ fn conflicts<'a>(alloc: Global) -> Arg<'a>
         )
 }
 
+// How many workers there are, which may be left out.
+fn workers<'a>(alloc: Global) -> Arg<'a>
+    ensures rule { rule_of result ≡ workers_rule }
+    ensures local { result.global ≡ false }
+{
+    Arg::new(alloc, WORKERS)
+        .long(WORKERS)
+        .value_name("N")
+        .value_parser(ValueParser::Unsigned(1, 16))
+        .help("How many workers search the documents, 1 to 16; 1 where it is left out")
+}
+
 fn check_command<'a>(alloc: Global) -> Result<Command<'a>, AllocError>
     ensures line { IfOk result (λ command. app_of command ≡ check_line) }
     ensures local { IfOk result (λ command. (fields_of command).has_globals ≡ false) }
@@ -118,7 +133,8 @@ fn check_command<'a>(alloc: Global) -> Result<Command<'a>, AllocError>
         .about("Check a history; no command at all does so too")
         .after_help("Example:\n  casbench check history.ndjson")
         .arg(history(alloc))?
-        .arg(conflicts(alloc))
+        .arg(conflicts(alloc))?
+        .arg(workers(alloc))
 }
 
 fn witness_command<'a>(alloc: Global) -> Result<Command<'a>, AllocError>
@@ -193,14 +209,33 @@ fn reading(name: Option<&str>) -> Option<Conflicts>
     }
 }
 
-// A check of a history, where a reading is named or none.
-fn check_words<'a>(file: Option<&'a str>, conflicts: Option<&'a str>) -> Option<Words<'a>>
+// The number that is given, or another one where none is. The parse refuses a text that is none.
+fn number_or(other: u64, text: Option<&str>) -> Option<u64>
+    ensures { result ≡ number_told other (option_map (λ t. t.now) text.entry) }
+{
+    match text {
+        None => Some(other),
+        Some(text) => match text.parse() {
+            Ok(number) => Some(number),
+            Err(_) => None,
+        },
+    }
+}
+
+// A check of a history, where a reading is named or none, and a number of workers or none.
+fn check_words<'a>(
+    file: Option<&'a str>,
+    conflicts: Option<&'a str>,
+    workers: Option<&'a str>,
+) -> Option<Words<'a>>
     ensures { option_map asked_by result
-        ≡ check_of (option_map (λ f. f.now) file.entry) (option_map (λ t. t.now) conflicts.entry) }
+        ≡ check_of (option_map (λ f. f.now) file.entry) (option_map (λ t. t.now) conflicts.entry) (option_map
+        (λ t. t.now) workers.entry) }
 {
     Some(Words::Check {
         file,
         conflicts: reading(conflicts)?,
+        workers: number_or(1, workers)?,
     })
 }
 
@@ -232,19 +267,6 @@ fn verify_words<'a>(
     })
 }
 
-// The number that is given for the first call: 0 where none is. The parse refuses a text that is none.
-fn first_call(text: Option<&str>) -> Option<u64>
-    ensures { result ≡ first_of_calls (option_map (λ t. t.now) text.entry) }
-{
-    match text {
-        None => Some(0),
-        Some(text) => match text.parse() {
-            Ok(number) => Some(number),
-            Err(_) => None,
-        },
-    }
-}
-
 // The lines of a bulk, where both files are named.
 fn bulk_words<'a>(
     body: Option<&'a str>,
@@ -258,7 +280,7 @@ fn bulk_words<'a>(
     Some(Words::Bulk {
         body: body?,
         reply: reply?,
-        first: first_call(first)?,
+        first: number_or(0, first)?,
     })
 }
 
@@ -269,7 +291,7 @@ fn asked_of_command<'a>(name: &str, given: &ArgMatches<'a>) -> Option<Words<'a>>
 {
     let file = given.get_str(HISTORY);
     match name {
-        CHECK => check_words(file, given.get_str(CONFLICTS)),
+        CHECK => check_words(file, given.get_str(CONFLICTS), given.get_str(WORKERS)),
         WITNESS => witness_words(file, given.get_str(CONFLICTS)),
         VERIFY => verify_words(file, given.get_str(WITNESS), given.get_str(CONFLICTS)),
         BULK => bulk_words(
@@ -290,6 +312,7 @@ fn asked<'a>(matches: &ArgMatches<'a>) -> Option<Words<'a>>
         None => Some(Words::Check {
             file: None,
             conflicts: Conflicts::Plain,
+            workers: 1,
         }),
     }
 }

@@ -16,6 +16,7 @@ use Rattle.compose.specs.Covers.{AreCover}
 use Rattle.compose.specs.Verdicts.{AreWitnesses}
 use Rattle.compose.specs.VerifyFaults.{IsFirstVerifyFault}
 use Rattle.compose.specs.declared.verify_fault.VerifyFault.{VerifyFault}
+use Rattle.report.specs.declared.offence.Offence.{Offence}
 use Rattle.report.specs.declared.status.Status.{Status}
 use Rattle.report.specs.declared.status.Status.TheVariants.{Yes, No, Refused}
 use Rattle.report.specs.Lines.{broken_line, refused_file_line, refused_line}
@@ -56,8 +57,8 @@ whole_history bytes input H (inr (back, split, long)) is = let short = text_is_s
 some_history : (bytes input : List ℕ) → AreEnough bytes input → IsSomeHistory bytes → IsSomeHistory input
 some_history bytes input enough is = subst IsSomeHistory (whole_history bytes input is.0 enough is.1) is
 
-unexplained_input : (mode : Conflicts) (bytes input : List ℕ) → AreEnough bytes input → IsUnexplained mode bytes → IsUnexplained mode input
-unexplained_input mode bytes input enough is = subst (IsUnexplained mode) (whole_history bytes input is.events enough is.is_text) is
+unexplained_input : (mode : Conflicts) (bytes input : List ℕ) (o : Offence) → AreEnough bytes input → IsUnexplained mode bytes o → IsUnexplained mode input o
+unexplained_input mode bytes input o enough is = subst (λ i. IsUnexplained mode i o) (whole_history bytes input is.events enough is.is_text) is
 
 refused_input : (bytes input line : List ℕ) → AreEnough bytes input → IsRefused bytes line → IsRefused input line
 refused_input bytes input line enough is = (is.0, is.1, sym (enough_history bytes input enough) ∙ is.2)
@@ -67,7 +68,7 @@ pub answer_of_input : (mode : Conflicts) (input : Option (List ℕ)) (bytes : Li
     → IfSome input (AreEnough bytes) → IsAnswer mode bytes status line → IfSome input (λ xs. IsAnswer mode xs status line)
 answer_of_input mode None bytes status line enough is = tt
 answer_of_input mode (Some xs) bytes Yes line enough is = subst (λ ys. IsAnswer mode ys Yes line) (whole_history bytes xs is.4.events enough is.4.is_text) is
-answer_of_input mode (Some xs) bytes No line enough is = (is.0, unexplained_input mode bytes xs enough is.1)
+answer_of_input mode (Some xs) bytes No line enough is = (is.0, is.1, unexplained_input mode bytes xs is.0 enough is.2)
 answer_of_input mode (Some xs) bytes Refused line enough is = refused_input bytes xs line enough is
 
 -- what is told of the bytes of the witness holds of the whole input
@@ -116,7 +117,7 @@ pub witness_of_input : (mode : Conflicts) (input : Option (List ℕ)) (bytes : L
     → IsWitnessAnswer mode bytes status text → IfSome input (λ xs. IsWitnessAnswer mode xs status text)
 witness_of_input mode None bytes status text enough is = tt
 witness_of_input mode (Some xs) bytes Yes text enough is = subst (λ ys. IsWitnessAnswer mode ys Yes text) (whole_history bytes xs is.events enough is.is_text) is
-witness_of_input mode (Some xs) bytes No text enough is = (is.0, unexplained_input mode bytes xs enough is.1)
+witness_of_input mode (Some xs) bytes No text enough is = (is.0, is.1, unexplained_input mode bytes xs is.0 enough is.2)
 witness_of_input mode (Some xs) bytes Refused text enough is = refused_input bytes xs text enough is
 
 -- ---- answers to both texts

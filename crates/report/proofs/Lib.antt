@@ -2,3 +2,4 @@ mod StreamLemmas
 mod CutTexts
 mod WitnessLimits
 mod AnswerLemmas
+mod OffenceLemmas

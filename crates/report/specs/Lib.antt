@@ -1,3 +1,4 @@
+pub mod Offences
 pub mod Bulk
 pub mod Lines
 pub mod Verdict

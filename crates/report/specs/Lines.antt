@@ -1,5 +1,5 @@
 -- The lines that are written.
-use Rattle.std.specs.Prelude.{ℕ, List, [], ◌++◌, ◌==◌, codes, decimal, if◌then◌else◌}
+use Rattle.std.specs.Prelude.{ℕ, Bool, true, false, List, [], ◌++◌, ◌==◌, codes, decimal, if◌then◌else◌}
 use Rattle.api_lines.specs.declared.text_fault.TextCause.{TextCause}
 use Rattle.api_lines.specs.declared.text_fault.TextCause.TheVariants.{Long, Lines, Json, Shape, Id, Range, Half, Stranger, SecondCall, NoCall, Ended, Full, ShardMoved}
 use Rattle.api_lines.specs.declared.bulk_fault.BulkFault.{BulkFault}
@@ -8,6 +8,7 @@ use Rattle.witness.specs.declared.broken.Broken.{Broken}
 use Rattle.witness.specs.declared.broken.Broken.TheVariants.{Stranger as StrangePlace, Twice, Absent, Late, PairMissing, PairGiven, Illegal, NoMemory}
 use Rattle.compose.specs.declared.verify_fault.VerifyFault.{VerifyFault}
 use Rattle.compose.specs.declared.verify_fault.VerifyFault.TheVariants as fault
+use Rattle.report.specs.declared.offence.Offence.{Offence}
 
 -- the printed name of a cause
 abbrev pub cause_name : TextCause → List ℕ
@@ -29,8 +30,14 @@ abbrev pub yes_line : ℕ → ℕ → ℕ → List ℕ
 yes_line docs calls left_out =
     codes "yes docs=" ++ (decimal docs ++ (codes " calls=" ++ (decimal calls ++ (codes " left_out=" ++ (decimal left_out ++ codes "\n")))))
 
-abbrev pub no_line : List ℕ
-no_line = codes "no\n"
+-- whether the events before the offence have an order
+abbrev pub before_name : Bool → List ℕ
+before_name true = codes "shown"
+before_name false = codes "unshown"
+
+abbrev pub no_line : Offence → List ℕ
+no_line o =
+    codes "no event=" ++ (decimal o.event ++ (codes " call=" ++ (decimal o.call ++ (codes " before=" ++ (before_name o.before_shown ++ codes "\n")))))
 
 abbrev pub refused_line : ℕ → TextCause → List ℕ
 refused_line line cause = codes "refused line=" ++ (decimal line ++ (codes " cause=" ++ (cause_name cause ++ codes "\n")))

@@ -14,6 +14,8 @@ use Rattle.compose.specs.Verdicts.{HasNoOrderFound, HasOrder}
 use Rattle.compose.specs.VerifyFaults.{IsFirstVerifyFault}
 use Rattle.compose.specs.declared.verify_fault.VerifyFault.{VerifyFault}
 use Rattle.witness.specs.Text.{DocPlaces, witness_text}
+use Rattle.report.specs.Offences.{IsOffence}
+use Rattle.report.specs.declared.offence.Offence.{Offence}
 use Rattle.report.specs.Lines.{broken_line, no_line, refused_file_line, refused_line, verified_line, yes_line}
 use Rattle.report.specs.declared.status.Status.{Status}
 use Rattle.report.specs.declared.status.Status.TheVariants.{Yes, No, Refused}
@@ -30,21 +32,22 @@ pub record IsExplained (mode : Conflicts) (input : List ℕ) (docs calls left_ou
   pub the_rest : length order + left_out ≡ calls
 
 -- The input is a text of a history for which no order was found: no entries without a given pair cover it, it is not plainly
--- right, and where it is settled no order explains it.
-pub record IsUnexplained (mode : Conflicts) (input : List ℕ) : Type 0 where
+-- right, and where it is settled no order explains it; and the offence is one of that history.
+pub record IsUnexplained (mode : Conflicts) (input : List ℕ) (o : Offence) : Type 0 where
   pub events : List Event
   pub is_text : IsHistoryText input events
   pub none_found : HasNoOrderFound mode events
+  pub offence : IsOffence mode events o
 
 -- the input is a text of no history: the line tells the first of its lines that is refused, with its first cause
 abbrev pub IsRefused : List ℕ → List ℕ → Type 0
 IsRefused input line = (told : TextFault) × (line ≡ refused_line told.line told.cause) × (history_text input ≡ Err told)
 
 -- The line, and what it says of the input: `yes` says that it is explained, `no` that no order was found for the history that it
--- is a text of, and `refused` that it is a text of none.
+-- is a text of, and at which reply the search first failed, and `refused` that it is a text of none.
 abbrev pub IsAnswer : Conflicts → List ℕ → Status → List ℕ → Type 0
 IsAnswer mode input Yes line = (docs calls left_out : ℕ) × (line ≡ yes_line docs calls left_out) × IsExplained mode input docs calls left_out
-IsAnswer mode input No line = (line ≡ no_line) × IsUnexplained mode input
+IsAnswer mode input No line = (o : Offence) × (line ≡ no_line o) × IsUnexplained mode input o
 IsAnswer mode input Refused line = IsRefused input line
 
 -- The input is a text of a history, and what is written reads as entries that cover it; so an order explains it.
@@ -59,7 +62,7 @@ pub record IsWitnessed (mode : Conflicts) (input text : List ℕ) : Type 0 where
 -- what is written where a witness is asked for: the text of one, or the line of a check
 abbrev pub IsWitnessAnswer : Conflicts → List ℕ → Status → List ℕ → Type 0
 IsWitnessAnswer mode input Yes text = IsWitnessed mode input text
-IsWitnessAnswer mode input No text = (text ≡ no_line) × IsUnexplained mode input
+IsWitnessAnswer mode input No text = (o : Offence) × (text ≡ no_line o) × IsUnexplained mode input o
 IsWitnessAnswer mode input Refused text = IsRefused input text
 
 -- The one input is a text of a history, and the other reads as entries that cover it; there is an order that explains it,

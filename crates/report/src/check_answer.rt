@@ -1,18 +1,24 @@
-ghost use Rattle.std.specs.Prelude.{◌≡◌, IfOk, ℕ, List, Err};
+ghost use Rattle.std.specs.Prelude.{◌≡◌, ◌≤◌, IfOk, ℕ, List, Err};
 ghost use Rattle.doc_register.specs.declared.state.Conflicts.{Conflicts as Mode};
 ghost use Rattle.history.specs.Reading.{history_text};
 ghost use Rattle.history.specs.Text.{IsHistoryText};
-ghost use Rattle.report.specs.Lines.{no_line, refused_line, yes_line};
+ghost use Rattle.compose.specs.Checked.{IsVerdictOn};
+ghost use Rattle.report.specs.Lines.{before_name as shown_name, no_line, refused_line, yes_line};
 ghost use Rattle.report.specs.Verdict.{IsAnswer, IsWitnessAnswer};
 
 use crate::answer::Answer;
 use crate::cause_name::cause_name;
+use crate::offence::{Offence, first_offence};
 use crate::status::Status;
+use crate::unanswered::Unanswered;
 use api_lines::{ReadFault, TextFault};
-use compose::{Counts, Verdict, check_alone};
+use check_pool::{NoGate, PoolFault};
+use compose::{Case, CheckFault, Counts, Verdict, check, check_alone};
 use doc_register::Conflicts;
 use history::{History, read};
-use std::alloc::{AllocError, Global};
+use std::alloc::Global;
+use std::sync::Wait;
+use std::thread::Threads;
 use version_pair::NoMemory;
 
 // The answer that an order explains the history.
@@ -30,13 +36,39 @@ fn yes(alloc: Global, counts: Counts) -> Result<Answer, NoMemory>
     Ok(Answer::of(Status::Yes, line))
 }
 
-/// The answer that no order was found.
-pub fn no(alloc: Global) -> Result<Answer, NoMemory>
-    ensures status { IfOk result (λ answer. answer.status ≡ Status.No) }
-    ensures line { IfOk result (λ answer. answer.text.items ≡ no_line) }
+// Whether the events before the offence have an order, in words.
+fn before_name(before_shown: bool) -> &'static str
+    ensures { result.now ≡ shown_name before_shown }
 {
-    let line = String::from_str(alloc, "no\n")?;
+    if before_shown { "shown" } else { "unshown" }
+}
+
+// The answer that no order was found, and where the search first failed.
+fn no(alloc: Global, offence: Offence) -> Result<Answer, NoMemory>
+    ensures status { IfOk result (λ answer. answer.status ≡ Status.No) }
+    ensures line { IfOk result (λ answer. answer.text.items ≡ no_line offence) }
+{
+    let Offence {
+        event,
+        call,
+        before_shown,
+    } = offence;
+    let before = before_name(before_shown);
+    let line = format!(in alloc; "no event={event} call={call} before={before}\n")?;
     Ok(Answer::of(Status::No, line))
+}
+
+/// The answer to a text of a history for which no order was found.
+pub fn case_answer(alloc: Global, case: &Case) -> Result<Answer, NoMemory>
+    ensures { IfOk result (λ answer. (input : List ℕ) → IsHistoryText input case.now.events
+        → IsAnswer case.now.conflicts input answer.status answer.text.items
+        × IsWitnessAnswer case.now.conflicts input answer.status answer.text.items) }
+{
+    // A look at the history: that no order was found for it is known from here on.
+    let _ = case.history();
+    let offence = first_offence(alloc, case)?;
+    let answer = no(alloc, offence)?;
+    Ok(answer)
 }
 
 /// The answer to a text that was refused.
@@ -55,36 +87,83 @@ pub fn refusal(alloc: Global, fault: TextFault) -> Result<Answer, NoMemory>
     Ok(Answer::of(Status::Refused, line))
 }
 
+// The verdict on a history by so many workers. One worker is the caller's thread.
+fn verdict_by<R: Threads + Wait + Sync>(
+    rt: &R,
+    alloc: Global,
+    history: History,
+    workers: usize,
+    conflicts: Conflicts,
+) -> Result<Verdict, Unanswered>
+    requires some { 1 ≤ workers }
+    requires few { workers ≤ 16 }
+    ensures { IfOk result (IsVerdictOn conflicts history) }
+{
+    if workers == 1 {
+        return match check_alone(alloc, history, conflicts) {
+            Ok(verdict) => Ok(verdict),
+            Err(_) => Err(Unanswered::NoMemory),
+        };
+    }
+    match check(rt, alloc, history, workers, conflicts, &NoGate) {
+        Ok(verdict) => Ok(verdict),
+        Err(CheckFault::NoMemory(_)) => Err(Unanswered::NoMemory),
+        Err(CheckFault::Pool(fault, _)) => match fault {
+            PoolFault::Lost(doc) | PoolFault::Double(doc) | PoolFault::Stranger(doc) => {
+                Err(Unanswered::Worker(doc))
+            }
+            PoolFault::NoMemory | PoolFault::NoWorkers | PoolFault::TooMany => unreachable!(),
+        },
+    }
+}
+
 // The answer to a text that was read as this history.
-fn history_answer(alloc: Global, history: History, conflicts: Conflicts) -> Result<Answer, NoMemory>
+fn history_answer<R: Threads + Wait + Sync>(
+    rt: &R,
+    alloc: Global,
+    history: History,
+    workers: usize,
+    conflicts: Conflicts,
+) -> Result<Answer, Unanswered>
+    requires some { 1 ≤ workers }
+    requires few { workers ≤ 16 }
     ensures { IfOk result (λ answer. (input : List ℕ) → IsHistoryText input history
         → IsAnswer conflicts input answer.status answer.text.items) }
 {
-    match check_alone(alloc, history, conflicts) {
+    match verdict_by(rt, alloc, history, workers, conflicts) {
         Ok(Verdict::Yes(proof)) => {
             let answer = yes(alloc, Counts::of(&proof))?;
             Ok(answer)
         }
-        Ok(Verdict::No(_)) => {
-            let answer = no(alloc)?;
+        Ok(Verdict::No(case)) => {
+            let answer = case_answer(alloc, &case)?;
             Ok(answer)
         }
-        Err(_) => Err(AllocError),
+        Err(fault) => Err(fault),
     }
 }
 
-/// The answer to a text: whether an order explains its history. The text is let go once it is read.
-pub fn check_answer(alloc: Global, text: Vec<u8>, conflicts: Conflicts) -> Result<Answer, NoMemory>
+/// The answer to a text: whether an order explains its history, searched for by so many workers. The text is let go once it
+/// is read.
+pub fn check_answer<R: Threads + Wait + Sync>(
+    rt: &R,
+    alloc: Global,
+    text: Vec<u8>,
+    workers: usize,
+    conflicts: Conflicts,
+) -> Result<Answer, Unanswered>
+    requires some { 1 ≤ workers }
+    requires few { workers ≤ 16 }
     ensures { IfOk result (λ answer. IsAnswer conflicts text.items answer.status answer.text.items) }
 {
     let found = read(alloc, &text);
     drop(text);
     match found {
-        Ok(history) => history_answer(alloc, history, conflicts),
+        Ok(history) => history_answer(rt, alloc, history, workers, conflicts),
         Err(ReadFault::Text(fault)) => {
             let answer = refusal(alloc, fault)?;
             Ok(answer)
         }
-        Err(ReadFault::NoMemory) => Err(AllocError),
+        Err(ReadFault::NoMemory) => Err(Unanswered::NoMemory),
     }
 }

@@ -8,14 +8,17 @@ mod bulk_line;
 mod cause_name;
 mod check_answer;
 mod input;
+mod offence;
 mod output;
 mod status;
 mod stream_fault;
 mod streams;
+mod unanswered;
 mod verify_answer;
 mod verify_input;
 mod witness_answer;
 
+pub use offence::{Offence, first_offence};
 pub use status::Status;
 pub use stream_fault::StreamFault;
 pub use streams::{bulk_stream, check_stream, verify_stream, witness_stream};

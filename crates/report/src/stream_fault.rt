@@ -12,4 +12,7 @@ pub enum StreamFault {
     /// A growth was refused memory. Nothing was written.
     #[error("no memory")]
     NoMemory,
+    /// A worker gave no answer for the document of this number, or not just one for it. Nothing was written.
+    #[error("worker lost")]
+    Worker(usize),
 }

@@ -11,11 +11,14 @@ use crate::input::{InputFault, read_all, read_enough};
 use crate::output::write_text;
 use crate::status::Status;
 use crate::stream_fault::StreamFault;
+use crate::unanswered::Unanswered;
 use crate::verify_input::verify_input;
 use crate::witness_answer::witness_answer;
 use doc_register::Conflicts;
 use std::alloc::Global;
 use std::io::{Read, Write};
+use std::sync::Wait;
+use std::thread::Threads;
 
 // A fault of the input as one of a stream.
 fn fault_of(fault: InputFault) -> StreamFault
@@ -42,13 +45,16 @@ fn write_answer<W: Write>(writer: &mut W, answer: &Answer) -> Result<Status, Str
 }
 
 /// Reads a history text to its end and writes one line: `yes docs=D calls=C left_out=L` where one order of its
-/// calls, over all documents, explains it; `no` where none was found; `refused line=L cause=NAME` where it is no history
-/// text.
+/// calls, over all documents, explains it; `no event=E call=N before=shown` (or `unshown`) where none was found;
+/// `refused line=L cause=NAME` where it is no history text.
 ///
 /// Each document is searched for an order of its answered calls, and where they have none, for one that completes
-/// unanswered writes by rules; and no pair of a shard may be taken twice. Where each write was answered (under Maybe by
-/// another reply than a conflict), `no` says that there is no order. `workers` is 1 to 16 and not used yet.
-pub fn check_stream<R: Read, W: Write>(
+/// unanswered writes; and no pair of a shard may be taken twice. Where each write was answered (under Maybe by another reply
+/// than a conflict), `no` says that there is no order. The event is the reply at which the search first fails, the call the one
+/// that it answers, and the last word tells whether the events before have an order. The documents are searched by 1 to 16
+/// workers.
+pub fn check_stream<T: Threads + Wait + Sync, R: Read, W: Write>(
+    rt: &T,
     alloc: Global,
     reader: &mut R,
     writer: &mut W,
@@ -72,14 +78,17 @@ pub fn check_stream<R: Read, W: Write>(
         (W.contents writer.new) }
     ensures no_memory { IsErrOf result StreamFault.NoMemory → Keeps (W.contents writer.old)
         (W.contents writer.new) }
+    ensures worker_lost { (doc : ℕ) → IsErrOf result (StreamFault.Worker doc)
+        → Keeps (W.contents writer.old) (W.contents writer.new) }
 {
     let bytes = match read_enough(alloc, reader) {
         Ok(bytes) => bytes,
         Err(fault) => return Err(fault_of(fault)),
     };
-    match check_answer(alloc, bytes, conflicts) {
+    match check_answer(rt, alloc, bytes, workers, conflicts) {
         Ok(answer) => write_answer(writer, &answer),
-        Err(_) => Err(StreamFault::NoMemory),
+        Err(Unanswered::NoMemory) => Err(StreamFault::NoMemory),
+        Err(Unanswered::Worker(doc)) => Err(StreamFault::Worker(doc)),
     }
 }
 

@@ -3,7 +3,7 @@ ghost use Rattle.history.specs.Text.{IsHistoryText};
 ghost use Rattle.report.specs.Verdict.{IsWitnessAnswer};
 
 use crate::answer::Answer;
-use crate::check_answer::{no, refusal};
+use crate::check_answer::{case_answer, refusal};
 use crate::status::Status;
 use api_lines::ReadFault;
 use compose::{Verdict, check_alone};
@@ -30,8 +30,8 @@ fn history_witness(
                 text,
             })
         }
-        Ok(Verdict::No(_)) => {
-            let answer = no(alloc)?;
+        Ok(Verdict::No(case)) => {
+            let answer = case_answer(alloc, &case)?;
             Ok(answer)
         }
         Err(_) => Err(AllocError),

@@ -8,7 +8,9 @@ use std::fmt::Display;
 use std::fs::{FileTimes, Metadata, OpenFile, OpenOptions};
 use std::io::{self, ErrorKind, Seek, SeekFrom};
 use std::process::Abort;
+use std::sync::Wait;
 use std::test::Fail;
+use std::thread::Threads;
 
 // What was done to the files, in turn.
 type Steps = RefCell<String>;
@@ -175,8 +177,8 @@ impl Eprint for Shelf<'_> {
 }
 
 // What `run` answers to the words, and what it did to the files, in turn. The input is an empty text.
-fn runs(
-    rt: &impl Abort,
+fn runs<T: Abort + Threads + Wait + Sync>(
+    rt: &T,
     alloc: Global,
     words: Words<'_>,
     wanted: Result<Status, StreamFault>,
@@ -187,7 +189,7 @@ fn runs(
     let shelf = Shelf { steps: &done };
     let mut written = Vec::new(alloc);
     let input: &[u8] = &[];
-    let got = run(alloc, &shelf, input, &mut written, words);
+    let got = run(alloc, &shelf, rt, input, &mut written, words);
     assert_eq!(rt; got, wanted, "{words:?}");
     assert_eq!(rt; done.try_borrow()?.as_str(), steps, "{words:?}");
     assert_eq!(rt; str::from_utf8(written.as_slice())?, text, "{words:?}");
@@ -210,7 +212,11 @@ fn files_of_a_check(rt: HostRuntime) -> Result<(), Fail> {
             "open absent;tell casbench: absent: no such file;",
         ),
     ] {
-        let words = Words::Check { file, conflicts };
+        let words = Words::Check {
+            file,
+            conflicts,
+            workers: 1,
+        };
         runs(&rt, rt.alloc(), words, wanted, text, steps)?;
     }
     Ok(())
@@ -301,15 +307,17 @@ fn conflicts_as_the_words_say(rt: HostRuntime) -> Result<(), Fail> {
             Words::Check {
                 file,
                 conflicts: plain,
+                workers: 1,
             },
             Status::No,
-            "no\n",
+            "no event=3 call=2 before=shown\n",
             steps,
         ),
         (
             Words::Check {
                 file,
                 conflicts: maybe,
+                workers: 2,
             },
             Status::Yes,
             "yes docs=1 calls=2 left_out=0\n",

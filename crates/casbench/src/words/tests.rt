@@ -13,6 +13,7 @@ fn check(file: Option<&str>) -> Words<'_> {
     Words::Check {
         file,
         conflicts: Conflicts::Plain,
+        workers: 1,
     }
 }
 
@@ -52,6 +53,24 @@ fn commands_and_their_files(rt: HostRuntime) -> Result<(), Fail> {
 }
 
 #[test]
+fn numbers_of_workers(rt: HostRuntime) -> Result<(), Fail> {
+    let alloc = rt.alloc();
+    for (words, workers) in [
+        (&["casbench", "check", "--workers", "1"][..], 1),
+        (&["casbench", "check", "--workers", "16"][..], 16),
+        (&["casbench", "check", "--workers=4"][..], 4),
+    ] {
+        let wanted = Words::Check {
+            file: None,
+            conflicts: Conflicts::Plain,
+            workers,
+        };
+        reads(&rt, alloc, words, wanted)?;
+    }
+    Ok(())
+}
+
+#[test]
 fn readings_of_conflicts(rt: HostRuntime) -> Result<(), Fail> {
     let alloc = rt.alloc();
     let file = Some("h");
@@ -69,7 +88,12 @@ fn readings_of_conflicts(rt: HostRuntime) -> Result<(), Fail> {
             Conflicts::Maybe,
         ),
     ] {
-        reads(&rt, alloc, words, Words::Check { file, conflicts })?;
+        let wanted = Words::Check {
+            file,
+            conflicts,
+            workers: 1,
+        };
+        reads(&rt, alloc, words, wanted)?;
     }
     let conflicts = Conflicts::Maybe;
     let words = &["casbench", "witness", "h", "--conflicts", "maybe"];
@@ -198,6 +222,38 @@ fn refused_readings_of_conflicts(rt: HostRuntime) -> Result<(), Fail> {
             unknown,
         ),
         (&["casbench", "--conflicts", "maybe"][..], unknown),
+    ] {
+        refuses(&rt, rt.alloc(), words, wanted)?;
+    }
+    Ok(())
+}
+
+#[test]
+fn refused_numbers_of_workers(rt: HostRuntime) -> Result<(), Fail> {
+    let unknown = ErrorKind::UnknownArgument;
+    for (words, wanted) in [
+        (
+            &["casbench", "check", "--workers", "0"][..],
+            ErrorKind::ValueValidation,
+        ),
+        (
+            &["casbench", "check", "--workers", "17"][..],
+            ErrorKind::ValueValidation,
+        ),
+        (
+            &["casbench", "check", "--workers", "two"][..],
+            ErrorKind::ValueValidation,
+        ),
+        (
+            &["casbench", "check", "--workers"][..],
+            ErrorKind::InvalidValue,
+        ),
+        (
+            &["casbench", "check", "--workers=1", "--workers=1"][..],
+            ErrorKind::ArgumentConflict,
+        ),
+        (&["casbench", "witness", "--workers=1"][..], unknown),
+        (&["casbench", "--workers", "2"][..], unknown),
     ] {
         refuses(&rt, rt.alloc(), words, wanted)?;
     }

@@ -2,7 +2,9 @@ use super::*;
 use crate::streams::texts;
 use std::io::{self, ErrorKind};
 use std::process::Abort;
+use std::sync::Wait;
 use std::test::Fail;
+use std::thread::Threads;
 
 mod bulks;
 mod checks;
@@ -74,7 +76,8 @@ const PLAIN_VERIFY: Stream = Stream::Verify(Conflicts::Plain);
 
 // What the stream answers to one text, or to two. A check has one worker, or, where conflicts may be performed, as many
 // as there may be.
-fn answer<R: Read, Q: Read, W: Write>(
+fn answer<T: Threads + Wait + Sync, R: Read, Q: Read, W: Write>(
+    rt: &T,
     alloc: Global,
     stream: Stream,
     first: &mut R,
@@ -83,10 +86,10 @@ fn answer<R: Read, Q: Read, W: Write>(
 ) -> Result<Status, StreamFault> {
     match stream {
         Stream::Check(Conflicts::Plain) => {
-            check_stream(alloc, first, writer, 1, Conflicts::Plain)
+            check_stream(rt, alloc, first, writer, 1, Conflicts::Plain)
         }
         Stream::Check(Conflicts::Maybe) => {
-            check_stream(alloc, first, writer, 16, Conflicts::Maybe)
+            check_stream(rt, alloc, first, writer, 16, Conflicts::Maybe)
         }
         Stream::Witness(conflicts) => witness_stream(alloc, first, writer, conflicts),
         Stream::Verify(conflicts) => verify_stream(alloc, first, second, writer, conflicts),
@@ -106,8 +109,8 @@ fn status_of(line: &str) -> Status {
 }
 
 // The stream writes the line for the texts.
-fn writes(
-    rt: &impl Abort,
+fn writes<T: Abort + Threads + Wait + Sync>(
+    rt: &T,
     alloc: Global,
     case: &str,
     stream: Stream,
@@ -117,7 +120,7 @@ fn writes(
     let mut first = first.as_bytes();
     let mut second = second.as_bytes();
     let mut writer = Vec::new(alloc);
-    let status = answer(alloc, stream, &mut first, &mut second, &mut writer)?;
+    let status = answer(rt, alloc, stream, &mut first, &mut second, &mut writer)?;
     assert_eq!(rt; str::from_utf8(writer.as_slice())?, line, "{case}");
     assert_eq!(rt; status, status_of(line), "{case}");
     Ok(())

@@ -9,7 +9,9 @@ returns-in-check c =
     c.get_str-file.ensures ∙ first_value-rows (found_of c.args.given.now) (codes "history") in
     let reading : option_map (λ t. t.now) c.get_str.result ≡ first_of (codes "conflicts") (rows_of (found_of c.args.given.now)) =
     c.get_str.ensures ∙ first_value-rows (found_of c.args.given.now) (codes "conflicts") in
-    rw (c.in-check.is, c.check_words.ensures, file, reading) refl
+    let workers : option_map (λ t. t.now) c.get_str-in-check.result ≡ first_of (codes "workers") (rows_of (found_of c.args.given.now)) =
+    c.get_str-in-check.ensures ∙ first_value-rows (found_of c.args.given.now) (codes "workers") in
+    rw (c.in-check.is, c.check_words.ensures, file, reading, workers) refl
 
 pub returns-in-witness : goal.returns-in-witness
 returns-in-witness c =

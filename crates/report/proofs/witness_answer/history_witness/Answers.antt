@@ -2,7 +2,7 @@ use Rattle.std.proofs.Common.{◌≡◌, Ok, map, subst}
 use Rattle.witness.specs.Documents.{witness_places}
 use Rattle.witness.specs.Text.{AreWithinLimits, witness_text}
 use Rattle.compose.specs.Checked.{IsVerdictOn}
-use Rattle.compose.specs.declared.check.Verdict.TheVariants.{Yes}
+use Rattle.compose.specs.declared.checking.Verdict.TheVariants.{Yes}
 use Rattle.report.proofs.AnswerLemmas.{witnessed}
 use Rattle.report.proofs.witness_answer.history_witness.Goals as goal
 

@@ -72,17 +72,45 @@ fn explained_replies(rt: HostRuntime) -> Result<(), Fail> {
 #[test]
 fn texts_without_order(rt: HostRuntime) -> Result<(), Fail> {
     for (case, text, line) in [
-        ("pair-falls", texts::PAIR_FALLS, "no\n"),
-        ("shown-and-taken-back", texts::SHOWN_AND_TAKEN_BACK, "no\n"),
-        ("group-dirty", texts::GROUP_DIRTY, "no\n"),
-        ("group-early", texts::GROUP_EARLY, "no\n"),
-        ("group-blind", texts::GROUP_BLIND, "no\n"),
-        ("group-stale", texts::GROUP_STALE, "no\n"),
-        ("no-writer", texts::NO_WRITER, "no\n"),
+        (
+            "pair-falls",
+            texts::PAIR_FALLS,
+            "no event=5 call=2 before=shown\n",
+        ),
+        (
+            "shown-and-taken-back",
+            texts::SHOWN_AND_TAKEN_BACK,
+            "no event=6 call=3 before=shown\n",
+        ),
+        (
+            "group-dirty",
+            texts::GROUP_DIRTY,
+            "no event=6 call=3 before=shown\n",
+        ),
+        (
+            "group-early",
+            texts::GROUP_EARLY,
+            "no event=3 call=1 before=shown\n",
+        ),
+        (
+            "group-blind",
+            texts::GROUP_BLIND,
+            "no event=5 call=2 before=shown\n",
+        ),
+        (
+            "group-stale",
+            texts::GROUP_STALE,
+            "no event=7 call=3 before=shown\n",
+        ),
+        (
+            "no-writer",
+            texts::NO_WRITER,
+            "no event=3 call=1 before=shown\n",
+        ),
         (
             "pair-twice-over-documents",
             texts::PAIR_TWICE_OVER_DOCUMENTS,
-            "no\n",
+            "no event=3 call=1 before=shown\n",
         ),
     ] {
         writes(&rt, rt.alloc(), case, PLAIN_CHECK, (text, ""), line)?;

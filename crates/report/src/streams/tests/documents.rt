@@ -37,13 +37,13 @@ fn two_documents(rt: HostRuntime) -> Result<(), Fail> {
             PLAIN_CHECK,
             "pair-twice-over-documents",
             texts::PAIR_TWICE_OVER_DOCUMENTS,
-            "no\n",
+            "no event=3 call=1 before=shown\n",
         ),
         (
             PLAIN_WITNESS,
             "pair-twice-over-documents",
             texts::PAIR_TWICE_OVER_DOCUMENTS,
-            "no\n",
+            "no event=3 call=1 before=shown\n",
         ),
     ] {
         writes(&rt, rt.alloc(), case, stream, (text, ""), line)?;
@@ -113,7 +113,7 @@ fn hidden_conflicts(rt: HostRuntime) -> Result<(), Fail> {
         texts::CONFLICT_WITHOUT_CONDITION_WITNESS,
     );
     for (stream, both, line) in [
-        (PLAIN_CHECK, conditional, "no\n"),
+        (PLAIN_CHECK, conditional, "no event=3 call=2 before=shown\n"),
         (MAYBE_CHECK, conditional, "yes docs=1 calls=2 left_out=0\n"),
         (MAYBE_WITNESS, conditional, texts::HIDDEN_CONFLICT_WITNESS),
         (
@@ -126,7 +126,7 @@ fn hidden_conflicts(rt: HostRuntime) -> Result<(), Fail> {
             conditional,
             "verified docs=1 calls=2 left_out=0\n",
         ),
-        (PLAIN_CHECK, bare, "no\n"),
+        (PLAIN_CHECK, bare, "no event=1 call=0 before=shown\n"),
         (MAYBE_CHECK, bare, "yes docs=1 calls=1 left_out=0\n"),
         (
             MAYBE_WITNESS,
@@ -144,7 +144,12 @@ fn hidden_conflicts(rt: HostRuntime) -> Result<(), Fail> {
 fn scarce_numbers(rt: HostRuntime) -> Result<(), Fail> {
     let yes = "yes docs=2 calls=6 left_out=0\n";
     for (stream, case, text, line) in [
-        (PLAIN_CHECK, "scarce-number", texts::SCARCE_NUMBER, "no\n"),
+        (
+            PLAIN_CHECK,
+            "scarce-number",
+            texts::SCARCE_NUMBER,
+            "no event=11 call=5 before=shown\n",
+        ),
         (
             PLAIN_CHECK,
             "scarce-number-two-shards",

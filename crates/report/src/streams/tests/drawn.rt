@@ -233,14 +233,14 @@ fn drawn(alloc: Global, seed: u64) -> Result<Vec<u8>, Fail> {
 }
 
 // What is answered to the text: a check and a witness agree, and a witness that is written is verified.
-fn agreed(
-    rt: &impl Abort,
+fn agreed<T: Abort + Threads + Wait + Sync>(
+    rt: &T,
     alloc: Global,
     text: &[u8],
     conflicts: Conflicts,
 ) -> Result<Status, Fail> {
     let mut line = Vec::new(alloc);
-    let checked = check_stream(alloc, &mut { text }, &mut line, 1, conflicts)?;
+    let checked = check_stream(rt, alloc, &mut { text }, &mut line, 1, conflicts)?;
     let mut witness = Vec::new(alloc);
     let witnessed = witness_stream(alloc, &mut { text }, &mut witness, conflicts)?;
     assert_eq!(rt; checked, witnessed, "{}", str::from_utf8(text)?);

@@ -18,8 +18,8 @@ fn given(text: &str, at: usize, fails: bool) -> Given<'_> {
 }
 
 // What is answered to the front of one text, or of two, and what was written.
-fn reads(
-    rt: &impl Abort,
+fn reads<T: Abort + Threads + Wait + Sync>(
+    rt: &T,
     alloc: Global,
     stream: Stream,
     mut first: Given<'_>,
@@ -27,7 +27,7 @@ fn reads(
     wanted: (Result<Status, StreamFault>, &str),
 ) -> Result<(), Fail> {
     let mut writer = Vec::new(alloc);
-    let got = answer(alloc, stream, &mut first, &mut second, &mut writer);
+    let got = answer(rt, alloc, stream, &mut first, &mut second, &mut writer);
     assert_eq!(rt;
         (got, str::from_utf8(writer.as_slice())?),
         wanted,
@@ -112,7 +112,14 @@ fn writes_that_fail(rt: HostRuntime) -> Result<(), Fail> {
             };
             let mut first = first.as_bytes();
             let mut second = second.as_bytes();
-            let got = answer(rt.alloc(), stream, &mut first, &mut second, &mut writer);
+            let got = answer(
+                &rt,
+                rt.alloc(),
+                stream,
+                &mut first,
+                &mut second,
+                &mut writer,
+            );
             assert_eq!(rt;
                 got,
                 Err(StreamFault::Write),
@@ -158,7 +165,14 @@ fn a_byte_each_time(rt: HostRuntime) -> Result<(), Fail> {
             most: 1,
             fails: false,
         };
-        let status = answer(rt.alloc(), stream, &mut first, &mut second, &mut writer)?;
+        let status = answer(
+            &rt,
+            rt.alloc(),
+            stream,
+            &mut first,
+            &mut second,
+            &mut writer,
+        )?;
         let written = str::from_utf8(writer.text.as_slice())?;
         assert_eq!(rt; (status, written), (status_of(text), text), "{stream:?}");
     }

@@ -28,12 +28,17 @@ fn written_witnesses(rt: HostRuntime) -> Result<(), Fail> {
             Conflicts::Plain,
             texts::DOCUMENT_ALONE_WITNESS,
         ),
-        ("pair-falls", texts::PAIR_FALLS, Conflicts::Plain, "no\n"),
+        (
+            "pair-falls",
+            texts::PAIR_FALLS,
+            Conflicts::Plain,
+            "no event=5 call=2 before=shown\n",
+        ),
         (
             "shown-and-taken-back",
             texts::SHOWN_AND_TAKEN_BACK,
             Conflicts::Maybe,
-            "no\n",
+            "no event=6 call=3 before=shown\n",
         ),
         (
             "half-condition",

@@ -6,8 +6,8 @@ use Rattle.std.specs.List.{list_all}
 use Rattle.std.specs.Str.Parse.{AllDigits, IsNumeral, digits_value, without_leading_plus}
 use Rattle.std.proofs.lemmas.Bool.Decides.{Decides-and, Decides-ltb}
 use Rattle.std.proofs.lemmas.Result.{OkIff-at_err, OkIff-at_ok}
-use Rattle.casbench.specs.Asked.{first_of_calls, is_number}
-use Rattle.casbench.proofs.words.first_call.Goals as goal
+use Rattle.casbench.specs.Asked.{is_number, number_or}
+use Rattle.casbench.proofs.words.number_or.Goals as goal
 
 digits_tested : (ds : List ℕ) → Decides (list_all (λ c. nat_lt (digit_value c) 10) ds) (AllDigits 10 ds)
 digits_tested [] = (λ _. tt, λ _. refl)
@@ -22,15 +22,15 @@ number_tested text =
     let digits = without_leading_plus text in
     Decides-and _ _ (Decides-and _ _ (Decides-ltb 0 (length digits)) (digits_tested digits)) (Decides-ltb (digits_value 10 digits) (2 ^ 64))
 
-number_told : (text : List ℕ) (n : ℕ) → IsNumber text → n ≡ digits_value 10 (without_leading_plus text) → Some n ≡ first_of_calls (Some text)
-number_told text n is value =
+number_told : (other : ℕ) (text : List ℕ) (n : ℕ) → IsNumber text → n ≡ digits_value 10 (without_leading_plus text) → Some n ≡ number_or other (Some text)
+number_told other text n is value =
     let tested : is_number text ≡ true = (number_tested text).1 is in
     ap Some value ∙ sym (ap (λ b. if b then Some (digits_value 10 (without_leading_plus text)) else None) tested)
 
-none_told : (text : List ℕ) → (IsNumber text → ⊥) → None ≡ first_of_calls (Some text)
-none_told text isnt = go (is_number text) refl
+none_told : (other : ℕ) (text : List ℕ) → (IsNumber text → ⊥) → None ≡ number_or other (Some text)
+none_told other text isnt = go (is_number text) refl
   where
-    go : (b : Bool) → is_number text ≡ b → None ≡ first_of_calls (Some text)
+    go : (b : Bool) → is_number text ≡ b → None ≡ number_or other (Some text)
     go true same = absurd (isnt ((number_tested text).0 same))
     go false unlike = sym (ap (λ b. if b then Some (digits_value 10 (without_leading_plus text)) else None) unlike)
 
@@ -38,11 +38,11 @@ pub returns-in-Ok : goal.returns-in-Ok
 unfolding IsNumber
 returns-in-Ok c =
     let read = OkIff-at_ok c.parse.result _ _ c.in-Ok.number c.parse.ensures.value.0 c.in-Ok.is in
-    number_told c.in-Some.text.now c.in-Ok.number read.0 read.1
-    ∙ sym (ap (λ (o : Option (Bor (List ℕ))). first_of_calls (option_map (λ t. t.now) o)) c.in-Some.is)
+    number_told c.args.other c.in-Some.text.now c.in-Ok.number read.0 read.1
+    ∙ sym (ap (λ (o : Option (Bor (List ℕ))). number_or c.args.other (option_map (λ t. t.now) o)) c.in-Some.is)
 
 pub returns-in-Err : goal.returns-in-Err
 unfolding IsNumber
 returns-in-Err c =
-    none_told c.in-Some.text.now (OkIff-at_err c.parse.result _ _ c.in-Err.field-0 c.parse.ensures.value.0 c.in-Err.is)
-    ∙ sym (ap (λ (o : Option (Bor (List ℕ))). first_of_calls (option_map (λ t. t.now) o)) c.in-Some.is)
+    none_told c.args.other c.in-Some.text.now (OkIff-at_err c.parse.result _ _ c.in-Err.field-0 c.parse.ensures.value.0 c.in-Err.is)
+    ∙ sym (ap (λ (o : Option (Bor (List ℕ))). number_or c.args.other (option_map (λ t. t.now) o)) c.in-Some.is)

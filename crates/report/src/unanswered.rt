@@ -1,0 +1,21 @@
+use std::alloc::AllocError;
+
+/// Why a text has no answer.
+#[derive(Clone, Copy, Debug, PartialEq, Eq)]
+pub enum Unanswered {
+    /// A growth was refused memory.
+    NoMemory,
+    /// A worker gave no answer for the document of this number, or not just one for it.
+    Worker(usize),
+}
+
+impl From<AllocError> for Unanswered {
+    ghost use Rattle.std.specs.Prelude.{◌≡◌};
+    ghost use Rattle.report.specs.declared.unanswered.Unanswered.TheVariants.{NoMemory as Refused};
+
+    ghost from_gives = { λ _ fault. fault ≡ Refused };
+
+    fn from(_refused: AllocError) -> Unanswered {
+        Unanswered::NoMemory
+    }
+}
