@@ -9,6 +9,7 @@ pub mod BulkLaws
 pub mod WrittenReplies
 pub mod WrittenLines
 pub mod ReadingLemmas
+pub mod LineByLine
 pub mod TokenLemmas
 pub mod MemberLemmas
 pub mod ScanLemmas

@@ -1,11 +1,12 @@
 -- The first line of a text.
 use Rattle.std.proofs.Common.{ℕ, zero, suc, ◌≡◌, ◌<◌, ◌+◌, List, [], ◌∷◌, length, take, drop, refl, sym, ap, ◌∙◌, arith, Bool, true, false, get_or, add-one}
-use Rattle.std.specs.Prelude.{◌==◌, ◌-◌, if◌then◌else◌}
+use Rattle.std.specs.Prelude.{◌≤◌, ◌==◌, ◌-◌, if◌then◌else◌}
+use Rattle.std.proofs.lemmas.Bool.{or_from}
 use Rattle.std.proofs.lemmas.List.{take_all}
 use Rattle.std.proofs.Common.{length-drop}
 use Rattle.std.proofs.Math.Seq.{drop-length}
 use Rattle.memchr.specs.Find.{NoneBefore, Nowhere, Passes, is_byte}
-use Rattle.api_lines.specs.Lines.{lines_of, onto_first}
+use Rattle.api_lines.specs.Lines.{HasNoLineFeed, has_line_feed, lines_of, onto_first}
 
 -- where there is a line feed, and none before it
 pub lines_of-feed : (text : List ℕ) (i : ℕ) → i < length text → (get_or text i 0 == 10) ≡ true
@@ -44,3 +45,19 @@ pub first_line_missing : (text : List ℕ) → 0 < length text → Nowhere (Pass
 first_line_missing text h none =
     lines_of-rest text h (λ k below. not_true (get_or text k 0 == 10) (none k (omega arith) below))
     ∙ ap (λ rest. text ∷ lines_of rest) (sym (rest_of text (length text) ∙ drop-length text))
+
+-- none before a place is a line feed
+front_without : (text : List ℕ) (i : ℕ) → i ≤ length text → ((k : ℕ) → k < i → (get_or text k 0 == 10) ≡ false) → HasNoLineFeed (take i text)
+front_without text zero h none = refl
+front_without [] (suc i) h none = refl
+front_without (b ∷ bytes) (suc i) h none =
+    or_from (b == 10) (has_line_feed (take i bytes)) (none 0 (omega arith)) (front_without bytes i (omega arith) (λ k below. none (suc k) (omega arith)))
+
+pub first_line_feedless : (text : List ℕ) (end : ℕ) → NoneBefore (Passes (is_byte 10) text) 0 (length text) end × Passes (is_byte 10) text end → HasNoLineFeed (take end text)
+first_line_feedless text end found =
+    front_without text end (omega (arith, found.0.high)) (λ k below. not_true (get_or text k 0 == 10) (found.0.before k (omega arith) below))
+
+pub last_line_feedless : (text : List ℕ) → Nowhere (Passes (is_byte 10) text) 0 (length text) → HasNoLineFeed text
+last_line_feedless text none =
+    ap has_line_feed (sym (take_all (length text) text (omega arith)))
+    ∙ front_without text (length text) (omega arith) (λ k below. not_true (get_or text k 0 == 10) (none k (omega arith) below))

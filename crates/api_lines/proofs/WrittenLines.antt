@@ -1,7 +1,6 @@
 -- Lines that are written: where their bytes hold no line feed they are the lines of the text.
 use Rattle.std.proofs.Common.{ℕ, ℤ, pos, negsuc, zero, suc, ◌≡◌, ◌<◌, ◌≤◌, ◌+◌, ◌*◌, ◌/◌, ◌%◌, ◌^◌, List, [], ◌∷◌, ◌++◌, length, length-append, refl, ap, ◌∙◌, arith, Bool, true, false, ◌||◌, ◌⊎◌, inl, inr, decimal}
 use Rattle.std.specs.Prelude.{◌==◌, ◌&&◌, if◌then◌else◌, nat_le, nat_lt, not}
-use Rattle.std.specs.List.{list_any}
 use Rattle.std.specs.Fmt.{digit_glyph, digits, digits_onto, signed_decimal}
 use Rattle.std.proofs.lemmas.Bool.{and_parts, cases_eq, cases_lt, leb-true, ne_eqb, not-true, or_from, or_parts}
 use Rattle.std.proofs.lemmas.Fmt.{length-decimal-le}
@@ -10,15 +9,7 @@ use Rattle.json.specs.Print.{escape, escape_byte, quoted}
 use Rattle.json.proofs.Printed.Strings.{escape_byte_plain}
 use Rattle.serde_json.specs.Data.{Num, unsigned, negative, float, Data, null, boolean, number, string, array, object, Items, no_items, item, Members, no_members, member}
 use Rattle.serde_json.specs.Written.{comma_if, compact_text, items_text, members_text, number_text}
-use Rattle.api_lines.specs.Lines.{is_blank, is_written, lines_of, onto_first}
-
--- one of the bytes is a line feed
-abbrev pub has_line_feed : List ℕ → Bool
-has_line_feed bytes = list_any (λ b. b == 10) bytes
-
--- none of the bytes is a line feed
-abbrev pub HasNoLineFeed : List ℕ → Type 0
-HasNoLineFeed bytes = has_line_feed bytes ≡ false
+use Rattle.api_lines.specs.Lines.{HasNoLineFeed, has_line_feed, is_blank, is_written, lines_of, onto_first}
 
 pub no_line_feed-cons : (b : ℕ) (bytes : List ℕ) → (b ≡ 10 → ⊥) → HasNoLineFeed bytes → HasNoLineFeed (b ∷ bytes)
 no_line_feed-cons b bytes other none = or_from (b == 10) (has_line_feed bytes) (ne_eqb b 10 other) none

@@ -1,6 +1,6 @@
 -- The lines of a text.
-use Rattle.std.specs.Prelude.{ℕ, ◌==◌, Bool, not, ◌||◌, List, [], ◌∷◌, if◌then◌else◌}
-use Rattle.std.specs.List.{list_all}
+use Rattle.std.specs.Prelude.{◌≡◌, ℕ, ◌==◌, ◌⊎◌, Bool, false, not, ◌||◌, List, [], ◌∷◌, ◌++◌, if◌then◌else◌}
+use Rattle.std.specs.List.{list_all, list_any}
 use Rattle.api_lines.specs.declared.lines.TheConstants.{LONGEST_LINE, MOST_LINES}
 
 -- the lines, with b at the front of the first
@@ -12,6 +12,18 @@ onto_first b (line ∷ lines) = (b ∷ line) ∷ lines
 abbrev pub lines_of : List ℕ → List (List ℕ)
 lines_of [] = []
 lines_of (b ∷ bytes) = if b == 10 then [] ∷ lines_of bytes else onto_first b (lines_of bytes)
+
+-- one of the bytes is a line feed
+abbrev pub has_line_feed : List ℕ → Bool
+has_line_feed bytes = list_any (λ b. b == 10) bytes
+
+-- none of the bytes is a line feed
+abbrev pub HasNoLineFeed : List ℕ → Type 0
+HasNoLineFeed bytes = has_line_feed bytes ≡ false
+
+-- a text of whole lines: it is empty, or ends at a line feed
+abbrev pub AreWholeLines : List ℕ → Type 0
+AreWholeLines text = (text ≡ []) ⊎ ((front : List ℕ) × (text ≡ front ++ 10 ∷ []))
 
 -- a space, a tab or a carriage return
 abbrev pub is_space : ℕ → Bool

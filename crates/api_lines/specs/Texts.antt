@@ -1,9 +1,9 @@
 -- How a text is read line by line: what each line gives, and the first line that is refused with its first cause.
-use Rattle.std.specs.Prelude.{ℕ, suc, List, [], ◌∷◌, Option, Some, None, Result, Ok, Err, length, nat_lt, if◌then◌else◌}
+use Rattle.std.specs.Prelude.{◌≡◌, ℕ, suc, ◌+◌, ◌<◌, List, [], ◌∷◌, ◌++◌, Option, Some, None, Result, Ok, Err, length, nat_lt, if◌then◌else◌}
 use Rattle.serde_json.specs.Data.{Data}
 use Rattle.api_lines.specs.Faults.{◌>>=◌}
 use Rattle.api_lines.specs.Json.{json_value}
-use Rattle.api_lines.specs.Lines.{is_blank, longest_line, most_lines}
+use Rattle.api_lines.specs.Lines.{AreWholeLines, HasNoLineFeed, is_blank, lines_of, longest_line, most_lines}
 use Rattle.api_lines.specs.declared.text_fault.TextCause.{TextCause}
 use Rattle.api_lines.specs.declared.text_fault.TextCause.TheVariants.{Json, Lines, Long}
 use Rattle.api_lines.specs.declared.text_fault.TextFault.{TextFault}
@@ -40,3 +40,50 @@ abbrev pub read_lines : {S : Type 0} → (S → Data → Result S TextCause) →
 read_lines takes number s [] = Ok s
 read_lines takes number s (line ∷ lines) =
     read_on number (read_line takes number s line) (λ t. read_lines takes (suc number) t lines)
+
+-- ---- one line more
+
+-- the state after some lines of a text, and how many lines these were
+pub record SoFar (S : Type 0) : Type 0 where
+  pub state : S
+  pub lines : ℕ
+
+abbrev pub so_far : {S : Type 0} → S → ℕ → SoFar S
+so_far s n = record { state = s; lines = n }
+
+-- the state after the line with this number, or that line with its cause
+abbrev pub after_line : {S : Type 0} → ℕ → Result S TextCause → Result (SoFar S) TextFault
+after_line number (Ok s) = Ok (so_far s number)
+after_line number (Err cause) = Err (record { line = number; cause = cause })
+
+-- what the next line makes of it; or that line with its first cause
+abbrev pub next_line : {S : Type 0} → (S → Data → Result S TextCause) → SoFar S → List ℕ → Result (SoFar S) TextFault
+next_line takes r line = after_line (r.lines + 1) (read_line takes (r.lines + 1) r.state line)
+
+-- the state alone
+abbrev pub state_of : {S : Type 0} → Result (SoFar S) TextFault → Result S TextFault
+state_of (Ok r) = Ok r.state
+state_of (Err told) = Err told
+
+-- the text is of whole lines, so many, and they are read to this state
+pub record IsReadTo {S : Type 0} (takes : S → Data → Result S TextCause) (start : S) (text : List ℕ) (r : SoFar S) : Type 0 where
+  pub whole : AreWholeLines text
+  pub count : length (lines_of text) ≡ r.lines
+  pub read : read_lines takes 1 start (lines_of text) ≡ Ok r.state
+
+-- A text can be read line by line. What the next line makes of the lines before it is what is read of the text with it, ended by
+-- a line feed or by the end of the text. A text with a line that is refused is refused so, whatever follows, and with a line that
+-- is too long already where the line goes on.
+pub record ReadsLineByLine {S : Type 0} (takes : S → Data → Result S TextCause) (start : S) : Type 0 where
+  pub none : IsReadTo takes start [] (so_far start 0)
+  pub more : (text line : List ℕ) (r q : SoFar S) → IsReadTo takes start text r → HasNoLineFeed line → next_line takes r line ≡ Ok q
+      → IsReadTo takes start (text ++ (line ++ 10 ∷ [])) q
+  pub ended : (text line : List ℕ) (r : SoFar S) → IsReadTo takes start text r → HasNoLineFeed line
+      → read_lines takes 1 start (lines_of (text ++ (line ++ 10 ∷ []))) ≡ state_of (next_line takes r line)
+  pub last : (text line : List ℕ) (r : SoFar S) → IsReadTo takes start text r → HasNoLineFeed line → 0 < length line
+      → read_lines takes 1 start (lines_of (text ++ line)) ≡ state_of (next_line takes r line)
+  pub refused : (text line rest : List ℕ) (r : SoFar S) (told : TextFault) → IsReadTo takes start text r → HasNoLineFeed line
+      → next_line takes r line ≡ Err told → read_lines takes 1 start (lines_of (text ++ (line ++ 10 ∷ rest))) ≡ Err told
+  pub too_long : (text line : List ℕ) (r : SoFar S) → IsReadTo takes start text r → HasNoLineFeed line → longest_line < length line
+      → (told : TextFault) × (next_line takes r line ≡ Err told)
+      × ((rest : List ℕ) → read_lines takes 1 start (lines_of (text ++ (line ++ rest))) ≡ Err told)

@@ -2,7 +2,7 @@ ghost use Rattle.std.specs.Prelude.{◌≡◌, ◌<◌, ◌∷◌, MatchResult, 
 ghost use Rattle.serde_json.specs.View.{view};
 ghost use Rattle.api_lines.specs.Faults.{IfTold};
 ghost use Rattle.api_lines.specs.Json.{json_value};
-ghost use Rattle.api_lines.specs.Lines.{is_blank as blank, is_space as space, lines_of};
+ghost use Rattle.api_lines.specs.Lines.{HasNoLineFeed, is_blank as blank, is_space as space, lines_of};
 ghost use Rattle.api_lines.specs.declared.text_fault.TextCause.TheVariants.{Json};
 
 use crate::text_fault::{LineFault, TextCause};
@@ -31,10 +31,11 @@ pub fn is_blank(line: &[u8]) -> bool
     line.iter().all(|byte| is_space(*byte))
 }
 
-/// The first line of a text that is not empty, and the text after it.
+/// The first line of a text that is not empty, without its line feed, and the text after it.
 pub fn first_line(text: &[u8]) -> (&[u8], &[u8])
     requires { 0 < length text.now }
     ensures lines { lines_of text.now ≡ result.0.now ∷ lines_of result.1.now }
+    ensures feed { HasNoLineFeed result.0.now }
     ensures shorter { length result.1.now < length text.now }
 {
     match memchr(b'\n', text) {
