@@ -1,14 +1,19 @@
 -- Texts that are read line by line: what the next line makes of a text of whole lines.
-use Rattle.std.proofs.Common.{ℕ, suc, ◌≡◌, ◌<◌, ◌+◌, List, [], ◌∷◌, ◌++◌, length, length-append, append_assoc, refl, sym, ap, subst, ◌∙◌, arith, Bool, true, false, inl, inr, Ok, Err, Result}
+use Rattle.std.proofs.Common.{ℕ, suc, ◌≡◌, ◌<◌, ◌≤◌, ◌+◌, List, [], ◌∷◌, ◌++◌, length, length-append, append_assoc, refl, sym, ap, subst, ◌∙◌, arith, Bool, true, false, inl, inr, Ok, Err, Result}
 use Rattle.std.specs.Prelude.{◌==◌, if◌then◌else◌, nat_lt}
 use Rattle.std.proofs.lemmas.Bool.{lt-ltb, or_parts}
 use Rattle.serde_json.specs.Data.{Data}
 use Rattle.api_lines.specs.Lines.{AreWholeLines, HasNoLineFeed, has_line_feed, lines_of, longest_line, most_lines, onto_first}
 use Rattle.api_lines.specs.Texts.{IsReadTo, ReadsLineByLine, SoFar, after_line, next_line, read_line, read_lines, read_on, so_far, state_of}
+use Rattle.api_lines.specs.Faults.{IfTextTold, IfTold, text_fault}
+use Rattle.api_lines.specs.declared.text_fault.LineFault.{LineFault}
+use Rattle.api_lines.specs.declared.text_fault.LineFault.TheVariants.{Told, NoMemory}
+use Rattle.api_lines.specs.declared.text_fault.ReadFault.{ReadFault}
+use Rattle.api_lines.specs.declared.text_fault.ReadFault.TheVariants as refusal
 use Rattle.api_lines.specs.declared.text_fault.TextCause.{TextCause}
 use Rattle.api_lines.specs.declared.text_fault.TextCause.TheVariants.{Lines, Long}
 use Rattle.api_lines.specs.declared.text_fault.TextFault.{TextFault}
-use Rattle.api_lines.proofs.ReadingLemmas.{lines_on, lines_stop}
+use Rattle.api_lines.proofs.ReadingLemmas.{IsReadUpTo, lines_on, lines_stop, read_more, read_stops}
 use Rattle.api_lines.proofs.WrittenLines.{one_line}
 
 -- ---- the lines of two texts, one after the other
@@ -193,3 +198,48 @@ reads_line_by_line takes start = record {
       ∙ (ap (read_lines takes (r.lines + 1) r.state) (one_line line rest none) ∙ stops_there takes r line (lines_of rest) told stop);
   too_long = stops_early takes start;
 }
+
+-- ---- a reader that takes one line after the other
+
+-- what a reader's next line gives, by what the line gives
+pub next_taken : {S : Type 0} (takes : S → Data → Result S TextCause) (r : SoFar S) (line : List ℕ) (t : S) → read_line takes (r.lines + 1) r.state line ≡ Ok t
+    → next_line takes r line ≡ Ok (so_far t (r.lines + 1))
+next_taken takes r line t read = ap (after_line (r.lines + 1)) read
+
+pub next_refused : {S : Type 0} (takes : S → Data → Result S TextCause) (r : SoFar S) (line : List ℕ) (fault : LineFault)
+    → IfTold fault (λ cause. read_line takes (r.lines + 1) r.state line ≡ Err cause)
+    → IfTextTold (text_fault (r.lines + 1) fault) (λ told. next_line takes r line ≡ Err told)
+next_refused takes r line (Told cause) stop = ap (after_line (r.lines + 1)) stop
+next_refused takes r line NoMemory stop = tt
+
+-- the lines of a text up to a rest of it, and one line more
+pub taken_more : {S : Type 0} (takes : S → Data → Result S TextCause) (start : S) (text rest after line : List ℕ) (r q : SoFar S)
+    → IsReadUpTo takes start text rest r.lines r.state → lines_of rest ≡ line ∷ lines_of after → next_line takes r line ≡ Ok q → q.lines ≤ most_lines
+    → IsReadUpTo takes start text after q.lines q.state
+taken_more {S} takes start text rest after line r q before split next few = by_line (read_line takes (r.lines + 1) r.state line) refl next where
+  by_line : (o : Result S TextCause) → read_line takes (r.lines + 1) r.state line ≡ o → after_line (r.lines + 1) o ≡ Ok q
+      → IsReadUpTo takes start text after q.lines q.state
+  by_line (Ok t) is next =
+      let same : so_far t (r.lines + 1) ≡ q = cc in
+      let number : r.lines + 1 ≡ q.lines = ap (λ (p : SoFar S). p.lines) same in
+      subst (λ (p : SoFar S). IsReadUpTo takes start text after p.lines p.state) same
+      (read_more takes start text rest after line r.lines r.state t before split is (omega (arith, number, few)))
+  by_line (Err cause) is next = absurd (cc)
+
+stopped_at : {S : Type 0} (takes : S → Data → Result S TextCause) (start : S) (text rest after line : List ℕ) (r : SoFar S) (told : TextFault)
+    → IsReadUpTo takes start text rest r.lines r.state → lines_of rest ≡ line ∷ lines_of after → next_line takes r line ≡ Err told
+    → read_lines takes 1 start (lines_of text) ≡ Err told
+stopped_at {S} takes start text rest after line r told before split next = by_line (read_line takes (r.lines + 1) r.state line) refl next where
+  by_line : (o : Result S TextCause) → read_line takes (r.lines + 1) r.state line ≡ o → after_line (r.lines + 1) o ≡ Err told
+      → read_lines takes 1 start (lines_of text) ≡ Err told
+  by_line (Ok t) is next = absurd (cc)
+  by_line (Err cause) is next =
+      let here : TextFault = record { line = r.lines + 1; cause = cause } in
+      let same : here ≡ told = cc in
+      read_stops takes start text rest after line r.lines r.state (Told cause) before split is ∙ ap (λ (t : TextFault). Err t) same
+
+pub taken_until : {S : Type 0} (takes : S → Data → Result S TextCause) (start : S) (text rest after line : List ℕ) (r : SoFar S) (fault : ReadFault)
+    → IsReadUpTo takes start text rest r.lines r.state → lines_of rest ≡ line ∷ lines_of after → IfTextTold fault (λ told. next_line takes r line ≡ Err told)
+    → IfTextTold fault (λ told. read_lines takes 1 start (lines_of text) ≡ Err told)
+taken_until takes start text rest after line r (refusal.Text told) before split next = stopped_at takes start text rest after line r told before split next
+taken_until takes start text rest after line r refusal.NoMemory before split next = tt

@@ -1,6 +1,7 @@
 -- Laws of histories: precedence, linearizable histories, the records of documents, texts.
-use Rattle.std.specs.Prelude.{◌≡◌, ◌↔◌, ◌<◌, ◌++◌, ℕ, List, ◌∷◌, Some, slice_get, ◌≤◌, Ok, Err, take}
+use Rattle.std.specs.Prelude.{◌≡◌, ◌↔◌, ◌<◌, ◌++◌, ℕ, List, [], ◌∷◌, Some, slice_get, ◌≤◌, Ok, Err, take}
 use Rattle.api_lines.specs.Lines.{lines_of}
+use Rattle.api_lines.specs.Texts.{ReadsLineByLine}
 use Rattle.api_lines.specs.declared.text_fault.TextFault.{TextFault}
 use Rattle.doc_register.specs.declared.op.Op.{Op}
 use Rattle.doc_register.specs.declared.reply.Reply.{Reply as Answer}
@@ -9,7 +10,7 @@ use Rattle.doc_register.specs.Laws.{ChangesNothing}
 use Rattle.history.specs.declared.event.Event.{Event}
 use Rattle.history.specs.declared.record.Rec.{Rec}
 use Rattle.history.specs.Events.{IsCallAt, IsHistory, IsPending, IsReplyAt, Precedes, prefix, records_of}
-use Rattle.history.specs.Reading.{history_text}
+use Rattle.history.specs.Reading.{history_text, takes_value}
 use Rattle.history.specs.Text.{IsHistoryText}
 use Rattle.history.specs.Order.{Explains, IsLinearizable, IsPlainlyRight, Placed}
 
@@ -95,3 +96,7 @@ pub record TextsAreRead : Type 0 where
   pub read : (bytes : List ℕ) (events : List Event) → history_text bytes ≡ Ok events → IsHistoryText bytes events
   pub is_read : (bytes : List ℕ) (events : List Event) → IsHistoryText bytes events → history_text bytes ≡ Ok events
   pub refused : (bytes : List ℕ) (told : TextFault) → history_text bytes ≡ Err told → IsFirstRefused bytes told
+
+-- Histories are read line by line: the reader that takes one line more tells what is read of the text with that line.
+abbrev pub HistoriesLineByLine : Type 0
+HistoriesLineByLine = ReadsLineByLine takes_value []

@@ -1,6 +1,6 @@
 //! Laws of the definitions, each the contract of a function that does nothing.
 
-ghost use Rattle.history.specs.Laws.{LateCallsChangeNothing, PlainlyRightIsLinearizable, PrecedenceIsStrict, PrefixesStay, SplitByDocument, TextOfOneHistory, TextsAreRead, UnansweredLeftOut};
+ghost use Rattle.history.specs.Laws.{HistoriesLineByLine, LateCallsChangeNothing, PlainlyRightIsLinearizable, PrecedenceIsStrict, PrefixesStay, SplitByDocument, TextOfOneHistory, TextsAreRead, UnansweredLeftOut};
 
 /// Shows that no call of a history precedes itself, that precedence passes on, and that a pending call precedes none.
 #[tactic(auto, using(crate::proofs::OrderLaws::precedence_is_strict))]
@@ -50,4 +50,11 @@ pub fn one_history()
 #[tactic(auto, using(crate::proofs::TextLaws::texts_are_read))]
 pub fn texts_are_read()
     ensures { TextsAreRead }
+{}
+
+/// Shows that what a reader's next line gives is what is read of the text of the lines before it with this line, ended by a
+/// line feed or by the end of the text; that a refused line is refused so whatever follows it; and that a line which is
+/// too long is refused so however it goes on.
+pub fn line_by_line()
+    ensures { HistoriesLineByLine }
 {}

@@ -26,7 +26,7 @@ pub use event::Event;
 pub use fault::HistFault;
 pub use front::Front;
 pub use history::{History, MOST_EVENTS};
-pub use reader::read;
+pub use reader::{HistoryReader, read};
 pub use record::Rec;
 pub use seen::Seen;
 pub use writer::write;

@@ -1,8 +1,8 @@
-ghost use Rattle.std.specs.Prelude.{◌≡◌, ◌≤◌, IfErr, IfOk, OnErr, OnOk, Ok, Err};
+ghost use Rattle.std.specs.Prelude.{◌≡◌, ◌≤◌, [], IfErr, IfOk, OnErr, OnOk, Ok, Err};
 ghost use Rattle.api_lines.specs.Faults.{IfTextTold, IfTold};
 ghost use Rattle.api_lines.specs.Fields.{line_seen};
-ghost use Rattle.api_lines.specs.Lines.{most_lines};
-ghost use Rattle.api_lines.specs.Texts.{read_line};
+ghost use Rattle.api_lines.specs.Lines.{HasNoLineFeed, most_lines};
+ghost use Rattle.api_lines.specs.Texts.{next_line, read_line, so_far};
 ghost use Rattle.history.specs.Reading.{history_text, takes_line, takes_value};
 ghost use Rattle.history.specs.Text.{IsHistoryText};
 
@@ -13,6 +13,7 @@ use api_lines::{
     LineFault, LineFields, ReadFault, given_fields, given_line, line_fields, line_said,
 };
 use std::alloc::Global;
+use std::marker::Model;
 
 // Takes the fields of one more line. A line that is refused leaves the history as it was.
 fn take_fields(alloc: Global, history: &mut History, line: &LineFields<'_>) -> Result<(), LineFault>
@@ -66,6 +67,69 @@ fn take_line(
     }
 }
 
+/// A history that is read line by line.
+///
+/// Contracts see the events so far and how many lines were taken. The law `laws::line_by_line` says of texts what `line`
+/// says of these.
+#[derive(Debug, Drop)]
+pub struct HistoryReader {
+    history: History,
+    lines: u64,
+}
+
+impl Model for HistoryReader {
+    ghost use Rattle.std.specs.Prelude.{◌≤◌, List};
+    ghost use Rattle.api_lines.specs.Lines.{most_lines};
+    ghost use Rattle.api_lines.specs.Texts.{SoFar, so_far};
+    ghost use Rattle.history.specs.declared.event.Event.{Event};
+
+    ghost Value = { SoFar (List Event) };
+
+    ghost view = { λ r. so_far r.history r.lines };
+
+    ghost invariant = { λ r. r.lines ≤ most_lines };
+}
+
+impl HistoryReader {
+    /// The reader that has taken no line. It allocates nothing.
+    pub fn new(alloc: Global) -> HistoryReader
+        ensures { result ≡ so_far [] 0 }
+    {
+        HistoryReader {
+            history: History::new(alloc),
+            lines: 0,
+        }
+    }
+
+    /// Takes the next line, without its line feed; or refuses it with its first cause, in the order that `read` names.
+    /// `NoMemory` is told where a growth was refused. A line that is refused leaves the reader as it was.
+    pub fn line(&mut self, line: &[u8]) -> Result<(), ReadFault>
+        requires { HasNoLineFeed line.now }
+        ensures ok { OnOk result (next_line takes_value self.old line.now ≡ Ok self.new) }
+        ensures within { self.new.lines ≤ most_lines }
+        ensures fault { IfErr result (λ fault. IfTextTold fault
+            (λ told. next_line takes_value self.old line.now ≡ Err told)) }
+        ensures unchanged { OnErr result (self.new ≡ self.old) }
+    {
+        let number = self.lines + 1;
+        let alloc = self.history.allocator();
+        match take_line(alloc, &mut self.history, number, line) {
+            Ok(()) => {
+                self.lines = number;
+                Ok(())
+            }
+            Err(fault) => Err(fault.at(number)),
+        }
+    }
+
+    /// The history of the lines that were taken. It allocates nothing.
+    pub fn finish(self) -> History
+        ensures { result ≡ self.state }
+    {
+        self.history
+    }
+}
+
 /// The history that a text spells, or the first line that is refused with its first cause.
 ///
 /// Causes are told in this order: `Lines` and `Long`; a blank line is then passed over; `Json`, `Shape`, `Id`,
@@ -76,18 +140,14 @@ pub fn read(alloc: Global, text: &[u8]) -> Result<History, ReadFault>
     ensures text { IfOk result (IsHistoryText text.now) }
     ensures fault { IfErr result (λ fault. IfTextTold fault (λ told. history_text text.now ≡ Err told)) }
 {
-    let mut history = History::new(alloc);
-    let mut number = 0;
+    let mut reader = HistoryReader::new(alloc);
     let mut rest = text;
     while !rest.is_empty() {
-        number += 1;
         let (line, after) = first_line(rest);
-        if let Err(fault) = take_line(alloc, &mut history, number, line) {
-            return Err(fault.at(number));
-        }
+        reader.line(line)?;
         rest = after;
     }
-    Ok(history)
+    Ok(reader.finish())
 }
 
 #[cfg(test)]

@@ -254,3 +254,5 @@ fn events_of_a_text(rt: HostRuntime) -> Result<(), Fail> {
     let history = read(rt.alloc(), INDEX_THEN_GET.as_bytes())?;
     has_index_then_get(rt.alloc(), &history)
 }
+
+mod by_line;

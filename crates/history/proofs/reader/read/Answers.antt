@@ -1,40 +1,35 @@
-use Rattle.std.proofs.Common.{[], ◌≡◌, ◌≤◌, ◌+◌, arith, rules, length, sym, subst, Ok, Err}
-use Rattle.api_lines.specs.Faults.{IfTextTold}
-use Rattle.api_lines.specs.Lines.{most_lines}
-use Rattle.api_lines.specs.Texts.{read_line}
-use Rattle.api_lines.proofs.ReadingLemmas.{IsReadUpTo, read_all, read_few, read_more, read_none, read_stops}
-use Rattle.history.specs.Reading.{history_text, takes_value}
+use Rattle.std.proofs.Common.{[], ◌≡◌, rules, length, sym, Ok, ◌∙◌, ap}
+use Rattle.std.proofs.lemmas.Result.{err_from_is_err_and}
+use Rattle.api_lines.proofs.LineByLine.{taken_more, taken_until}
+use Rattle.api_lines.proofs.ReadingLemmas.{read_all, read_none}
+use Rattle.history.specs.Reading.{takes_value}
 use Rattle.history.proofs.TextLaws.{read_is_text}
 use Rattle.history.proofs.reader.read.Goals as goal
 
 pub loop-rest-init : goal.loop-rest-init
-loop-rest-init c = subst (IsReadUpTo takes_value [] c.args.text.now c.args.text.now 0) (sym c.new-history.ensures.empty) (read_none takes_value [] c.args.text.now)
+loop-rest-init c = rw c.new-reader.ensures (read_none takes_value [] c.args.text.now)
 
-pub overflow_add-number : goal.overflow_add-number
-overflow_add-number c =
-    let few : c.loop-rest.number ≤ 4194304 = read_few takes_value [] c.args.text.now c.loop-rest.rest.now c.loop-rest.number c.loop-rest.history c.loop-rest.invariant in
-    omega arith
-
-pub returns-in-Err-clause-fault : goal.returns-in-Err-clause-fault
-returns-in-Err-clause-fault c =
-    subst (λ told. IfTextTold told (λ told. history_text c.args.text.now ≡ Err told)) (sym c.at.ensures)
-    (read_stops takes_value [] c.args.text.now c.loop-rest.rest.now c.first_line.result.1.now c.first_line.result.0.now c.loop-rest.number c.loop-rest.history c.in-Err.fault
-    c.loop-rest.invariant c.first_line.ensures.lines c.in-Err.ensures.err)
+pub returns-in_err-line-clause-fault : goal.returns-in_err-line-clause-fault
+returns-in_err-line-clause-fault c =
+    let p = err_from_is_err_and c.from_residual.result c.from_residual.ensures.1 in
+    rw (p.1, p.2) (
+    taken_until takes_value [] c.args.text.now c.loop-rest.rest.now c.first_line.result.1.now c.first_line.result.0.now c.loop-rest.reader c.in_err-line.field-0.0
+    c.loop-rest.invariant c.first_line.ensures.lines c.in_err-line.ensures.fault)
 
 pub loop-rest-preserved : goal.loop-rest-preserved
 loop-rest-preserved c =
-    let ok : read_line takes_value (c.loop-rest.number + 1) c.loop-rest.history c.first_line.result.0.now ≡ Ok c.take_line.new.history = search rules in
-    let few : c.loop-rest.number + 1 ≤ most_lines = search rules in
-    read_more takes_value [] c.args.text.now c.loop-rest.rest.now c.first_line.result.1.now c.first_line.result.0.now c.loop-rest.number c.loop-rest.history
-    c.take_line.new.history c.loop-rest.invariant c.first_line.ensures.lines ok few
+    taken_more takes_value [] c.args.text.now c.loop-rest.rest.now c.first_line.result.1.now c.first_line.result.0.now c.loop-rest.reader c.line.new.self
+    c.loop-rest.invariant c.first_line.ensures.lines c.in_ok-line.ensures.ok c.in_ok-line.ensures.within
 
 pub returns-clause-ok : goal.returns-clause-ok
 returns-clause-ok c =
     let end : length c.loop-rest.rest.now ≡ 0 = search rules in
-    read_all takes_value [] c.args.text.now c.loop-rest.rest.now c.loop-rest.number c.loop-rest.history c.loop-rest.invariant end
+    read_all takes_value [] c.args.text.now c.loop-rest.rest.now c.loop-rest.reader.lines c.loop-rest.reader.state c.loop-rest.invariant end
+    ∙ ap (λ h. Ok h) (sym c.finish.ensures)
 
 pub returns-clause-text : goal.returns-clause-text
 returns-clause-text c =
     let end : length c.loop-rest.rest.now ≡ 0 = search rules in
-    read_is_text c.args.text.now c.loop-rest.history
-    (read_all takes_value [] c.args.text.now c.loop-rest.rest.now c.loop-rest.number c.loop-rest.history c.loop-rest.invariant end)
+    read_is_text c.args.text.now c.finish.result
+    (read_all takes_value [] c.args.text.now c.loop-rest.rest.now c.loop-rest.reader.lines c.loop-rest.reader.state c.loop-rest.invariant end
+    ∙ ap (λ h. Ok h) (sym c.finish.ensures))
