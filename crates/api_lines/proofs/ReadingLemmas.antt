@@ -63,14 +63,19 @@ read_more takes start text rest after line n s t so_far split read few = (
   few,
 )
 
+pub read_refused : {S : Type 0} (takes : S → Data → Result S TextCause) (start : S) (text rest line : List ℕ) (lines : List (List ℕ)) (n : ℕ) (s : S) (cause : TextCause)
+    → IsReadUpTo takes start text rest n s → lines_of rest ≡ line ∷ lines → read_line takes (n + 1) s line ≡ Err cause
+    → read_lines takes 1 start (lines_of text) ≡ Err (record { line = n + 1; cause = cause })
+unfolding IsReadUpTo
+read_refused takes start text rest line lines n s cause so_far split stop =
+    so_far.0 ∙ (ap (read_lines takes (suc n) s) split
+    ∙ (ap (λ k. read_lines takes k s (line ∷ lines)) (sym (add-one n)) ∙ lines_stop takes (n + 1) s line lines cause stop))
+
 pub read_stops : {S : Type 0} (takes : S → Data → Result S TextCause) (start : S) (text rest after line : List ℕ) (n : ℕ) (s : S) (fault : LineFault)
     → IsReadUpTo takes start text rest n s → lines_of rest ≡ line ∷ lines_of after
     → IfTold fault (λ cause. read_line takes (n + 1) s line ≡ Err cause)
     → IfTextTold (text_fault (n + 1) fault) (λ told. read_lines takes 1 start (lines_of text) ≡ Err told)
-unfolding IsReadUpTo
-read_stops takes start text rest after line n s (Told cause) so_far split stop =
-    so_far.0 ∙ (ap (read_lines takes (suc n) s) split
-    ∙ (ap (λ k. read_lines takes k s (line ∷ lines_of after)) (sym (add-one n)) ∙ lines_stop takes (n + 1) s line (lines_of after) cause stop))
+read_stops takes start text rest after line n s (Told cause) so_far split stop = read_refused takes start text rest line (lines_of after) n s cause so_far split stop
 read_stops takes start text rest after line n s NoMemory so_far split stop = tt
 
 pub read_all : {S : Type 0} (takes : S → Data → Result S TextCause) (start : S) (text rest : List ℕ) (n : ℕ) (s : S)

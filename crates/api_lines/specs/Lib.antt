@@ -1,5 +1,6 @@
 pub mod Lines
 pub mod Texts
+pub mod Sources
 pub mod Json
 pub mod Fields
 pub mod Faults

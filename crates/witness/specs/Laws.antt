@@ -13,6 +13,8 @@ use Rattle.history.specs.Events.{IsCallAt, IsHistory, IsPending, IsReplyAt, reco
 use Rattle.history.specs.Order.{IsOfCall, Placed, Respects, run_of}
 use Rattle.witness.specs.declared.place.Place.{Place}
 use Rattle.witness.specs.Places.{AreValid, IsPlaceOf}
+use Rattle.api_lines.specs.Texts.{ReadsLineByLine}
+use Rattle.witness.specs.Text.{takes_value}
 
 -- The order explains the document of the history: it is an order of the document's calls, as one of the whole history
 -- would be, but of no other document's; it respects the history; and it is a legal run.
@@ -61,3 +63,7 @@ pub record PlacesAreOrders : Type 0 where
       → ExplainsDocument mode events d order → AllChange events order
       → (places : List Place) × AreValid mode (records_of events d) places
       × ArePlacedBy (records_of events d) places order
+
+-- Witnesses are read line by line: the reader that takes one line more tells what is read of the text with that line.
+abbrev pub WitnessesLineByLine : Type 0
+WitnessesLineByLine = ReadsLineByLine takes_value []

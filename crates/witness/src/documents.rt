@@ -49,6 +49,11 @@ impl Documents {
         }
     }
 
+    /// Where its memory comes from.
+    pub fn allocator(&self) -> Global {
+        *self.documents.allocator()
+    }
+
     // Whether a document was begun.
     fn is_begun(&self) -> bool
         ensures { result ≡ is_begun self.now }

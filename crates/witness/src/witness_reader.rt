@@ -1,14 +1,80 @@
-ghost use Rattle.std.specs.Prelude.{◌≡◌, IfOk, IfErr, Ok, Err, map};
+ghost use Rattle.std.specs.Prelude.{◌≡◌, ◌≤◌, [], IfErr, IfOk, OnErr, OnOk, Ok, Err, map};
 ghost use Rattle.api_lines.specs.Faults.{IfTextTold};
+ghost use Rattle.api_lines.specs.Lines.{HasNoLineFeed, most_lines};
+ghost use Rattle.api_lines.specs.Texts.{next_line, so_far};
 ghost use Rattle.witness.specs.Documents.{doc_places};
-ghost use Rattle.witness.specs.Text.{witness_text};
+ghost use Rattle.witness.specs.Text.{takes_value, witness_text};
 
 use crate::documents::Documents;
 use crate::place::Place;
 use api_lines::ReadFault;
 use api_lines::lines::first_line;
 use std::alloc::Global;
+use std::marker::Model;
 use version_pair::DocId;
+
+/// A witness text that is read line by line.
+///
+/// Contracts see the documents so far, each with its places, and how many lines were taken. The law `laws::line_by_line` says
+/// of texts what `line` says of these.
+#[derive(Debug, Drop)]
+pub struct WitnessReader {
+    documents: Documents,
+    lines: u64,
+}
+
+impl Model for WitnessReader {
+    ghost use Rattle.std.specs.Prelude.{◌≤◌, List};
+    ghost use Rattle.api_lines.specs.Lines.{most_lines};
+    ghost use Rattle.api_lines.specs.Texts.{SoFar, so_far};
+    ghost use Rattle.witness.specs.Text.{DocPlaces};
+
+    ghost Value = { SoFar (List DocPlaces) };
+
+    ghost view = { λ r. so_far r.documents r.lines };
+
+    ghost invariant = { λ r. r.lines ≤ most_lines };
+}
+
+impl WitnessReader {
+    /// The reader that has taken no line. It allocates nothing.
+    pub fn new(alloc: Global) -> WitnessReader
+        ensures { result ≡ so_far [] 0 }
+    {
+        WitnessReader {
+            documents: Documents::new(alloc),
+            lines: 0,
+        }
+    }
+
+    /// Takes the next line, without its line feed; or refuses it with its first cause, in the order that `read_witness` names.
+    /// `NoMemory` is told where a growth was refused. A line that is refused leaves the reader as it was.
+    pub fn line(&mut self, line: &[u8]) -> Result<(), ReadFault>
+        requires { HasNoLineFeed line.now }
+        ensures ok { OnOk result (next_line takes_value self.old line.now ≡ Ok self.new) }
+        ensures within { self.new.lines ≤ most_lines }
+        ensures fault { IfErr result (λ fault. IfTextTold fault
+            (λ told. next_line takes_value self.old line.now ≡ Err told)) }
+        ensures unchanged { OnErr result (self.new ≡ self.old) }
+    {
+        let number = self.lines + 1;
+        let alloc = self.documents.allocator();
+        match self.documents.take_line(alloc, number, line) {
+            Ok(()) => {
+                self.lines = number;
+                Ok(())
+            }
+            Err(fault) => Err(fault.at(number)),
+        }
+    }
+
+    /// The documents of the lines that were taken, each with its places. It allocates nothing.
+    pub fn finish(self) -> Vec<(DocId, Vec<Place>)>
+        ensures { map doc_places result.items ≡ self.state }
+    {
+        self.documents.into_list()
+    }
+}
 
 /// The documents of a witness text, each with its places; or the first line that is refused, with its first cause.
 ///
@@ -22,18 +88,16 @@ pub fn read_witness(alloc: Global, text: &[u8]) -> Result<Vec<(DocId, Vec<Place>
     ensures fault { IfErr result
         (λ fault. IfTextTold fault (λ told. witness_text text.now ≡ Err told)) }
 {
-    let mut documents = Documents::new(alloc);
-    let mut number = 0;
+    let mut reader = WitnessReader::new(alloc);
     let mut rest = text;
     while !rest.is_empty() {
-        number += 1;
         let (line, after) = first_line(rest);
-        if let Err(fault) = documents.take_line(alloc, number, line) {
-            return Err(fault.at(number));
+        if let Err(fault) = reader.line(line) {
+            return Err(fault);
         }
         rest = after;
     }
-    Ok(documents.into_list())
+    Ok(reader.finish())
 }
 
 #[cfg(test)]

@@ -335,3 +335,5 @@ fn too_many_lines(rt: HostRuntime) -> Result<(), Fail> {
     let got = told(rt.alloc(), &text)?;
     same("too many lines", got.as_str(), "line 4194305: Lines")
 }
+
+mod by_line;

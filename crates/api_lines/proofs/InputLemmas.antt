@@ -1,0 +1,147 @@
+-- Lines that are taken from a reader's bytes, and the text of all bytes.
+use Rattle.std.proofs.Common.{ℕ, ◌≡◌, ◌≢◌, ◌<◌, ◌≤◌, ◌+◌, Bool, List, [], ◌∷◌, ◌++◌, length, take, refl, sym, ap, subst, ◌∙◌, arith, get_or, get_or-take, length-take-le, length-append, append_assoc, append-nil, eq-eqb, ne_eqb, Option, None, Some, IfSome, Ok, Err, Result, inl, inr}
+use Rattle.std.specs.Prelude.{◌==◌, if◌then◌else◌, nat_lt}
+use Rattle.std.proofs.lemmas.Bool.{lt-ltb, or_from}
+use Rattle.std.proofs.lemmas.List.{get_or_default}
+use Rattle.std.proofs.lemmas.List.Elements.{All-head, All-tail}
+use Rattle.std.specs.Io.KnownBytes.{IsAtEnd}
+use Rattle.memchr.specs.Find.{Nowhere, Passes, is_byte}
+use Rattle.serde_json.specs.Data.{Data}
+use Rattle.api_lines.specs.Faults.{IfTextTold, ◌>>=◌}
+use Rattle.api_lines.specs.Json.{json_value}
+use Rattle.api_lines.specs.Lines.{HasNoLineFeed, has_line_feed, is_blank, lines_of, longest_line, most_lines}
+use Rattle.api_lines.specs.Sources.{EndsLine, HasNoFeed}
+use Rattle.api_lines.specs.Texts.{SoFar, after_line, line_given, next_line, read_line, read_lines, so_far, taken, value_given}
+use Rattle.api_lines.specs.declared.text_fault.ReadFault.{ReadFault}
+use Rattle.api_lines.specs.declared.text_fault.ReadFault.TheVariants as refusal
+use Rattle.api_lines.specs.declared.text_fault.TextCause.{TextCause}
+use Rattle.api_lines.specs.declared.text_fault.TextCause.TheVariants.{Lines, Long}
+use Rattle.api_lines.specs.declared.text_fault.TextFault.{TextFault}
+use Rattle.api_lines.proofs.LineByLine.{last_line, open_line, taken_more, taken_until}
+use Rattle.api_lines.proofs.ReadingLemmas.{IsReadUpTo, first_ok, given_within, read_all, read_none, read_refused}
+use Rattle.api_lines.proofs.WrittenLines.{one_line}
+
+-- a front of bytes before which there is no line feed
+pub front_unfed : (bytes : List ℕ) (n : ℕ) → n ≤ length bytes → Nowhere (Passes (is_byte 10) bytes) 0 n → HasNoFeed (take n bytes)
+front_unfed bytes n within none k d below feed =
+    let short : k < n = omega (arith, below, length-take-le n bytes within) in
+    none k (omega arith) short
+    (eq-eqb (get_or bytes k 0) 10 (sym (get_or_default bytes k d 0 (omega arith)) ∙ sym (get_or-take n bytes k d short) ∙ feed))
+
+pub fewer : (bytes : List ℕ) (n m : ℕ) → n ≤ m → Nowhere (Passes (is_byte 10) bytes) 0 m → Nowhere (Passes (is_byte 10) bytes) 0 n
+fewer bytes n m within none k low high = none k low (omega arith)
+
+-- no byte is one, byte by byte and all at once
+pub feedless : (bytes : List ℕ) → HasNoFeed bytes → HasNoLineFeed bytes
+feedless [] unfed = refl
+feedless (b ∷ bytes) unfed =
+    or_from (b == 10) (has_line_feed bytes) (ne_eqb b 10 (All-head (λ x. x ≢ 10) b bytes unfed)) (feedless bytes (All-tail (λ x. x ≢ 10) b bytes unfed))
+
+-- ---- a line that is too long
+
+long_given : (n : ℕ) (line : List ℕ) → longest_line < length line → line_given n line ≡ (if nat_lt most_lines n then Err Lines else Err Long)
+long_given n line long =
+    ap (λ (t : Bool). if nat_lt most_lines n then Err Lines else (if t then Err Long else (if is_blank line then Ok None else value_given (json_value line))))
+    (lt-ltb longest_line (length line) long)
+
+-- it is refused as any front of it that is too long
+long_refused : {S : Type 0} (takes : S → Data → Result S TextCause) (n : ℕ) (s : S) (line more : List ℕ) (cause : TextCause)
+    → longest_line < length line → read_line takes n s line ≡ Err cause → read_line takes n s (line ++ more) ≡ Err cause
+long_refused takes n s line more cause long refused =
+    let longer : longest_line < length (line ++ more) = omega (arith, long, length-append line more) in
+    subst (λ given. (given >>= taken takes s) ≡ Err cause) (long_given n line long ∙ sym (long_given n (line ++ more) longer)) refused
+
+-- a line that is taken is none
+taken_short : {S : Type 0} (takes : S → Data → Result S TextCause) (r q : SoFar S) (line : List ℕ) → next_line takes r line ≡ Ok q → length line ≤ longest_line
+taken_short {S} takes r q line next = by_line (read_line takes (r.lines + 1) r.state line) refl next where
+  by_line : (o : Result S TextCause) → read_line takes (r.lines + 1) r.state line ≡ o → after_line (r.lines + 1) o ≡ Ok q → length line ≤ longest_line
+  by_line (Ok t) is next =
+      let given = first_ok (line_given (r.lines + 1) line) (taken takes r.state) t is in
+      (given_within (r.lines + 1) line given.0 given.1).1
+  by_line (Err cause) is next = absurd (cc)
+
+-- each line counts
+pub next_counts : {S : Type 0} (takes : S → Data → Result S TextCause) (r q : SoFar S) (line : List ℕ) → next_line takes r line ≡ Ok q → q.lines ≡ r.lines + 1
+next_counts {S} takes r q line next = by_line (read_line takes (r.lines + 1) r.state line) next where
+  by_line : (o : Result S TextCause) → after_line (r.lines + 1) o ≡ Ok q → q.lines ≡ r.lines + 1
+  by_line (Ok t) next =
+      let same : so_far t (r.lines + 1) ≡ q = cc in
+      ap (λ (p : SoFar S). p.lines) (sym same)
+  by_line (Err cause) next = absurd (cc)
+
+-- ---- the bytes up to what is left
+
+-- The lines of the bytes up to those that are left are read, and led to this. Of unknown bytes nothing is said.
+pub IsReadOn : {S : Type 0} → (S → Data → Result S TextCause) → S → Option (List ℕ) → Option (List ℕ) → SoFar S → Type 0
+IsReadOn takes start None rest r = Unit {0}
+IsReadOn takes start (Some text) None r = ⊥
+IsReadOn takes start (Some text) (Some rest) r = IsReadUpTo takes start text rest r.lines r.state
+
+pub on_none : {S : Type 0} (takes : S → Data → Result S TextCause) (start : S) (input : Option (List ℕ)) → IsReadOn takes start input input (so_far start 0)
+unfolding IsReadOn
+on_none takes start None = tt
+on_none takes start (Some text) = read_none takes start text
+
+pub on_all : {S : Type 0} (takes : S → Data → Result S TextCause) (start : S) (input rest : Option (List ℕ)) (r : SoFar S)
+    → IsReadOn takes start input rest r → IsAtEnd rest → IfSome input (λ text. read_lines takes 1 start (lines_of text) ≡ Ok r.state)
+unfolding IsReadOn
+on_all takes start None rest r before end = tt
+on_all takes start (Some text) None r before end = absurd before
+on_all takes start (Some text) (Some rest) r before end = read_all takes start text rest r.lines r.state before (ap length end)
+
+-- the lines of known bytes, where one was taken of them
+line_taken : (ys zs line : List ℕ) → HasNoFeed line → ys ≡ (line ++ 10 ∷ []) ++ zs → lines_of ys ≡ line ∷ lines_of zs
+line_taken ys zs line unfed took = ap lines_of (took ∙ append_assoc line (10 ∷ []) zs) ∙ one_line line zs (feedless line unfed)
+
+end_taken : (ys zs line : List ℕ) → HasNoFeed line → ys ≡ line ++ zs → zs ≡ [] → 0 < length line → lines_of ys ≡ line ∷ lines_of zs
+end_taken ys zs line unfed took end some =
+    ap lines_of (took ∙ ap (λ l. line ++ l) end ∙ append-nil line) ∙ last_line line (feedless line unfed) some ∙ ap (λ l. line ∷ lines_of l) (sym end)
+
+-- one line more, taken
+pub on_more : {S : Type 0} (takes : S → Data → Result S TextCause) (start : S) (input old new : Option (List ℕ)) (line : List ℕ) (r q : SoFar S)
+    → IsReadOn takes start input old r → HasNoFeed line → EndsLine old new line
+    → next_line takes r line ≡ Ok q → q.lines ≤ most_lines → IsReadOn takes start input new q
+unfolding IsReadOn
+on_more takes start None old new line r q before unfed ends next few = tt
+on_more takes start (Some text) None new line r q before unfed ends next few = absurd before
+on_more takes start (Some text) (Some ys) None line r q before unfed (inl took) next few = absurd took
+on_more takes start (Some text) (Some ys) (Some zs) line r q before unfed (inl took) next few =
+    taken_more takes start text ys zs line r q before (line_taken ys zs line unfed took) next few
+on_more takes start (Some text) (Some ys) None line r q before unfed (inr rest) next few = absurd rest.0
+on_more takes start (Some text) (Some ys) (Some zs) line r q before unfed (inr (took, inl (end, some))) next few =
+    taken_more takes start text ys zs line r q before (end_taken ys zs line unfed took end some) next few
+on_more takes start (Some text) (Some ys) (Some zs) line r q before unfed (inr (took, inr long)) next few =
+    let short = taken_short takes r q line next in
+    absurd (omega (arith, long, short))
+
+-- one line more, refused
+on_told : {S : Type 0} (takes : S → Data → Result S TextCause) (start : S) (input old new : Option (List ℕ)) (line : List ℕ) (r : SoFar S) (told : TextFault)
+    → IsReadOn takes start input old r → HasNoFeed line → EndsLine old new line
+    → next_line takes r line ≡ Err told → IfSome input (λ text. read_lines takes 1 start (lines_of text) ≡ Err told)
+unfolding IsReadOn
+on_told takes start None old new line r told before unfed ends stop = tt
+on_told takes start (Some text) None new line r told before unfed ends stop = absurd before
+on_told takes start (Some text) (Some ys) None line r told before unfed (inl took) stop = absurd took
+on_told takes start (Some text) (Some ys) (Some zs) line r told before unfed (inl took) stop =
+    taken_until takes start text ys zs line r (refusal.Text told) before (line_taken ys zs line unfed took) stop
+on_told takes start (Some text) (Some ys) None line r told before unfed (inr rest) stop = absurd rest.0
+on_told takes start (Some text) (Some ys) (Some zs) line r told before unfed (inr (took, inl (end, some))) stop =
+    taken_until takes start text ys zs line r (refusal.Text told) before (end_taken ys zs line unfed took end some) stop
+on_told {S} takes start (Some text) (Some ys) (Some zs) line r told before unfed (inr (took, inr long)) stop =
+    by_line (read_line takes (r.lines + 1) r.state line) refl stop
+  where
+    by_line : (o : Result S TextCause) → read_line takes (r.lines + 1) r.state line ≡ o → after_line (r.lines + 1) o ≡ Err told
+        → read_lines takes 1 start (lines_of text) ≡ Err told
+    by_line (Ok t) is next = absurd (cc)
+    by_line (Err cause) is next =
+        let on = open_line line zs (feedless line unfed) (omega (arith, long)) in
+        let same : record { line = r.lines + 1; cause = cause } ≡ told = cc in
+        read_refused takes start text ys (line ++ on.0) on.1 r.lines r.state cause before (ap lines_of took ∙ on.2)
+        (long_refused takes (r.lines + 1) r.state line on.0 cause long is) ∙ ap (λ f. Err f) same
+
+pub on_stop : {S : Type 0} (takes : S → Data → Result S TextCause) (start : S) (input old new : Option (List ℕ)) (line : List ℕ) (r : SoFar S) (fault : ReadFault)
+    → IsReadOn takes start input old r → HasNoFeed line → EndsLine old new line
+    → IfTextTold fault (λ told. next_line takes r line ≡ Err told)
+    → IfTextTold fault (λ told. IfSome input (λ text. read_lines takes 1 start (lines_of text) ≡ Err told))
+on_stop takes start input old new line r (refusal.Text told) before unfed ends stop = on_told takes start input old new line r told before unfed ends stop
+on_stop takes start input old new line r refusal.NoMemory before unfed ends stop = tt

@@ -1,0 +1,38 @@
+ghost use Rattle.std.specs.Prelude.{◌≡◌, Err, IfOk, IfSome, MatchResult, Ok};
+ghost use Rattle.history.specs.Reading.{history_text};
+ghost use Rattle.history.specs.Text.{IsHistoryText};
+
+use crate::history::History;
+use crate::reader::HistoryReader;
+use api_lines::{InputFault, ReadFault, TextFault, next_line};
+use std::alloc::Global;
+use std::io::BufRead;
+
+/// The history whose text a reader has to its end; or the first line that is refused, with its first cause, as `read` tells
+/// them of the text. What comes after that line is not read.
+///
+/// A line at most is held, and no more than 65,537 bytes of one.
+pub fn read_from<B: BufRead>(
+    alloc: Global,
+    input: &mut B,
+) -> Result<Result<History, TextFault>, InputFault>
+    ensures told { IfOk result (λ told. IfSome (B.remaining input.old) (λ text. MatchResult told
+        (λ history. history_text text ≡ Ok history)
+        (λ fault. history_text text ≡ Err fault))) }
+    ensures text { IfOk result (λ told. IfSome (B.remaining input.old)
+        (λ text. IfOk told (IsHistoryText text))) }
+{
+    let mut reader = HistoryReader::new(alloc);
+    let mut line = Vec::new(alloc);
+    while next_line(input, &mut line)? {
+        match reader.line(&line) {
+            Ok(()) => {}
+            Err(ReadFault::Text(fault)) => return Ok(Err(fault)),
+            Err(ReadFault::NoMemory) => return Err(InputFault::NoMemory),
+        }
+    }
+    Ok(Ok(reader.finish()))
+}
+
+#[cfg(test)]
+mod tests;

@@ -1,0 +1,16 @@
+use Rattle.std.proofs.Common.{◌≡◌, ◌+◌, subst, Ok, Err}
+use Rattle.api_lines.specs.Faults.{IfTextTold, text_fault}
+use Rattle.api_lines.specs.Texts.{next_line, so_far}
+use Rattle.api_lines.proofs.LineByLine.{next_refused, next_taken}
+use Rattle.witness.specs.Text.{takes_value}
+use Rattle.witness.proofs.witness_reader.WitnessReader.line.Goals as goal
+
+pub returns-in-Ok-clause-ok : goal.returns-in-Ok-clause-ok
+returns-in-Ok-clause-ok c =
+    subst (λ r. next_line takes_value r c.args.line.now ≡ Ok (so_far c.take_line.new.self (c.self.inside.lines + 1))) c.self.view_is
+    (next_taken takes_value (so_far c.self.inside.documents c.self.inside.lines) c.args.line.now c.take_line.new.self c.in-Ok.ensures.ok)
+
+pub returns-in-Err-clause-fault : goal.returns-in-Err-clause-fault
+returns-in-Err-clause-fault c =
+    rw c.at.ensures (subst (λ r. IfTextTold (text_fault (c.self.inside.lines + 1) c.in-Err.fault) (λ told. next_line takes_value r c.args.line.now ≡ Err told)) c.self.view_is
+    (next_refused takes_value (so_far c.self.inside.documents c.self.inside.lines) c.args.line.now c.in-Err.fault c.in-Err.ensures.err))
