@@ -4,6 +4,8 @@ use super::*;
 use doc_register::{DocState, Op, Reply, performed_reply, step};
 use history::Event;
 
+mod faults;
+
 // Numbers drawn one after another: each seed has its own, the same in each run.
 #[derive(Drop)]
 struct Draws {
@@ -209,9 +211,9 @@ impl Index {
     }
 }
 
-// A recording of four to sixteen clients of an honest index.
-fn recording(alloc: Global, seed: u64, docs: usize, conflicts: Conflicts) -> Result<History, Fail> {
-    let mut index = Index::of(alloc, seed, docs, conflicts);
+// A recording of four to sixteen clients of an index.
+fn recorded(alloc: Global, index: Index) -> Result<History, Fail> {
+    let mut index = index;
     let count = index.draws.below(13).saturating_add(4);
     let mut clients = vec![in alloc; Client::Idle; count]?;
     for _ in 0..index.calls.saturating_mul(4) {
@@ -222,6 +224,11 @@ fn recording(alloc: Global, seed: u64, docs: usize, conflicts: Conflicts) -> Res
         index.meet_late()?;
     }
     Ok(index.history)
+}
+
+// A recording of an honest index.
+fn recording(alloc: Global, seed: u64, docs: usize, conflicts: Conflicts) -> Result<History, Fail> {
+    recorded(alloc, Index::of(alloc, seed, docs, conflicts))
 }
 
 // How many of two hundred recordings get `no`.
