@@ -3,13 +3,14 @@ use Rattle.std.specs.Prelude.{ℕ}
 use Rattle.clap.specs.declared.error.kind.ErrorKind.{ErrorKind}
 use Rattle.clap.specs.declared.error.kind.ErrorKind.TheVariants.{DisplayHelp, DisplayVersion, OutOfMemory}
 use Rattle.report.specs.declared.status.Status.{Status}
-use Rattle.report.specs.declared.status.Status.TheVariants.{Yes, No, Refused}
+use Rattle.report.specs.declared.status.Status.TheVariants.{Yes, No, Refuted, Refused}
 use Rattle.report.specs.declared.stream_fault.StreamFault.{StreamFault}
 use Rattle.report.specs.declared.stream_fault.StreamFault.TheVariants.{Read, Write, NoMemory, Worker}
 
 abbrev pub code_of_status : Status → ℕ
 code_of_status Yes = 0
 code_of_status No = 1
+code_of_status Refuted = 1
 code_of_status Refused = 2
 
 abbrev pub code_of_fault : StreamFault → ℕ

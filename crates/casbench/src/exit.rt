@@ -13,7 +13,7 @@ pub fn status_code(status: Status) -> u8
 {
     match status {
         Status::Yes => 0,
-        Status::No => 1,
+        Status::No | Status::Refuted => 1,
         Status::Refused => 2,
     }
 }
@@ -48,6 +48,7 @@ mod tests {
     fn exit_statuses(rt: HostRuntime) {
         assert_eq!(rt; status_code(Status::Yes), 0);
         assert_eq!(rt; status_code(Status::No), 1);
+        assert_eq!(rt; status_code(Status::Refuted), 1);
         assert_eq!(rt; status_code(Status::Refused), 2);
         assert_eq!(rt; fault_code(StreamFault::NoMemory), 3);
         assert_eq!(rt; fault_code(StreamFault::Read), 4);

@@ -13,16 +13,19 @@ use Rattle.witness.specs.declared.place.Place.{Place}
 use Rattle.witness.specs.Text.{AreWithinLimits, witness_text}
 use Rattle.witness.specs.Witness.{Witness}
 use Rattle.compose.specs.Covers.{AreCover}
-use Rattle.compose.specs.Verdicts.{AreWitnesses}
+use Rattle.compose.specs.Evidence.{Holds}
+use Rattle.compose.specs.declared.refuted.Refuted.{Refuted as Evidence}
+use Rattle.compose.specs.Verdicts.{AreWitnesses, HasNoOrderFound}
 use Rattle.compose.specs.VerifyFaults.{IsFirstVerifyFault}
 use Rattle.compose.specs.declared.verify_fault.VerifyFault.{VerifyFault}
+use Rattle.report.specs.Offences.{IsOffence}
 use Rattle.report.specs.declared.offence.Offence.{Offence}
 use Rattle.report.specs.declared.status.Status.{Status}
-use Rattle.report.specs.declared.status.Status.TheVariants.{Yes, No, Refused}
-use Rattle.report.specs.Lines.{broken_line, refused_file_line, refused_line}
+use Rattle.report.specs.declared.status.Status.TheVariants.{Yes, No, Refuted, Refused}
+use Rattle.report.specs.Lines.{broken_line, refused_file_line, refused_line, refuted_line}
 use Rattle.report.specs.aids.Enough.{AreEnough}
 use Rattle.report.specs.Bulk.{AnswersBulk, IsBulkAnswer}
-use Rattle.report.specs.Verdict.{IsAnswer, IsRefused, IsSomeHistory, IsUnexplained, IsVerifyAnswer, IsWitnessAnswer, IsWitnessed}
+use Rattle.report.specs.Verdict.{IsAnswer, IsRefused, IsRefutedBy, IsSomeHistory, IsUnexplained, IsVerifyAnswer, IsWitnessAnswer, IsWitnessed}
 use Rattle.report.proofs.CutTexts.{enough_history, enough_witness}
 use Rattle.report.proofs.WitnessLimits.{within_limits}
 
@@ -35,6 +38,14 @@ is_refusal mode input status text told is line refused = subst (λ s. IsAnswer m
 pub is_witness_refusal : (mode : Conflicts) (input : List ℕ) (status : Status) (text : List ℕ) (told : TextFault) → status ≡ Refused
     → text ≡ refused_line told.line told.cause → history_text input ≡ Err told → IsWitnessAnswer mode input status text
 is_witness_refusal mode input status text told is line refused = subst (λ s. IsWitnessAnswer mode input s text) (sym is) (told, line, refused)
+
+pub is_refuted : (mode : Conflicts) (input : List ℕ) (H : List Event) (status : Status) (text : List ℕ) (told : Evidence) (o : Offence) → status ≡ Refuted
+    → text ≡ refuted_line told o → IsHistoryText input H → HasNoOrderFound mode H → IsOffence mode H o → Holds mode H told → (IsLinearizable mode H → ⊥)
+    → IsAnswer mode input status text × IsWitnessAnswer mode input status text
+is_refuted mode input H status text told o is line is_text none_found offence holds no_order =
+    let unexplained : IsUnexplained mode input o = record { events = H; is_text = is_text; none_found = none_found; offence = offence } in
+    let by : IsRefutedBy mode input told o = record { unexplained = unexplained; holds = holds; no_order = no_order } in
+    (subst (λ s. IsAnswer mode input s text) (sym is) (told, o, line, by), subst (λ s. IsWitnessAnswer mode input s text) (sym is) (told, o, line, by))
 
 pub witnessed : (mode : Conflicts) (input : List ℕ) (H : List Event) (ws : List Witness) (text : List ℕ) → IsHistoryText input H → AreWitnesses mode H ws → IsLinearizable mode H
     → (AreWithinLimits (map witness_places ws) → witness_text text ≡ Ok (map witness_places ws)) → IsWitnessed mode input text
@@ -60,6 +71,10 @@ some_history bytes input enough is = subst IsSomeHistory (whole_history bytes in
 unexplained_input : (mode : Conflicts) (bytes input : List ℕ) (o : Offence) → AreEnough bytes input → IsUnexplained mode bytes o → IsUnexplained mode input o
 unexplained_input mode bytes input o enough is = subst (λ i. IsUnexplained mode i o) (whole_history bytes input is.events enough is.is_text) is
 
+refuted_input : (mode : Conflicts) (bytes input : List ℕ) (told : Evidence) (o : Offence) → AreEnough bytes input → IsRefutedBy mode bytes told o → IsRefutedBy mode input told o
+refuted_input mode bytes input told o enough is =
+    subst (λ i. IsRefutedBy mode i told o) (whole_history bytes input is.unexplained.events enough is.unexplained.is_text) is
+
 refused_input : (bytes input line : List ℕ) → AreEnough bytes input → IsRefused bytes line → IsRefused input line
 refused_input bytes input line enough is = (is.0, is.1, sym (enough_history bytes input enough) ∙ is.2)
 
@@ -69,6 +84,7 @@ pub answer_of_input : (mode : Conflicts) (input : Option (List ℕ)) (bytes : Li
 answer_of_input mode None bytes status line enough is = tt
 answer_of_input mode (Some xs) bytes Yes line enough is = subst (λ ys. IsAnswer mode ys Yes line) (whole_history bytes xs is.4.events enough is.4.is_text) is
 answer_of_input mode (Some xs) bytes No line enough is = (is.0, is.1, unexplained_input mode bytes xs is.0 enough is.2)
+answer_of_input mode (Some xs) bytes Refuted line enough is = (is.0, is.1, is.2, refuted_input mode bytes xs is.0 is.1 enough is.3)
 answer_of_input mode (Some xs) bytes Refused line enough is = refused_input bytes xs line enough is
 
 -- what is told of the bytes of the witness holds of the whole input
@@ -88,6 +104,7 @@ verify_of_witness mode history bytes input No line enough is =
       is.1,
       record { events = v.events; is_text = v.is_text; entries = v.entries; reads = sym (enough_witness bytes input enough) ∙ v.reads; first = v.first; no_cover = v.no_cover },
     )
+verify_of_witness mode history bytes input Refuted line enough is = absurd is
 verify_of_witness mode history bytes input Refused line enough (inl is) = inl is
 verify_of_witness mode history bytes input Refused line enough (inr is) = inr (is.0, is.1, is.2, sym (enough_witness bytes input enough) ∙ is.3)
 
@@ -98,6 +115,7 @@ verify_of_history mode bytes input witness Yes line enough is =
     subst (λ h. IsVerifyAnswer mode h witness Yes line) (whole_history bytes input is.4.events enough is.4.is_text) is
 verify_of_history mode bytes input witness No line enough is =
     subst (λ h. IsVerifyAnswer mode h witness No line) (whole_history bytes input is.2.events enough is.2.is_text) is
+verify_of_history mode bytes input witness Refuted line enough is = absurd is
 verify_of_history mode bytes input witness Refused line enough (inl is) = inl (is.0, is.1, sym (enough_history bytes input enough) ∙ is.2)
 verify_of_history mode bytes input witness Refused line enough (inr is) = inr (is.0, is.1, some_history bytes input enough is.2, is.3)
 
@@ -118,6 +136,7 @@ pub witness_of_input : (mode : Conflicts) (input : Option (List ℕ)) (bytes : L
 witness_of_input mode None bytes status text enough is = tt
 witness_of_input mode (Some xs) bytes Yes text enough is = subst (λ ys. IsWitnessAnswer mode ys Yes text) (whole_history bytes xs is.events enough is.is_text) is
 witness_of_input mode (Some xs) bytes No text enough is = (is.0, is.1, unexplained_input mode bytes xs is.0 enough is.2)
+witness_of_input mode (Some xs) bytes Refuted text enough is = (is.0, is.1, is.2, refuted_input mode bytes xs is.0 is.1 enough is.3)
 witness_of_input mode (Some xs) bytes Refused text enough is = refused_input bytes xs text enough is
 
 -- ---- answers to both texts

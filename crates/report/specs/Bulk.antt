@@ -4,13 +4,14 @@ use Rattle.api_lines.specs.declared.bulk_fault.BulkFault.{BulkFault}
 use Rattle.history.specs.BulkText.{bulk_history}
 use Rattle.report.specs.Lines.{bulk_fault_line}
 use Rattle.report.specs.declared.status.Status.{Status}
-use Rattle.report.specs.declared.status.Status.TheVariants.{Yes, No, Refused}
+use Rattle.report.specs.declared.status.Status.TheVariants.{Yes, No, Refuted, Refused}
 
 -- The lines of the bulk's calls, numbered from first on, and of their endings, where its status is 200; or the line of the
 -- first fault.
 abbrev pub IsBulkAnswer : ℕ → List ℕ → List ℕ → Status → List ℕ → Type 0
 IsBulkAnswer first body reply Yes text = bulk_history first body 200 reply ≡ Ok text
 IsBulkAnswer first body reply No text = ⊥
+IsBulkAnswer first body reply Refuted text = ⊥
 IsBulkAnswer first body reply Refused line = (told : BulkFault) × (line ≡ bulk_fault_line told) × (bulk_history first body 200 reply ≡ Err told)
 
 -- what is written of the bytes that the two readers had

@@ -6,6 +6,8 @@ use Rattle.api_lines.specs.declared.bulk_fault.BulkFault.{BulkFault}
 use Rattle.api_lines.specs.declared.bulk_fault.BulkFault.TheVariants as bulk
 use Rattle.witness.specs.declared.broken.Broken.{Broken}
 use Rattle.witness.specs.declared.broken.Broken.TheVariants.{Stranger as StrangePlace, Twice, Absent, Late, PairMissing, PairGiven, Illegal, NoMemory}
+use Rattle.compose.specs.declared.refuted.Refuted.{Refuted}
+use Rattle.compose.specs.declared.refuted.Refuted.TheVariants as evidence
 use Rattle.compose.specs.declared.verify_fault.VerifyFault.{VerifyFault}
 use Rattle.compose.specs.declared.verify_fault.VerifyFault.TheVariants as fault
 use Rattle.report.specs.declared.offence.Offence.{Offence}
@@ -38,6 +40,29 @@ before_name false = codes "unshown"
 abbrev pub no_line : Offence → List ℕ
 no_line o =
     codes "no event=" ++ (decimal o.event ++ (codes " call=" ++ (decimal o.call ++ (codes " before=" ++ (before_name o.before_shown ++ codes "\n")))))
+
+-- the printed name of a kind of evidence
+abbrev pub kind_name : Refuted → List ℕ
+kind_name (evidence.PairTwice a b) = codes "pair-twice"
+kind_name (evidence.NoWriter g) = codes "no-writer"
+kind_name (evidence.StaleGet g w) = codes "stale-get"
+kind_name (evidence.StaleSwap a b) = codes "stale-swap"
+
+-- the numbers of two calls
+abbrev pub both_numbers : ℕ → ℕ → List ℕ
+both_numbers a b = decimal a ++ (codes "," ++ decimal b)
+
+-- the numbers of the calls that evidence names, in its order
+abbrev pub named_calls : Refuted → List ℕ
+named_calls (evidence.PairTwice a b) = both_numbers a b
+named_calls (evidence.NoWriter g) = decimal g
+named_calls (evidence.StaleGet g w) = both_numbers g w
+named_calls (evidence.StaleSwap a b) = both_numbers a b
+
+-- the evidence, and after it what the line of a `no` would tell
+abbrev pub refuted_line : Refuted → Offence → List ℕ
+refuted_line e o =
+    codes "refuted kind=" ++ (kind_name e ++ (codes " calls=" ++ (named_calls e ++ (codes " event=" ++ (decimal o.event ++ (codes " call=" ++ (decimal o.call ++ (codes " before=" ++ (before_name o.before_shown ++ codes "\n")))))))))
 
 abbrev pub refused_line : ℕ → TextCause → List ℕ
 refused_line line cause = codes "refused line=" ++ (decimal line ++ (codes " cause=" ++ (cause_name cause ++ codes "\n")))

@@ -10,15 +10,17 @@ use Rattle.history.specs.Reading.{history_text}
 use Rattle.history.specs.Text.{IsHistoryText}
 use Rattle.compose.specs.Counts.{calls_of}
 use Rattle.compose.specs.Covers.{AreCover}
+use Rattle.compose.specs.Evidence.{Holds}
+use Rattle.compose.specs.declared.refuted.Refuted.{Refuted as Evidence}
 use Rattle.compose.specs.Verdicts.{HasNoOrderFound, HasOrder}
 use Rattle.compose.specs.VerifyFaults.{IsFirstVerifyFault}
 use Rattle.compose.specs.declared.verify_fault.VerifyFault.{VerifyFault}
 use Rattle.witness.specs.Text.{DocPlaces, witness_text}
 use Rattle.report.specs.Offences.{IsOffence}
 use Rattle.report.specs.declared.offence.Offence.{Offence}
-use Rattle.report.specs.Lines.{broken_line, no_line, refused_file_line, refused_line, verified_line, yes_line}
+use Rattle.report.specs.Lines.{broken_line, no_line, refused_file_line, refused_line, refuted_line, verified_line, yes_line}
 use Rattle.report.specs.declared.status.Status.{Status}
-use Rattle.report.specs.declared.status.Status.TheVariants.{Yes, No, Refused}
+use Rattle.report.specs.declared.status.Status.TheVariants.{Yes, No, Refuted, Refused}
 
 -- The input is a text of a history with so many documents and so many calls, and there is an order that explains it, in
 -- which so many of its calls do not stand.
@@ -39,15 +41,24 @@ pub record IsUnexplained (mode : Conflicts) (input : List ℕ) (o : Offence) : T
   pub none_found : HasNoOrderFound mode events
   pub offence : IsOffence mode events o
 
+-- All that an unexplained input is, and beside it the evidence holds in the history that it is a text of. So no order of the calls
+-- explains that history, however those of unknown outcome are completed or left out.
+pub record IsRefutedBy (mode : Conflicts) (input : List ℕ) (told : Evidence) (o : Offence) : Type 0 where
+  pub unexplained : IsUnexplained mode input o
+  pub holds : Holds mode unexplained.events told
+  pub no_order : ¬ IsLinearizable mode unexplained.events
+
 -- the input is a text of no history: the line tells the first of its lines that is refused, with its first cause
 abbrev pub IsRefused : List ℕ → List ℕ → Type 0
 IsRefused input line = (told : TextFault) × (line ≡ refused_line told.line told.cause) × (history_text input ≡ Err told)
 
 -- The line, and what it says of the input: `yes` says that it is explained, `no` that no order was found for the history that it
--- is a text of, and at which reply the search first failed, and `refused` that it is a text of none.
+-- is a text of, and at which reply the search first failed, `refuted` says that too and gives evidence that there is no order, and
+-- `refused` says that it is a text of no history.
 abbrev pub IsAnswer : Conflicts → List ℕ → Status → List ℕ → Type 0
 IsAnswer mode input Yes line = (docs calls left_out : ℕ) × (line ≡ yes_line docs calls left_out) × IsExplained mode input docs calls left_out
 IsAnswer mode input No line = (o : Offence) × (line ≡ no_line o) × IsUnexplained mode input o
+IsAnswer mode input Refuted line = (told : Evidence) × (o : Offence) × (line ≡ refuted_line told o) × IsRefutedBy mode input told o
 IsAnswer mode input Refused line = IsRefused input line
 
 -- The input is a text of a history, and what is written reads as entries that cover it; so an order explains it.
@@ -63,6 +74,7 @@ pub record IsWitnessed (mode : Conflicts) (input text : List ℕ) : Type 0 where
 abbrev pub IsWitnessAnswer : Conflicts → List ℕ → Status → List ℕ → Type 0
 IsWitnessAnswer mode input Yes text = IsWitnessed mode input text
 IsWitnessAnswer mode input No text = (o : Offence) × (text ≡ no_line o) × IsUnexplained mode input o
+IsWitnessAnswer mode input Refuted text = (told : Evidence) × (o : Offence) × (text ≡ refuted_line told o) × IsRefutedBy mode input told o
 IsWitnessAnswer mode input Refused text = IsRefused input text
 
 -- The one input is a text of a history, and the other reads as entries that cover it; there is an order that explains it,
@@ -99,11 +111,12 @@ abbrev pub IsRefusedWitness : List ℕ → List ℕ → List ℕ → Type 0
 IsRefusedWitness history witness line =
     (told : TextFault) × (line ≡ refused_file_line (codes "witness") told.line told.cause) × IsSomeHistory history × (witness_text witness ≡ Err told)
 
--- the line, and what it says of both inputs
+-- the line, and what it says of both inputs; a witness that does not cover a history is no evidence against that
 abbrev pub IsVerifyAnswer : Conflicts → List ℕ → List ℕ → Status → List ℕ → Type 0
 IsVerifyAnswer mode history witness Yes line =
     (docs calls left_out : ℕ) × (line ≡ verified_line docs calls left_out) × IsVerified mode history witness docs calls left_out
 IsVerifyAnswer mode history witness No line = (fault : VerifyFault) × (line ≡ broken_line fault) × IsBroken mode history witness fault
+IsVerifyAnswer mode history witness Refuted line = ⊥
 IsVerifyAnswer mode history witness Refused line = IsRefusedHistory history line ⊎ IsRefusedWitness history witness line
 
 -- ---- what the writer holds

@@ -3,17 +3,20 @@ ghost use Rattle.doc_register.specs.declared.state.Conflicts.{Conflicts as Mode}
 ghost use Rattle.history.specs.Reading.{history_text};
 ghost use Rattle.history.specs.Text.{IsHistoryText};
 ghost use Rattle.compose.specs.Checked.{IsVerdictOn};
-ghost use Rattle.report.specs.Lines.{before_name as shown_name, no_line, refused_line, yes_line};
+ghost use Rattle.report.specs.Lines.{no_line, refused_line, refuted_line as evidence_line, yes_line};
 ghost use Rattle.report.specs.Verdict.{IsAnswer, IsWitnessAnswer};
 
 use crate::answer::Answer;
+use crate::before_name::before_name;
 use crate::cause_name::cause_name;
 use crate::offence::{Offence, first_offence};
+use crate::refuted_line::refuted_line;
 use crate::status::Status;
 use crate::unanswered::Unanswered;
 use api_lines::{ReadFault, TextFault};
 use check_pool::{NoGate, PoolFault};
-use compose::{Case, CheckFault, Counts, Verdict, check, check_alone};
+use compose::laws::evidence_refutes;
+use compose::{Case, CheckFault, Counts, Refuted, Verdict, check, check_alone, refute};
 use doc_register::Conflicts;
 use history::{History, read};
 use std::alloc::Global;
@@ -36,13 +39,6 @@ fn yes(alloc: Global, counts: Counts) -> Result<Answer, NoMemory>
     Ok(Answer::of(Status::Yes, line))
 }
 
-// Whether the events before the offence have an order, in words.
-fn before_name(before_shown: bool) -> &'static str
-    ensures { result.now ≡ shown_name before_shown }
-{
-    if before_shown { "shown" } else { "unshown" }
-}
-
 // The answer that no order was found, and where the search first failed.
 fn no(alloc: Global, offence: Offence) -> Result<Answer, NoMemory>
     ensures status { IfOk result (λ answer. answer.status ≡ Status.No) }
@@ -58,7 +54,16 @@ fn no(alloc: Global, offence: Offence) -> Result<Answer, NoMemory>
     Ok(Answer::of(Status::No, line))
 }
 
-/// The answer to a text of a history for which no order was found.
+// The answer that evidence holds in the history, and where the search first failed.
+fn refuted(alloc: Global, evidence: Refuted, offence: Offence) -> Result<Answer, NoMemory>
+    ensures status { IfOk result (λ answer. answer.status ≡ Status.Refuted) }
+    ensures line { IfOk result (λ answer. answer.text.items ≡ evidence_line evidence offence) }
+{
+    let line = refuted_line(alloc, evidence, offence)?;
+    Ok(Answer::of(Status::Refuted, line))
+}
+
+/// The answer to a text of a history for which no order was found: with the evidence that there is none, where some is found.
 pub fn case_answer(alloc: Global, case: &Case) -> Result<Answer, NoMemory>
     ensures { IfOk result (λ answer. (input : List ℕ) → IsHistoryText input case.now.events
         → IsAnswer case.now.conflicts input answer.status answer.text.items
@@ -66,9 +71,20 @@ pub fn case_answer(alloc: Global, case: &Case) -> Result<Answer, NoMemory>
 {
     // A look at the history: that no order was found for it is known from here on.
     let _ = case.history();
+    let evidence = refute(alloc, case)?;
     let offence = first_offence(alloc, case)?;
-    let answer = no(alloc, offence)?;
-    Ok(answer)
+    match evidence {
+        Some(evidence) => {
+            // What evidence says of a history is known from here on.
+            evidence_refutes();
+            let answer = refuted(alloc, evidence, offence)?;
+            Ok(answer)
+        }
+        None => {
+            let answer = no(alloc, offence)?;
+            Ok(answer)
+        }
+    }
 }
 
 /// The answer to a text that was refused.

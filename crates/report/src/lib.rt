@@ -2,6 +2,7 @@
 #![tactic(auto)]
 
 mod answer;
+mod before_name;
 mod broken_line;
 mod bulk_answer;
 mod bulk_line;
@@ -10,6 +11,7 @@ mod check_answer;
 mod input;
 mod offence;
 mod output;
+mod refuted_line;
 mod status;
 mod stream_fault;
 mod streams;

@@ -5,6 +5,8 @@ pub enum Status {
     Yes,
     /// None was found; the witness does not cover it.
     No,
+    /// None was found, and there is evidence that there is none, however the unanswered calls ended.
+    Refuted,
     /// A text was refused.
     Refused,
 }

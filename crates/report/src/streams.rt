@@ -46,13 +46,17 @@ fn write_answer<W: Write>(writer: &mut W, answer: &Answer) -> Result<Status, Str
 
 /// Reads a history text to its end and writes one line: `yes docs=D calls=C left_out=L` where one order of its
 /// calls, over all documents, explains it; `no event=E call=N before=shown` (or `unshown`) where none was found;
-/// `refused line=L cause=NAME` where it is no history text.
+/// `refuted kind=NAME calls=A,B event=E call=N before=shown` where none was found and there is evidence that there is
+/// none; `refused line=L cause=NAME` where it is no history text.
 ///
 /// Each document is searched for an order of its answered calls, and where they have none, for one that completes
 /// unanswered writes; and no pair of a shard may be taken twice. Where each write was answered (under Maybe by another reply
-/// than a conflict), `no` says that there is no order. The event is the reply at which the search first fails, the call the one
-/// that it answers, and the last word tells whether the events before have an order. The documents are searched by 1 to 16
-/// workers.
+/// than a conflict), `no` says that there is no order; `refuted` says so of every history. The event is the reply at which the
+/// search first fails, the call the one that it answers, and the last word tells whether the events before have an order. The
+/// documents are searched by 1 to 16 workers.
+///
+/// The kinds of evidence are `pair-twice` of two writes, `no-writer` of one get, `stale-get` of a get and a write, and
+/// `stale-swap` of two writes, with the numbers of these calls in this order.
 pub fn check_stream<T: Threads + Wait + Sync, R: Read, W: Write>(
     rt: &T,
     alloc: Global,
@@ -66,7 +70,9 @@ pub fn check_stream<T: Threads + Wait + Sync, R: Read, W: Write>(
     // Where it answers yes, the bytes of the reader to its end are a text of a history that an order of calls explains, over
     // all its documents, with the counts of the line. Where it answers no, they are a text of a history that no entries
     // without a given pair cover: it is not plainly right, and where it is settled, so that each write was answered, no
-    // order explains it. Where it refuses, they are a text of none, and the line tells the first that is refused.
+    // order explains it. Where it answers refuted, all that is true as well, and the evidence of the line holds in the
+    // history: no order explains it, however its unanswered calls are completed. Where it refuses, they are a text of none,
+    // and the line tells the first that is refused.
     ensures answered { IfOk result (IsAnswered conflicts (R.remaining reader.old)
         (W.contents writer.old) (W.contents writer.new)) }
     // After a write fault a front of such a line is written.

@@ -101,6 +101,8 @@ fn answer<T: Threads + Wait + Sync, R: Read, Q: Read, W: Write>(
 fn status_of(line: &str) -> Status {
     if line.starts_with("refused") {
         Status::Refused
+    } else if line.starts_with("refuted") {
+        Status::Refuted
     } else if line.starts_with("no") || line.starts_with("broken") {
         Status::No
     } else {

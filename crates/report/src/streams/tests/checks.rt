@@ -92,28 +92,41 @@ fn texts_without_order(rt: HostRuntime) -> Result<(), Fail> {
             texts::GROUP_EARLY,
             "no event=3 call=1 before=shown\n",
         ),
+    ] {
+        writes(&rt, rt.alloc(), case, PLAIN_CHECK, (text, ""), line)?;
+    }
+    Ok(())
+}
+
+#[test]
+fn refuted_texts(rt: HostRuntime) -> Result<(), Fail> {
+    for (case, text, line) in [
         (
-            "group-blind",
-            texts::GROUP_BLIND,
-            "no event=5 call=2 before=shown\n",
-        ),
-        (
-            "group-stale",
-            texts::GROUP_STALE,
-            "no event=7 call=3 before=shown\n",
+            "pair-twice-over-documents",
+            texts::PAIR_TWICE_OVER_DOCUMENTS,
+            "refuted kind=pair-twice calls=0,1 event=3 call=1 before=shown\n",
         ),
         (
             "no-writer",
             texts::NO_WRITER,
-            "no event=3 call=1 before=shown\n",
+            "refuted kind=no-writer calls=1 event=3 call=1 before=shown\n",
         ),
         (
-            "pair-twice-over-documents",
-            texts::PAIR_TWICE_OVER_DOCUMENTS,
-            "no event=3 call=1 before=shown\n",
+            "group-stale",
+            texts::GROUP_STALE,
+            "refuted kind=stale-get calls=3,1 event=7 call=3 before=shown\n",
+        ),
+        (
+            "group-blind",
+            texts::GROUP_BLIND,
+            "refuted kind=stale-swap calls=1,2 event=5 call=2 before=shown\n",
         ),
     ] {
-        writes(&rt, rt.alloc(), case, PLAIN_CHECK, (text, ""), line)?;
+        for conflicts in [Conflicts::Plain, Conflicts::Maybe] {
+            for stream in [Stream::Check(conflicts), Stream::Witness(conflicts)] {
+                writes(&rt, rt.alloc(), case, stream, (text, ""), line)?;
+            }
+        }
     }
     Ok(())
 }

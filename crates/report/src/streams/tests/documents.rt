@@ -33,18 +33,6 @@ fn two_documents(rt: HostRuntime) -> Result<(), Fail> {
             texts::SAME_PAIR_OTHER_SHARD,
             shards,
         ),
-        (
-            PLAIN_CHECK,
-            "pair-twice-over-documents",
-            texts::PAIR_TWICE_OVER_DOCUMENTS,
-            "no event=3 call=1 before=shown\n",
-        ),
-        (
-            PLAIN_WITNESS,
-            "pair-twice-over-documents",
-            texts::PAIR_TWICE_OVER_DOCUMENTS,
-            "no event=3 call=1 before=shown\n",
-        ),
     ] {
         writes(&rt, rt.alloc(), case, stream, (text, ""), line)?;
     }

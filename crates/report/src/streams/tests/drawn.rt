@@ -268,6 +268,8 @@ fn drawn_histories(rt: HostRuntime) -> Result<(), Fail> {
         match agreed(&rt, alloc, text.as_slice(), conflicts)? {
             Status::Yes => yes = yes.saturating_add(1),
             Status::No => no = no.saturating_add(1),
+            // The faults are gets that answer missing, and no evidence tells of those.
+            Status::Refuted => return Err("a drawn history is refuted".into()),
             Status::Refused => return Err("a drawn history is refused".into()),
         }
     }
