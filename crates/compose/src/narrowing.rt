@@ -1,16 +1,26 @@
 ghost use Rattle.std.specs.Prelude.{◌<◌, length};
 ghost use Rattle.history.specs.Events.{documents_of};
 
+use crate::case::Case;
 use crate::narrowing::past::Past;
 use crate::narrowing::window::window_of;
-use doc_check::{DocAnswer, NoOrder, answer};
+use doc_check::{DocAnswer, answer};
 use doc_register::Conflicts;
 use history::{Front, History, Rec, Seen};
 use std::alloc::Global;
-use version_pair::NoMemory;
+use version_pair::{DocId, NoMemory};
 
 mod past;
 mod window;
+
+// A document for which the search finds no order.
+#[derive(Debug, Drop)]
+struct Unordered<'a> {
+    id: &'a DocId,
+    records: &'a [Rec],
+    seen: Seen,
+    conflicts: Conflicts,
+}
 
 // The place of the reply to the call.
 fn reply_place(found: Rec) -> Option<usize> {
@@ -29,46 +39,41 @@ fn reply_places(alloc: Global, records: &[Rec]) -> Result<Vec<usize>, NoMemory> 
     Ok(places)
 }
 
-// Whether the search finds an order of the calls up to this place, as far as those since the past tell.
-fn has_order_to(
-    alloc: Global,
-    none: &NoOrder,
-    past: &Past,
-    place: usize,
-    seen: Seen,
-) -> Result<bool, NoMemory> {
-    let conflicts = none.conflicts();
-    let window = window_of(alloc, past, none.records(), place, conflicts)?;
-    match answer(alloc, none.id().copy()?, window, seen, conflicts)? {
-        DocAnswer::Found(_) => Ok(true),
-        DocAnswer::NotFound(_) => Ok(false),
+impl Unordered<'_> {
+    // Whether the search finds an order of the calls up to this place, as far as those since the past tell.
+    fn has_order_to(&self, alloc: Global, past: &Past, place: usize) -> Result<bool, NoMemory> {
+        let window = window_of(alloc, past, self.records, place, self.conflicts)?;
+        match answer(alloc, self.id.copy()?, window, self.seen, self.conflicts)? {
+            DocAnswer::Found(_) => Ok(true),
+            DocAnswer::NotFound(_) => Ok(false),
+        }
     }
-}
 
-// The place of the reply at which the search for one document seems to fail first, where it fails on all its calls. The
-// replies are halved, and each time only the calls from shortly before the last reply with an order on are looked at.
-fn first_failing(alloc: Global, none: &NoOrder, seen: Seen) -> Result<Option<usize>, NoMemory> {
-    let places = reply_places(alloc, none.records())?;
-    let mut past = Past::new(alloc);
-    // With so few replies there is an order, with so many there is none.
-    let mut few = 0usize;
-    let mut many = places.len();
-    for _ in 0..usize::BITS {
-        let half = few.saturating_add(many.saturating_sub(few) / 2);
-        if half == few {
-            break;
+    // The place of the reply at which the search seems to fail first. The replies are halved, and each time only the calls
+    // from shortly before the last reply with an order on are looked at.
+    fn first_failing(&self, alloc: Global) -> Result<Option<usize>, NoMemory> {
+        let places = reply_places(alloc, self.records)?;
+        let mut past = Past::new(alloc);
+        // With so few replies there is an order, with so many there is none.
+        let mut few = 0usize;
+        let mut many = places.len();
+        for _ in 0..usize::BITS {
+            let half = few.saturating_add(many.saturating_sub(few) / 2);
+            if half == few {
+                break;
+            }
+            let Some(place) = places.get(half.saturating_sub(1)) else {
+                break;
+            };
+            if self.has_order_to(alloc, &past, *place)? {
+                past.advance(self.records, *place, self.conflicts)?;
+                few = half;
+            } else {
+                many = half;
+            }
         }
-        let Some(place) = places.get(half.saturating_sub(1)) else {
-            break;
-        };
-        if has_order_to(alloc, none, &past, *place, seen)? {
-            past.advance(none.records(), *place, none.conflicts())?;
-            few = half;
-        } else {
-            many = half;
-        }
+        Ok(places.get(many.saturating_sub(1)).copied())
     }
-    Ok(places.get(many.saturating_sub(1)).copied())
 }
 
 // The place of the reply at which the search for this document seems to fail first, where it fails.
@@ -85,8 +90,34 @@ fn first_failing_of(
     let id = front.doc(doc).copy()?;
     match answer(alloc, id, records, seen, conflicts)? {
         DocAnswer::Found(_) => Ok(None),
-        DocAnswer::NotFound(none) => first_failing(alloc, &none, seen),
+        DocAnswer::NotFound(none) => {
+            let unordered = Unordered {
+                id: none.id(),
+                records: none.records(),
+                seen,
+                conflicts,
+            };
+            unordered.first_failing(alloc)
+        }
     }
+}
+
+// The place of the reply at which the search for the only document seems to fail first: it fails on all of them.
+fn first_failing_alone(
+    alloc: Global,
+    history: &History,
+    conflicts: Conflicts,
+) -> Result<Option<usize>, NoMemory>
+    requires { 0 < length (documents_of history.now) }
+{
+    let records = history.records(0)?;
+    let unordered = Unordered {
+        id: history.doc(0),
+        records: &records,
+        seen: history.seen(),
+        conflicts,
+    };
+    unordered.first_failing(alloc)
 }
 
 // The events before the place, or all where there is none.
@@ -97,19 +128,23 @@ fn front_to(history: &History, place: Option<usize>) -> Front<'_> {
     }
 }
 
-/// A guess at the first reply at which the search finds no order of the events up to it: its place. `None` where each
-/// document has an order by itself.
+/// A guess at the first reply at which the search finds no order of the events up to it, by its place. It is `suspect`, where
+/// each document has an order of the events before that; of a history without a suspect it may be `None`.
 ///
 /// Each document is searched once, on the events before the place that the ones before it gave, and where it has no order its
 /// replies are halved, on windows of its calls; all windows together cost about one search more. Nothing is promised of the
 /// place: what came before a window is only told in short.
 pub fn narrowed(
     alloc: Global,
-    history: &History,
-    conflicts: Conflicts,
+    case: &Case,
+    suspect: Option<usize>,
 ) -> Result<Option<usize>, NoMemory> {
+    let (history, conflicts) = (case.history(), case.conflicts());
+    if suspect.is_none() && history.docs() == 1 {
+        return first_failing_alone(alloc, history, conflicts);
+    }
     let seen = history.seen();
-    let mut first = None;
+    let mut first = suspect;
     for doc in 0..history.docs() {
         let front = front_to(history, first);
         if doc >= front.docs() {

@@ -156,38 +156,27 @@ fn offence_if(
     }))
 }
 
-// The offence at a reply that is guessed, where the guess is right. First a reply is tried that contradicts an earlier one by
-// the pairs that both show, then the one to which halving the replies of each document by itself leads.
-fn guessed_offence(
-    alloc: Global,
-    history: &History,
-    conflicts: Conflicts,
-) -> Result<Option<Offence>, NoMemory>
-    ensures { IfOk result (λ found. IfSome found (IsOffence conflicts history.now)) }
-{
-    if let Some(place) = suspected(alloc, history)? {
-        if let Some(offence) = offence_if(alloc, history, conflicts, place)? {
-            return Ok(Some(offence));
-        }
-    }
-    match narrowed(alloc, history, conflicts)? {
-        Some(place) => offence_if(alloc, history, conflicts, place),
-        None => Ok(None),
-    }
+// The place of a reply that is guessed to be the first at which the search fails: one that contradicts an earlier one by the
+// pairs that both show, or one before that to which halving the replies of a document by itself leads.
+fn guessed(alloc: Global, case: &Case) -> Result<Option<usize>, NoMemory> {
+    let suspect = suspected(alloc, case.history())?;
+    narrowed(alloc, case, suspect)
 }
 
 /// The reply at which the search first fails, its call, and whether the events before it have an order.
 ///
 /// It is found by halving the replies: where the events up to the middle one have an order that the search finds, it is after
-/// that, else it is that or before. First two replies are tried that are cheaper to find: where the search fails there, and not
-/// on the events before, it is what halving finds too.
+/// that, else it is that or before. First a reply is tried that is cheaper to guess: where the search fails there, and not on
+/// the events before, it is what halving finds too.
 pub fn first_offence(alloc: Global, case: &Case) -> Result<Offence, NoMemory>
     ensures { IfOk result (IsOffence case.now.conflicts case.now.events) }
 {
     let history = case.history();
     let conflicts = case.conflicts();
-    if let Some(offence) = guessed_offence(alloc, history, conflicts)? {
-        return Ok(offence);
+    if let Some(place) = guessed(alloc, case)? {
+        if let Some(offence) = offence_if(alloc, history, conflicts, place)? {
+            return Ok(offence);
+        }
     }
     let places = reply_places(alloc, history)?;
     // What calls after the last reply leave as it was is known from here on.

@@ -142,12 +142,14 @@ fn guessed(alloc: Global, docs: usize, fault: Fault) -> Result<(usize, usize), F
         let Some(history) = faulty(alloc, seed, docs, fault)? else {
             continue;
         };
-        if is_explained(alloc, &history.whole(), Conflicts::Plain)? {
-            continue;
-        }
+        let case = match check_alone(alloc, history, Conflicts::Plain) {
+            Ok(Verdict::No(case)) => case,
+            Ok(Verdict::Yes(_)) => continue,
+            Err(_) => Err("no memory")?,
+        };
         wrong = wrong.saturating_add(1);
-        if let Some(place) = narrowed(alloc, &history, Conflicts::Plain)? {
-            if is_first(alloc, &history, place)? {
+        if let Some(place) = narrowed(alloc, &case, None)? {
+            if is_first(alloc, case.history(), place)? {
                 right = right.saturating_add(1);
             }
         }
