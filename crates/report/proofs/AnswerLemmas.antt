@@ -1,5 +1,5 @@
 -- What the lines and texts that are written say of the inputs.
-use Rattle.std.proofs.Common.{ℕ, ◌≡◌, None, List, map, sym, subst, ◌∙◌, Option, Some, Ok, Err, inl, inr, codes, Vec, Global, arith}
+use Rattle.std.proofs.Common.{ℕ, ◌≡◌, None, List, map, sym, subst, ◌∙◌, Option, Some, Ok, Err, inl, inr, codes, Vec, Global}
 use Rattle.std.specs.Prelude.{IfSome}
 use Rattle.doc_register.specs.declared.state.Conflicts.{Conflicts}
 use Rattle.history.specs.declared.event.Event.{Event}
@@ -7,7 +7,6 @@ use Rattle.api_lines.specs.declared.text_fault.TextFault.{TextFault}
 use Rattle.history.specs.Order.{IsLinearizable}
 use Rattle.history.specs.Reading.{history_text}
 use Rattle.history.specs.Text.{IsHistoryText}
-use Rattle.history.proofs.TextLengths.{text_is_short}
 use Rattle.witness.specs.Documents.{doc_places, witness_places}
 use Rattle.witness.specs.declared.place.Place.{Place}
 use Rattle.witness.specs.Text.{AreWithinLimits, witness_text}
@@ -21,12 +20,10 @@ use Rattle.compose.specs.declared.verify_fault.VerifyFault.{VerifyFault}
 use Rattle.report.specs.Offences.{IsOffence}
 use Rattle.report.specs.declared.offence.Offence.{Offence}
 use Rattle.report.specs.declared.status.Status.{Status}
-use Rattle.report.specs.declared.status.Status.TheVariants.{Yes, No, Refuted, Refused}
+use Rattle.report.specs.declared.status.Status.TheVariants.{No, Refuted, Refused}
 use Rattle.report.specs.Lines.{broken_line, refused_file_line, refused_line, refuted_line}
-use Rattle.report.specs.aids.Enough.{AreEnough}
 use Rattle.report.specs.Bulk.{AnswersBulk, IsBulkAnswer}
-use Rattle.report.specs.Verdict.{IsAnswer, IsRefused, IsRefutedBy, IsSomeHistory, IsUnexplained, IsVerifyAnswer, IsWitnessAnswer, IsWitnessed}
-use Rattle.report.proofs.CutTexts.{enough_history, enough_witness}
+use Rattle.report.specs.Verdict.{IsAnswer, IsRefutedBy, IsSomeHistory, IsUnexplained, IsVerifyAnswer, IsWitnessAnswer, IsWitnessed}
 use Rattle.report.proofs.WitnessLimits.{within_limits}
 
 -- ---- answers
@@ -58,86 +55,17 @@ witnessed mode input H ws text is are explained reads = record {
   explained = explained;
 }
 
--- ---- what is told of bytes that are enough
+-- ---- what is told of all bytes of a reader
 
--- the bytes of a history text are all of the input
-whole_history : (bytes input : List ℕ) (H : List Event) → AreEnough bytes input → IsHistoryText bytes H → bytes ≡ input
-whole_history bytes input H (inl same) is = same
-whole_history bytes input H (inr (back, split, long)) is = let short = text_is_short bytes H is in absurd (omega arith)
+-- what is true of them
+pub if_each : {P Q : List ℕ → Type 0} (input : Option (List ℕ)) → IfSome input P → ((bytes : List ℕ) → P bytes → Q bytes) → IfSome input Q
+if_each None p on = tt
+if_each (Some bytes) p on = on bytes p
 
-some_history : (bytes input : List ℕ) → AreEnough bytes input → IsSomeHistory bytes → IsSomeHistory input
-some_history bytes input enough is = subst IsSomeHistory (whole_history bytes input is.0 enough is.1) is
-
-unexplained_input : (mode : Conflicts) (bytes input : List ℕ) (o : Offence) → AreEnough bytes input → IsUnexplained mode bytes o → IsUnexplained mode input o
-unexplained_input mode bytes input o enough is = subst (λ i. IsUnexplained mode i o) (whole_history bytes input is.events enough is.is_text) is
-
-refuted_input : (mode : Conflicts) (bytes input : List ℕ) (told : Evidence) (o : Offence) → AreEnough bytes input → IsRefutedBy mode bytes told o → IsRefutedBy mode input told o
-refuted_input mode bytes input told o enough is =
-    subst (λ i. IsRefutedBy mode i told o) (whole_history bytes input is.unexplained.events enough is.unexplained.is_text) is
-
-refused_input : (bytes input line : List ℕ) → AreEnough bytes input → IsRefused bytes line → IsRefused input line
-refused_input bytes input line enough is = (is.0, is.1, sym (enough_history bytes input enough) ∙ is.2)
-
--- what is told of the bytes holds of the whole input
-pub answer_of_input : (mode : Conflicts) (input : Option (List ℕ)) (bytes : List ℕ) (status : Status) (line : List ℕ)
-    → IfSome input (AreEnough bytes) → IsAnswer mode bytes status line → IfSome input (λ xs. IsAnswer mode xs status line)
-answer_of_input mode None bytes status line enough is = tt
-answer_of_input mode (Some xs) bytes Yes line enough is = subst (λ ys. IsAnswer mode ys Yes line) (whole_history bytes xs is.4.events enough is.4.is_text) is
-answer_of_input mode (Some xs) bytes No line enough is = (is.0, is.1, unexplained_input mode bytes xs is.0 enough is.2)
-answer_of_input mode (Some xs) bytes Refuted line enough is = (is.0, is.1, is.2, refuted_input mode bytes xs is.0 is.1 enough is.3)
-answer_of_input mode (Some xs) bytes Refused line enough is = refused_input bytes xs line enough is
-
--- what is told of the bytes of the witness holds of the whole input
-pub verify_of_witness : (mode : Conflicts) (history bytes input : List ℕ) (status : Status) (line : List ℕ) → AreEnough bytes input → IsVerifyAnswer mode history bytes status line
-    → IsVerifyAnswer mode history input status line
-verify_of_witness mode history bytes input Yes line enough is =
-    let v = is.4 in (
-      is.0,
-      is.1,
-      is.2,
-      is.3,
-      record { events = v.events; is_text = v.is_text; entries = v.entries; reads = sym (enough_witness bytes input enough) ∙ v.reads; cover = v.cover; explained = v.explained },
-    )
-verify_of_witness mode history bytes input No line enough is =
-    let v = is.2 in (
-      is.0,
-      is.1,
-      record { events = v.events; is_text = v.is_text; entries = v.entries; reads = sym (enough_witness bytes input enough) ∙ v.reads; first = v.first; no_cover = v.no_cover },
-    )
-verify_of_witness mode history bytes input Refuted line enough is = absurd is
-verify_of_witness mode history bytes input Refused line enough (inl is) = inl is
-verify_of_witness mode history bytes input Refused line enough (inr is) = inr (is.0, is.1, is.2, sym (enough_witness bytes input enough) ∙ is.3)
-
--- and what is told of the bytes of the history
-pub verify_of_history : (mode : Conflicts) (bytes input witness : List ℕ) (status : Status) (line : List ℕ) → AreEnough bytes input → IsVerifyAnswer mode bytes witness status line
-    → IsVerifyAnswer mode input witness status line
-verify_of_history mode bytes input witness Yes line enough is =
-    subst (λ h. IsVerifyAnswer mode h witness Yes line) (whole_history bytes input is.4.events enough is.4.is_text) is
-verify_of_history mode bytes input witness No line enough is =
-    subst (λ h. IsVerifyAnswer mode h witness No line) (whole_history bytes input is.2.events enough is.2.is_text) is
-verify_of_history mode bytes input witness Refuted line enough is = absurd is
-verify_of_history mode bytes input witness Refused line enough (inl is) = inl (is.0, is.1, sym (enough_history bytes input enough) ∙ is.2)
-verify_of_history mode bytes input witness Refused line enough (inr is) = inr (is.0, is.1, some_history bytes input enough is.2, is.3)
-
-pub verify_of_inputs : (mode : Conflicts) (bytes : List ℕ) (history witness : Option (List ℕ)) (status : Status) (line : List ℕ) → IfSome history (AreEnough bytes)
-    → IfSome witness (λ w. IsVerifyAnswer mode bytes w status line) → IfSome history (λ h. IfSome witness (λ w. IsVerifyAnswer mode h w status line))
-verify_of_inputs mode bytes None witness status line enough is = tt
-verify_of_inputs mode bytes (Some h) None status line enough is = tt
-verify_of_inputs mode bytes (Some h) (Some w) status line enough is = verify_of_history mode bytes h w status line enough is
-
-pub verify_input : (mode : Conflicts) (history bytes : List ℕ) (witness : Option (List ℕ)) (status : Status) (line : List ℕ) → IfSome witness (AreEnough bytes)
-    → IsVerifyAnswer mode history bytes status line → IfSome witness (λ w. IsVerifyAnswer mode history w status line)
-verify_input mode history bytes None status line enough is = tt
-verify_input mode history bytes (Some w) status line enough is = verify_of_witness mode history bytes w status line enough is
-
--- what is told of the bytes where a witness is asked for holds of the whole input
-pub witness_of_input : (mode : Conflicts) (input : Option (List ℕ)) (bytes : List ℕ) (status : Status) (text : List ℕ) → IfSome input (AreEnough bytes)
-    → IsWitnessAnswer mode bytes status text → IfSome input (λ xs. IsWitnessAnswer mode xs status text)
-witness_of_input mode None bytes status text enough is = tt
-witness_of_input mode (Some xs) bytes Yes text enough is = subst (λ ys. IsWitnessAnswer mode ys Yes text) (whole_history bytes xs is.events enough is.is_text) is
-witness_of_input mode (Some xs) bytes No text enough is = (is.0, is.1, unexplained_input mode bytes xs is.0 enough is.2)
-witness_of_input mode (Some xs) bytes Refuted text enough is = (is.0, is.1, is.2, refuted_input mode bytes xs is.0 is.1 enough is.3)
-witness_of_input mode (Some xs) bytes Refused text enough is = refused_input bytes xs text enough is
+-- and what is true of all bytes
+pub if_any : {P : List ℕ → Type 0} (input : Option (List ℕ)) → ((bytes : List ℕ) → P bytes) → IfSome input P
+if_any None all = tt
+if_any (Some bytes) all = all bytes
 
 -- ---- answers to both texts
 

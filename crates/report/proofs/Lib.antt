@@ -1,5 +1,4 @@
 mod StreamLemmas
-mod CutTexts
 mod WitnessLimits
 mod AnswerLemmas
 mod OffenceLemmas

@@ -1,2 +1,2 @@
-pub mod Enough
+pub mod Faults
 pub mod Replies

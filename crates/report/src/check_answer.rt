@@ -4,22 +4,24 @@ ghost use Rattle.history.specs.Reading.{history_text};
 ghost use Rattle.history.specs.Text.{IsHistoryText};
 ghost use Rattle.compose.specs.Checked.{IsVerdictOn};
 ghost use Rattle.report.specs.Lines.{no_line, refused_line, refuted_line as evidence_line, yes_line};
-ghost use Rattle.report.specs.Verdict.{IsAnswer, IsWitnessAnswer};
+ghost use Rattle.report.specs.Verdict.{AnswersInput, IsAnswer, IsWitnessAnswer};
 
 use crate::answer::Answer;
 use crate::before_name::before_name;
 use crate::cause_name::cause_name;
+use crate::input::read_history;
 use crate::offence::{Offence, first_offence};
 use crate::refuted_line::refuted_line;
 use crate::status::Status;
 use crate::unanswered::Unanswered;
-use api_lines::{ReadFault, TextFault};
+use api_lines::TextFault;
 use check_pool::{NoGate, PoolFault};
 use compose::laws::evidence_refutes;
 use compose::{Case, CheckFault, Counts, Refuted, Verdict, check, check_alone, refute};
 use doc_register::Conflicts;
-use history::{History, read};
+use history::History;
 use std::alloc::Global;
+use std::io::Read;
 use std::sync::Wait;
 use std::thread::Threads;
 use version_pair::NoMemory;
@@ -159,27 +161,25 @@ fn history_answer<R: Threads + Wait + Sync>(
     }
 }
 
-/// The answer to a text: whether an order explains its history, searched for by so many workers. The text is let go once it
-/// is read.
-pub fn check_answer<R: Threads + Wait + Sync>(
-    rt: &R,
+/// The answer to the text of a reader: whether an order explains its history, searched for by so many workers.
+pub fn check_answer<T: Threads + Wait + Sync, R: Read>(
+    rt: &T,
     alloc: Global,
-    text: Vec<u8>,
+    reader: &mut R,
     workers: usize,
     conflicts: Conflicts,
 ) -> Result<Answer, Unanswered>
     requires some { 1 ≤ workers }
     requires few { workers ≤ 16 }
-    ensures { IfOk result (λ answer. IsAnswer conflicts text.items answer.status answer.text.items) }
+    ensures { IfOk result (λ answer. AnswersInput conflicts (R.remaining reader.old) answer.status
+        answer.text.items) }
 {
-    let found = read(alloc, &text);
-    drop(text);
-    match found {
-        Ok(history) => history_answer(rt, alloc, history, workers, conflicts),
-        Err(ReadFault::Text(fault)) => {
+    match read_history(alloc, reader) {
+        Ok(Ok(history)) => history_answer(rt, alloc, history, workers, conflicts),
+        Ok(Err(fault)) => {
             let answer = refusal(alloc, fault)?;
             Ok(answer)
         }
-        Err(ReadFault::NoMemory) => Err(Unanswered::NoMemory),
+        Err(fault) => Err(Unanswered::from(fault)),
     }
 }

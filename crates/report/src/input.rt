@@ -1,45 +1,51 @@
-ghost use Rattle.std.specs.Prelude.{◌≡◌, IfOk, IfSome};
-ghost use Rattle.report.specs.aids.Enough.{AreEnough};
+ghost use Rattle.std.specs.Prelude.{◌≡◌, Err, IfOk, IfSome, MatchResult, Ok, map};
+ghost use Rattle.history.specs.Reading.{history_text};
+ghost use Rattle.history.specs.Text.{IsHistoryText};
+ghost use Rattle.witness.specs.Documents.{doc_places};
+ghost use Rattle.witness.specs.Text.{witness_text};
 
-use std::alloc::{AllocError, Global};
-use std::io::Read;
+use api_lines::{InputFault, TextFault};
+use history::{History, read_from};
+use std::alloc::Global;
+use std::io::{BufReader, Read};
+use version_pair::DocId;
+use witness::{Place, read_witness_from};
 
 // How many bytes are asked for at once.
 const CHUNK: usize = 32_768;
 
-// The most bytes of a history text: 4,194,304 lines of 65,536 bytes and a line feed.
-const MOST_BYTES: usize = 4_194_304 * 65_537;
-
-/// Why the bytes of a reader are not had.
-#[derive(Clone, Copy, Debug, PartialEq, Eq)]
-pub enum InputFault {
-    /// The reader failed.
-    Read,
-    /// A growth was refused memory.
-    NoMemory,
-}
-
-impl From<AllocError> for InputFault {
-    fn from(_: AllocError) -> InputFault {
-        InputFault::NoMemory
-    }
-}
-
-/// All bytes of the reader to its end, unless they are more than a history text can have: then some front of them
-/// that is too long. A fault of the reader of any kind, an interruption too, ends the reading.
-pub fn read_enough<R: Read>(alloc: Global, reader: &mut R) -> Result<Vec<u8>, InputFault>
-    ensures { IfOk result (λ bytes. IfSome (R.remaining reader.old) (AreEnough bytes.items)) }
+/// The history whose text the reader has to its end; or the first line that is refused. What comes after that line is not
+/// read. A fault of the reader of any kind, an interruption too, ends the reading.
+pub fn read_history<R: Read>(
+    alloc: Global,
+    reader: &mut R,
+) -> Result<Result<History, TextFault>, InputFault>
+    ensures text { IfOk result (λ told. IfSome (R.remaining reader.old)
+        (λ text. IfOk told (IsHistoryText text))) }
+    ensures told { IfOk result (λ told. IfSome (R.remaining reader.old) (λ text. MatchResult told
+        (λ history. history_text text ≡ Ok history)
+        (λ fault. history_text text ≡ Err fault))) }
 {
-    let mut chunk = [0u8; CHUNK];
-    let mut bytes = Vec::new(alloc);
-    while bytes.len() <= MOST_BYTES {
-        match reader.read(&mut chunk) {
-            Ok(0) => return Ok(bytes),
-            Ok(count) => bytes.extend_from_slice(&chunk[..count])?,
-            Err(_) => return Err(InputFault::Read),
-        }
+    match BufReader::with_capacity(alloc, CHUNK, reader) {
+        Ok(mut input) => read_from(alloc, &mut input),
+        Err(_) => Err(InputFault::NoMemory),
     }
-    Ok(bytes)
+}
+
+/// The entries of the witness text that the reader has to its end; or the first line that is refused. What comes after that
+/// line is not read. A fault of the reader of any kind, an interruption too, ends the reading.
+pub fn read_entries<R: Read>(
+    alloc: Global,
+    reader: &mut R,
+) -> Result<Result<Vec<(DocId, Vec<Place>)>, TextFault>, InputFault>
+    ensures { IfOk result (λ told. IfSome (R.remaining reader.old) (λ text. MatchResult told
+        (λ entries. witness_text text ≡ Ok (map doc_places entries.items))
+        (λ fault. witness_text text ≡ Err fault))) }
+{
+    match BufReader::with_capacity(alloc, CHUNK, reader) {
+        Ok(mut input) => read_witness_from(alloc, &mut input),
+        Err(_) => Err(InputFault::NoMemory),
+    }
 }
 
 /// All bytes of the reader to its end. A fault of the reader of any kind, an interruption too, ends the reading.

@@ -1,19 +1,20 @@
 ghost use Rattle.std.specs.Prelude.{◌≡◌, ◌≢◌, ◌≤◌, ℕ, IfOk, IsErrOf, MatchResult, take};
 ghost use Rattle.std.specs.Io.KnownBytes.{Appends, Keeps};
-ghost use Rattle.report.specs.aids.Enough.{stream_fault};
+ghost use Rattle.report.specs.aids.Faults.{stream_fault};
 ghost use Rattle.report.specs.Bulk.{AnswersBulk};
 ghost use Rattle.report.specs.Verdict.{AnswersInput, HasAnswer, HasFront, IsAnswered, IsCutOff, VerifiesInputs, WitnessesInput};
 
 use crate::answer::Answer;
 use crate::bulk_answer::bulk_answer;
 use crate::check_answer::check_answer;
-use crate::input::{InputFault, read_all, read_enough};
+use crate::input::read_all;
 use crate::output::write_text;
 use crate::status::Status;
 use crate::stream_fault::StreamFault;
 use crate::unanswered::Unanswered;
 use crate::verify_input::verify_input;
 use crate::witness_answer::witness_answer;
+use api_lines::InputFault;
 use doc_register::Conflicts;
 use std::alloc::Global;
 use std::io::{Read, Write};
@@ -87,12 +88,9 @@ pub fn check_stream<T: Threads + Wait + Sync, R: Read, W: Write>(
     ensures worker_lost { (doc : ℕ) → IsErrOf result (StreamFault.Worker doc)
         → Keeps (W.contents writer.old) (W.contents writer.new) }
 {
-    let bytes = match read_enough(alloc, reader) {
-        Ok(bytes) => bytes,
-        Err(fault) => return Err(fault_of(fault)),
-    };
-    match check_answer(rt, alloc, bytes, workers, conflicts) {
+    match check_answer(rt, alloc, reader, workers, conflicts) {
         Ok(answer) => write_answer(writer, &answer),
+        Err(Unanswered::Read) => Err(StreamFault::Read),
         Err(Unanswered::NoMemory) => Err(StreamFault::NoMemory),
         Err(Unanswered::Worker(doc)) => Err(StreamFault::Worker(doc)),
     }
@@ -120,13 +118,9 @@ pub fn witness_stream<R: Read, W: Write>(
     ensures no_memory { IsErrOf result StreamFault.NoMemory → Keeps (W.contents writer.old)
         (W.contents writer.new) }
 {
-    let bytes = match read_enough(alloc, reader) {
-        Ok(bytes) => bytes,
-        Err(fault) => return Err(fault_of(fault)),
-    };
-    match witness_answer(alloc, bytes, conflicts) {
+    match witness_answer(alloc, reader, conflicts) {
         Ok(answer) => write_answer(writer, &answer),
-        Err(_) => Err(StreamFault::NoMemory),
+        Err(fault) => Err(fault_of(fault)),
     }
 }
 
@@ -156,11 +150,7 @@ pub fn verify_stream<R: Read, Q: Read, W: Write>(
     ensures no_memory { IsErrOf result StreamFault.NoMemory → Keeps (W.contents writer.old)
         (W.contents writer.new) }
 {
-    let bytes = match read_enough(alloc, history) {
-        Ok(bytes) => bytes,
-        Err(fault) => return Err(fault_of(fault)),
-    };
-    match verify_input(alloc, bytes, witness, conflicts) {
+    match verify_input(alloc, history, witness, conflicts) {
         Ok(answer) => write_answer(writer, &answer),
         Err(fault) => Err(fault_of(fault)),
     }

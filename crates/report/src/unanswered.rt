@@ -1,8 +1,11 @@
+use api_lines::InputFault;
 use std::alloc::AllocError;
 
 /// Why a text has no answer.
 #[derive(Clone, Copy, Debug, PartialEq, Eq)]
 pub enum Unanswered {
+    /// The reader failed.
+    Read,
     /// A growth was refused memory.
     NoMemory,
     /// A worker gave no answer for the document of this number, or not just one for it.
@@ -17,5 +20,14 @@ impl From<AllocError> for Unanswered {
 
     fn from(_refused: AllocError) -> Unanswered {
         Unanswered::NoMemory
+    }
+}
+
+impl From<InputFault> for Unanswered {
+    fn from(fault: InputFault) -> Unanswered {
+        match fault {
+            InputFault::Read => Unanswered::Read,
+            InputFault::NoMemory => Unanswered::NoMemory,
+        }
     }
 }

@@ -11,13 +11,13 @@ use crate::answer::Answer;
 use crate::broken_line::fault_line;
 use crate::cause_name::cause_name;
 use crate::status::Status;
-use api_lines::{ReadFault, TextFault};
+use api_lines::TextFault;
 use compose::{Counts, VerifyFault, verify};
 use doc_register::Conflicts;
 use history::History;
 use std::alloc::{AllocError, Global};
 use version_pair::{DocId, NoMemory};
-use witness::{Place, read_witness};
+use witness::Place;
 
 // The answer that a witness covers a history with these counts.
 fn verified(alloc: Global, counts: Counts) -> Result<Answer, NoMemory>
@@ -57,8 +57,8 @@ pub fn refused_history(alloc: Global, fault: TextFault) -> Result<Answer, NoMemo
     Ok(Answer::of(Status::Refused, line))
 }
 
-// The answer to a witness text that was refused.
-fn refused_witness(alloc: Global, fault: TextFault) -> Result<Answer, NoMemory>
+/// The answer to a witness text that was refused.
+pub fn refused_witness(alloc: Global, fault: TextFault) -> Result<Answer, NoMemory>
     ensures line { IfOk result (λ answer. answer.text.items
         ≡ refused_file_line (codes "witness") fault.line fault.cause) }
     ensures answers { IfOk result (λ answer. (mode : Mode) (history witness : List ℕ)
@@ -71,8 +71,8 @@ fn refused_witness(alloc: Global, fault: TextFault) -> Result<Answer, NoMemory>
     Ok(Answer::of(Status::Refused, line))
 }
 
-// The answer to entries that were read, for this history.
-fn entries_answer(
+/// The answer to entries that were read, for this history.
+pub fn entries_answer(
     alloc: Global,
     history: History,
     entries: Vec<(DocId, Vec<Place>)>,
@@ -94,30 +94,5 @@ fn entries_answer(
                 Ok(answer)
             }
         },
-    }
-}
-
-/// The answer to a witness text, for this history. The text is let go once it is read.
-pub fn verify_answer(
-    alloc: Global,
-    history: History,
-    text: Vec<u8>,
-    conflicts: Conflicts,
-) -> Result<Answer, NoMemory>
-    ensures { IfOk result (λ answer. (input : List ℕ) → IsHistoryText input history
-        → IsVerifyAnswer conflicts input text.items answer.status answer.text.items) }
-{
-    let found = read_witness(alloc, &text);
-    drop(text);
-    match found {
-        Ok(entries) => {
-            let answer = entries_answer(alloc, history, entries, conflicts)?;
-            Ok(answer)
-        }
-        Err(ReadFault::Text(fault)) => {
-            let answer = refused_witness(alloc, fault)?;
-            Ok(answer)
-        }
-        Err(ReadFault::NoMemory) => Err(AllocError),
     }
 }

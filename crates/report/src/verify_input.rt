@@ -1,13 +1,13 @@
 ghost use Rattle.std.specs.Prelude.{IfOk, IfSome, ℕ, List};
 ghost use Rattle.history.specs.Text.{IsHistoryText};
-ghost use Rattle.report.specs.Verdict.{IsVerifyAnswer};
+ghost use Rattle.report.specs.Verdict.{IsVerifyAnswer, VerifiesInputs};
 
 use crate::answer::Answer;
-use crate::input::{InputFault, read_enough};
-use crate::verify_answer::{refused_history, verify_answer};
-use api_lines::ReadFault;
+use crate::input::{read_entries, read_history};
+use crate::verify_answer::{entries_answer, refused_history, refused_witness};
+use api_lines::InputFault;
 use doc_register::Conflicts;
-use history::{History, read};
+use history::History;
 use std::alloc::Global;
 use std::io::Read;
 
@@ -22,35 +22,36 @@ fn read_witness_answer<Q: Read>(
         → IfSome (Q.remaining witness.old) (λ w. IsVerifyAnswer conflicts input w answer.status
         answer.text.items)) }
 {
-    let bytes = match read_enough(alloc, witness) {
-        Ok(bytes) => bytes,
-        Err(fault) => return Err(fault),
-    };
-    match verify_answer(alloc, history, bytes, conflicts) {
-        Ok(answer) => Ok(answer),
-        Err(_) => Err(InputFault::NoMemory),
+    match read_entries(alloc, witness) {
+        Ok(Ok(entries)) => {
+            let answer = entries_answer(alloc, history, entries, conflicts)?;
+            Ok(answer)
+        }
+        Ok(Err(fault)) => {
+            let answer = refused_witness(alloc, fault)?;
+            Ok(answer)
+        }
+        Err(fault) => Err(fault),
     }
 }
 
-/// The answer to a history's text and the witness text of a reader: whether the one's documents are covered by the
-/// other's entries. The witness is not read where the history's text is refused, and that text is let go before it is.
-pub fn verify_input<Q: Read>(
+/// The answer to the history's text of one reader and the witness text of another: whether the one's documents are covered by
+/// the other's entries. The witness is not read where the history's text is refused.
+pub fn verify_input<R: Read, Q: Read>(
     alloc: Global,
-    text: Vec<u8>,
+    history: &mut R,
     witness: &mut Q,
     conflicts: Conflicts,
 ) -> Result<Answer, InputFault>
-    ensures { IfOk result (λ answer. IfSome (Q.remaining witness.old)
-        (λ w. IsVerifyAnswer conflicts text.items w answer.status answer.text.items)) }
+    ensures { IfOk result (λ answer. VerifiesInputs conflicts (R.remaining history.old)
+        (Q.remaining witness.old) answer.status answer.text.items) }
 {
-    let found = read(alloc, &text);
-    drop(text);
-    match found {
-        Ok(history) => read_witness_answer(alloc, history, witness, conflicts),
-        Err(ReadFault::Text(fault)) => match refused_history(alloc, fault) {
-            Ok(answer) => Ok(answer),
-            Err(_) => Err(InputFault::NoMemory),
-        },
-        Err(ReadFault::NoMemory) => Err(InputFault::NoMemory),
+    match read_history(alloc, history) {
+        Ok(Ok(found)) => read_witness_answer(alloc, found, witness, conflicts),
+        Ok(Err(fault)) => {
+            let answer = refused_history(alloc, fault)?;
+            Ok(answer)
+        }
+        Err(fault) => Err(fault),
     }
 }

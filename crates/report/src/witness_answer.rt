@@ -1,15 +1,17 @@
 ghost use Rattle.std.specs.Prelude.{◌≡◌, IfOk, ℕ, List};
 ghost use Rattle.history.specs.Text.{IsHistoryText};
-ghost use Rattle.report.specs.Verdict.{IsWitnessAnswer};
+ghost use Rattle.report.specs.Verdict.{IsWitnessAnswer, WitnessesInput};
 
 use crate::answer::Answer;
 use crate::check_answer::{case_answer, refusal};
+use crate::input::read_history;
 use crate::status::Status;
-use api_lines::ReadFault;
+use api_lines::InputFault;
 use compose::{Verdict, check_alone};
 use doc_register::Conflicts;
-use history::{History, read};
+use history::History;
 use std::alloc::{AllocError, Global};
+use std::io::Read;
 use version_pair::NoMemory;
 use witness::write_witness;
 
@@ -38,24 +40,24 @@ fn history_witness(
     }
 }
 
-/// The witness of the history that a text is of, as a text; or the answer of a check that is not yes. The text that is read
-/// is let go once it is.
-pub fn witness_answer(
+/// The witness of the history whose text a reader has, as a text; or the answer of a check that is not yes.
+pub fn witness_answer<R: Read>(
     alloc: Global,
-    text: Vec<u8>,
+    reader: &mut R,
     conflicts: Conflicts,
-) -> Result<Answer, NoMemory>
-    ensures { IfOk result (λ answer. IsWitnessAnswer conflicts text.items answer.status
+) -> Result<Answer, InputFault>
+    ensures { IfOk result (λ answer. WitnessesInput conflicts (R.remaining reader.old) answer.status
         answer.text.items) }
 {
-    let found = read(alloc, &text);
-    drop(text);
-    match found {
-        Ok(history) => history_witness(alloc, history, conflicts),
-        Err(ReadFault::Text(fault)) => {
+    match read_history(alloc, reader) {
+        Ok(Ok(history)) => {
+            let answer = history_witness(alloc, history, conflicts)?;
+            Ok(answer)
+        }
+        Ok(Err(fault)) => {
             let answer = refusal(alloc, fault)?;
             Ok(answer)
         }
-        Err(ReadFault::NoMemory) => Err(AllocError),
+        Err(fault) => Err(fault),
     }
 }

@@ -1,20 +1,13 @@
 use Rattle.report.specs.Verdict.{WitnessesInput}
-use Rattle.report.proofs.AnswerLemmas.{witness_of_input}
 use Rattle.report.proofs.StreamLemmas.{wrote, wrote_front}
 use Rattle.report.proofs.streams.witness_stream.Goals as goal
 
-pub returns-in-Ok-witness_answer-clause-answered : goal.returns-in-Ok-witness_answer-clause-answered
-returns-in-Ok-witness_answer-clause-answered g c =
+pub returns-in-Ok-clause-answered : goal.returns-in-Ok-clause-answered
+returns-in-Ok-clause-answered g c =
     wrote c.write_answer.result (WitnessesInput c.args.conflicts (g.R.Read.remaining c.args.reader.now)) (g.W.Write.contents c.args.writer.now) (g.W.Write.contents c.write_answer.new.writer)
-    c.in-Ok-witness_answer.answer.status c.in-Ok-witness_answer.answer.text.items c.write_answer.ensures
-    (witness_of_input c.args.conflicts (g.R.Read.remaining c.args.reader.now) c.in-Ok.bytes.items c.in-Ok-witness_answer.answer.status
-    c.in-Ok-witness_answer.answer.text.items c.in-Ok.ensures
-    c.in-Ok-witness_answer.ensures)
+    c.in-Ok.answer.status c.in-Ok.answer.text.items c.write_answer.ensures c.in-Ok.ensures
 
-pub returns-in-Ok-witness_answer-clause-cut_off : goal.returns-in-Ok-witness_answer-clause-cut_off
-returns-in-Ok-witness_answer-clause-cut_off g c =
+pub returns-in-Ok-clause-cut_off : goal.returns-in-Ok-clause-cut_off
+returns-in-Ok-clause-cut_off g c =
     wrote_front c.write_answer.result (WitnessesInput c.args.conflicts (g.R.Read.remaining c.args.reader.now)) (g.W.Write.contents c.args.writer.now) (g.W.Write.contents c.write_answer.new.writer)
-    c.in-Ok-witness_answer.answer.status c.in-Ok-witness_answer.answer.text.items c.write_answer.ensures
-    (witness_of_input c.args.conflicts (g.R.Read.remaining c.args.reader.now) c.in-Ok.bytes.items c.in-Ok-witness_answer.answer.status
-    c.in-Ok-witness_answer.answer.text.items c.in-Ok.ensures
-    c.in-Ok-witness_answer.ensures)
+    c.in-Ok.answer.status c.in-Ok.answer.text.items c.write_answer.ensures c.in-Ok.ensures

@@ -1,7 +1,18 @@
-use Rattle.report.proofs.AnswerLemmas.{verify_input}
+use Rattle.std.proofs.Common.{◌≡◌, subst, Ok, Err, map}
+use Rattle.std.specs.Prelude.{IfSome, MatchResult}
+use Rattle.witness.specs.Documents.{doc_places}
+use Rattle.witness.specs.Text.{witness_text}
+use Rattle.report.proofs.AnswerLemmas.{if_each}
 use Rattle.report.proofs.verify_input.read_witness_answer.Goals as goal
 
-pub returns-in-Ok-verify_answer : goal.returns-in-Ok-verify_answer
-returns-in-Ok-verify_answer g c = λ input is.
-    verify_input c.args.conflicts input c.in-Ok.bytes.items (g.Q.Read.remaining c.args.witness.now) c.in-Ok-verify_answer.answer.status c.in-Ok-verify_answer.answer.text.items c.in-Ok.ensures
-    (c.in-Ok-verify_answer.ensures input is)
+pub returns-in_ok-answer-in-Ok-Ok : goal.returns-in_ok-answer-in-Ok-Ok
+returns-in_ok-answer-in-Ok-Ok g c = λ history is.
+    let input = g.Q.Read.remaining c.args.witness.now in
+    let read = subst (λ told. IfSome input (λ text. MatchResult told (λ es. witness_text text ≡ Ok (map doc_places es.items)) (λ f. witness_text text ≡ Err f))) c.in-Ok-Ok.field-0-is c.in-Ok-Ok.ensures in
+    if_each input read (λ witness reads. c.in_ok-answer-in-Ok-Ok.ensures history witness is reads)
+
+pub returns-in_ok-answer-in-Ok-Err : goal.returns-in_ok-answer-in-Ok-Err
+returns-in_ok-answer-in-Ok-Err g c = λ history is.
+    let input = g.Q.Read.remaining c.args.witness.now in
+    let read = subst (λ told. IfSome input (λ text. MatchResult told (λ es. witness_text text ≡ Ok (map doc_places es.items)) (λ f. witness_text text ≡ Err f))) c.in-Ok-Err.field-0-is c.in-Ok-Err.ensures in
+    if_each input read (λ witness told. c.in_ok-answer-in-Ok-Err.ensures.answers c.args.conflicts history witness (c.args.history, is) told)

@@ -36,7 +36,7 @@ fn reads<T: Abort + Threads + Wait + Sync>(
     Ok(())
 }
 
-// A check has read to the end before it judges.
+// A history that is taken is read to its end before it is judged.
 #[test]
 fn a_read_fails(rt: HostRuntime) -> Result<(), Fail> {
     for (text, at) in [
@@ -49,6 +49,25 @@ fn a_read_fails(rt: HostRuntime) -> Result<(), Fail> {
             let front = given(text, at, true);
             reads(&rt, rt.alloc(), stream, front, given("", 0, false), UNREAD)?;
         }
+    }
+    Ok(())
+}
+
+// What comes after the line that is refused is not read.
+#[test]
+fn a_read_after_the_refused_line_is_not_made(rt: HostRuntime) -> Result<(), Fail> {
+    let line = (Ok(Status::Refused), "refused line=3 cause=ended\n");
+    let file_line = (
+        Ok(Status::Refused),
+        "refused file=history line=3 cause=ended\n",
+    );
+    for (stream, wanted) in [
+        (PLAIN_CHECK, line),
+        (PLAIN_WITNESS, line),
+        (PLAIN_VERIFY, file_line),
+    ] {
+        let text = given(texts::SECOND_REPLY, usize::MAX, true);
+        reads(&rt, rt.alloc(), stream, text, given("", 0, true), wanted)?;
     }
     Ok(())
 }

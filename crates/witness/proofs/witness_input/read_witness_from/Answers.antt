@@ -24,7 +24,7 @@ returns-in-Err-Text g c =
     on_stop takes_value [] (g.B.Read.remaining c.args.input.now) (g.B.Read.remaining c.loop-line.input) (g.B.Read.remaining c.next_line.new.reader) c.next_line.new.line.items
     c.loop-line.reader (refusal.Text c.in-Err-Text.fault) c.loop-line.invariant c.in_ok-next_line.ensures.unfed (c.in_ok-next_line.ensures.more (ap (λ b. Ok b) c.if-branch.true))
     (subst (λ l. next_line takes_value c.loop-line.reader l ≡ Err c.in-Err-Text.fault) c.deref.ensures.value
-        (subst (λ f. IfTextTold f (λ told. next_line takes_value c.loop-line.reader c.deref.result.now ≡ Err told)) c.in-Err-Text.field-0-is c.in-Err-Text.ensures.fault))
+    (subst (λ f. IfTextTold f (λ told. next_line takes_value c.loop-line.reader c.deref.result.now ≡ Err told)) c.in-Err-Text.field-0-is c.in-Err-Text.ensures.fault))
 
 pub returns : goal.returns
 returns g c =

@@ -1,0 +1,20 @@
+use Rattle.std.proofs.Common.{◌≡◌, subst, Ok, Err}
+use Rattle.std.proofs.lemmas.Result.{IfOk-weaker}
+use Rattle.std.specs.Prelude.{IfOk, IfSome, MatchResult}
+use Rattle.history.specs.Reading.{history_text}
+use Rattle.history.specs.Text.{IsHistoryText}
+use Rattle.report.proofs.AnswerLemmas.{if_any, if_each}
+use Rattle.report.proofs.verify_input.verify_input.Goals as goal
+
+pub returns-in-Ok-Ok : goal.returns-in-Ok-Ok
+returns-in-Ok-Ok g c =
+    let input = g.R.Read.remaining c.args.history.now in
+    let read = subst (λ told. IfSome input (λ text. IfOk told (IsHistoryText text))) c.in-Ok-Ok.field-0-is c.in-Ok-Ok.ensures.text in
+    IfOk-weaker c.read_witness_answer.result _ _ (λ answer each. if_each input read each) c.read_witness_answer.ensures
+
+pub returns-in_ok-answer-in-Ok-Err : goal.returns-in_ok-answer-in-Ok-Err
+returns-in_ok-answer-in-Ok-Err g c =
+    let input = g.R.Read.remaining c.args.history.now in
+    let read = subst (λ told. IfSome input (λ text. MatchResult told (λ h. history_text text ≡ Ok h) (λ f. history_text text ≡ Err f))) c.in-Ok-Err.field-0-is c.in-Ok-Err.ensures.told in
+    if_each input read (λ history told.
+    if_any (g.Q.Read.remaining c.args.witness.now) (λ witness. c.in_ok-answer-in-Ok-Err.ensures.answers c.args.conflicts history witness told))
