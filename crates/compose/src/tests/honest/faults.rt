@@ -64,21 +64,22 @@ fn operation_of(history: &History, no: u64) -> Option<Op> {
     }
 }
 
-// The event once more, with another reply where one is given.
-fn copied(event: &Event, other: Option<Reply>) -> Result<Event, Fail> {
-    Ok(match event {
-        Event::Call { no, shard, id, op } => Event::Call {
+// Adds the event of a recording, all of whose documents are of one shard, with another reply where one is given.
+fn push_copy(history: &mut History, event: &Event, other: Option<Reply>) -> Result<(), Fail> {
+    match event {
+        Event::Call { no, id, op, .. } => history.push(Event::Call {
             no: *no,
-            shard: *shard,
+            shard: 0,
             id: id.copy()?,
             op: *op,
-        },
-        Event::Reply { no, reply } => Event::Reply {
+        })?,
+        Event::Reply { no, reply } => history.push(Event::Reply {
             no: *no,
             reply: other.unwrap_or(*reply),
-        },
-        Event::Lost { no } => Event::Lost { no: *no },
-    })
+        })?,
+        Event::Lost { no } => history.push(Event::Lost { no: *no })?,
+    }
+    Ok(())
 }
 
 // The reply at the place with its fault, where there is one that can have it.
@@ -108,7 +109,7 @@ fn with_fault(
             reply = changed_at(history, place, fault);
             is_changed = reply.is_some();
         }
-        other.push(copied(history.event(place), reply)?)?;
+        push_copy(&mut other, history.event(place), reply)?;
     }
     if is_changed {
         Ok(Some(other))
