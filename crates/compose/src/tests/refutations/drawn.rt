@@ -470,13 +470,13 @@ fn tried(rt: &impl Abort, alloc: Global, seed: u64, kind: u64) -> Result<bool, F
 fn drawn_histories_with_a_fault(rt: HostRuntime) -> Result<(), Fail> {
     for kind in 0..5 {
         let mut faults: usize = 0;
-        for number in 0..75 {
-            let seed = kind * 75 + number;
-            if tried(&rt, rt.alloc(), seed, kind)? {
+        for number in 0..150 {
+            let seed = kind * 150 + number;
+            if faults < 75 && tried(&rt, rt.alloc(), seed, kind)? {
                 faults = faults.saturating_add(1);
             }
         }
-        assert!(rt; faults >= 45, "{faults} faults of kind {kind}");
+        assert_eq!(rt; faults, 75, "faults of kind {kind}");
     }
     Ok(())
 }
