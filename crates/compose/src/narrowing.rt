@@ -102,19 +102,20 @@ fn first_failing_of(
     }
 }
 
-// The place of the reply at which the search for the only document seems to fail first: it fails on all of them.
+// The place of the reply at which the search for the only document seems to fail first, where it fails on these events.
 fn first_failing_alone(
     alloc: Global,
-    history: &History,
+    front: &Front<'_>,
     conflicts: Conflicts,
-) -> Result<Option<usize>, NoMemory>
-    requires { 0 < length (documents_of history.now) }
-{
-    let records = history.records(0)?;
+) -> Result<Option<usize>, NoMemory> {
+    if front.docs() == 0 {
+        return Ok(None);
+    }
+    let records = front.records(0)?;
     let unordered = Unordered {
-        id: history.doc(0),
+        id: front.doc(0),
         records: &records,
-        seen: history.seen(),
+        seen: front.seen(),
         conflicts,
     };
     unordered.first_failing(alloc)
@@ -132,16 +133,17 @@ fn front_to(history: &History, place: Option<usize>) -> Front<'_> {
 /// each document has an order of the events before that; of a history without a suspect it may be `None`.
 ///
 /// Each document is searched once, on the events before the place that the ones before it gave, and where it has no order its
-/// replies are halved, on windows of its calls; all windows together cost about one search more. Nothing is promised of the
-/// place: what came before a window is only told in short.
+/// replies are halved, on windows of its calls; all windows together cost about one search more. The only document of a
+/// history is halved at once. Nothing is promised of the place: what came before a window is only told in short.
 pub fn narrowed(
     alloc: Global,
     case: &Case,
     suspect: Option<usize>,
 ) -> Result<Option<usize>, NoMemory> {
     let (history, conflicts) = (case.history(), case.conflicts());
-    if suspect.is_none() && history.docs() == 1 {
-        return first_failing_alone(alloc, history, conflicts);
+    if history.docs() == 1 {
+        let end = suspect.map(|place| place.saturating_add(1));
+        return first_failing_alone(alloc, &front_to(history, end), conflicts);
     }
     let seen = history.seen();
     let mut first = suspect;
