@@ -136,6 +136,18 @@ fn faulty(alloc: Global, seed: u64, docs: usize, fault: Fault) -> Result<Option<
     with_fault(alloc, &history, half, fault)
 }
 
+// The case of a history without an order.
+fn case_of(alloc: Global, history: History) -> Result<Option<Case>, Fail> {
+    let verdict = match check_alone(alloc, history, Conflicts::Plain) {
+        Ok(verdict) => verdict,
+        Err(_) => Err("no memory")?,
+    };
+    match verdict {
+        Verdict::Yes(_) => Ok(None),
+        Verdict::No(case) => Ok(Some(case)),
+    }
+}
+
 // Of so many recordings with the fault those without an order, and those of them in which the guess is right.
 fn guessed(alloc: Global, docs: usize, fault: Fault) -> Result<(usize, usize), Fail> {
     let (mut wrong, mut right) = (0usize, 0usize);
@@ -143,10 +155,8 @@ fn guessed(alloc: Global, docs: usize, fault: Fault) -> Result<(usize, usize), F
         let Some(history) = faulty(alloc, seed, docs, fault)? else {
             continue;
         };
-        let case = match check_alone(alloc, history, Conflicts::Plain) {
-            Ok(Verdict::No(case)) => case,
-            Ok(Verdict::Yes(_)) => continue,
-            Err(_) => Err("no memory")?,
+        let Some(case) = case_of(alloc, history)? else {
+            continue;
         };
         wrong = wrong.saturating_add(1);
         if let Some(place) = narrowed(alloc, &case, None)? {
