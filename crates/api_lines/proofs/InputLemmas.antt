@@ -1,23 +1,21 @@
 -- Lines that are taken from a reader's bytes, and the text of all bytes.
-use Rattle.std.proofs.Common.{ℕ, ◌≡◌, ◌≢◌, ◌<◌, ◌≤◌, ◌+◌, Bool, List, [], ◌∷◌, ◌++◌, length, take, refl, sym, ap, subst, ◌∙◌, arith, get_or, get_or-take, length-take-le, length-append, append_assoc, append-nil, eq-eqb, ne_eqb, Option, None, Some, IfSome, Ok, Err, Result, inl, inr}
-use Rattle.std.specs.Prelude.{◌==◌, if◌then◌else◌, nat_lt}
-use Rattle.std.proofs.lemmas.Bool.{lt-ltb, or_from}
+use Rattle.std.proofs.Common.{ℕ, ◌≡◌, ◌≢◌, ◌<◌, ◌≤◌, ◌+◌, List, [], ◌∷◌, ◌++◌, length, take, refl, sym, ap, ◌∙◌, arith, get_or, get_or-take, length-take-le, length-append, append_assoc, append-nil, eq-eqb, ne_eqb, Option, None, Some, IfSome, Ok, Err, Result, inl, inr}
+use Rattle.std.specs.Prelude.{◌==◌}
+use Rattle.std.proofs.lemmas.Bool.{or_from}
 use Rattle.std.proofs.lemmas.List.{get_or_default}
 use Rattle.std.proofs.lemmas.List.Elements.{All-head, All-tail}
 use Rattle.std.specs.Io.KnownBytes.{IsAtEnd}
 use Rattle.memchr.specs.Find.{Nowhere, Passes, is_byte}
 use Rattle.serde_json.specs.Data.{Data}
-use Rattle.api_lines.specs.Faults.{IfTextTold, ◌>>=◌}
-use Rattle.api_lines.specs.Json.{json_value}
-use Rattle.api_lines.specs.Lines.{HasNoLineFeed, has_line_feed, is_blank, lines_of, longest_line, most_lines}
+use Rattle.api_lines.specs.Faults.{IfTextTold}
+use Rattle.api_lines.specs.Lines.{HasNoLineFeed, has_line_feed, lines_of, longest_line, most_lines}
 use Rattle.api_lines.specs.Sources.{EndsLine, HasNoFeed}
-use Rattle.api_lines.specs.Texts.{SoFar, after_line, line_given, next_line, read_line, read_lines, so_far, taken, value_given}
+use Rattle.api_lines.specs.Texts.{SoFar, after_line, line_given, next_line, read_line, read_lines, so_far, taken}
 use Rattle.api_lines.specs.declared.text_fault.ReadFault.{ReadFault}
 use Rattle.api_lines.specs.declared.text_fault.ReadFault.TheVariants as refusal
 use Rattle.api_lines.specs.declared.text_fault.TextCause.{TextCause}
-use Rattle.api_lines.specs.declared.text_fault.TextCause.TheVariants.{Lines, Long}
 use Rattle.api_lines.specs.declared.text_fault.TextFault.{TextFault}
-use Rattle.api_lines.proofs.LineByLine.{last_line, open_line, taken_more, taken_until}
+use Rattle.api_lines.proofs.LineByLine.{last_line, long_stops, open_line, taken_more, taken_until}
 use Rattle.api_lines.proofs.ReadingLemmas.{IsReadUpTo, first_ok, given_within, read_all, read_none, read_refused}
 use Rattle.api_lines.proofs.WrittenLines.{one_line}
 
@@ -39,17 +37,11 @@ feedless (b ∷ bytes) unfed =
 
 -- ---- a line that is too long
 
-long_given : (n : ℕ) (line : List ℕ) → longest_line < length line → line_given n line ≡ (if nat_lt most_lines n then Err Lines else Err Long)
-long_given n line long =
-    ap (λ (t : Bool). if nat_lt most_lines n then Err Lines else (if t then Err Long else (if is_blank line then Ok None else value_given (json_value line))))
-    (lt-ltb longest_line (length line) long)
-
 -- it is refused as any front of it that is too long
 long_refused : {S : Type 0} (takes : S → Data → Result S TextCause) (n : ℕ) (s : S) (line more : List ℕ) (cause : TextCause)
     → longest_line < length line → read_line takes n s line ≡ Err cause → read_line takes n s (line ++ more) ≡ Err cause
 long_refused takes n s line more cause long refused =
-    let longer : longest_line < length (line ++ more) = omega (arith, long, length-append line more) in
-    subst (λ given. (given >>= taken takes s) ≡ Err cause) (long_given n line long ∙ sym (long_given n (line ++ more) longer)) refused
+    long_stops takes n s (line ++ more) (omega (arith, long, length-append line more)) ∙ (sym (long_stops takes n s line long) ∙ refused)
 
 -- a line that is taken is none
 taken_short : {S : Type 0} (takes : S → Data → Result S TextCause) (r q : SoFar S) (line : List ℕ) → next_line takes r line ≡ Ok q → length line ≤ longest_line

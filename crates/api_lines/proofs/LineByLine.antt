@@ -130,7 +130,7 @@ stops_there {S} takes r line lines told = by_line (read_line takes (r.lines + 1)
   by_line (Err cause) is = cc
 
 -- a line that is too long is refused, and so is each that begins with it
-long_stops : {S : Type 0} (takes : S → Data → Result S TextCause) (n : ℕ) (s : S) (line : List ℕ) → longest_line < length line
+pub long_stops : {S : Type 0} (takes : S → Data → Result S TextCause) (n : ℕ) (s : S) (line : List ℕ) → longest_line < length line
     → read_line takes n s line ≡ Err (if nat_lt most_lines n then Lines else Long)
 long_stops takes n s line long = by_number (nat_lt most_lines n) refl where
   by_number : (b : Bool) → nat_lt most_lines n ≡ b → read_line takes n s line ≡ Err (if b then Lines else Long)
