@@ -3,6 +3,7 @@ mod EventLemmas
 pub mod HistoryLemmas
 mod IndexLemmas
 pub mod DocumentLemmas
+mod CallPlaceLemmas
 mod PushLemmas
 mod TextLemmas
 mod RecordLemmas

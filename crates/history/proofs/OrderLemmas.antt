@@ -1,17 +1,17 @@
 -- The order of the replies explains a history that is plainly right; and the order of no call one without a document.
-use Rattle.std.proofs.Common.{ℕ, ◌≡◌, ◌<◌, List, [], refl, sym, ap, subst, ◌∙◌, arith, Option, Some, None, slice_get, true, false}
+use Rattle.std.proofs.Common.{ℕ, ◌≡◌, ◌<◌, List, refl, sym, ap, subst, ◌∙◌, arith, Option, Some, None, slice_get, true, false}
 use Rattle.std.specs.Prelude.{option_and_then}
 use Rattle.std.proofs.lemmas.Bool.{eqb-true}
 use Rattle.doc_register.specs.declared.reply.Reply.{Reply as Answer}
 use Rattle.doc_register.specs.declared.state.Conflicts.{Conflicts}
-use Rattle.doc_register.specs.Run.{IsLegalRun, start}
+use Rattle.doc_register.specs.Run.{IsLegalRun}
 use Rattle.history.specs.declared.event.Event.{Event}
 use Rattle.history.specs.declared.event.Event.TheVariants.{Call, Reply, Lost}
-use Rattle.history.specs.Events.{IsHistory, IsReplyAt, PassesAt, documents_of, is_call, is_ending, place_of}
+use Rattle.history.specs.Events.{IsHistory, IsReplyAt, PassesAt, is_call, is_ending, place_of}
 use Rattle.history.specs.Order.{Explains, IsOfCall, Placed, Respects, answered_by, call_with, placed_with, reply_order, run_of}
 use Rattle.history.proofs.ListLemmas.{IsMadeAt, compare, kept_at, kept_in_order, made_in_order, made_of, none_is_not_some, same_some}
 use Rattle.history.proofs.EventLemmas.{passes_element, place_of-passes, place_of-some}
-use Rattle.history.proofs.HistoryLemmas.{answered_call, reply_passes}
+use Rattle.history.proofs.HistoryLemmas.{reply_passes}
 
 -- ---- the calls that replies answer
 

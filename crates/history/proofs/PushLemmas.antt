@@ -14,6 +14,7 @@ use Rattle.history.specs.declared.fault.HistFault.{HistFault}
 use Rattle.history.specs.declared.fault.HistFault.TheVariants.{SecondCall, NoCall, Ended, Kind, Full, ShardMoved}
 use Rattle.history.specs.Events.{IsCallAt, IsHistory, PassesAt, documents_of, is_call, is_call_of, is_ending, is_same, place_of, places_from, with_document, with_event}
 use Rattle.api_lines.specs.declared.history_line.TheConstants.{SHARDS}
+use Rattle.history.specs.aids.CallPlaces.{AreFoundAlike}
 use Rattle.history.specs.aids.Indexes.{AreIndexed, IsEndingOf, IsNotedAt, calls_at, with_listed}
 use Rattle.history.specs.Refusal.{is_moved, most_events, op_named, op_of, refusal_of, shard_named, shard_of, when_ended, when_full}
 use Rattle.history.proofs.EventLemmas.{passes_element, element_passes, place_of-passes, place_of-none, place_of-some}
@@ -251,6 +252,22 @@ indexed_after_ending H (Lost n) c calls es docs ls old ends accepted =
     (longer H (Lost n) (when_full_room H first.1))
 
 -- the same as the code meets it: the parts after the event, by what they are
+-- entries that are found alike serve as well
+pub indexed_alike : (H : List Event) (calls fs : List (ℕ × ℕ)) (es : List (Option ℕ)) (docs : List (List ℕ × ℕ)) (ls : List (List ℕ))
+    → AreIndexed H calls es docs ls → AreFoundAlike calls fs → AreIndexed H fs es docs ls
+indexed_alike H calls fs es docs ls old alike = record {
+  history = old.history;
+  few = old.few;
+  calls_found = λ n. alike n ∙ old.calls_found n;
+  endings_size = old.endings_size;
+  endings_found = old.endings_found;
+  endings_within = old.endings_within;
+  shards_found = old.shards_found;
+  in_order = old.in_order;
+  lists_size = old.lists_size;
+  lists_found = old.lists_found;
+}
+
 pub indexed_by_call : (H : List Event) (calls : List (ℕ × ℕ)) (es : List (Option ℕ)) (docs : List (List ℕ × ℕ)) (ls : List (List ℕ)) (n h : ℕ) (d : List ℕ) (op : Op)
     (G : List Event) (fs : List (ℕ × ℕ)) (es' : List (Option ℕ)) (docs' : List (List ℕ × ℕ)) (ls' : List (List ℕ)) → AreIndexed H calls es docs ls
     → refusal_of H (Call n h d op) ≡ None → h < SHARDS → IsNotedAt n (length H) calls fs → G ≡ H ++ Call n h d op ∷ [] → es' ≡ es ++ None ∷ []

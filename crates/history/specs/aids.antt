@@ -1,3 +1,4 @@
+pub mod CallPlaces
 pub mod Fronts
 pub mod Indexes
 pub mod Taking

@@ -5,6 +5,7 @@ ghost use Rattle.history.specs.aids.Indexes.{calls_at};
 ghost use Rattle.history.specs.aids.Fronts.{when_below};
 
 use crate::event::Event;
+use crate::hash_keys::HashKeys;
 use crate::history::History;
 use std::alloc::Global;
 use std::marker::Model;
@@ -70,6 +71,11 @@ fn below(number: Option<usize>, bound: usize) -> Option<usize>
 }
 
 impl<'h> Front<'h> {
+    /// The keys of the hashes by which documents are found.
+    pub fn keys(&self) -> HashKeys {
+        self.history.keys()
+    }
+
     /// How many events there are, at most 1,048,576.
     pub fn len(&self) -> usize
         ensures count { result ≡ length self.now }

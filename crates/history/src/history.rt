@@ -5,9 +5,10 @@ ghost use Rattle.history.specs.Refusal.{most_events as limit, refusal_of, refusa
 ghost use Rattle.history.specs.aids.Fronts.{starts_below};
 ghost use Rattle.history.specs.aids.Indexes.{IsEndingOf, calls_at};
 
+use crate::call_places::CallPlaces;
 use crate::event::Event;
 use crate::fault::HistFault;
-use crate::noting::{note_document_call, note_place_in_room};
+use crate::hash_keys::HashKeys;
 use api_lines::SHARDS;
 use doc_register::Op;
 use indexmap::IndexMap;
@@ -26,11 +27,11 @@ pub const MOST_EVENTS: usize = 1_048_576;
 pub struct History {
     events: Vec<Event>,
     // The place of each call, by its number.
-    calls: IndexMap<u64, usize>,
+    calls: CallPlaces,
     // For each event the place of the ending of the call that stands there, where it is one and has one.
     endings: Vec<Option<usize>>,
     // The shard of each document, in the order of the first calls.
-    documents: IndexMap<DocId, u32>,
+    documents: IndexMap<DocId, u32, HashKeys>,
     // The places of each document's calls, the documents in the same order.
     document_calls: Vec<Vec<usize>>,
 }
@@ -45,23 +46,36 @@ impl Model for History {
 
     ghost view = { λ h. h.events.items };
 
-    ghost invariant = { λ h. AreIndexed h.events.items h.calls.entries h.endings.items h.documents.entries
+    ghost invariant = { λ h. AreIndexed h.events.items h.calls h.endings.items h.documents.entries
         (lists_in h.document_calls.items) };
 }
 
 impl History {
-    /// The history without events. It allocates nothing.
+    /// The history without events, whose documents are found by hashes with fixed keys. It allocates nothing.
     pub fn new(alloc: Global) -> History
+        ensures empty { result ≡ [] }
+        ensures history { IsHistory result }
+    {
+        History::with_keys(alloc, HashKeys::fixed())
+    }
+
+    /// The history without events, whose documents are found by hashes with these keys. It allocates nothing.
+    pub fn with_keys(alloc: Global, keys: HashKeys) -> History
         ensures empty { result ≡ [] }
         ensures history { IsHistory result }
     {
         History {
             events: Vec::new(alloc),
-            calls: IndexMap::new(alloc),
+            calls: CallPlaces::new(alloc),
             endings: Vec::new(alloc),
-            documents: IndexMap::new(alloc),
+            documents: IndexMap::with_hasher(alloc, keys),
             document_calls: Vec::new(alloc),
         }
+    }
+
+    /// The keys of the hashes by which documents are found.
+    pub fn keys(&self) -> HashKeys {
+        *self.documents.hasher()
     }
 
     /// How many events there are, at most 1,048,576.
@@ -93,7 +107,7 @@ impl History {
         ensures place { result ≡ place_of (is_call no) self.now }
         ensures within { IfSome result (λ place. place < length self.now) }
     {
-        self.calls.get(&no).copied()
+        self.calls.get(no)
     }
 
     /// The place of the ending of the call that stands at this place.
@@ -145,15 +159,14 @@ impl History {
         let place = self.events.len();
         self.events.reserve(1)?;
         self.endings.reserve(1)?;
-        self.calls.reserve(1)?;
-        note_document_call(
+        self.calls.note_call(
             &mut self.documents,
             &mut self.document_calls,
+            no,
             &id,
             shard,
             place,
         )?;
-        note_place_in_room(&mut self.calls, no, place);
         self.endings.push_reserved(None);
         self.events.push_reserved(Event::Call { no, shard, id, op });
         Ok(())

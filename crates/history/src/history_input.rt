@@ -2,6 +2,7 @@ ghost use Rattle.std.specs.Prelude.{◌≡◌, Err, IfOk, IfSome, MatchResult, O
 ghost use Rattle.history.specs.Reading.{history_text};
 ghost use Rattle.history.specs.Text.{IsHistoryText};
 
+use crate::hash_keys::HashKeys;
 use crate::history::History;
 use crate::reader::HistoryReader;
 use api_lines::{InputFault, ReadFault, TextFault, next_line};
@@ -11,9 +12,10 @@ use std::io::BufRead;
 /// The history whose text a reader has to its end; or the first line that is refused, with its first cause, as `read` tells
 /// them of the text. What comes after that line is not read.
 ///
-/// A line at most is held, and no more than 65,537 bytes of one.
+/// The history has these keys. A line at most is held, and no more than 65,537 bytes of one.
 pub fn read_from<B: BufRead>(
     alloc: Global,
+    keys: HashKeys,
     input: &mut B,
 ) -> Result<Result<History, TextFault>, InputFault>
     ensures told { IfOk result (λ told. IfSome (B.remaining input.old) (λ text. MatchResult told
@@ -22,7 +24,7 @@ pub fn read_from<B: BufRead>(
     ensures text { IfOk result (λ told. IfSome (B.remaining input.old)
         (λ text. IfOk told (IsHistoryText text))) }
 {
-    let mut reader = HistoryReader::new(alloc);
+    let mut reader = HistoryReader::with_keys(alloc, keys);
     let mut line = Vec::new(alloc);
     while next_line(input, &mut line)? {
         match reader.line(&line) {

@@ -2,9 +2,11 @@
 #![tactic(auto)]
 
 mod bulk_writer;
+mod call_places;
 mod event;
 mod fault;
 mod front;
+mod hash_keys;
 mod history;
 mod history_input;
 pub mod laws;
@@ -26,6 +28,7 @@ pub use bulk_writer::bulk_text;
 pub use event::Event;
 pub use fault::HistFault;
 pub use front::Front;
+pub use hash_keys::HashKeys;
 pub use history::{History, MOST_EVENTS};
 pub use history_input::read_from;
 pub use reader::{HistoryReader, read};

@@ -1,9 +1,9 @@
-ghost use Rattle.std.specs.Prelude.{◌≡◌, ◌<◌, ◌++◌, ◌∷◌, [], IfOk, OnOk, OnErr, false, is_some, length};
+ghost use Rattle.std.specs.Prelude.{◌≡◌, ◌++◌, ◌∷◌, [], IfOk, OnOk, OnErr, false, is_some, length};
 ghost use Rattle.std.specs.Map.{lookup};
-ghost use Rattle.indexmap.specs.IndexMap.{spare};
 ghost use Rattle.history.specs.Events.{is_same, with_document};
-ghost use Rattle.history.specs.aids.Indexes.{IsNotedAt, lists_in, with_listed};
+ghost use Rattle.history.specs.aids.Indexes.{lists_in, with_listed};
 
+use crate::hash_keys::HashKeys;
 use indexmap::IndexMap;
 use std::alloc::Global;
 use version_pair::{DocId, NoMemory};
@@ -19,7 +19,7 @@ fn list_of(alloc: Global, place: usize) -> Result<Vec<usize>, NoMemory>
 
 // Puts a document at the end of the documents, with the place of its first call.
 fn note_new_document(
-    documents: &mut IndexMap<DocId, u32>,
+    documents: &mut IndexMap<DocId, u32, HashKeys>,
     document_calls: &mut Vec<Vec<usize>>,
     id: &DocId,
     shard: u32,
@@ -44,7 +44,7 @@ fn note_new_document(
 /// Notes the place of a call among those of its document, which goes to the end of the documents unless it is there.
 /// Where memory is refused, nothing is noted.
 pub fn note_document_call(
-    documents: &mut IndexMap<DocId, u32>,
+    documents: &mut IndexMap<DocId, u32, HashKeys>,
     document_calls: &mut Vec<Vec<usize>>,
     id: &DocId,
     shard: u32,
@@ -63,16 +63,5 @@ pub fn note_document_call(
             Ok(())
         }
         None => note_new_document(documents, document_calls, id, shard, place),
-    }
-}
-
-/// Notes the place under the number of a call. There is room for it.
-pub fn note_place_in_room(places: &mut IndexMap<u64, usize>, no: u64, place: usize)
-    requires { 0 < spare places.old }
-    ensures { IsNotedAt no place places.old.entries places.new.entries }
-{
-    match places.insert(no, place) {
-        Ok(_) => {}
-        Err(_) => unreachable!(),
     }
 }

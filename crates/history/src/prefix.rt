@@ -49,7 +49,7 @@ impl History {
     pub fn prefix(&self, n: usize) -> Result<History, NoMemory>
         ensures { IfOk result (λ history. history ≡ first_events self.now n) }
     {
-        let mut history = History::new(self.allocator());
+        let mut history = History::with_keys(self.allocator(), self.keys());
         for place in 0..n.min(self.len()) {
             history.push_accepted(self.event(place).copy()?)?;
         }

@@ -6,6 +6,7 @@ ghost use Rattle.api_lines.specs.Texts.{next_line, read_line, so_far};
 ghost use Rattle.history.specs.Reading.{history_text, takes_line, takes_value};
 ghost use Rattle.history.specs.Text.{IsHistoryText};
 
+use crate::hash_keys::HashKeys;
 use crate::history::History;
 use crate::line_event::take_said;
 use api_lines::lines::first_line;
@@ -91,12 +92,19 @@ impl Model for HistoryReader {
 }
 
 impl HistoryReader {
-    /// The reader that has taken no line. It allocates nothing.
+    /// The reader that has taken no line, of a history with fixed keys. It allocates nothing.
     pub fn new(alloc: Global) -> HistoryReader
         ensures { result ≡ so_far [] 0 }
     {
+        HistoryReader::with_keys(alloc, HashKeys::fixed())
+    }
+
+    /// The reader that has taken no line, of a history with these keys. It allocates nothing.
+    pub fn with_keys(alloc: Global, keys: HashKeys) -> HistoryReader
+        ensures { result ≡ so_far [] 0 }
+    {
         HistoryReader {
-            history: History::new(alloc),
+            history: History::with_keys(alloc, keys),
             lines: 0,
         }
     }

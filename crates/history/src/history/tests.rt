@@ -270,3 +270,40 @@ fn records_of_two_documents(rt: HostRuntime) -> Result<(), Fail> {
     let history = history_of(rt.alloc(), THREE_CALLS)?;
     have_records(rt.alloc(), &history)
 }
+
+// Where the call with this number stands, and its ending, as `history` tells them.
+fn places_of(alloc: Global, history: &History, no: u64) -> Result<String, Fail> {
+    let call = history.call(no);
+    let ending = history.ending(no);
+    Ok(format!(in alloc; "{call:?} {ending:?}")?)
+}
+
+#[test]
+fn calls_are_found_whatever_their_numbers(rt: HostRuntime) -> Result<(), Fail> {
+    let mut history = History::with_keys(rt.alloc(), HashKeys::new(3, 5));
+    for step in [
+        "call 9 0 d get",
+        "call 4 0 d get",
+        "call 12 0 e get",
+        "call 0 0 d get",
+        "call 11 0 e get",
+        "reply 4 missing",
+        "lost 12",
+        "reply 0 missing",
+    ] {
+        is_pushed(rt.alloc(), &mut history, step, "Ok(())")?;
+    }
+    for (no, want) in [
+        (9, "Some(0) None"),
+        (4, "Some(1) Some(5)"),
+        (12, "Some(2) Some(6)"),
+        (0, "Some(3) Some(7)"),
+        (11, "Some(4) None"),
+        (1, "None None"),
+        (10, "None None"),
+        (13, "None None"),
+    ] {
+        same("a number", &places_of(rt.alloc(), &history, no)?, want)?;
+    }
+    Ok(())
+}

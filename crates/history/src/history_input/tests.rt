@@ -1,4 +1,5 @@
 use super::*;
+use crate::hash_keys::HashKeys;
 use crate::reader::read;
 use crate::testing::same;
 use std::io::BufReader;
@@ -20,7 +21,7 @@ const LINE_CUT_SHORT: &str = r#"{"e":"call","n":0,"i"#;
 // What is told of a text by a reader that has so many bytes at hand.
 fn told_from(alloc: Global, text: &str, at_hand: usize) -> Result<String, Fail> {
     let mut input = BufReader::with_capacity(alloc, at_hand, text.as_bytes())?;
-    match read_from(alloc, &mut input) {
+    match read_from(alloc, HashKeys::new(7, 11), &mut input) {
         Ok(Ok(history)) => Ok(format!(in alloc; "{history:?}")?),
         Ok(Err(TextFault { line, cause })) => Ok(format!(in alloc; "line {line}: {cause:?}")?),
         Err(_) => Err("no input".into()),

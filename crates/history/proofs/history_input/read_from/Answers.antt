@@ -11,7 +11,7 @@ use Rattle.history.proofs.TextLaws.{read_is_text}
 use Rattle.history.proofs.history_input.read_from.Goals as goal
 
 pub loop-line-init : goal.loop-line-init
-loop-line-init g c = rw c.new-reader.ensures (on_none takes_value [] (g.B.Read.remaining c.args.input.now))
+loop-line-init g c = rw c.with_keys-reader.ensures (on_none takes_value [] (g.B.Read.remaining c.args.input.now))
 
 pub line-requires : goal.line-requires
 line-requires g c = subst HasNoLineFeed (sym c.deref.ensures.value) (feedless c.next_line.new.line.items c.in_ok-next_line.ensures.unfed)

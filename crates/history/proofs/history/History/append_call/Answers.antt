@@ -1,26 +1,27 @@
 use Rattle.std.proofs.Common.{◌≡◌, [], ◌∷◌, ◌++◌, None, length, rules, subst}
 use Rattle.history.specs.declared.event.Event.TheVariants.{Call}
 use Rattle.history.specs.Events.{with_document}
+use Rattle.history.specs.aids.CallPlaces.{AreFoundAlike}
 use Rattle.history.specs.aids.Indexes.{AreIndexed, IsNotedAt, lists_in, with_listed}
-use Rattle.history.proofs.PushLemmas.{indexed_by_call}
+use Rattle.history.proofs.PushLemmas.{indexed_alike, indexed_by_call}
 use Rattle.history.proofs.history.History.append_call.Goals as goal
 
-built : (c : goal.After-push_reserved-2) → AreIndexed c.push_reserved-2.new.self.items c.note_place_in_room.new.places.entries c.push_reserved.new.self.items
-    c.note_document_call.new.documents.entries (lists_in c.note_document_call.new.document_calls.items)
+built : (c : goal.After-push_reserved-2) → AreIndexed c.push_reserved-2.new.self.items c.note_call.new.self c.push_reserved.new.self.items
+    c.note_call.new.documents.entries (lists_in c.note_call.new.document_calls.items)
 built c =
     let place : c.len-place.result ≡ length c.self.inside.events.items = search rules in
     let grown : c.push_reserved-2.new.self.items ≡ c.self.inside.events.items ++ Call c.args.no c.args.shard c.args.id c.args.op ∷ [] = search rules in
     let ended : c.push_reserved.new.self.items ≡ c.self.inside.endings.items ++ None ∷ [] = search rules in
-    let noted : IsNotedAt c.args.no (length c.self.inside.events.items) c.self.inside.calls.entries c.note_place_in_room.new.places.entries =
-    subst (λ k. IsNotedAt c.args.no k c.self.inside.calls.entries c.note_place_in_room.new.places.entries) place (search rules) in
-    let documented : c.note_document_call.new.documents.entries ≡ with_document c.self.inside.documents.entries c.args.id c.args.shard = search rules in
-    let listed : lists_in c.note_document_call.new.document_calls.items
+    let noted : IsNotedAt c.args.no (length c.self.inside.events.items) c.self.inside.calls c.note_call.new.self =
+    subst (λ k. IsNotedAt c.args.no k c.self.inside.calls c.note_call.new.self) place (search rules) in
+    let documented : c.note_call.new.documents.entries ≡ with_document c.self.inside.documents.entries c.args.id c.args.shard = search rules in
+    let listed : lists_in c.note_call.new.document_calls.items
     ≡ with_listed c.self.inside.documents.entries (lists_in c.self.inside.document_calls.items) c.args.id (length c.self.inside.events.items) =
-    subst (λ k. lists_in c.note_document_call.new.document_calls.items ≡ with_listed c.self.inside.documents.entries (lists_in c.self.inside.document_calls.items) c.args.id k) place
+    subst (λ k. lists_in c.note_call.new.document_calls.items ≡ with_listed c.self.inside.documents.entries (lists_in c.self.inside.document_calls.items) c.args.id k) place
     (search rules) in
-    indexed_by_call c.self.inside.events.items c.self.inside.calls.entries c.self.inside.endings.items c.self.inside.documents.entries (lists_in c.self.inside.document_calls.items)
-    c.args.no c.args.shard c.args.id c.args.op c.push_reserved-2.new.self.items c.note_place_in_room.new.places.entries c.push_reserved.new.self.items
-    c.note_document_call.new.documents.entries (lists_in c.note_document_call.new.document_calls.items) c.self.invariant (search rules) c.requires.shard noted grown ended
+    indexed_by_call c.self.inside.events.items c.self.inside.calls c.self.inside.endings.items c.self.inside.documents.entries (lists_in c.self.inside.document_calls.items)
+    c.args.no c.args.shard c.args.id c.args.op c.push_reserved-2.new.self.items c.note_call.new.self c.push_reserved.new.self.items
+    c.note_call.new.documents.entries (lists_in c.note_call.new.document_calls.items) c.self.invariant (search rules) c.requires.shard noted grown ended
     documented listed
 
 pub invariant_of-self-2 : goal.invariant_of-self-2
@@ -28,3 +29,14 @@ invariant_of-self-2 c = built c
 
 pub returns-clause-history : goal.returns-clause-history
 returns-clause-history c = (built c).history
+
+pub invariant_of-self-in_err-note_call : goal.invariant_of-self-in_err-note_call
+invariant_of-self-in_err-note_call c =
+    let alike : AreFoundAlike c.self.inside.calls c.note_call.new.self = search rules in
+    let whole = indexed_alike c.self.inside.events.items c.self.inside.calls c.note_call.new.self c.self.inside.endings.items c.self.inside.documents.entries
+    (lists_in c.self.inside.document_calls.items) c.self.invariant alike in
+    let events : c.reserve.new.self.items ≡ c.self.inside.events.items = search rules in
+    let endings : c.reserve-2.new.self.items ≡ c.self.inside.endings.items = search rules in
+    let documents : c.note_call.new.documents.entries ≡ c.self.inside.documents.entries = search rules in
+    let lists : lists_in c.note_call.new.document_calls.items ≡ lists_in c.self.inside.document_calls.items = search rules in
+    rw (events, endings, documents, lists) whole

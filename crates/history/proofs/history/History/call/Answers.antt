@@ -5,5 +5,5 @@ use Rattle.history.proofs.history.History.call.Goals as goal
 
 pub returns-clause-within : goal.returns-clause-within
 returns-clause-within c =
-    let found : c.copied.result ≡ place_of (is_call c.args.no) c.args.self.now = search rules in
-    first_within (is_call c.args.no) c.args.self.now c.copied.result found
+    let found : c.get.result ≡ place_of (is_call c.args.no) c.args.self.now = search rules in
+    first_within (is_call c.args.no) c.args.self.now c.get.result found

@@ -1,0 +1,117 @@
+ghost use Rattle.std.specs.Prelude.{◌≡◌, ◌==◌, [], IsTrue, None, OnErr, OnOk, length};
+ghost use Rattle.std.specs.Map.{lookup};
+ghost use Rattle.history.specs.Events.{with_document};
+ghost use Rattle.history.specs.aids.CallPlaces.{AreBelow, AreFoundAlike, AreRising};
+ghost use Rattle.history.specs.aids.Indexes.{IsNotedAt, lists_in, with_listed};
+
+use crate::hash_keys::HashKeys;
+use crate::noting::note_document_call;
+use indexmap::IndexMap;
+use std::alloc::Global;
+use std::collections::BTreeMap;
+use std::marker::Model;
+use version_pair::{DocId, NoMemory};
+
+/// The place of each call, by its number.
+///
+/// Recorders give numbers that rise: those stand in a list, which is searched by halves. A call whose number isn't above
+/// all in the list goes to an ordered map. So no choice of numbers makes a look-up cost more than the logarithm of how
+/// many there are.
+#[derive(Debug, Drop)]
+pub struct CallPlaces {
+    rising: Vec<(u64, usize)>,
+    others: BTreeMap<u64, usize>,
+}
+
+impl Model for CallPlaces {
+    ghost use Rattle.std.specs.Prelude.{ℕ, List, ◌++◌};
+    ghost use Rattle.history.specs.aids.CallPlaces.{AreRising};
+
+    ghost Value = { List (ℕ × ℕ) };
+
+    ghost view = { λ p. p.rising.items ++ p.others.entries };
+
+    ghost invariant = { λ p. AreRising p.rising.items };
+}
+
+// Whether the number is above all of these, whose numbers rise.
+fn is_above_all(calls: &[(u64, usize)], no: u64) -> bool
+    requires { AreRising calls.now }
+    ensures { IsTrue result → AreBelow calls.now no }
+{
+    match calls.last() {
+        Some((last, _)) => *last < no,
+        None => true,
+    }
+}
+
+// The place of the call with this number among those whose numbers rise.
+fn rising_place(calls: &[(u64, usize)], no: u64) -> Option<usize>
+    requires { AreRising calls.now }
+    ensures { result ≡ lookup (◌==◌ no) calls.now }
+{
+    if is_above_all(calls, no) {
+        return None;
+    }
+    match calls.binary_search_by_key(&no, |&(number, _)| number) {
+        Ok(at) => Some(calls[at].1),
+        Err(_) => None,
+    }
+}
+
+impl CallPlaces {
+    /// No calls. It allocates nothing.
+    pub fn new(alloc: Global) -> CallPlaces
+        ensures { result ≡ [] }
+    {
+        CallPlaces {
+            rising: Vec::new(alloc),
+            others: BTreeMap::new(alloc),
+        }
+    }
+
+    /// The place of the call with this number.
+    pub fn get(&self, no: u64) -> Option<usize>
+        ensures { result ≡ lookup (◌==◌ no) self.now }
+    {
+        match rising_place(self.rising.as_slice(), no) {
+            Some(place) => Some(place),
+            None => self.others.get(&no).copied(),
+        }
+    }
+
+    /// Notes the place of a call under its number, and among those of its document. Where memory is refused, nothing is
+    /// noted.
+    pub fn note_call(
+        &mut self,
+        documents: &mut IndexMap<DocId, u32, HashKeys>,
+        document_calls: &mut Vec<Vec<usize>>,
+        no: u64,
+        id: &DocId,
+        shard: u32,
+        place: usize,
+    ) -> Result<(), NoMemory>
+        requires fresh { lookup (◌==◌ no) self.old ≡ None }
+        requires sizes { length document_calls.old.items ≡ length documents.old.entries }
+        ensures noted { OnOk result (IsNotedAt no place self.old self.new) }
+        ensures kept { OnErr result (AreFoundAlike self.old self.new) }
+        ensures ok { OnOk result (documents.new.entries ≡ with_document documents.old.entries id.now shard) }
+        ensures listed { OnOk result (lists_in document_calls.new.items
+            ≡ with_listed documents.old.entries (lists_in document_calls.old.items) id.now place) }
+        ensures err { OnErr result (documents.new.entries ≡ documents.old.entries) }
+        ensures unlisted { OnErr result (lists_in document_calls.new.items ≡ lists_in document_calls.old.items) }
+    {
+        if is_above_all(self.rising.as_slice(), no) {
+            self.rising.reserve(1)?;
+            note_document_call(documents, document_calls, id, shard, place)?;
+            self.rising.push_reserved((no, place));
+            return Ok(());
+        }
+        self.others.insert(no, place)?;
+        let noted = note_document_call(documents, document_calls, id, shard, place);
+        if noted.is_err() {
+            self.others.remove(&no);
+        }
+        noted
+    }
+}
