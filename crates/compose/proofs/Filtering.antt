@@ -54,7 +54,7 @@ rank_at {X} test (y ∷ xs) (suc i) x at passes = by_test (test y) (rank_at test
   by_test false later = later
 
 -- a later place is at a later place of the part
-rank_rises : {X : Type 0} (test : X → Bool) (xs : List X) (i j : ℕ) (x : X) → i < j → slice_get xs i ≡ Some x → test x ≡ true → rank test xs i < rank test xs j
+pub rank_rises : {X : Type 0} (test : X → Bool) (xs : List X) (i j : ℕ) (x : X) → i < j → slice_get xs i ≡ Some x → test x ≡ true → rank test xs i < rank test xs j
 rank_rises test [] i j x less at passes = absurd (none_is_not_some x at)
 rank_rises test (y ∷ xs) i zero x less at passes = absurd (omega (arith, less))
 rank_rises test (y ∷ xs) zero (suc j) x less at passes =
@@ -80,3 +80,19 @@ part_from test xs r x at = let kept = kept_from test xs r x at in (kept.0, kept.
 -- an element that passes has a place in the part
 pub place_kept : {X : Type 0} (test : X → Bool) (xs : List X) (k : ℕ) (x : X) → slice_get xs k ≡ Some x → test x ≡ true → (i : ℕ) × (slice_get (filter test xs) i ≡ Some x)
 place_kept test xs k x at passes = (rank test xs k, rank_at test xs k x at passes)
+
+-- what stands in the part stands at a place of the list that determines its place in the part
+pub ranked_from : {X : Type 0} (test : X → Bool) (xs : List X) (r : ℕ) (x : X) → slice_get (filter test xs) r ≡ Some x
+    → (i : ℕ) × (slice_get xs i ≡ Some x) × (test x ≡ true) × (rank test xs i ≡ r)
+ranked_from test [] r x at = absurd (none_is_not_some x at)
+ranked_from {X} test (y ∷ xs) r x at = by_test (test y) refl r at (λ q bt. ranked_from test xs q x bt) where
+  by_test : (b : Bool) → test y ≡ b → (r : ℕ) → slice_get (cond b (y ∷ filter test xs) (filter test xs)) r ≡ Some x
+      → ((q : ℕ) → slice_get (filter test xs) q ≡ Some x → (i : ℕ) × (slice_get xs i ≡ Some x) × (test x ≡ true) × (rank test xs i ≡ q))
+      → (i : ℕ) × (slice_get (y ∷ xs) i ≡ Some x) × (test x ≡ true) × (rank test (y ∷ xs) i ≡ r)
+  by_test true is zero at later = (0, at, ap test (sym (same_some y x at)) ∙ is, refl)
+  by_test true is (suc r) at later =
+      let m = later r at in
+      (suc m.0, m.1, m.2, ap (λ b. cond b (suc (rank test xs m.0)) (rank test xs m.0)) is ∙ ap suc m.3)
+  by_test false is r at later =
+      let m = later r at in
+      (suc m.0, m.1, m.2, ap (λ b. cond b (suc (rank test xs m.0)) (rank test xs m.0)) is ∙ m.3)

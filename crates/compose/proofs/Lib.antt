@@ -29,3 +29,8 @@ mod EarlierSteps
 mod EvidenceLaws
 mod CallsByNumber
 mod EvidenceLemmas
+mod ShardParts
+mod ShardRuns
+mod ShardOrders
+mod ShardMerge
+mod ShardLocality

@@ -6,3 +6,4 @@ pub mod Verdicts
 pub mod Checked
 pub mod aids
 pub mod Evidence
+pub mod Shards

@@ -1,7 +1,8 @@
-//! Laws of covers, each the contract of a function that does nothing.
+//! Laws of covers and of shards, each the contract of a function that does nothing.
 
 ghost use Rattle.compose.specs.Evidence.{EvidenceRefutes};
 ghost use Rattle.compose.specs.Laws.{CoversExplain, FaultyAreNoCover, OrdersAreCovers, PlainlyRightAreCovered, SettledHaveNoOrder};
+ghost use Rattle.compose.specs.Shards.{LocalByShard};
 
 /// Shows that entries which cover a history make it linearizable, by an order of exactly their places.
 #[tactic(auto, using(crate::proofs::Locality::covers_explain))]
@@ -38,4 +39,11 @@ pub fn faulty_are_no_cover()
 #[tactic(auto, using(crate::proofs::EvidenceLaws::evidence_refutes))]
 pub fn evidence_refutes()
     ensures { EvidenceRefutes }
+{}
+
+/// Shows that a history is split into the parts of its shards, each of them a history, and that it is linearizable exactly
+/// where each of them is.
+#[tactic(auto, using(crate::proofs::ShardLocality::local_by_shard))]
+pub fn local_by_shard()
+    ensures { LocalByShard }
 {}

@@ -151,8 +151,8 @@ pub fn changes_of(
     history: &Front<'_>,
     witnesses: &[DocWitness],
 ) -> Result<Option<Vec<Change>>, NoMemory> {
-    let mut gaps = Gaps::new(alloc);
-    let mut free = FreeNumbers::new(alloc);
+    let mut gaps = Gaps::new(alloc, history.keys());
+    let mut free = FreeNumbers::new(alloc, history.keys());
     for i in 0..witnesses.len() {
         gaps.note(alloc, i, history, &witnesses[i], &mut free)?;
     }

@@ -20,8 +20,8 @@ fn documents_again(
     answers: &[DocAnswer],
 ) -> Result<Option<Vec<bool>>, NoMemory> {
     let mut again = vec![in alloc; false; answers.len()]?;
-    let mut gaps = Gaps::new(alloc);
-    let mut free = FreeNumbers::new(alloc);
+    let mut gaps = Gaps::new(alloc, history.keys());
+    let mut free = FreeNumbers::new(alloc, history.keys());
     for doc in 0..answers.len() {
         match &answers[doc] {
             DocAnswer::Found(witness) => gaps.note(alloc, doc, history, witness, &mut free)?,

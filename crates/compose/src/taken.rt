@@ -5,7 +5,7 @@ ghost use Rattle.compose.specs.Covers.{taken_by};
 ghost use Rattle.compose.specs.aids.Taken.{AreNoted, IsLeastTwice, IsLesser, pair_at, pairs_at, pairs_of_document, pairs_taken, shard_in};
 
 use doc_register::Reply;
-use history::{Front, Rec};
+use history::{Front, HashKeys, Rec};
 use indexmap::IndexSet;
 use std::alloc::Global;
 use version_pair::{DocId, NoMemory, Pair};
@@ -14,7 +14,7 @@ use witness::{DocWitness, Place};
 // The pairs that calls take, each with its shard, and the least that is taken twice.
 #[derive(Debug, Drop)]
 pub struct Taken {
-    seen: IndexSet<(u32, Pair)>,
+    seen: IndexSet<(u32, Pair), HashKeys>,
     twice: Option<(u32, Pair)>,
 }
 
@@ -67,12 +67,12 @@ pub fn pair_of_place(records: &[Rec], place: Place) -> Option<Pair>
 }
 
 impl Taken {
-    // No pairs.
-    fn new(alloc: Global) -> Taken
+    // No pairs, to be found by hashes with these keys.
+    fn new(alloc: Global, keys: HashKeys) -> Taken
         ensures { AreNoted [] result }
     {
         Taken {
-            seen: IndexSet::new(alloc),
+            seen: IndexSet::with_hasher(alloc, keys),
             twice: None,
         }
     }
@@ -134,7 +134,7 @@ pub fn pair_twice(
 ) -> Result<Option<(u32, Pair)>, NoMemory>
     ensures { IfOk result (IsLeastTwice (pairs_taken history.now witnesses.now)) }
 {
-    let mut taken = Taken::new(alloc);
+    let mut taken = Taken::new(alloc, history.keys());
     for i in 0..witnesses.len() {
         taken.note_witness(history, &witnesses[i])?;
     }

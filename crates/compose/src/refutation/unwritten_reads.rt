@@ -5,7 +5,7 @@ use crate::evidence::number_written;
 use crate::refutation::answered_calls::AnsweredGet;
 use crate::refuted::Refuted;
 use doc_register::{Conflicts, Reply};
-use history::{Event, History};
+use history::{Event, HashKeys, History};
 use indexmap::IndexMap;
 use std::alloc::Global;
 use version_pair::{NoMemory, Pair};
@@ -14,9 +14,9 @@ use version_pair::{NoMemory, Pair};
 #[derive(Debug, Drop)]
 struct Writers {
     // The place of the first call that was answered with this pair.
-    shown: IndexMap<(usize, u64, Pair), usize>,
+    shown: IndexMap<(usize, u64, Pair), usize, HashKeys>,
     // The place of the first call whose pair is not known.
-    open: IndexMap<(usize, u64), usize>,
+    open: IndexMap<(usize, u64), usize, HashKeys>,
 }
 
 // Whether the place is known and before the end.
@@ -31,8 +31,8 @@ impl Writers {
     // The writers of the history.
     fn of(alloc: Global, history: &History, conflicts: Conflicts) -> Result<Writers, NoMemory> {
         let mut writers = Writers {
-            shown: IndexMap::new(alloc),
-            open: IndexMap::new(alloc),
+            shown: IndexMap::with_hasher(alloc, history.keys()),
+            open: IndexMap::with_hasher(alloc, history.keys()),
         };
         for place in 0..history.len() {
             writers.note(history, place, conflicts)?;

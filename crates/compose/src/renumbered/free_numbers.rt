@@ -1,4 +1,5 @@
 use crate::renumbered::gaps::{Gap, Gaps};
+use history::HashKeys;
 use indexmap::IndexMap;
 use std::alloc::Global;
 use version_pair::{NoMemory, Pair};
@@ -6,14 +7,14 @@ use version_pair::{NoMemory, Pair};
 /// Which numbers of a shard are taken, each with a number to look on from: all between are taken.
 #[derive(Debug, Drop)]
 pub struct FreeNumbers {
-    next: IndexMap<(u32, Pair), u64>,
+    next: IndexMap<(u32, Pair), u64, HashKeys>,
 }
 
 impl FreeNumbers {
-    /// All numbers are free.
-    pub fn new(alloc: Global) -> FreeNumbers {
+    /// All numbers are free. Those that are taken are found by hashes with these keys.
+    pub fn new(alloc: Global, keys: HashKeys) -> FreeNumbers {
         FreeNumbers {
-            next: IndexMap::new(alloc),
+            next: IndexMap::with_hasher(alloc, keys),
         }
     }
 

@@ -1,7 +1,7 @@
 use crate::renumbered::free_numbers::FreeNumbers;
 use crate::taken::{pair_of_place, shard_of};
 use doc_register::{Op, Reply};
-use history::{Front, Rec};
+use history::{Front, HashKeys, Rec};
 use indexmap::IndexSet;
 use std::alloc::Global;
 use version_pair::{NoMemory, Pair};
@@ -25,7 +25,7 @@ pub struct Gap {
 pub struct Gaps {
     pub list: Vec<Gap>,
     // The pairs that conditions and gets of a document name, each with the number of its witness.
-    named: IndexSet<(usize, Pair)>,
+    named: IndexSet<(usize, Pair), HashKeys>,
 }
 
 // The pair that the call names: that of its condition, or the one that it found.
@@ -52,11 +52,11 @@ fn from_above(lower: Option<Pair>, upper: Pair) -> Option<u64> {
 }
 
 impl Gaps {
-    /// No gaps.
-    pub fn new(alloc: Global) -> Gaps {
+    /// No gaps. Pairs that are named are found by hashes with these keys.
+    pub fn new(alloc: Global, keys: HashKeys) -> Gaps {
         Gaps {
             list: Vec::new(alloc),
-            named: IndexSet::new(alloc),
+            named: IndexSet::with_hasher(alloc, keys),
         }
     }
 
