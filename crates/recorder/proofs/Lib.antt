@@ -2,3 +2,11 @@ mod NoteLemmas
 mod MergeLemmas
 mod AnswerLemmas
 mod RecordingLaws
+mod ClockLemmas
+mod CountLemmas
+mod DrawLemmas
+mod DenseLemmas
+mod UnrefusedLemmas
+mod GatherLemmas
+mod RefusalLemmas
+pub mod SharedLemmas

@@ -4,13 +4,14 @@ use Rattle.std.specs.Prelude.{nat_lt, slice_set}
 use Rattle.std.specs.List.{enumerate_from}
 use Rattle.std.specs.List.Sorted.{IsPermutation}
 use Rattle.std.proofs.lemmas.List.{append-nil}
-use Rattle.std.proofs.lemmas.List.Elements.{All-head, All-tail}
+use Rattle.std.proofs.lemmas.List.Elements.{All-head, All-set, All-tail}
 use Rattle.std.proofs.lemmas.Bool.{ltb-false, ltb-true}
 use Rattle.std.proofs.lemmas.Option.{slice_get-get_or, slice_get_within}
 use Rattle.std.proofs.lemmas.List.Sorted.{IsPermutation-append_right, IsPermutation-middle, IsPermutation-pop_more, IsPermutation-refl, IsPermutation-trans}
 use Rattle.history.specs.declared.event.Event.{Event}
 use Rattle.history.specs.Events.{HasShard}
 use Rattle.recorder.specs.Recordings.{IsRecordingOf, entries_of}
+use Rattle.recorder.specs.aids.Notes.{IsRising}
 
 -- one strand's first entry is taken out of all
 pub entries_taken : (lists : List (List (ℕ × Event))) (i : ℕ) (x : ℕ × Event) (rest : List (ℕ × Event)) → slice_get lists i ≡ Some (x ∷ rest)
@@ -24,6 +25,17 @@ entries_taken (l ∷ ls) (suc i) x rest at =
     IsPermutation-trans (l ++ entries_of ls) (l ++ (x ∷ entries_of (slice_set ls i rest))) (x ∷ (l ++ entries_of (slice_set ls i rest)))
     (IsPermutation-append_right l (entries_of ls) (x ∷ entries_of (slice_set ls i rest)) (entries_taken ls i x rest at))
     (IsPermutation-middle l x (entries_of (slice_set ls i rest)))
+
+rising_tail : (x : ℕ × Event) (xs : List (ℕ × Event)) → IsRising (x ∷ xs) → IsRising xs
+rising_tail x xs rising = λ i j d less within. rising (suc i) (suc j) d (omega arith) (omega arith)
+
+-- they rise still where one strand's first entry is taken
+pub rising_after_taken : (lists : List (List (ℕ × Event))) (i : ℕ) (x : ℕ × Event) (rest : List (ℕ × Event)) → slice_get lists i ≡ Some (x ∷ rest)
+    → All IsRising lists → All IsRising (slice_set lists i rest)
+rising_after_taken lists i x rest at rising =
+    let within : i < length lists = slice_get_within lists i (x ∷ rest) at in
+    let read : get_or lists i (x ∷ rest) ≡ x ∷ rest = (let both : Some (get_or lists i (x ∷ rest)) ≡ Some (x ∷ rest) = sym (slice_get-get_or lists i (x ∷ rest) within) ∙ at in cc) in
+    All-set IsRising lists i rest (rising_tail x rest (subst IsRising read (rising i (x ∷ rest) within))) rising
 
 -- strands of which each is empty have no entry
 pub entries_none : (lists : List (List (ℕ × Event))) → All (λ list. list ≡ []) lists → entries_of lists ≡ []
@@ -76,3 +88,13 @@ shards_more events i e at here before k d below = by_test (nat_lt k i) refl wher
   by_test : (b : Bool) → nat_lt k i ≡ b → HasShard (get_or events k d)
   by_test true is = before k d (ltb-true k i is)
   by_test false is = last (let up : i ≤ k = ltb-false k i is in omega arith)
+
+-- what was merged grows by one event, and what is left shrinks by its entry
+pub merged_one_more : (all left rest : List (ℕ × Event)) (events : List Event) (i : ℕ) (e : Event) → length events ≡ i
+    → IsPermutation all (enumerate_from 0 events ++ left) → IsPermutation left ((i, e) ∷ rest)
+    → IsPermutation all (enumerate_from 0 (events ++ e ∷ []) ++ rest)
+merged_one_more all left rest events i e count met taken =
+    let place : 0 + length events ≡ i = omega arith in
+    let P : List (ℕ × Event) → Type 0 = λ m. IsPermutation all (m ++ rest) in
+    subst P (sym (enumerate_more 0 events e ∙ ap (λ k. enumerate_from 0 events ++ (k, e) ∷ []) place))
+    (IsPermutation-pop_more all (enumerate_from 0 events) left rest (i, e) met taken)

@@ -1,5 +1,5 @@
 -- What a pen notes stays right where an entry is added.
-use Rattle.std.proofs.Common.{ℕ, suc, ◌≡◌, ◌<◌, ◌≤◌, List, [], ◌∷◌, ◌++◌, refl, sym, ap, subst, ◌∙◌, arith, Option, Some, None, slice_get, All, Bool, true, false}
+use Rattle.std.proofs.Common.{ℕ, zero, suc, ◌⊎◌, inl, inr, ⊎_elim, take, ◌≡◌, ◌<◌, ◌≤◌, List, [], ◌∷◌, ◌++◌, refl, sym, ap, subst, ◌∙◌, arith, Option, Some, None, slice_get, All, Bool, true, false}
 use Rattle.std.specs.Prelude.{◌==◌, ◌||◌, AllPairs, cond, if◌then◌else◌, option_and_then, option_map}
 use Rattle.std.specs.List.{list_any}
 use Rattle.std.specs.Map.{lookup}
@@ -20,7 +20,7 @@ use Rattle.recorder.specs.declared.own_call.OwnCall.{OwnCall}
 use Rattle.recorder.specs.declared.unnumbered.Unnumbered.{Unnumbered}
 use Rattle.recorder.specs.declared.unnumbered.Unnumbered.TheVariants as bare
 use Rattle.recorder.specs.Pens.{events_in, is_ended, refusal_of}
-use Rattle.recorder.specs.aids.Notes.{AreNoted, IsEntryAt, IsNotedAt, NotesEvent, numbered, own_call_of}
+use Rattle.recorder.specs.aids.Notes.{AreNoted, IsPenList, IsEntryAt, IsNotedAt, NotesEvent, numbered, own_call_of}
 
 -- ---- the operation of a call, entry by entry
 
@@ -177,8 +177,8 @@ found_after_call list old new k d op noted below at n =
           ≡ own (first_of_two (op_of (events_in list) n) (if b then Some op else None)) (is_ended list n || false)
       by_number true is =
           let number : k ≡ n = eqb-true k n is in
-          let bare : op_of (events_in list) n ≡ None = subst (λ m. op_of (events_in list) m ≡ None) number (uncalled list k noted.formed below) in
-          let open_ : is_ended list n ≡ false = subst (λ m. is_ended list m ≡ false) number (unended list k noted.formed below) in
+          let bare : op_of (events_in list) n ≡ None = subst (λ m. op_of (events_in list) m ≡ None) number (uncalled list k noted.list_kept.formed below) in
+          let open_ : is_ended list n ≡ false = subst (λ m. is_ended list m ≡ false) number (unended list k noted.list_kept.formed below) in
           sym (ap (λ o. own (first_of_two o (Some op)) (is_ended list n || false)) bare ∙ ap (λ b. own (Some op) (b || false)) open_)
       by_number false is =
           noted.found n ∙ sym (ap (λ o. own o (is_ended list n || false)) (no_more (op_of (events_in list) n)) ∙ ap (own (op_of (events_in list) n)) (never (is_ended list n)))
@@ -210,15 +210,34 @@ found_after_ending list old new k m e op noted ends called at n =
 rising_more : (list : List (ℕ × Event)) (k : ℕ) (e : Event) → AllPairs (λ x y. x.0 < y.0) list → AreBelow list k → AllPairs (λ x y. x.0 < y.0) (list ++ (k, e) ∷ [])
 rising_more list k e rising below = all_pairs_push (λ (x y : ℕ × Event). x.0 < y.0) list (k, e) rising below
 
+-- what stands at a place of a list with one more at its end
+at_push : (xs : List (ℕ × Event)) (x : ℕ × Event) (i : ℕ) (y : ℕ × Event) → slice_get (xs ++ x ∷ []) i ≡ Some y
+    → ((slice_get xs i ≡ Some y) × (take i (xs ++ x ∷ []) ≡ take i xs)) ⊎ ((x ≡ y) × (take i (xs ++ x ∷ []) ≡ xs))
+at_push [] x zero y at = inr ((let both : Some x ≡ Some y = at in cc), refl)
+at_push [] x (suc i) y at = let impossible : None ≡ Some y = at in absurd (cc)
+at_push (z ∷ zs) x zero y at = inl (at, refl)
+at_push (z ∷ zs) x (suc i) y at =
+    ⊎_elim (λ (here : (slice_get zs i ≡ Some y) × (take i (zs ++ x ∷ []) ≡ take i zs)). inl (here.0, ap (λ rest. z ∷ rest) here.1))
+    (λ (last : (x ≡ y) × (take i (zs ++ x ∷ []) ≡ zs)). inr (last.0, ap (λ rest. z ∷ rest) last.1)) (at_push zs x i y at)
+
+pen_list_more : (list : List (ℕ × Event)) (k : ℕ) (e : Event) → IsPenList list → AreBelow list k → IsEntryAt k e → refusal_of list e ≡ None → IsPenList (list ++ (k, e) ∷ [])
+pen_list_more list k e kept below formed accepted = record {
+  rising = rising_more list k e kept.rising below;
+  formed = All-push (λ entry. IsEntryAt entry.0 entry.1) list (k, e) kept.formed formed;
+  accepted = λ i y at. ⊎_elim
+      (λ (here : (slice_get list i ≡ Some y) × (take i (list ++ (k, e) ∷ []) ≡ take i list)). ap (λ l. refusal_of l y.1) here.1 ∙ kept.accepted i y here.0)
+      (λ (last : ((k, e) ≡ y) × (take i (list ++ (k, e) ∷ []) ≡ list)). ap (λ l. refusal_of l y.1) last.1 ∙ (ap (λ (z : ℕ × Event). refusal_of list z.1) (sym last.0) ∙ accepted))
+      (at_push list (k, e) i y at);
+}
+
 after_ending : (list : List (ℕ × Event)) (old new : List (ℕ × OwnCall)) (k m : ℕ) (e : Event) (op : Op)
-    → AreNoted list old → AreBelow list k → Ends m e → (m < k → IsEntryAt k e) → op_of (events_in list) m ≡ Some op
+    → AreNoted list old → AreBelow list k → Ends m e → (m < k → IsEntryAt k e) → op_of (events_in list) m ≡ Some op → refusal_of list e ≡ None
     → ((call : OwnCall) → lookup (◌==◌ m) old ≡ Some call → IsNotedAt m (record call { is_ended = true }) old new)
     → AreNoted (list ++ (k, e) ∷ []) new
-after_ending list old new k m e op noted below ends formed called at =
+after_ending list old new k m e op noted below ends formed called accepted at =
     let was : lookup (◌==◌ m) old ≡ Some (record { op = op; is_ended = is_ended list m }) = noted.found m ∙ ap (λ o. own o (is_ended list m)) called in
     record {
-      rising = rising_more list k e noted.rising below;
-      formed = All-push (λ entry. IsEntryAt entry.0 entry.1) list (k, e) noted.formed (formed (called_below list k m op noted.formed below called));
+      list_kept = pen_list_more list k e noted.list_kept below (formed (called_below list k m op noted.list_kept.formed below called)) accepted;
       found = found_after_ending list old new k m e op noted ends called (at (record { op = op; is_ended = is_ended list m }) was);
     }
 
@@ -232,13 +251,49 @@ pub noted_after : (list : List (ℕ × Event)) (old new : List (ℕ × OwnCall))
     → AreNoted list old → All (λ entry. entry.0 < k) list → refusal_of list (numbered event k) ≡ None → NotesEvent event k old new
     → AreNoted (list ++ (k, numbered event k) ∷ []) new
 noted_after list old new k (bare.Call d op) noted below accepted at = record {
-  rising = rising_more list k (Call k 0 d op) noted.rising below;
-  formed = All-push (λ entry. IsEntryAt entry.0 entry.1) list (k, Call k 0 d op) noted.formed (refl, refl);
+  list_kept = pen_list_more list k (Call k 0 d op) noted.list_kept below (refl, refl) accepted;
   found = found_after_call list old new k d op noted below at;
 }
 noted_after list old new k (bare.Reply m r) noted below accepted at =
     let call = called_reply (op_of (events_in list) m) (is_ended list m) (λ op. if fits op r then None else Some Kind) accepted in
-    after_ending list old new k m (Reply m r) call.0 noted below (record { no_call = λ n. refl; ending = λ n. refl }) (λ less. less) call.1 at
+    after_ending list old new k m (Reply m r) call.0 noted below (record { no_call = λ n. refl; ending = λ n. refl }) (λ less. less) call.1 accepted at
 noted_after list old new k (bare.Lost m) noted below accepted at =
     let call = called_reply (op_of (events_in list) m) (is_ended list m) (λ op. None) accepted in
-    after_ending list old new k m (Lost m) call.0 noted below (record { no_call = λ n. refl; ending = λ n. refl }) (λ less. less) call.1 at
+    after_ending list old new k m (Lost m) call.0 noted below (record { no_call = λ n. refl; ending = λ n. refl }) (λ less. less) call.1 accepted at
+
+-- where a call is in the list, in which entry
+pub record CalledIn (list : List (ℕ × Event)) (m : ℕ) (op : Op) : Type 0 where
+  pub place : ℕ
+  pub document : List ℕ
+  pub here : slice_get list place ≡ Some (m, Call m 0 document op)
+
+pub called_entry : (list : List (ℕ × Event)) (m : ℕ) (op : Op) → AreFormed list → op_of (events_in list) m ≡ Some op → CalledIn list m op
+called_entry [] m op formed called = let impossible : None ≡ Some op = called in absurd (cc)
+called_entry (e ∷ es) m op formed called =
+    by_entry e (op_if m e.1) refl (All-head (λ entry. IsEntryAt entry.0 entry.1) e es formed)
+    (called_entry es m op (All-tail (λ entry. IsEntryAt entry.0 entry.1) e es formed))
+    (sym (op_of-cons e.1 (events_in es) m) ∙ called) where
+      later : (x : ℕ × Event) → CalledIn es m op → CalledIn (x ∷ es) m op
+      later x found = record { place = suc found.place; document = found.document; here = found.here }
+
+      first : (k n h : ℕ) (d : List ℕ) (o : Op) → n ≡ k → h ≡ 0 → n ≡ m → o ≡ op → CalledIn ((k, Call n h d o) ∷ es) m op
+      first k n h d o own shard number same = record {
+        place = 0;
+        document = d;
+        here = ap (λ (x : ℕ × Event). Some x)
+            (ap (λ q. (q, Call n h d o)) (sym own ∙ number) ∙ (ap (λ q. (m, Call q h d o)) number ∙ (ap (λ q. (m, Call m q d o)) shard ∙ ap (λ q. (m, Call m 0 d q)) same)));
+      }
+
+      by_call : (k n h : ℕ) (d : List ℕ) (o : Op) (b : Bool) → (n == m) ≡ b → n ≡ k → h ≡ 0 → (if b then Some o else None) ≡ Some op → CalledIn ((k, Call n h d o) ∷ es) m op
+      by_call k n h d o true is own shard some = first k n h d o own shard (eqb-true n m is) (let both : Some o ≡ Some op = some in cc)
+      by_call k n h d o false is own shard some = let impossible : None ≡ Some op = some in absurd (cc)
+
+      by_event : (x : ℕ × Event) → IsEntryAt x.0 x.1 → op_if m x.1 ≡ Some op → CalledIn (x ∷ es) m op
+      by_event (k, Call n h d o) entry some = by_call k n h d o (n == m) refl entry.0 entry.1 some
+      by_event (k, Reply n r) entry some = let impossible : None ≡ Some op = some in absurd (cc)
+      by_event (k, Lost n) entry some = let impossible : None ≡ Some op = some in absurd (cc)
+
+      by_entry : (x : ℕ × Event) (o : Option Op) → op_if m x.1 ≡ o → IsEntryAt x.0 x.1 → (op_of (events_in es) m ≡ Some op → CalledIn es m op)
+          → first_of_two o (op_of (events_in es) m) ≡ Some op → CalledIn (x ∷ es) m op
+      by_entry x None is entry rest found = later x (rest found)
+      by_entry x (Some o) is entry rest found = by_event x entry (is ∙ found)

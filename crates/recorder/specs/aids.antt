@@ -1,3 +1,4 @@
 pub mod Notes
 pub mod Appending
 pub mod Merging
+pub mod Drawing

@@ -1,11 +1,15 @@
-ghost use Rattle.std.specs.Prelude.{◌≡◌, All, IfOk, IsTrue};
+ghost use Rattle.std.specs.Prelude.{◌≡◌, ◌≤◌, All, IfErr, IfOk, IsTrue, length};
+ghost use Rattle.history.specs.declared.fault.HistFault.TheVariants as refused;
 ghost use Rattle.history.specs.Events.{HasShard};
-ghost use Rattle.recorder.specs.Recordings.{IsRecordingOf, lists_of};
+ghost use Rattle.history.specs.Refusal.{most_events};
+ghost use Rattle.recorder.specs.Recordings.{IsRecordingOf, entries_of, lists_of};
+ghost use Rattle.recorder.specs.aids.Merging.{AreAccepted, AreDense};
+ghost use Rattle.recorder.specs.aids.Notes.{IsRising};
 
 use crate::pen::Pen;
 use crate::same_event::is_same_event;
 use crate::strand::{Strand, are_all_met, take_numbered};
-use history::{Event, HistFault, History};
+use history::{Event, HistFault, History, MOST_EVENTS};
 use std::alloc::Global;
 use version_pair::NoMemory;
 
@@ -36,10 +40,29 @@ pub fn is_recording(strands: &mut Vec<Strand>, events: &[Event]) -> bool
     are_all_met(strands)
 }
 
+/// The events of the strands in the order of their numbers.
+pub fn merged(alloc: Global, mut strands: Vec<Strand>) -> Result<Vec<Event>, NoMemory>
+    requires rising { All IsRising strands.items }
+    requires dense { AreDense strands.items }
+    requires few { length (entries_of strands.items) ≤ most_events }
+    ensures recording { IfOk result (λ events. IsRecordingOf strands.items events.items) }
+    ensures shards { IfOk result (λ events. All HasShard events.items) }
+{
+    let mut events = Vec::new(alloc);
+    for number in 0..MOST_EVENTS {
+        let Some(event) = take_numbered(&mut strands, number as u64) else {
+            return Ok(events);
+        };
+        events.push(event)?;
+    }
+    Ok(events)
+}
+
 /// The history of these events, or the first refusal of one.
 pub fn history_of(alloc: Global, events: Vec<Event>) -> Result<History, HistFault>
     requires { All HasShard events.items }
-    ensures { IfOk result (λ history. history ≡ events.items) }
+    ensures history { IfOk result (λ history. history ≡ events.items) }
+    ensures accepted { AreAccepted events.items → IfErr result (λ fault. fault ≡ refused.NoMemory) }
 {
     let mut history = History::new(alloc);
     for event in events {

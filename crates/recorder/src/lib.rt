@@ -2,6 +2,10 @@
 //! becomes one history.
 #![tactic(auto)]
 
+mod clock;
+mod clock_pen;
+mod clock_recorder;
+mod clock_view;
 mod closing;
 mod fault;
 pub mod laws;
@@ -17,6 +21,8 @@ mod strand;
 mod testing;
 mod unnumbered;
 
+pub use clock_pen::ClockPen;
+pub use clock_recorder::ClockRecorder;
 pub use fault::{CloseFault, RecFault, StartFault};
 pub use pen::Pen;
 pub use recorder::{MOST_PENS, Recorder};

@@ -4,7 +4,7 @@ ghost use Rattle.history.specs.declared.event.Event.TheVariants.{Reply as Answer
 ghost use Rattle.indexmap.specs.IndexMap.{spare};
 ghost use Rattle.recorder.specs.Pens.{new_pen, refusal_of, tells_full};
 ghost use Rattle.recorder.specs.declared.own_call.OwnCall.{OwnCall};
-ghost use Rattle.recorder.specs.aids.Notes.{IsNotedAt, NotesEvent, numbered};
+ghost use Rattle.recorder.specs.aids.Notes.{IsNotedAt, IsPenList, NotesEvent, numbered};
 
 use crate::fault::RecFault;
 use crate::own_call::OwnCall;
@@ -140,7 +140,8 @@ impl Notes {
 
     /// The list as a strand.
     pub fn into_strand(self) -> Strand
-        ensures { result ≡ self.pen.list }
+        ensures list { result ≡ self.pen.list }
+        ensures kept { IsPenList self.pen.list }
     {
         let Notes { list, .. } = self;
         Strand::new(list)

@@ -1,7 +1,9 @@
-ghost use Rattle.std.specs.Prelude.{None};
+ghost use Rattle.std.specs.Prelude.{◌≡◌, None};
 ghost use Rattle.history.specs.declared.event.Event.TheVariants.{Call, Reply as Answered, Lost as Missed};
 ghost use Rattle.recorder.specs.Pens.{PenState, Records, refusal_of};
 
+use crate::clock_pen::ClockPen;
+use crate::clock_recorder::ClockRecorder;
 use crate::fault::RecFault;
 use crate::pen::Pen;
 use crate::recorder::Recorder;
@@ -75,5 +77,38 @@ impl Recording for Recorder {
 
     fn lost<R: Wait>(&self, rt: &R, pen: &mut Pen, no: u64) -> Result<u64, RecFault> {
         Recorder::lost(self, rt, pen, no)
+    }
+}
+
+// The calls of the clock form wait for nobody.
+impl Recording for ClockRecorder {
+    type Pen = ClockPen;
+
+    ghost pen_state = { λ pen. pen.pen };
+
+    ghost has_pen = { λ recorder pen. pen.clock ≡ recorder.clock };
+
+    fn call<R: Wait>(
+        &self,
+        _rt: &R,
+        pen: &mut ClockPen,
+        id: DocId,
+        op: Op,
+    ) -> Result<u64, RecFault> {
+        ClockRecorder::call(self, pen, id, op)
+    }
+
+    fn reply<R: Wait>(
+        &self,
+        _rt: &R,
+        pen: &mut ClockPen,
+        no: u64,
+        reply: Reply,
+    ) -> Result<u64, RecFault> {
+        ClockRecorder::reply(self, pen, no, reply)
+    }
+
+    fn lost<R: Wait>(&self, _rt: &R, pen: &mut ClockPen, no: u64) -> Result<u64, RecFault> {
+        ClockRecorder::lost(self, pen, no)
     }
 }

@@ -2,7 +2,7 @@ ghost use Rattle.std.specs.Prelude.{◌≡◌, ◌≢◌, ◌↔◌, ◌∷◌, 
 ghost use Rattle.std.specs.List.Sorted.{IsPermutation};
 ghost use Rattle.history.specs.Events.{HasShard};
 ghost use Rattle.recorder.specs.Recordings.{entries_of};
-ghost use Rattle.recorder.specs.aids.Notes.{IsEntryAt};
+ghost use Rattle.recorder.specs.aids.Notes.{IsEntryAt, IsRising};
 ghost use Rattle.recorder.specs.aids.Merging.{next_number};
 
 use history::Event;
@@ -75,6 +75,8 @@ impl Strand {
 pub fn take_numbered(strands: &mut Vec<Strand>, number: u64) -> Option<Event>
     ensures some { IfSome result (λ event. IsPermutation (entries_of strands.old.items)
         ((number, event) ∷ entries_of strands.new.items)) }
+    ensures rising { All IsRising strands.old.items → All IsRising strands.new.items }
+    ensures none { IfNone result (All (λ list. next_number list ≢ Some number) strands.old.items) }
     ensures shard { IfSome result HasShard }
 {
     let strand = strands.iter().position(|strand| strand.is_next(number))?;

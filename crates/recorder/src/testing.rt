@@ -1,10 +1,12 @@
 //! What tests share: a document, and a history in short words.
 
-use crate::fault::CloseFault;
-use crate::pen::Pen;
-use crate::recorder::Recorder;
+use crate::fault::{CloseFault, RecFault};
+use crate::recording::Recording;
+use doc_register::{Op, Reply};
 use history::{Event, History};
 use std::alloc::Global;
+use std::process::Abort;
+use std::sync::Wait;
 use std::test::Fail;
 use version_pair::DocId;
 
@@ -37,9 +39,9 @@ pub fn events_told(alloc: Global, history: &History) -> Result<String, Fail> {
 }
 
 /// What closing answers, in short words.
-pub fn close_told(
+pub fn close_told<R: Drop, P: Drop>(
     alloc: Global,
-    closed: Result<History, CloseFault<Recorder, Pen>>,
+    closed: Result<History, CloseFault<R, P>>,
 ) -> Result<String, Fail> {
     match closed {
         Ok(history) => events_told(alloc, &history),
@@ -50,4 +52,98 @@ pub fn close_told(
         Err(CloseFault::Mismatch) => Ok(String::from_str(alloc, "mismatch")?),
         Err(CloseFault::NoMemory) => Ok(String::from_str(alloc, "no memory")?),
     }
+}
+
+/// What two pens record in turns.
+pub const TOLD: &str = "call 0 of d on 0: Get; call 1 of d on 0: Get; reply 0: Missing; lost 1; ";
+
+/// Two pens of any recorder record in turns what `TOLD` says, with refusals in between. Each number is answered at its
+/// call.
+pub fn record_in_turns<X: Recording, R: Wait + Abort>(
+    rt: &R,
+    alloc: Global,
+    recorder: &X,
+    first: &mut X::Pen,
+    second: &mut X::Pen,
+) -> Result<(), Fail>
+    requires { X.has_pen recorder.now first.old × X.has_pen recorder.now second.old }
+    ensures { X.has_pen recorder.now first.new × X.has_pen recorder.now second.new }
+{
+    assert_eq!(rt; recorder.call(rt, first, document(alloc)?, Op::Get), Ok(0));
+    assert_eq!(rt; recorder.call(rt, second, document(alloc)?, Op::Get), Ok(1));
+    assert_eq!(rt; recorder.reply(rt, first, 0, Reply::Missing), Ok(2));
+    assert_eq!(rt;
+        recorder.reply(rt, first, 0, Reply::Missing),
+        Err(RecFault::Ended)
+    );
+    assert_eq!(rt; recorder.lost(rt, first, 1), Err(RecFault::NotMine));
+    assert_eq!(rt;
+        recorder.reply(rt, second, 1, Reply::Conflict),
+        Err(RecFault::Kind)
+    );
+    assert_eq!(rt; recorder.lost(rt, second, 1), Ok(3));
+    assert_eq!(rt; recorder.lost(rt, second, 1), Err(RecFault::Ended));
+    Ok(())
+}
+
+/// Records gets of `d`, in turns answered and lost, through any recorder; tells whether all were recorded.
+pub fn record_gets<X: Recording, R: Wait>(
+    rt: &R,
+    alloc: Global,
+    recorder: &X,
+    pen: &mut X::Pen,
+    count: usize,
+) -> bool
+    requires { X.has_pen recorder.now pen.old }
+    ensures { X.has_pen recorder.now pen.new }
+{
+    for turn in 0..count {
+        let Ok(id) = DocId::new(alloc, "d") else {
+            return false;
+        };
+        let Ok(no) = recorder.call(rt, pen, id, Op::Get) else {
+            return false;
+        };
+        let ended = if turn % 2 == 0 {
+            recorder.reply(rt, pen, no, Reply::Missing)
+        } else {
+            recorder.lost(rt, pen, no)
+        };
+        if ended.is_err() {
+            return false;
+        }
+    }
+    true
+}
+
+// Records one get of `d` with a reply; answers the reply's number.
+fn record_answered_get<X: Recording, R: Wait>(
+    rt: &R,
+    alloc: Global,
+    recorder: &X,
+    pen: &mut X::Pen,
+) -> Option<u64>
+    requires { X.has_pen recorder.now pen.old }
+    ensures { X.has_pen recorder.now pen.new }
+{
+    let id = DocId::new(alloc, "d").ok()?;
+    let no = recorder.call(rt, pen, id, Op::Get).ok()?;
+    recorder.reply(rt, pen, no, Reply::Missing).ok()
+}
+
+/// Fills any recorder's recording by gets of `d`, each called and answered; tells the last number.
+pub fn fill<X: Recording, R: Wait>(
+    rt: &R,
+    alloc: Global,
+    recorder: &X,
+    pen: &mut X::Pen,
+) -> Option<u64>
+    requires { X.has_pen recorder.now pen.old }
+    ensures { X.has_pen recorder.now pen.new }
+{
+    let mut last = None;
+    for _ in 0..524_288 {
+        last = Some(record_answered_get(rt, alloc, recorder, pen)?);
+    }
+    last
 }

@@ -1,7 +1,21 @@
--- What is next in a strand, while lists are merged.
-use Rattle.std.specs.Prelude.{ℕ, List, Option, option_map, slice_get}
+-- What is next in a strand, while lists are merged, and which lists can be merged.
+use Rattle.std.specs.Prelude.{◌≡◌, ℕ, List, Option, Some, None, length, option_map, slice_get, take}
+use Rattle.std.specs.List.{sum_by}
 use Rattle.history.specs.declared.event.Event.{Event}
+use Rattle.history.specs.Refusal.{refusal_of}
+use Rattle.recorder.specs.Clock.{numbers_below}
+use Rattle.recorder.specs.Recordings.{entries_of}
+use Rattle.recorder.specs.aids.Notes.{numbers_of}
 
 -- the number of the first entry
 abbrev pub next_number : List (ℕ × Event) → Option ℕ
 next_number entries = option_map (λ entry. entry.0) (slice_get entries 0)
+
+-- The entries of the lists have together the numbers below how many they are, each once: whatever is added up over either,
+-- the sum is the same.
+abbrev pub AreDense : List (List (ℕ × Event)) → Type 0
+AreDense lists = (f : ℕ → ℕ) → sum_by f (numbers_of (entries_of lists)) ≡ sum_by f (numbers_below (length (entries_of lists)))
+
+-- no event is refused by the history of those before it
+abbrev pub AreAccepted : List Event → Type 0
+AreAccepted events = (i : ℕ) (e : Event) → slice_get events i ≡ Some e → refusal_of (take i events) e ≡ None

@@ -1,6 +1,5 @@
 use super::*;
-use crate::recording::Recording;
-use crate::testing::{close_told, document};
+use crate::testing::{TOLD, close_told, document, fill, record_gets, record_in_turns};
 use std::test::Fail;
 use std::thread::join;
 
@@ -10,33 +9,6 @@ fn two_pens(alloc: Global) -> Result<(Recorder, Pen, Pen), Fail> {
     let second = pens.pop().ok_or("a second pen")?;
     let first = pens.pop().ok_or("a first pen")?;
     Ok((recorder, first, second))
-}
-
-const TOLD: &str = "call 0 of d on 0: Get; call 1 of d on 0: Get; reply 0: Missing; lost 1; ";
-
-// Two pens record in turns what `TOLD` says, with refusals in between. Each number is answered at its call.
-fn record_in_turns(
-    rt: &(impl Wait + std::process::Abort),
-    alloc: Global,
-    recorder: &Recorder,
-    first: &mut Pen,
-    second: &mut Pen,
-) -> Result<(), Fail> {
-    assert_eq!(rt; recorder.call(rt, first, document(alloc)?, Op::Get), Ok(0));
-    assert_eq!(rt; recorder.call(rt, second, document(alloc)?, Op::Get), Ok(1));
-    assert_eq!(rt; recorder.reply(rt, first, 0, Reply::Missing), Ok(2));
-    assert_eq!(rt;
-        recorder.reply(rt, first, 0, Reply::Missing),
-        Err(RecFault::Ended)
-    );
-    assert_eq!(rt; recorder.lost(rt, first, 1), Err(RecFault::NotMine));
-    assert_eq!(rt;
-        recorder.reply(rt, second, 1, Reply::Conflict),
-        Err(RecFault::Kind)
-    );
-    assert_eq!(rt; recorder.lost(rt, second, 1), Ok(3));
-    assert_eq!(rt; recorder.lost(rt, second, 1), Err(RecFault::Ended));
-    Ok(())
 }
 
 #[test]
@@ -94,36 +66,6 @@ fn pen_of_another_recorder(rt: HostRuntime) -> Result<(), Fail> {
     Ok(())
 }
 
-// Records gets of `d`, in turns answered and lost, through any recorder; tells whether all were recorded.
-fn record_gets<X: Recording, R: Wait>(
-    rt: &R,
-    alloc: Global,
-    recorder: &X,
-    pen: &mut X::Pen,
-    count: usize,
-) -> bool
-    requires { X.has_pen recorder.now pen.old }
-    ensures { X.has_pen recorder.now pen.new }
-{
-    for turn in 0..count {
-        let Ok(id) = DocId::new(alloc, "d") else {
-            return false;
-        };
-        let Ok(no) = recorder.call(rt, pen, id, Op::Get) else {
-            return false;
-        };
-        let ended = if turn % 2 == 0 {
-            recorder.reply(rt, pen, no, Reply::Missing)
-        } else {
-            recorder.lost(rt, pen, no)
-        };
-        if ended.is_err() {
-            return false;
-        }
-    }
-    true
-}
-
 #[test]
 fn pens_in_two_threads(rt: HostRuntime) -> Result<(), Fail> {
     let alloc = rt.alloc();
@@ -140,17 +82,6 @@ fn pens_in_two_threads(rt: HostRuntime) -> Result<(), Fail> {
     assert_eq!(rt; history.len(), 4000);
     assert_eq!(rt; history.docs(), 1);
     Ok(())
-}
-
-// Fills the recording by gets of `d`, each called and answered; tells the last number.
-fn fill<R: Wait>(rt: &R, alloc: Global, recorder: &Recorder, pen: &mut Pen) -> Option<u64> {
-    let mut last = None;
-    for _ in 0..524_288 {
-        let id = DocId::new(alloc, "d").ok()?;
-        let no = recorder.call(rt, pen, id, Op::Get).ok()?;
-        last = Some(recorder.reply(rt, pen, no, Reply::Missing).ok()?);
-    }
-    last
 }
 
 #[test]

@@ -1,0 +1,236 @@
+-- Lists whose entries have together the numbers below how many they are: what of them is left while they are merged.
+use Rattle.std.proofs.Common.{ℕ, zero, suc, ◌≡◌, ◌≢◌, ◌⊎◌, inl, inr, ⊎_elim, ◌+◌, ◌-◌, ◌<◌, ◌≤◌, List, [], ◌∷◌, ◌++◌, length, refl, sym, ap, subst, ◌∙◌, arith, Some, None, slice_get, All, Bool, true, false, get_or}
+use Rattle.std.specs.Prelude.{cond, nat_lt}
+use Rattle.std.specs.List.{filter, range_with_len, sum_by}
+use Rattle.std.specs.List.Sorted.{IsPermutation}
+use Rattle.std.proofs.lemmas.Bool.{ltb-false, ltb-true}
+use Rattle.std.proofs.lemmas.List.{append-nil}
+use Rattle.std.proofs.lemmas.List.Elements.{All-from_get_or, filter-append}
+use Rattle.std.proofs.lemmas.List.FromFn.{get_or-range_with_len, length-range_with_len}
+use Rattle.std.proofs.lemmas.List.Sums.{sum_by-cons, sum_by-append, sum_by_push}
+use Rattle.std.proofs.lemmas.List.Sorted.{IsPermutation-map, sum_by-IsPermutation}
+use Rattle.std.proofs.lemmas.Option.{slice_get-get_or, slice_get_within}
+use Rattle.history.specs.declared.event.Event.{Event}
+use Rattle.history.specs.Refusal.{most_events}
+use Rattle.recorder.specs.Clock.{numbers_below}
+use Rattle.recorder.specs.Recordings.{entries_of}
+use Rattle.recorder.specs.aids.Drawing.{numbers_of_events}
+use Rattle.recorder.specs.aids.Merging.{AreDense, next_number}
+use Rattle.recorder.specs.aids.Notes.{IsRising, numbers_of}
+use Rattle.recorder.proofs.CountLemmas.{below_there, has_one, is_the_one, none_past, once_at_most, one_for, one_for_itself, range_more, range_split, sum_map, sum_of_one, sum_ones}
+use Rattle.recorder.proofs.DrawLemmas.{kept_under, none_under}
+
+-- ---- entries and their lists
+
+-- where an entry stands: in which list, at which place
+pub record StandsIn (lists : List (List (ℕ × Event))) (entry : ℕ × Event) : Type 0 where
+  pub which : ℕ
+  pub list : List (ℕ × Event)
+  pub of_which : slice_get lists which ≡ Some list
+  pub place : ℕ
+  pub here : slice_get list place ≡ Some entry
+
+at_append : (xs ys : List (ℕ × Event)) (k : ℕ) (x : ℕ × Event) → slice_get (xs ++ ys) k ≡ Some x
+    → (slice_get xs k ≡ Some x) ⊎ ((j : ℕ) × (slice_get ys j ≡ Some x))
+at_append [] ys k x at = inr (k, at)
+at_append (z ∷ zs) ys zero x at = inl at
+at_append (z ∷ zs) ys (suc k) x at = at_append zs ys k x at
+
+pub stands_in : (lists : List (List (ℕ × Event))) (k : ℕ) (x : ℕ × Event) → slice_get (entries_of lists) k ≡ Some x → StandsIn lists x
+stands_in [] k x at = let impossible : None ≡ Some x = at in absurd (cc)
+stands_in (l ∷ ls) k x at =
+    ⊎_elim
+    (λ here. record { which = 0; list = l; of_which = refl; place = k; here = here })
+    (λ (later : (j : ℕ) × (slice_get (entries_of ls) j ≡ Some x)). one_on (stands_in ls later.0 x later.1))
+    (at_append l (entries_of ls) k x at) where
+      one_on : StandsIn ls x → StandsIn (l ∷ ls) x
+      one_on in_rest = record { which = suc in_rest.which; list = in_rest.list; of_which = in_rest.of_which; place = in_rest.place; here = in_rest.here }
+
+-- what is added up over one list is no more than over all
+pub sum_of_list : (f : ℕ × Event → ℕ) (lists : List (List (ℕ × Event))) (p : ℕ) (list : List (ℕ × Event)) → slice_get lists p ≡ Some list
+    → sum_by f list ≤ sum_by f (entries_of lists)
+sum_of_list f [] p list at = let impossible : None ≡ Some list = at in absurd (cc)
+sum_of_list f (l ∷ ls) zero list at =
+    let same : l ≡ list = (let both : Some l ≡ Some list = at in cc) in
+    let value : sum_by f l ≡ sum_by f list = ap (sum_by f) same in
+    let whole = sum_by-append f l (entries_of ls) in omega arith
+sum_of_list f (l ∷ ls) (suc p) list at = let rest = sum_of_list f ls p list at in let whole = sum_by-append f l (entries_of ls) in omega arith
+
+-- an entry at a place of a rising list is past its first
+first_less : (x : ℕ × Event) (xs : List (ℕ × Event)) (k : ℕ) (y : ℕ × Event) → IsRising (x ∷ xs) → slice_get xs k ≡ Some y → x.0 < y.0
+first_less x xs k y rising at =
+    let within : k < length xs = slice_get_within xs k y at in
+    let read : get_or xs k y ≡ y = (let both : Some (get_or xs k y) ≡ Some y = sym (slice_get-get_or xs k y within) ∙ at in cc) in
+    let less : x.0 < (get_or xs k y).0 = rising 0 (suc k) y (omega arith) (omega arith) in
+    let same : (get_or xs k y).0 ≡ y.0 = ap (λ (z : ℕ × Event). z.0) read in omega arith
+
+-- ---- what is left
+
+-- the numbers from n on below the total are left, each once: with those below n they are all
+abbrev pub AreLeft : List (List (ℕ × Event)) → ℕ → ℕ → Type 0
+AreLeft lists n total = (f : ℕ → ℕ) → sum_by f (numbers_of (entries_of lists)) + sum_by f (numbers_below n) ≡ sum_by f (numbers_below total)
+
+pub left_at_first : (lists : List (List (ℕ × Event))) → AreDense lists → AreLeft lists 0 (length (entries_of lists))
+left_at_first lists dense f = let all = dense f in let nothing : sum_by f (numbers_below 0) ≡ 0 = refl in omega arith
+
+pub left_after_one : (old new : List (List (ℕ × Event))) (n total : ℕ) (e : Event) → IsPermutation (entries_of old) ((n, e) ∷ entries_of new) → AreLeft old n total → AreLeft new (n + 1) total
+left_after_one old new n total e taken left f =
+    let moved : IsPermutation (numbers_of (entries_of old)) (n ∷ numbers_of (entries_of new)) =
+    IsPermutation-map (λ (entry : ℕ × Event). entry.0) (entries_of old) ((n, e) ∷ entries_of new) taken in
+    let same = sum_by-IsPermutation f (numbers_of (entries_of old)) (n ∷ numbers_of (entries_of new)) moved in
+    let cons = sum_by-cons f n (numbers_of (entries_of new)) in
+    let was = left f in
+    let next : n + 1 ≡ suc n = omega arith in
+    let last : 0 + n ≡ n = omega arith in
+    let more : sum_by f (numbers_below (n + 1)) ≡ sum_by f (numbers_below n) + f n =
+    ap (λ k. sum_by f (numbers_below k)) next ∙ (ap (sum_by f) (range_more 0 n ∙ ap (λ k. numbers_below n ++ k ∷ []) last) ∙ sum_by_push f (numbers_below n) n) in
+    omega arith
+
+-- how many are left
+pub how_many_left : (lists : List (List (ℕ × Event))) (n total : ℕ) → AreLeft lists n total → length (entries_of lists) + n ≡ total
+how_many_left lists n total left =
+    let all = left (λ _. 1) in
+    let here = sum_map (λ _. 1) (λ (entry : ℕ × Event). entry.0) (entries_of lists) in
+    let entries = sum_ones (entries_of lists) in
+    let low = sum_ones (numbers_below n) in
+    let whole = sum_ones (numbers_below total) in
+    let n_long = length-range_with_len 0 n in
+    let total_long = length-range_with_len 0 total in
+    omega arith
+
+-- no list has an entry below what is next
+not_below : (lists : List (List (ℕ × Event))) (n total p : ℕ) (list : List (ℕ × Event)) (x : ℕ × Event) → AreLeft lists n total → slice_get lists p ≡ Some list → slice_get list 0 ≡ Some x
+    → x.0 < n → ⊥
+not_below lists n total p list x left which first less =
+    let all = left (one_for x.0) in
+    let here = sum_map (one_for x.0) (λ (entry : ℕ × Event). entry.0) (entries_of lists) in
+    let mine = sum_of_one (λ (entry : ℕ × Event). one_for x.0 entry.0) list 0 x first in
+    let whole = sum_of_list (λ (entry : ℕ × Event). one_for x.0 entry.0) lists p list which in
+    let one = one_for_itself x.0 in
+    let low = below_there x.0 n less in
+    let once = once_at_most x.0 0 total in
+    absurd (omega arith)
+
+-- while some are left, the next one is the first of its list
+pub next_there : (lists : List (List (ℕ × Event))) (n total : ℕ) → All IsRising lists → AreLeft lists n total → n < total → All (λ list. next_number list ≢ Some n) lists → ⊥
+next_there lists n total rising left less none =
+    let all = left (one_for n) in
+    let before = none_past n 0 n (omega arith) in
+    let there = below_there n total less in
+    let here = sum_map (one_for n) (λ (entry : ℕ × Event). entry.0) (entries_of lists) in
+    let some : 0 < sum_by (λ (entry : ℕ × Event). one_for n entry.0) (entries_of lists) = omega arith in
+    let found = has_one (λ (entry : ℕ × Event). one_for n entry.0) (entries_of lists) some in
+    let stands = stands_in lists found.0 found.1 found.2 in
+    by_place stands.list stands.place stands.which found.1 (is_the_one n (found.1).0 found.3) stands.of_which stands.here where
+      rises : (p : ℕ) (list : List (ℕ × Event)) → slice_get lists p ≡ Some list → IsRising list
+      rises p list which =
+          let within : p < length lists = slice_get_within lists p list which in
+          let read : get_or lists p list ≡ list = (let both : Some (get_or lists p list) ≡ Some list = sym (slice_get-get_or lists p list within) ∙ which in cc) in
+          subst IsRising read (rising p list within)
+
+      not_next : (p : ℕ) (list : List (ℕ × Event)) → slice_get lists p ≡ Some list → next_number list ≢ Some n
+      not_next p list which =
+          let within : p < length lists = slice_get_within lists p list which in
+          let read : get_or lists p list ≡ list = (let both : Some (get_or lists p list) ≡ Some list = sym (slice_get-get_or lists p list within) ∙ which in cc) in
+          subst (λ l. next_number l ≢ Some n) read (none p list within)
+
+      by_place : (list : List (ℕ × Event)) (k p : ℕ) (x : ℕ × Event) → x.0 ≡ n → slice_get lists p ≡ Some list → slice_get list k ≡ Some x → ⊥
+      by_place [] k p x same which at = let impossible : None ≡ Some x = at in absurd (cc)
+      by_place (y ∷ ys) zero p x same which at =
+          let first : y ≡ x = (let both : Some y ≡ Some x = at in cc) in
+          absurd (not_next p (y ∷ ys) which (ap (λ (z : ℕ × Event). Some z.0) first ∙ ap (λ (m : ℕ). Some m) same))
+      by_place (y ∷ ys) (suc k) p x same which at =
+          let low : y.0 < x.0 = first_less y ys k x (rises p (y ∷ ys) which) at in
+          not_below lists n total p (y ∷ ys) y left which refl (omega arith)
+
+-- ---- the lists of pens whose seats drew the numbers below the word
+
+range_below : (most a n : ℕ) → a + n ≤ most → All (λ m. m < most) (range_with_len a n)
+range_below most a n up = All-from_get_or (λ m. m < most) (range_with_len a n) 0 (λ i within.
+    let count : length (range_with_len a n) ≡ n = length-range_with_len a n in
+    let less : i < n = omega arith in
+    let read : get_or (range_with_len a n) i 0 ≡ a + i = get_or-range_with_len a n i 0 less in
+    omega arith)
+
+range_from : (most a n : ℕ) → most ≤ a → All (λ m. most ≤ m) (range_with_len a n)
+range_from most a n up = All-from_get_or (λ m. most ≤ m) (range_with_len a n) 0 (λ i within.
+    let count : length (range_with_len a n) ≡ n = length-range_with_len a n in
+    let less : i < n = omega arith in
+    let read : get_or (range_with_len a n) i 0 ≡ a + i = get_or-range_with_len a n i 0 less in
+    omega arith)
+
+-- the numbers below the word that are below a bound: those below the word, or those below the bound
+cut_at : (most word : ℕ) → (n : ℕ) × (n ≤ most) × (filter (λ n. nat_lt n most) (numbers_below word) ≡ numbers_below n)
+cut_at most word = by_test (nat_lt most word) refl where
+  by_test : (b : Bool) → nat_lt most word ≡ b → (n : ℕ) × (n ≤ most) × (filter (λ n. nat_lt n most) (numbers_below word) ≡ numbers_below n)
+  by_test false is = let up : word ≤ most = ltb-false most word is in (word, up, kept_under most (numbers_below word) (range_below most 0 word (omega arith)))
+  by_test true is =
+      let less : most < word = ltb-true most word is in
+      let rest = word - most in
+      let whole : word ≡ most + rest = omega arith in
+      let past : 0 + most ≡ most = omega arith in (
+        most,
+        (omega arith),
+        ap (λ k. filter (λ n. nat_lt n most) (numbers_below k)) whole
+            ∙ (ap (λ ns. filter (λ n. nat_lt n most) ns) (range_split 0 most rest)
+            ∙ (filter-append (λ n. nat_lt n most) (numbers_below most) (range_with_len (0 + most) rest)
+            ∙ (ap (λ ns. filter (λ n. nat_lt n most) (numbers_below most) ++ ns) (none_under most (range_with_len (0 + most) rest) (range_from most (0 + most) rest (omega arith)))
+            ∙ (append-nil (filter (λ n. nat_lt n most) (numbers_below most)) ∙ kept_under most (numbers_below most) (range_below most 0 most (omega arith)))))),
+      )
+
+-- what is added up over the numbers that are events'
+weight_if : Bool → ℕ → ℕ
+weight_if true m = m
+weight_if false m = 0
+
+sum_of_events : (f : ℕ → ℕ) (ns : List ℕ) → sum_by f (numbers_of_events ns) ≡ sum_by (λ n. weight_if (nat_lt n most_events) (f n)) ns
+unfolding weight_if
+sum_of_events f [] = refl
+sum_of_events f (n ∷ ns) = by_test (nat_lt n most_events) (sum_of_events f ns) ∙ sym (sum_by-cons (λ n. weight_if (nat_lt n most_events) (f n)) n ns) where
+  rest : ℕ
+  rest = sum_by (λ n. weight_if (nat_lt n most_events) (f n)) ns
+
+  by_test : (b : Bool) → sum_by f (numbers_of_events ns) ≡ rest → sum_by f (cond b (n ∷ numbers_of_events ns) (numbers_of_events ns)) ≡ weight_if b (f n) + rest
+  by_test true later = sum_by-cons f n (numbers_of_events ns) ∙ ap (λ k. f n + k) later
+  by_test false later = later ∙ (let nothing : rest ≡ 0 + rest = omega arith in nothing)
+
+pub dense_after : (lists : List (List (ℕ × Event))) (gained : List ℕ) (word : ℕ) → IsPermutation gained (numbers_below word) → numbers_of_events gained ≡ numbers_of (entries_of lists)
+    → AreDense lists × (length (entries_of lists) ≤ most_events)
+dense_after lists gained word all same =
+    let cut = cut_at most_events word in
+    let n = cut.0 in
+    let sums : (f : ℕ → ℕ) → sum_by f (numbers_of (entries_of lists)) ≡ sum_by f (numbers_below n) = λ f.
+    let w : ℕ → ℕ = λ n. weight_if (nat_lt n most_events) (f n) in
+    ap (sum_by f) (sym same)
+    ∙ (sum_of_events f gained
+    ∙ (sym (sum_by-IsPermutation w gained (numbers_below word) all)
+    ∙ (sym (sum_of_events f (numbers_below word)) ∙ ap (sum_by f) cut.2))) in
+    let count : length (entries_of lists) ≡ n = (
+    let ones = sums (λ _. 1) in
+    let here = sum_map (λ _. 1) (λ (entry : ℕ × Event). entry.0) (entries_of lists) in
+    let entries = sum_ones (entries_of lists) in
+    let numbers = sum_ones (numbers_below n) in
+    let long = length-range_with_len 0 n in omega arith) in
+    let up = cut.1 in
+    ((λ f. sums f ∙ ap (λ k. sum_by f (numbers_below k)) (sym count)), omega arith)
+
+-- where no list has the next number first, nothing is left
+pub none_left : (lists : List (List (ℕ × Event))) (n total : ℕ) → All IsRising lists → AreLeft lists n total → All (λ list. next_number list ≢ Some n) lists → entries_of lists ≡ []
+none_left lists n total rising left none = by_test (nat_lt n total) refl where
+  empty : (entries : List (ℕ × Event)) → length entries ≤ 0 → entries ≡ []
+  empty [] size = refl
+  empty (x ∷ xs) size = absurd (omega arith)
+
+  by_test : (b : Bool) → nat_lt n total ≡ b → entries_of lists ≡ []
+  by_test true is = absurd (next_there lists n total rising left (ltb-true n total is) none)
+  by_test false is =
+      let up : total ≤ n = ltb-false n total is in
+      let count = how_many_left lists n total left in
+      empty (entries_of lists) (omega arith)
+
+-- where the most events were met, nothing is left
+pub none_past_most : (lists : List (List (ℕ × Event))) (n total : ℕ) → AreLeft lists n total → total ≤ n → entries_of lists ≡ []
+none_past_most lists n total left up = let count = how_many_left lists n total left in empty (entries_of lists) (omega arith) where
+  empty : (entries : List (ℕ × Event)) → length entries ≤ 0 → entries ≡ []
+  empty [] size = refl
+  empty (x ∷ xs) size = absurd (omega arith)

@@ -1,0 +1,153 @@
+-- What the seat of a pen drew, after a recording and at the end.
+use Rattle.std.proofs.Common.{ℕ, ◌≡◌, ◌≢◌, ◌<◌, ◌≤◌, List, [], ◌∷◌, ◌++◌, refl, sym, ap, subst, ◌∙◌, arith, None, Result, Ok, Err, Bool, true, false, All, IfOk, OnErr}
+use Rattle.std.specs.Prelude.{cond, ◌||◌, if◌then◌else◌, nat_lt}
+use Rattle.std.specs.List.{filter}
+use Rattle.std.proofs.lemmas.Bool.{ltb-false, ltb-true}
+use Rattle.std.proofs.lemmas.List.{append-nil}
+use Rattle.std.proofs.lemmas.List.Elements.{All-cons, All-head, All-nil, All-push, All-tail, filter-append}
+use Rattle.atomic_table.specs.Table.{Me}
+use Rattle.history.specs.declared.event.Event.{Event}
+use Rattle.history.specs.Refusal.{most_events}
+use Rattle.recorder.specs.declared.clock_view.ClockView.{ClockView}
+use Rattle.recorder.specs.declared.clock_view.ClockView.TheVariants.{Drew}
+use Rattle.recorder.specs.declared.fault.RecFault.{RecFault}
+use Rattle.recorder.specs.declared.fault.RecFault.TheVariants.{Full, Rewound}
+use Rattle.recorder.specs.Clock.{numbers_in, seat_with}
+use Rattle.recorder.specs.Pens.{PenState, Records, tells_full, told_by_list}
+use Rattle.recorder.specs.aids.Drawing.{HasDrawn, IsSeatFor, numbers_of_events}
+use Rattle.recorder.specs.aids.Notes.{numbers_of}
+
+-- ---- numbers of events
+
+pub kept_under : (most : ℕ) (ns : List ℕ) → All (λ n. n < most) ns → filter (λ n. nat_lt n most) ns ≡ ns
+kept_under most [] below = refl
+kept_under most (n ∷ ns) below = by_test (nat_lt n most) refl (kept_under most ns (All-tail (λ n. n < most) n ns below)) where
+  by_test : (b : Bool) → nat_lt n most ≡ b → filter (λ n. nat_lt n most) ns ≡ ns → cond b (n ∷ filter (λ n. nat_lt n most) ns) (filter (λ n. nat_lt n most) ns) ≡ n ∷ ns
+  by_test true is later = ap (λ rest. n ∷ rest) later
+  by_test false is later = let up : most ≤ n = ltb-false n most is in let less : n < most = All-head (λ n. n < most) n ns below in absurd (omega arith)
+
+pub none_under : (most : ℕ) (ns : List ℕ) → All (λ n. most ≤ n) ns → filter (λ n. nat_lt n most) ns ≡ []
+none_under most [] up = refl
+none_under most (n ∷ ns) up = by_test (nat_lt n most) refl (none_under most ns (All-tail (λ n. most ≤ n) n ns up)) where
+  by_test : (b : Bool) → nat_lt n most ≡ b → filter (λ n. nat_lt n most) ns ≡ [] → cond b (n ∷ filter (λ n. nat_lt n most) ns) (filter (λ n. nat_lt n most) ns) ≡ []
+  by_test true is later = let less : n < most = ltb-true n most is in let no : most ≤ n = All-head (λ n. most ≤ n) n ns up in absurd (omega arith)
+  by_test false is later = later
+
+numbers_push : (list : List (ℕ × Event)) (x : ℕ × Event) → numbers_of (list ++ x ∷ []) ≡ numbers_of list ++ x.0 ∷ []
+numbers_push [] x = refl
+numbers_push (y ∷ ys) x = ap (λ rest. y.0 ∷ rest) (numbers_push ys x)
+
+-- ---- the seat
+
+-- at the end: what the seat drew, but for what is no event's, are the numbers of the entries
+pub seat_for : (pen : PenState) (seat : Me (Unit {0}) ClockView) → HasDrawn pen seat → IsSeatFor pen.list seat
+seat_for pen seat drew = (
+  numbers_of pen.list ++ drew.past,
+  drew.view,
+  filter-append (λ n. nat_lt n most_events) (numbers_of pen.list) drew.past
+      ∙ (ap (λ rest. numbers_of_events (numbers_of pen.list) ++ rest) (none_under most_events drew.past drew.no_events)
+      ∙ (append-nil (numbers_of_events (numbers_of pen.list)) ∙ kept_under most_events (numbers_of pen.list) drew.events)),
+)
+
+-- a pen that was not answered Full drew numbers of events alone
+pub may_draw : (pen : PenState) (seat : Me (Unit {0}) ClockView) → HasDrawn pen seat → pen.is_full ≡ false
+    → (drawn : List ℕ) × All (λ n. n < most_events) drawn × (seat ≡ seat_with (Drew drawn))
+may_draw pen seat drew open_ = (
+  numbers_of pen.list,
+  drew.events,
+  drew.view ∙ ap (λ ns. seat_with (Drew ns)) (ap (λ past. numbers_of pen.list ++ past) (drew.when_open open_) ∙ append-nil (numbers_of pen.list)),
+)
+
+-- a drawn number is not answered by saying that the recording was rewound
+never_rewound : (n : ℕ) (answer : Result ℕ RecFault) → answer ≡ (if nat_lt n most_events then Ok n else Err Full) → (m : ℕ) → answer ≢ Err (Rewound m)
+never_rewound n answer is m told = by_test (nat_lt n most_events) (sym is ∙ told) where
+  by_test : (b : Bool) → (if b then Ok n else Err Full) ≡ Err (Rewound m) → ⊥
+  by_test true told = let impossible : Ok n ≡ Err (Rewound m) = told in cc
+  by_test false told = let impossible : Err Full ≡ Err (Rewound m) = told in cc
+
+-- what becomes of the pen
+record IsSettled (old new : PenState) (event : ℕ → Event) (answer : Result ℕ RecFault) : Type 0 where
+  pub ok : IfOk answer (λ n. new.list ≡ old.list ++ (n, event n) ∷ [])
+  pub err : OnErr answer (new.list ≡ old.list)
+  pub full : new.is_full ≡ (old.is_full || tells_full answer)
+
+-- the pen and its seat after a number was drawn and the answer settled
+pub drawn_after : (old new : PenState) (event : ℕ → Event) (seat after : Me (Unit {0}) ClockView) (n : ℕ) (answer : Result ℕ RecFault)
+    → answer ≡ (if nat_lt n most_events then Ok n else Err Full) → HasDrawn old seat → old.is_full ≡ false → after ≡ seat_with (Drew (numbers_in seat.0 ++ n ∷ []))
+    → IfOk answer (λ n. new.list ≡ old.list ++ (n, event n) ∷ []) → OnErr answer (new.list ≡ old.list) → new.is_full ≡ (old.is_full || tells_full answer)
+    → HasDrawn new after
+drawn_after old new event seat after n answer is drew open_ view ok err full =
+    by_test (nat_lt n most_events) refl (record {
+      ok = subst (λ a. IfOk a (λ n. new.list ≡ old.list ++ (n, event n) ∷ [])) is ok;
+      err = subst (λ a. OnErr a (new.list ≡ old.list)) is err;
+      full = full ∙ ap (λ a. old.is_full || tells_full a) is;
+    }) where
+      held : numbers_in seat.0 ≡ numbers_of old.list
+      held = ap (λ me. numbers_in me.0) drew.view ∙ (ap (λ past. numbers_of old.list ++ past) (drew.when_open open_) ∙ append-nil (numbers_of old.list))
+
+      seen : after ≡ seat_with (Drew (numbers_of old.list ++ n ∷ []))
+      seen = view ∙ ap (λ ns. seat_with (Drew (ns ++ n ∷ []))) held
+
+      by_test : (b : Bool) → nat_lt n most_events ≡ b → IsSettled old new event (if b then Ok n else Err Full) → HasDrawn new after
+      by_test true less settled =
+          let grown : numbers_of new.list ≡ numbers_of old.list ++ n ∷ [] = ap numbers_of settled.ok ∙ numbers_push old.list (n, event n) in
+          record {
+            past = [];
+            view = seen ∙ ap (λ ns. seat_with (Drew ns)) (sym (append-nil (numbers_of new.list) ∙ grown));
+            events = subst (λ ns. All (λ n. n < most_events) ns) (sym grown) (All-push (λ n. n < most_events) (numbers_of old.list) n drew.events (ltb-true n most_events less));
+            no_events = All-nil (λ n. most_events ≤ n);
+            when_open = λ _. refl;
+          }
+      by_test false past settled =
+          let same : numbers_of new.list ≡ numbers_of old.list = ap numbers_of settled.err in
+          record {
+            past = n ∷ [];
+            view = seen ∙ ap (λ ns. seat_with (Drew (ns ++ n ∷ []))) (sym same);
+            events = subst (λ ns. All (λ n. n < most_events) ns) (sym same) drew.events;
+            no_events = All-cons (λ n. most_events ≤ n) n [] (ltb-false n most_events past) (All-nil (λ n. most_events ≤ n));
+            when_open = λ open_again. absurd (
+                let told : new.is_full ≡ true = settled.full ∙ ap (λ b. b || true) open_ in
+                let impossible : true ≡ false = sym told ∙ open_again in cc);
+          }
+
+held_of : (old : PenState) (seat : Me (Unit {0}) ClockView) → HasDrawn old seat → old.is_full ≡ false → numbers_in seat.0 ≡ numbers_of old.list
+held_of old seat drew open_ =
+    ap (λ me. numbers_in me.0) drew.view ∙ (ap (λ past. numbers_of old.list ++ past) (drew.when_open open_) ∙ append-nil (numbers_of old.list))
+
+-- the number that is answered is above all in the list
+pub answered_above : (old : PenState) (seat : Me (Unit {0}) ClockView) (n : ℕ) (answer : Result ℕ RecFault)
+    → answer ≡ (if nat_lt n most_events then Ok n else Err Full) → HasDrawn old seat → old.is_full ≡ false → All (λ m. m < n) (numbers_in seat.0)
+    → IfOk answer (λ n. All (λ entry. entry.0 < n) old.list)
+answered_above old seat n answer is drew open_ above =
+    subst (λ a. IfOk a (λ n. All (λ entry. entry.0 < n) old.list)) (sym is)
+    (by_test (nat_lt n most_events) (below_each old.list (subst (λ ns. All (λ m. m < n) ns) (held_of old seat drew open_) above))) where
+      below_each : (list : List (ℕ × Event)) → All (λ m. m < n) (numbers_of list) → All (λ entry. entry.0 < n) list
+      below_each [] all = All-nil (λ entry. entry.0 < n)
+      below_each (x ∷ xs) all = All-cons (λ entry. entry.0 < n) x xs (All-head (λ m. m < n) x.0 (numbers_of xs) all) (below_each xs (All-tail (λ m. m < n) x.0 (numbers_of xs) all))
+
+      by_test : (b : Bool) → All (λ entry. entry.0 < n) old.list → IfOk (if b then Ok n else Err Full) (λ n. All (λ entry. entry.0 < n) old.list)
+      by_test true all = all
+      by_test false all = tt
+
+-- what is answered then
+pub clock_recorded : (old new : PenState) (event : ℕ → Event) (seat : Me (Unit {0}) ClockView) (n : ℕ) (answer : Result ℕ RecFault)
+    → answer ≡ (if nat_lt n most_events then Ok n else Err Full) → HasDrawn old seat → old.is_full ≡ false → All (λ m. m < n) (numbers_in seat.0)
+    → IfOk answer (λ n. new.list ≡ old.list ++ (n, event n) ∷ []) → OnErr answer (new.list ≡ old.list) → new.is_full ≡ (old.is_full || tells_full answer)
+    → Records old None event answer new
+clock_recorded old new event seat n answer is drew open_ above ok err full = record {
+  grows = ok;
+  stays = err;
+  above = answered_above old seat n answer is drew open_ above;
+  below = subst (λ a. IfOk a (λ n. n < most_events)) (sym is) (below_most (nat_lt n most_events) refl);
+  by_list = ap told_by_list is ∙ no_reason (nat_lt n most_events);
+  full = λ _ was. absurd (let impossible : true ≡ false = sym was ∙ open_ in cc);
+  full_from_then = full;
+  rewound = λ m told. absurd (never_rewound n answer is m told);
+} where
+  below_most : (b : Bool) → nat_lt n most_events ≡ b → IfOk (if b then Ok n else Err Full) (λ n. n < most_events)
+  below_most true less = ltb-true n most_events less
+  below_most false past = tt
+
+  no_reason : (b : Bool) → told_by_list (if b then Ok n else Err Full) ≡ None
+  no_reason true = refl
+  no_reason false = refl

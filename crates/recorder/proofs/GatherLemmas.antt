@@ -1,0 +1,50 @@
+-- What the maker's seat and the strands are after one more pen was joined.
+use Rattle.std.proofs.Common.{ℕ, ◌≡◌, ◌+◌, List, [], ◌∷◌, ◌++◌, length, refl, sym, ap, ◌∙◌, length-append}
+use Rattle.std.specs.Prelude.{nat_lt}
+use Rattle.std.proofs.lemmas.List.{append-nil}
+use Rattle.std.proofs.lemmas.List.Elements.{filter-append}
+use Rattle.atomic_table.specs.Table.{Me}
+use Rattle.history.specs.declared.event.Event.{Event}
+use Rattle.history.specs.Refusal.{most_events}
+use Rattle.recorder.specs.declared.clock_view.ClockView.{ClockView}
+use Rattle.recorder.specs.declared.clock_view.ClockView.TheVariants.{Drew, Maker}
+use Rattle.recorder.specs.Clock.{ClockPenState, pens_of, seat_with, with_joined}
+use Rattle.recorder.specs.Recordings.{entries_of, lists_of}
+use Rattle.recorder.specs.aids.Drawing.{numbers_of_events}
+use Rattle.recorder.specs.aids.Notes.{numbers_of}
+
+pub lists_push : (pens : List ClockPenState) (pen : ClockPenState) → lists_of (pens_of (pens ++ pen ∷ [])) ≡ lists_of (pens_of pens) ++ pen.pen.list ∷ []
+lists_push [] pen = refl
+lists_push (p ∷ ps) pen = ap (λ rest. p.pen.list ∷ rest) (lists_push ps pen)
+
+append_assoc : (xs ys zs : List (ℕ × Event)) → (xs ++ ys) ++ zs ≡ xs ++ (ys ++ zs)
+append_assoc [] ys zs = refl
+append_assoc (x ∷ xs) ys zs = ap (λ rest. x ∷ rest) (append_assoc xs ys zs)
+
+entries_push : (lists : List (List (ℕ × Event))) (list : List (ℕ × Event)) → entries_of (lists ++ list ∷ []) ≡ entries_of lists ++ list
+entries_push [] list = append-nil list
+entries_push (l ∷ ls) list = ap (λ rest. l ++ rest) (entries_push ls list) ∙ sym (append_assoc l (entries_of ls) list)
+
+numbers_append : (xs ys : List (ℕ × Event)) → numbers_of (xs ++ ys) ≡ numbers_of xs ++ numbers_of ys
+numbers_append [] ys = refl
+numbers_append (x ∷ xs) ys = ap (λ rest. x.0 ∷ rest) (numbers_append xs ys)
+
+-- the numbers of events that the maker has gained are those of the entries
+pub gained_more : (lists : List (List (ℕ × Event))) (list : List (ℕ × Event)) (gained drawn : List ℕ)
+    → numbers_of_events gained ≡ numbers_of (entries_of lists) → numbers_of_events drawn ≡ numbers_of list
+    → numbers_of_events (gained ++ drawn) ≡ numbers_of (entries_of (lists ++ list ∷ []))
+gained_more lists list gained drawn had has =
+    filter-append (λ n. nat_lt n most_events) gained drawn
+    ∙ (ap (λ ns. ns ++ numbers_of_events drawn) had
+    ∙ (ap (λ ns. numbers_of (entries_of lists) ++ ns) has
+    ∙ (sym (numbers_append (entries_of lists) list) ∙ ap numbers_of (sym (entries_push lists list)))))
+
+-- the maker's seat after it joined one more
+pub joined_one_more : (k : ℕ) (pens : List ClockPenState) (pen : ClockPenState) (gained drawn : List ℕ) (maker seat after : Me (Unit {0}) ClockView)
+    → maker ≡ seat_with (Maker k (length pens) gained) → seat ≡ seat_with (Drew drawn) → after ≡ seat_with (with_joined maker.0 seat.0)
+    → after ≡ seat_with (Maker k (length (pens ++ pen ∷ [])) (gained ++ drawn))
+joined_one_more k pens pen gained drawn maker seat after was has view =
+    view
+    ∙ (ap (λ (m : Me (Unit {0}) ClockView). seat_with (with_joined m.0 seat.0)) was
+    ∙ (ap (λ (s : Me (Unit {0}) ClockView). seat_with (with_joined (Maker k (length pens) gained) s.0)) has
+    ∙ ap (λ n. seat_with (Maker k n (gained ++ drawn))) (let count : length pens + 1 ≡ length (pens ++ pen ∷ []) = sym (length-append pens (pen ∷ [])) in count)))

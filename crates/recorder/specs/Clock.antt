@@ -1,0 +1,125 @@
+-- The clock word: what a seat of it knows, the kinds of step, and the rule that each step keeps.
+use Rattle.std.specs.Prelude.{◌≡◌, ℕ, ◌+◌, ◌<◌, ◌≤◌, Bool, true, false, not, List, [], ◌∷◌, ◌++◌, length, All, map, nat_lt}
+use Rattle.std.specs.List.{flat_map, list_any, range_with_len}
+use Rattle.std.specs.List.Sorted.{IsPermutation}
+use Rattle.atomic_table.specs.Seated.{TableId}
+use Rattle.atomic_table.specs.Table.{Me, State, Step}
+use Rattle.history.specs.Refusal.{most_events}
+use Rattle.recorder.specs.declared.clock_view.ClockView.{ClockView}
+use Rattle.recorder.specs.declared.clock_view.ClockView.TheVariants.{Maker, Drew, Spent}
+use Rattle.recorder.specs.declared.recorder.TheConstants.{MOST_PENS}
+use Rattle.recorder.specs.Pens.{PenState, new_pen}
+
+-- ---- views
+
+-- the most pens that a recorder is started with
+abbrev pub most_pens : ℕ
+most_pens = MOST_PENS
+
+-- a seat with a view, and no more: a seat of the clock word holds nothing else
+abbrev pub seat_with : ClockView → Me (Unit {0}) ClockView
+seat_with v = (v, [])
+
+-- the numbers that a view holds
+abbrev pub numbers_in : ClockView → List ℕ
+numbers_in (Maker split_off joined gained) = gained
+numbers_in (Drew drawn) = drawn
+numbers_in Spent = []
+
+-- the numbers below n
+abbrev pub numbers_below : ℕ → List ℕ
+numbers_below n = range_with_len 0 n
+
+-- a number that is no event's: there are only so many
+abbrev pub is_past : ℕ → Bool
+is_past n = not (nat_lt n most_events)
+
+abbrev pub is_spent : ClockView → Bool
+is_spent (Maker split_off joined gained) = false
+is_spent (Drew drawn) = false
+is_spent Spent = true
+
+-- the seat draws no more: its view is spent, or holds a number that is no event's
+abbrev pub is_over : ClockView → Bool
+is_over (Maker split_off joined gained) = false
+is_over (Drew drawn) = list_any is_past drawn
+is_over Spent = true
+
+-- the view of a pen's seat, joined or not
+abbrev pub IsOfPen : ClockView → Type 0
+IsOfPen (Maker split_off joined gained) = ⊥
+IsOfPen (Drew drawn) = Unit {0}
+IsOfPen Spent = Unit {0}
+
+abbrev pub one_if : Bool → ℕ
+one_if true = 1
+one_if false = 0
+
+-- how many views pass the test
+abbrev pub how_many : (ClockView → Bool) → List ClockView → ℕ
+how_many test [] = 0
+how_many test (v ∷ vs) = one_if (test v) + how_many test vs
+
+-- ---- the kinds of step
+
+-- Split: the maker's seat has split one more off; the new seat's view is empty.
+abbrev pub split_once_more : ClockView → ClockView
+split_once_more (Maker split_off joined gained) = Maker (split_off + 1) joined gained
+split_once_more (Drew drawn) = Drew drawn
+split_once_more Spent = Spent
+
+abbrev pub nothing_drawn : ClockView
+nothing_drawn = Drew []
+
+-- Draw, by a fetch_add of 1: a pen's seat gains the number found, which is above all that it drew before.
+abbrev pub Draws : Step (Unit {0}) → Me (Unit {0}) ClockView → ℕ → Me (Unit {0}) ClockView → Type 0
+Draws step before found after =
+    (after ≡ seat_with (Drew (numbers_in before.0 ++ found ∷ []))) × All (λ n. n < found) (numbers_in before.0)
+
+-- Join: the maker's seat gains the numbers of the joined one, and has joined one more; the joined seat's view is spent.
+abbrev pub with_joined : ClockView → ClockView → ClockView
+with_joined (Maker split_off joined gained) other = Maker split_off (joined + 1) (gained ++ numbers_in other)
+with_joined (Drew drawn) other = Drew drawn
+with_joined Spent other = Spent
+
+-- ---- the rule
+
+-- What holds of the word and of all views between any two steps.
+pub record IsClock (state : State (Unit {0}) ClockView) : Type 0 where
+  pub word : ℕ
+  pub split_off : ℕ
+  pub joined : ℕ
+  pub gained : List ℕ
+  pub others : List ClockView
+  pub words : state.words ≡ word ∷ []
+  -- there is one maker's view, the first, with as many other views as seats were split off, at most 8
+  pub views : state.views ≡ Maker split_off joined gained ∷ others
+  pub of_pens : All IsOfPen others
+  pub as_many : length others ≡ split_off
+  pub few : split_off ≤ most_pens
+  -- as many views are spent as seats were joined
+  pub spent : how_many is_spent others ≡ joined
+  -- the views hold together each number below the word, once
+  pub dense : IsPermutation (flat_map numbers_in state.views) (numbers_below word)
+  -- the word is past the most events by no more than there are seats that draw no more
+  pub bounded : word ≤ most_events + how_many is_over others
+
+-- ---- what contracts see of a clock recorder and of its pens
+
+-- a clock recorder: how many pens it was started with, and its clock word
+pub record ClockRecorderState : Type 0 where
+  pub pens : ℕ
+  pub clock : TableId
+
+-- a pen of a clock recorder: what is known of it as of every pen, and the clock word of its recorder
+pub record ClockPenState : Type 0 where
+  pub pen : PenState
+  pub clock : TableId
+
+-- a pen of this clock word through which nothing was recorded yet
+abbrev pub new_clock_pen : TableId → ClockPenState
+new_clock_pen clock = record { pen = new_pen; clock = clock }
+
+-- what is known of the pens as of every pen
+abbrev pub pens_of : List ClockPenState → List PenState
+pens_of pens = map (λ pen. pen.pen) pens

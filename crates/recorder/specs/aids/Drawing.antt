@@ -1,0 +1,32 @@
+-- What the seat of a pen drew.
+use Rattle.std.specs.Prelude.{◌≡◌, ℕ, ◌<◌, ◌≤◌, ◌++◌, false, List, [], All, nat_lt}
+use Rattle.std.specs.List.{filter}
+use Rattle.atomic_table.specs.Table.{Me}
+use Rattle.history.specs.Refusal.{most_events}
+use Rattle.history.specs.declared.event.Event.{Event}
+use Rattle.recorder.specs.declared.clock_view.ClockView.{ClockView}
+use Rattle.recorder.specs.declared.clock_view.ClockView.TheVariants.{Drew}
+use Rattle.recorder.specs.Clock.{seat_with}
+use Rattle.recorder.specs.Pens.{PenState}
+use Rattle.recorder.specs.aids.Notes.{numbers_of}
+
+-- those of the numbers that are events'
+abbrev pub numbers_of_events : List ℕ → List ℕ
+numbers_of_events numbers = filter (λ n. nat_lt n most_events) numbers
+
+-- The seat drew the numbers of the pen's entries, and no more, unless the pen was answered that the recording is full:
+-- then also one that is no event's.
+pub record HasDrawn (pen : PenState) (seat : Me (Unit {0}) ClockView) : Type 0 where
+  pub past : List ℕ
+  pub view : seat ≡ seat_with (Drew (numbers_of pen.list ++ past))
+  pub events : All (λ n. n < most_events) (numbers_of pen.list)
+  pub no_events : All (λ n. most_events ≤ n) past
+  pub when_open : pen.is_full ≡ false → past ≡ []
+
+-- the seat drew these numbers
+abbrev pub IsSeatOf : List ℕ → Me (Unit {0}) ClockView → Type 0
+IsSeatOf drawn seat = seat ≡ seat_with (Drew drawn)
+
+-- the seat drew the numbers of the list's entries, and of others only such that are no events'
+abbrev pub IsSeatFor : List (ℕ × Event) → Me (Unit {0}) ClockView → Type 0
+IsSeatFor list seat = (drawn : List ℕ) × (seat ≡ seat_with (Drew drawn)) × (numbers_of_events drawn ≡ numbers_of list)
