@@ -1,7 +1,21 @@
-//! The workload: what a target of recorded calls is.
+//! The workload: what a target of recorded calls is, plans of what clients ask of it, and client threads.
 #![tactic(auto)]
 
+mod asked;
+mod client;
+mod drawing;
+mod known;
 mod lent;
+mod plan;
+mod plan_fault;
+mod run_fault;
+mod running;
 mod target;
+mod turn;
 
+pub use plan::{MOST_CLIENTS, MOST_DOCS, MOST_TURNS, Plan};
+pub use plan_fault::PlanFault;
+pub use run_fault::RunFault;
+pub use running::run_clients;
 pub use target::{Progress, Target, TargetFault, Ticket};
+pub use turn::{Kind, Turn};

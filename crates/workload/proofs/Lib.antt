@@ -1,0 +1,4 @@
+mod ClientLemmas
+mod DrawingLemmas
+mod PlanLemmas
+mod RunningLemmas

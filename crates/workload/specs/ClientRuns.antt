@@ -1,0 +1,116 @@
+-- Client runs: which lists of events, each with its number, a client records that takes its turns.
+use Rattle.std.specs.Prelude.{◌≡◌, ℕ, ◌+◌, ◌<◌, ◌==◌, ◌⊎◌, suc, List, [], ◌∷◌, ◌++◌, Option, Some, None, codes, decimal, if◌then◌else◌, length, slice_get, take}
+use Rattle.version_pair.specs.declared.pair.Pair.{Pair}
+use Rattle.doc_register.specs.declared.op.Op.{Op}
+use Rattle.doc_register.specs.declared.op.Op.TheVariants.{Get, Index, Delete}
+use Rattle.doc_register.specs.declared.reply.Reply.{Reply as Answer}
+use Rattle.doc_register.specs.declared.reply.Reply.TheVariants.{Indexed, Deleted, Found, Missing, Conflict}
+use Rattle.history.specs.declared.event.Event.{Event}
+use Rattle.history.specs.declared.event.Event.TheVariants.{Call, Reply, Lost}
+use Rattle.recorder.specs.Pens.{PenState}
+use Rattle.workload.specs.Plans.{turn_count}
+use Rattle.workload.specs.declared.target.Progress.{Progress}
+use Rattle.workload.specs.declared.target.Progress.TheVariants.{Waiting, Done, Unknown}
+use Rattle.workload.specs.declared.target.Ticket.{Ticket}
+use Rattle.workload.specs.declared.turn.Kind.{Kind}
+use Rattle.workload.specs.declared.turn.Kind.TheVariants as kind
+use Rattle.workload.specs.declared.turn.Turn.{Turn}
+
+-- ---- what a client knows, and what it asks for
+
+-- what a client knows: for each document by its number the pair last told of it, if there is one
+abbrev pub Known : Type 0
+Known = ℕ → Option Pair
+
+abbrev pub nothing_known : Known
+nothing_known doc = None
+
+-- the pair that a reply tells: that of a change, or of the document that was found
+abbrev pub pair_told : Answer → Option Pair
+pair_told (Indexed q created) = Some q
+pair_told (Deleted q found) = Some q
+pair_told (Found p k) = Some p
+pair_told Missing = None
+pair_told Conflict = None
+
+-- what is known after a reply about the document: of that document what the reply tells
+abbrev pub after_reply : Known → ℕ → Answer → Known
+after_reply known doc r = λ other. if other == doc then pair_told r else known other
+
+-- what is known after the ending of a call of the document; a lost call leaves it
+abbrev pub after_ending : Known → ℕ → Event → Known
+after_ending known doc (Call n h d op) = known
+after_ending known doc (Reply n r) = after_reply known doc r
+after_ending known doc (Lost n) = known
+
+-- the id of a document: a `d`, and its number in decimal
+abbrev pub doc_name : ℕ → List ℕ
+doc_name doc = codes "d" ++ decimal doc
+
+-- What is asked for at a turn, where this pair is known of its document, if one is; k is the number that a write writes.
+abbrev pub op_of : Kind → Option Pair → ℕ → Op
+op_of kind.Get seen k = Get
+op_of kind.Put seen k = Index k None
+op_of kind.PutIfSeen None k = Get
+op_of kind.PutIfSeen (Some p) k = Index k (Some p)
+op_of kind.Delete seen k = Delete None
+op_of kind.DeleteIfSeen None k = Get
+op_of kind.DeleteIfSeen (Some p) k = Delete (Some p)
+
+-- ---- the run of one client
+
+-- Of a target: for which document and operation it issued a ticket, and what it gave when a ticket was polled. Of a client: how
+-- often it polls a call at most.
+module _ (issued : Ticket → List ℕ → Op → Type 0) (gave : Ticket → Progress → Type 0) (polls : ℕ) where
+  -- the reply is one that the target gave to a ticket that it issued for that document and operation
+  pub record IsAnswered (d : List ℕ) (op : Op) (r : Answer) : Type 0 where
+    pub ticket : Ticket
+    pub was_issued : issued ticket d op
+    pub was_given : gave ticket (Done r)
+
+  -- to a ticket that it issued for that document and operation the target gave that it waits, or that its outcome is unknown;
+  -- where calls aren't polled at all, it gave nothing
+  pub record IsUnanswered (d : List ℕ) (op : Op) : Type 0 where
+    pub ticket : Ticket
+    pub was_issued : issued ticket d op
+    pub was_given : 0 < polls → gave ticket Waiting ⊎ gave ticket Unknown
+
+  -- the event is the ending of the call numbered n, of that document and operation
+  abbrev pub Ends : ℕ → List ℕ → Op → Event → Type 0
+  Ends n d op (Call m h e o) = ⊥
+  Ends n d op (Reply m r) = (m ≡ n) × IsAnswered d op r
+  Ends n d op (Lost m) = (m ≡ n) × IsUnanswered d op
+
+  -- What is recorded of one turn: a call, which is numbered by its own number, of what is asked for at that turn, and its
+  -- ending.
+  pub record IsTurn (known : Known) (k : ℕ) (turn : Turn) (call ending : ℕ × Event) : Type 0 where
+    pub called : call.1 ≡ Call call.0 0 (doc_name turn.doc) (op_of turn.kind (known turn.doc) k)
+    pub ended : Ends call.0 (doc_name turn.doc) (op_of turn.kind (known turn.doc) k) ending.1
+
+  -- What is recorded of turns, one after the other, by a client that knows this before them; the write of the first of them
+  -- writes the number k, each later one a number more.
+  unfoldable pub IsRunFrom : Known → ℕ → List Turn → List (ℕ × Event) → Type 0
+  IsRunFrom known k [] [] = Unit {0}
+  IsRunFrom known k [] (entry ∷ entries) = ⊥
+  IsRunFrom known k (turn ∷ turns) [] = ⊥
+  IsRunFrom known k (turn ∷ turns) (call ∷ []) = ⊥
+  IsRunFrom known k (turn ∷ turns) (call ∷ ending ∷ entries) =
+      IsTurn known k turn call ending × IsRunFrom (after_ending known turn.doc ending.1) (suc k) turns entries
+
+  -- The run of the client of that number: it takes its turns, knowing nothing before them. Numbers that are written count all
+  -- turns of the plan, those of earlier clients first, from 1.
+  pub record IsClientRun (clients : List (List Turn)) (client : ℕ) (entries : List (ℕ × Event)) : Type 0 where
+    pub turns : List Turn
+    pub turns_are : slice_get clients client ≡ Some turns
+    pub run : IsRunFrom nothing_known (1 + turn_count (take client clients)) turns entries
+
+  -- Each pen's list is longer by the run of the client of its number.
+  pub record AreLongerByRuns (clients : List (List Turn)) (old new : List PenState) : Type 0 where
+    pub count : length new ≡ length old
+    pub each : (client : ℕ) (before after : PenState) → slice_get old client ≡ Some before → slice_get new client ≡ Some after
+        → (entries : List (ℕ × Event)) × (after.list ≡ before.list ++ entries) × IsClientRun clients client entries
+
+  -- The lists are, one for each client and in their order, the runs of the clients.
+  pub record AreClientRuns (clients : List (List Turn)) (lists : List (List (ℕ × Event))) : Type 0 where
+    pub count : length lists ≡ length clients
+    pub each : (client : ℕ) (list : List (ℕ × Event)) → slice_get lists client ≡ Some list → IsClientRun clients client list

@@ -1,0 +1,4 @@
+pub mod Plans
+pub mod Drawing
+pub mod ClientRuns
+pub mod aids

@@ -1,0 +1,43 @@
+-- Plans: the turns of each client, and which lists of turns are no plan.
+use Rattle.std.specs.Prelude.{ℕ, ◌==◌, ◌||◌, Bool, List, Option, Some, None, Result, Ok, Err, if◌then◌else◌, length, nat_le, nat_lt, option_and_then, slice_get, sum_by}
+use Rattle.std.specs.List.{list_any}
+use Rattle.workload.specs.declared.plan.TheConstants.{MOST_CLIENTS, MOST_DOCS, MOST_TURNS}
+use Rattle.workload.specs.declared.plan_fault.PlanFault.{PlanFault}
+use Rattle.workload.specs.declared.plan_fault.PlanFault.TheVariants.{Zero, TooMany, NoMemory}
+use Rattle.workload.specs.declared.turn.Turn.{Turn}
+
+-- a client without turns
+abbrev pub is_idle : List Turn → Bool
+is_idle turns = length turns == 0
+
+-- a turn of a document past the most that there may be
+abbrev pub is_far : Turn → Bool
+is_far turn = nat_le MOST_DOCS turn.doc
+
+-- how many turns all clients have together
+abbrev pub turn_count : List (List Turn) → ℕ
+turn_count clients = sum_by length clients
+
+-- there is no client, or one without turns
+abbrev pub lacks_turns : List (List Turn) → Bool
+lacks_turns clients = length clients == 0 || list_any is_idle clients
+
+-- there are more clients, turns or documents than there may be
+abbrev pub is_too_large : List (List Turn) → Bool
+is_too_large clients =
+    nat_lt MOST_CLIENTS (length clients) || nat_lt MOST_TURNS (turn_count clients) || list_any (list_any is_far) clients
+
+-- the first reason to refuse these turns, each list being those of a client
+abbrev pub refusal_of : List (List Turn) → Option PlanFault
+refusal_of clients = if lacks_turns clients then Some Zero else (if is_too_large clients then Some TooMany else None)
+
+-- the reason that an answer tells; want of memory is none
+abbrev pub refusal_told : {X : Type 0} → Result X PlanFault → Option PlanFault
+refusal_told (Ok x) = None
+refusal_told (Err Zero) = Some Zero
+refusal_told (Err TooMany) = Some TooMany
+refusal_told (Err NoMemory) = None
+
+-- the turn of a client at a place; none past the last
+abbrev pub turn_at : List (List Turn) → ℕ → ℕ → Option Turn
+turn_at clients client i = option_and_then (λ turns. slice_get turns i) (slice_get clients client)

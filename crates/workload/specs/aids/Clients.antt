@@ -1,0 +1,67 @@
+-- A client at its turns.
+use Rattle.std.specs.Prelude.{◌≡◌, ℕ, ◌+◌, ◌<◌, ◌⊎◌, List, [], ◌∷◌, ◌++◌, Option, Some, None, drop, Result, IfOk, slice_get, unwrap_or}
+use Rattle.version_pair.specs.declared.pair.Pair.{Pair}
+use Rattle.doc_register.specs.declared.op.Op.{Op}
+use Rattle.doc_register.specs.declared.reply.Reply.{Reply as Answer}
+use Rattle.history.specs.declared.event.Event.{Event}
+use Rattle.history.specs.declared.event.Event.TheVariants.{Reply, Lost}
+use Rattle.recorder.specs.Pens.{PenState}
+use Rattle.workload.specs.ClientRuns.{IsClientRun, IsRunFrom, IsTurn, Known, after_ending, nothing_known}
+use Rattle.workload.specs.declared.run_fault.RunFault.{RunFault}
+use Rattle.workload.specs.declared.target.Progress.{Progress}
+use Rattle.workload.specs.declared.target.Progress.TheVariants.{Waiting, Done, Unknown}
+use Rattle.workload.specs.declared.target.Ticket.{Ticket}
+use Rattle.workload.specs.declared.turn.Turn.{Turn}
+
+-- the pair that a list of pairs has of a document; none past its end
+abbrev pub pair_in : List (Option Pair) → Known
+pair_in pairs doc = unwrap_or (slice_get pairs doc) None
+
+-- the ending of the call numbered n of which this was heard, or nothing
+abbrev pub ending_of : ℕ → Option Answer → Event
+ending_of n None = Lost n
+ending_of n (Some r) = Reply n r
+
+module _ (issued : Ticket → List ℕ → Op → Type 0) (gave : Ticket → Progress → Type 0) (polls : ℕ) where
+  -- what is heard of a ticket that is polled: a reply, or nothing where it waits, or its outcome is unknown
+  abbrev pub IsHeard : Ticket → Option Answer → Type 0
+  IsHeard ticket None = 0 < polls → gave ticket Waiting ⊎ gave ticket Unknown
+  IsHeard ticket (Some r) = gave ticket (Done r)
+
+  -- The list is longer by what is recorded of the turn, and this is known after it.
+  pub record TakesTurn (known : Known) (k : ℕ) (turn : Turn) (old new : List (ℕ × Event)) (after : Known) : Type 0 where
+    pub call : ℕ × Event
+    pub ending : ℕ × Event
+    pub grows : new ≡ old ++ call ∷ ending ∷ []
+    pub is_turn : IsTurn issued gave polls known k turn call ending
+    pub knows : after ≡ after_ending known turn.doc ending.1
+
+  -- The entries are a run so far, of the first i turns: where what follows is a run of the turns that are left, the whole is
+  -- one.
+  pub record IsFront (first : ℕ) (turns : List Turn) (i : ℕ) (known : Known) (entries : List (ℕ × Event)) : Type 0 where
+    pub onward : (rest : List (ℕ × Event)) → IsRunFrom issued gave polls known (first + i) (drop i turns) rest
+        → IsRunFrom issued gave polls nothing_known first turns (entries ++ rest)
+
+  -- The list is longer by a run so far.
+  pub record IsLongerByFront (first : ℕ) (turns : List Turn) (i : ℕ) (known : Known) (old new : List (ℕ × Event)) : Type 0 where
+    pub entries : List (ℕ × Event)
+    pub grows : new ≡ old ++ entries
+    pub front : IsFront first turns i known entries
+
+  -- The list is longer by a run of these turns.
+  pub record IsLongerByRun (first : ℕ) (turns : List Turn) (old new : List (ℕ × Event)) : Type 0 where
+    pub entries : List (ℕ × Event)
+    pub grows : new ≡ old ++ entries
+    pub run : IsRunFrom issued gave polls nothing_known first turns entries
+
+  -- The list is longer by the run of the client of that number.
+  pub record IsLongerByClient (clients : List (List Turn)) (client : ℕ) (old new : List (ℕ × Event)) : Type 0 where
+    pub entries : List (ℕ × Event)
+    pub grows : new ≡ old ++ entries
+    pub run : IsClientRun issued gave polls clients client entries
+
+  -- The run of a job, the number of a client and its pen, answers that pen, whose list is longer by the run of that client; or a
+  -- fault.
+  abbrev pub RunsJob : {P : Type 0} → (P → PenState) → (P → Type 0) → List (List Turn) → ℕ × P → Result P RunFault → Type 0
+  RunsJob state is_ours clients job result =
+      IfOk result (λ done. IsLongerByClient clients job.0 (state job.1).list (state done).list × is_ours done)

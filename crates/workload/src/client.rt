@@ -1,0 +1,116 @@
+ghost use Rattle.std.specs.Prelude.{◌≡◌, ◌+◌, ◌<◌, ◌^◌, ◌++◌, ◌∷◌, [], ℕ, All, IfOk, Some, length, slice_get};
+ghost use Rattle.history.specs.declared.event.Event.TheVariants.{Call};
+ghost use Rattle.workload.specs.ClientRuns.{doc_name as name_of, op_of};
+ghost use Rattle.workload.specs.aids.Clients.{IsHeard, IsLongerByRun, TakesTurn, ending_of, pair_in};
+
+use crate::asked::doc_name;
+use crate::known::Known;
+use crate::plan::MOST_DOCS;
+use crate::run_fault::RunFault;
+use crate::target::{Progress, Target, TargetFault, Ticket};
+use crate::turn::Turn;
+use doc_register::{Op, Reply};
+use recorder::{RecFault, Recording};
+use std::alloc::Global;
+use std::sync::Wait;
+use version_pair::DocId;
+
+// What is heard of a ticket that is polled so often at most: its reply, or nothing.
+fn hear<R: Wait, T: Target>(
+    rt: &R,
+    target: &T,
+    ticket: Ticket,
+    polls: u32,
+) -> Result<Option<Reply>, TargetFault>
+    ensures { IfOk result (IsHeard T.issued T.gave polls ticket) }
+{
+    for _ in 0..polls {
+        match target.poll(rt, ticket)? {
+            Progress::Waiting => {}
+            Progress::Done(reply) => return Ok(Some(reply)),
+            Progress::Unknown => return Ok(None),
+        }
+    }
+    Ok(None)
+}
+
+// Records what was heard of the call of this number: its reply, or that it is lost.
+fn record_ending<R: Wait, X: Recording>(
+    rt: &R,
+    recorder: &X,
+    pen: &mut X::Pen,
+    no: u64,
+    heard: Option<Reply>,
+) -> Result<u64, RecFault>
+    requires { X.has_pen recorder.now pen.old }
+    ensures grows { IfOk result (λ n. (X.pen_state pen.new).list
+        ≡ (X.pen_state pen.old).list ++ (n, ending_of no heard) ∷ []) }
+    ensures keeps { X.has_pen recorder.now pen.new }
+{
+    match heard {
+        Some(reply) => recorder.reply(rt, pen, no, reply),
+        None => recorder.lost(rt, pen, no),
+    }
+}
+
+/// Takes one turn: records the call before it is submitted, and its reply, or that it is lost, after it was polled.
+pub fn take_turn<R: Wait, T: Target, X: Recording>(
+    rt: &R,
+    alloc: Global,
+    target: &T,
+    recorder: &X,
+    pen: &mut X::Pen,
+    known: &mut Known,
+    turn: Turn,
+    k: u64,
+    polls: u32,
+) -> Result<(), RunFault>
+    requires pen { X.has_pen recorder.now pen.old }
+    requires document { turn.doc < MOST_DOCS }
+    ensures takes { IfOk result (λ _. TakesTurn T.issued T.gave polls (pair_in known.old) k turn
+        (X.pen_state pen.old).list (X.pen_state pen.new).list (pair_in known.new)) }
+    ensures keeps { X.has_pen recorder.now pen.new }
+{
+    let op = turn.operation(known.pair(turn.doc), k);
+    let id = doc_name(alloc, turn.doc)?;
+    let no = recorder.call(rt, pen, id.copy()?, op)?;
+    let ticket = target.submit(rt, &id, &op)?;
+    let heard = hear(rt, target, ticket, polls)?;
+    record_ending(rt, recorder, pen, no, heard)?;
+    if let Some(reply) = heard {
+        known.hear(turn.doc, &reply);
+    }
+    Ok(())
+}
+
+/// Takes the turns, one after the other; the first writes the number `first`, each later one a number more. Answers the
+/// pen, through which each call and its ending were recorded.
+pub fn run_client<R: Wait, T: Target, X: Recording>(
+    rt: &R,
+    alloc: Global,
+    target: &T,
+    recorder: &X,
+    turns: &[Turn],
+    first: u64,
+    mut pen: X::Pen,
+    polls: u32,
+) -> Result<X::Pen, RunFault>
+where
+    X::Pen: Drop,
+    requires pen { X.has_pen recorder.now pen }
+    requires documents { All (λ turn. turn.doc < MOST_DOCS) turns.now }
+    requires room { first + length turns.now < 2 ^ 64 }
+    ensures run { IfOk result (λ done. IsLongerByRun T.issued T.gave polls first turns.now
+        (X.pen_state pen).list (X.pen_state done).list) }
+    ensures keeps { IfOk result (λ done. X.has_pen recorder.now done) }
+{
+    let mut known = Known::nothing(alloc)?;
+    let mut k = first;
+    for turn in turns {
+        take_turn(
+            rt, alloc, target, recorder, &mut pen, &mut known, *turn, k, polls,
+        )?;
+        k += 1;
+    }
+    Ok(pen)
+}

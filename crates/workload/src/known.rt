@@ -1,0 +1,69 @@
+ghost use Rattle.std.specs.Prelude.{◌≡◌, ◌<◌, IfOk};
+ghost use Rattle.workload.specs.ClientRuns.{after_reply, nothing_known, pair_told as told_by};
+ghost use Rattle.workload.specs.aids.Clients.{pair_in};
+
+use crate::plan::MOST_DOCS;
+use doc_register::Reply;
+use std::alloc::{AllocError, Global};
+use std::marker::Model;
+use version_pair::Pair;
+
+/// What a client knows: for each document that there may be the pair last told of it, if there is one.
+///
+/// Contracts see the list of these pairs, which `pair_in` reads by the number of a document.
+#[derive(Debug, Drop)]
+pub struct Known {
+    pairs: Vec<Option<Pair>>,
+}
+
+impl Model for Known {
+    ghost use Rattle.std.specs.Prelude.{◌≡◌, List, Option, length};
+    ghost use Rattle.version_pair.specs.declared.pair.Pair.{Pair};
+    ghost use Rattle.workload.specs.declared.plan.TheConstants.{MOST_DOCS};
+
+    ghost Value = { List (Option Pair) };
+
+    ghost view = { λ k. k.pairs.items };
+
+    ghost invariant = { λ k. length k.pairs.items ≡ MOST_DOCS };
+}
+
+// The pair that a reply tells: that of a change, or of the document that was found.
+fn pair_told(reply: &Reply) -> Option<Pair>
+    ensures { result ≡ told_by reply.now }
+{
+    match reply {
+        Reply::Indexed { pair, .. } | Reply::Deleted { pair, .. } | Reply::Found { pair, .. } => {
+            Some(*pair)
+        }
+        Reply::Missing | Reply::Conflict => None,
+    }
+}
+
+impl Known {
+    /// Nothing is known.
+    pub fn nothing(alloc: Global) -> Result<Known, AllocError>
+        ensures { IfOk result (λ known. pair_in known ≡ nothing_known) }
+    {
+        let mut pairs = Vec::with_capacity(alloc, MOST_DOCS as usize)?;
+        for _ in 0..MOST_DOCS {
+            pairs.push(None)?;
+        }
+        Ok(Known { pairs })
+    }
+
+    /// The pair last told of a document, if there is one.
+    pub fn pair(&self, doc: u32) -> Option<Pair>
+        ensures { result ≡ pair_in self.now doc }
+    {
+        self.pairs.get(doc as usize).copied().unwrap_or(None)
+    }
+
+    /// From now on the document has the pair that the reply tells, or none.
+    pub fn hear(&mut self, doc: u32, reply: &Reply)
+        requires { doc < MOST_DOCS }
+        ensures { pair_in self.new ≡ after_reply (pair_in self.old) doc reply.now }
+    {
+        self.pairs[doc as usize] = pair_told(reply);
+    }
+}

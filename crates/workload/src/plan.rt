@@ -1,0 +1,181 @@
+ghost use Rattle.std.specs.Prelude.{◌≡◌, ◌+◌, ◌<◌, ◌≤◌, ◌^◌, ◌↔◌, ◌*◌, All, IfOk, List, Some, slice_get, take, IsTrue, length, map, nat_lt, sum_by};
+ghost use Rattle.std.specs.List.{list_any};
+ghost use Rattle.workload.specs.Plans.{is_far, is_idle, is_too_large, lacks_turns, refusal_of, refusal_told, turn_at, turn_count};
+ghost use Rattle.workload.specs.declared.turn.Turn.{Turn};
+ghost use Rattle.workload.specs.Drawing.{draw_refusal, plan_drawn};
+
+use crate::drawing::{draw_clients, generator};
+use crate::plan_fault::PlanFault;
+use crate::turn::Turn;
+use std::alloc::Global;
+use std::marker::Model;
+
+/// The most clients of a plan.
+pub const MOST_CLIENTS: usize = 8;
+
+/// The most turns that all clients of a plan have together.
+pub const MOST_TURNS: usize = 524_288;
+
+/// The most documents of a plan: their numbers are below this one.
+pub const MOST_DOCS: u32 = 1_024;
+
+/// What each of some clients does: its turns, one after the other.
+///
+/// There are 1 to 8 clients, each with some turn, 524,288 turns at most in all, of at most 1,024 documents. Contracts see a
+/// plan as the list of its clients' lists of turns.
+#[derive(Debug, Drop)]
+pub struct Plan {
+    clients: Vec<Vec<Turn>>,
+}
+
+impl Model for Plan {
+    ghost use Rattle.std.specs.Prelude.{◌≡◌, List, None, map};
+    ghost use Rattle.workload.specs.Plans.{refusal_of};
+    ghost use Rattle.workload.specs.declared.turn.Turn.{Turn};
+
+    ghost Value = { List (List Turn) };
+
+    ghost view = { λ p. map (λ turns. turns.items) p.clients.items };
+
+    ghost invariant = { λ p. refusal_of (map (λ turns. turns.items) p.clients.items) ≡ None };
+}
+
+// Whether a client has no turn.
+fn has_idle(clients: &[Vec<Turn>]) -> bool
+    ensures { result ≡ list_any (λ turns. is_idle turns.items) clients.now }
+{
+    clients.iter().any(
+        |turns: &Vec<Turn>| -> bool
+            ensures { result ≡ is_idle turns.now.items }
+        { turns.is_empty() },
+    )
+}
+
+// Whether a turn is of a document past the most that there may be.
+fn has_far(clients: &[Vec<Turn>]) -> bool
+    ensures { result ≡ list_any (λ turns. list_any is_far turns.items) clients.now }
+{
+    clients.iter().any(
+        |turns: &Vec<Turn>| -> bool
+            ensures { result ≡ list_any is_far turns.now.items }
+        { turns.iter().any(|turn| turn.doc >= MOST_DOCS) },
+    )
+}
+
+// Whether the clients have more turns together than there may be.
+fn has_many(clients: &[Vec<Turn>]) -> bool
+    ensures { result ≡ nat_lt MOST_TURNS (sum_by (λ turns. length turns.items) clients.now) }
+{
+    let mut left = MOST_TURNS;
+    for turns in clients {
+        if turns.len() > left {
+            return true;
+        }
+        left -= turns.len();
+    }
+    false
+}
+
+// Whether there is no client, or one without turns.
+#[tactic(auto, using(crate::proofs::PlanLemmas::lacks_turns_mapped))]
+fn is_lacking(clients: &[Vec<Turn>]) -> bool
+    ensures { result ≡ lacks_turns (map (λ turns. turns.items) clients.now) }
+{
+    clients.is_empty() || has_idle(clients)
+}
+
+// Whether there are more clients, turns or documents than there may be.
+#[tactic(auto, using(crate::proofs::PlanLemmas::is_too_large_mapped))]
+fn is_large(clients: &[Vec<Turn>]) -> bool
+    ensures { result ≡ is_too_large (map (λ turns. turns.items) clients.now) }
+{
+    clients.len() > MOST_CLIENTS || has_many(clients) || has_far(clients)
+}
+
+impl Plan {
+    /// The plan of these turns, each list being those of a client; else `Zero`, where there is no client or a client
+    /// without turns; `TooMany`, where there are more than 8 clients, more than 524,288 turns in all, or a document
+    /// number of 1,024 or more.
+    pub fn of(clients: Vec<Vec<Turn>>) -> Result<Plan, PlanFault>
+        ensures refused { refusal_told result ≡ refusal_of (map (λ turns. turns.items) clients.items) }
+        ensures plan { IfOk result (λ plan. plan ≡ map (λ turns. turns.items) clients.items) }
+    {
+        if is_lacking(&clients) {
+            return Err(PlanFault::Zero);
+        }
+        if is_large(&clients) {
+            return Err(PlanFault::TooMany);
+        }
+        Ok(Plan { clients })
+    }
+
+    /// The plan that is drawn from the seed, with so many clients, 1 to 8, of so many calls each, and so many documents,
+    /// 1 to 1,024; else `Zero` where a number is 0, `TooMany` where one is greater or the calls are more than 524,288 in
+    /// all. Last `NoMemory`.
+    ///
+    /// One seed draws one plan: two words of a generator, 32 bits each, make a turn, client by client and turn by turn.
+    pub fn draw(
+        alloc: Global,
+        seed: u64,
+        clients: u32,
+        calls: u32,
+        docs: u32,
+    ) -> Result<Plan, PlanFault>
+        ensures refused { refusal_told result ≡ draw_refusal clients calls docs }
+        ensures plan { IfOk result (λ plan. plan ≡ plan_drawn seed clients calls docs) }
+    {
+        if clients == 0 || calls == 0 || docs == 0 {
+            return Err(PlanFault::Zero);
+        }
+        if clients as usize > MOST_CLIENTS
+            || clients as usize * calls as usize > MOST_TURNS
+            || docs > MOST_DOCS
+        {
+            return Err(PlanFault::TooMany);
+        }
+        let clients = draw_clients(alloc, &mut generator(seed), clients, calls, docs)?;
+        Ok(Plan { clients })
+    }
+
+    /// How many clients there are, 1 to 8.
+    pub fn clients(&self) -> usize
+        ensures count { result ≡ length self.now }
+        ensures some { 1 ≤ result }
+        ensures few { result ≤ MOST_CLIENTS }
+    {
+        self.clients.len()
+    }
+
+    /// The turn of a client at a place, counted from 0; `None` past its last turn, and where there is no such client.
+    pub fn turn(&self, client: usize, i: usize) -> Option<Turn>
+        ensures { result ≡ turn_at self.now client i }
+    {
+        self.clients.get(client)?.get(i).copied()
+    }
+
+    /// The turns of a client.
+    pub(crate) fn turns(&self, client: usize) -> &[Turn]
+        requires { client < length self.now }
+        ensures turns { slice_get self.now client ≡ Some result.now }
+        ensures documents { All (λ turn. turn.doc < MOST_DOCS) result.now }
+    {
+        &self.clients[client]
+    }
+
+    /// The number that the write of a client's first turn writes: 1, and the turns of all earlier clients.
+    pub(crate) fn first_number(&self, client: usize) -> u64
+        requires { client < length self.now }
+        ensures number { result ≡ 1 + turn_count (take client self.now) }
+        ensures room { (turns : List Turn) → slice_get self.now client ≡ Some turns
+            → result + length turns < 2 ^ 64 }
+    {
+        let mut number = 1;
+        for turns in &self.clients[..client] {
+            number += turns.len() as u64;
+        }
+        number
+    }
+}
+
+#[cfg(test)]
+mod tests;

@@ -1,0 +1,24 @@
+ghost use Rattle.std.specs.Prelude.{◌≡◌};
+
+use std::alloc::AllocError;
+
+/// Why there is no such plan.
+#[derive(Clone, Copy, Debug, PartialEq, Eq)]
+pub enum PlanFault {
+    /// There is no client, no document, or a client without turns.
+    Zero,
+    /// There are more than 8 clients, more than 524,288 turns in all, or more than 1,024 documents.
+    TooMany,
+    /// A growth was refused memory.
+    NoMemory,
+}
+
+impl From<AllocError> for PlanFault {
+    ghost use Rattle.workload.specs.declared.plan_fault.PlanFault.TheVariants.{NoMemory as Refused};
+
+    ghost from_gives = { λ _ fault. fault ≡ Refused };
+
+    fn from(_refused: AllocError) -> PlanFault {
+        PlanFault::NoMemory
+    }
+}

@@ -1,0 +1,136 @@
+ghost use Rattle.std.specs.Prelude.{◌≡◌, ◌<◌, All, IfErr, IfOk, Ok, ℕ, length, map, replicate, slice_index_or};
+ghost use Rattle.std.specs.List.{enumerate_from};
+ghost use Rattle.workload.specs.ClientRuns.{AreClientRuns, AreLongerByRuns};
+ghost use Rattle.recorder.specs.Pens.{new_pen};
+ghost use Rattle.recorder.specs.Recordings.{lists_of};
+ghost use Rattle.workload.specs.aids.Clients.{IsLongerByClient, RunsJob};
+ghost use Rattle.workload.specs.aids.Gathering.{IsFaultOf};
+
+use crate::client::run_client;
+use crate::plan::Plan;
+use crate::run_fault::RunFault;
+use crate::target::Target;
+use recorder::Recording;
+use std::alloc::{AllocError, Global};
+use std::sync::Wait;
+use std::thread;
+use std::thread::Threads;
+
+// Each pen with the number of its client.
+fn numbered<P: Drop>(alloc: Global, pens: Vec<P>) -> Result<Vec<(usize, P)>, AllocError>
+    ensures { IfOk result (λ jobs. jobs.items ≡ enumerate_from 0 pens.items) }
+{
+    let mut jobs = Vec::with_capacity(alloc, pens.len())?;
+    for pen in pens {
+        jobs.push((jobs.len(), pen))?;
+    }
+    Ok(jobs)
+}
+
+// Runs the client of this number. Answers its pen.
+fn run_one<R: Wait, T: Target, X: Recording>(
+    rt: &R,
+    alloc: Global,
+    plan: &Plan,
+    target: &T,
+    recorder: &X,
+    client: usize,
+    pen: X::Pen,
+    polls: u32,
+) -> Result<X::Pen, RunFault>
+where
+    X::Pen: Drop,
+    requires client { client < length plan.now }
+    requires pen { X.has_pen recorder.now pen }
+    ensures run { IfOk result (λ done. IsLongerByClient T.issued T.gave polls plan.now client
+        (X.pen_state pen).list (X.pen_state done).list) }
+    ensures keeps { IfOk result (λ done. X.has_pen recorder.now done) }
+{
+    let turns = plan.turns(client);
+    let first = plan.first_number(client);
+    run_client(rt, alloc, target, recorder, turns, first, pen, polls)
+}
+
+// The pens of all clients, in their order; or the fault of the least client that met one.
+fn gathered<P: Drop>(alloc: Global, results: Vec<Result<P, RunFault>>) -> Result<Vec<P>, RunFault>
+    ensures ok { IfOk result (λ pens. results.items ≡ map Ok pens.items) }
+    ensures fault { IfErr result (IsFaultOf results.items) }
+{
+    let mut pens = Vec::with_capacity(alloc, results.len())?;
+    for result in results {
+        if pens.push(result?).is_err() {
+            return Err(RunFault::NoMemory);
+        }
+    }
+    Ok(pens)
+}
+
+// Runs the clients of these numbers, with their pens, each on a thread of its own where one can be made.
+fn run_jobs<R: Threads + Wait + Sync, T: Target + Sync, X: Recording + Sync>(
+    rt: &R,
+    alloc: Global,
+    plan: &Plan,
+    target: &T,
+    recorder: &X,
+    jobs: Vec<(usize, X::Pen)>,
+    polls: u32,
+) -> Result<Vec<Result<X::Pen, RunFault>>, AllocError>
+where
+    X::Pen: Send + Drop,
+    requires { All (λ job. (job.0 < length plan.now) × X.has_pen recorder.now job.1) jobs.items }
+    ensures count { IfOk result (λ results. length results.items ≡ length jobs.items) }
+    ensures each { IfOk result (λ results. (i : ℕ) (d : _) (e : _) → i < length jobs.items
+        → RunsJob T.issued T.gave polls X.pen_state (X.has_pen recorder.now) plan.now
+        (slice_index_or jobs.items i d) (slice_index_or results.items i e)) }
+{
+    thread::map_vec(
+        rt,
+        jobs,
+        &|job: (usize, X::Pen)| -> Result<X::Pen, RunFault>
+            requires { (job.0 < length plan.now) × X.has_pen recorder.now job.1 }
+            ensures { RunsJob T.issued T.gave polls X.pen_state (X.has_pen recorder.entry.now) plan.entry.now
+                job result }
+        {
+            let (client, pen) = job;
+            run_one(rt, alloc, plan, target, recorder, client, pen, polls)
+        },
+    )
+}
+
+/// Runs the clients of the plan, each on a thread of its own where one can be made; else they run one after another. The
+/// pens are theirs, in their order, and are answered in that order.
+///
+/// A client takes its turns one after the other. At a turn it asks for an operation on a document, under the condition of the
+/// pair last told to it where the turn says so. Each call is recorded before it is submitted, and its reply after it was
+/// polled; a call that waits after `turns` polls, or whose outcome is unknown, is recorded as lost.
+///
+/// `NoMemory` where gathering the pens was refused memory; else the fault of the least client that met one. The threads
+/// have then ended, and the pens are given up. It returns only if each call of the target and of the recorder does.
+pub fn run_clients<R: Threads + Wait + Sync, T: Target + Sync, X: Recording + Sync>(
+    rt: &R,
+    alloc: Global,
+    plan: &Plan,
+    target: &T,
+    recorder: &X,
+    pens: Vec<X::Pen>,
+    turns: u32,
+) -> Result<Vec<X::Pen>, RunFault>
+where
+    X::Pen: Send + Drop,
+    requires count { length pens.items ≡ length plan.now }
+    requires pens { All (X.has_pen recorder.now) pens.items }
+    ensures runs { IfOk result (λ done. AreLongerByRuns T.issued T.gave turns plan.now
+        (map X.pen_state pens.items) (map X.pen_state done.items)) }
+    // Of new pens the lists are the runs of the clients, and nothing else.
+    ensures of_new_pens { map X.pen_state pens.items ≡ replicate (length plan.now) new_pen
+        → IfOk result (λ done. AreClientRuns T.issued T.gave turns plan.now
+        (lists_of (map X.pen_state done.items))) }
+    ensures keeps { IfOk result (λ done. All (X.has_pen recorder.now) done.items) }
+{
+    let jobs = numbered(alloc, pens)?;
+    let results = run_jobs(rt, alloc, plan, target, recorder, jobs, turns)?;
+    gathered(alloc, results)
+}
+
+#[cfg(test)]
+mod tests;
