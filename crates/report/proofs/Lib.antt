@@ -2,3 +2,4 @@ mod StreamLemmas
 mod WitnessLimits
 mod AnswerLemmas
 mod OffenceLemmas
+mod RunLemmas

@@ -19,7 +19,7 @@ use check_pool::{NoGate, PoolFault};
 use compose::laws::evidence_refutes;
 use compose::{Case, CheckFault, Counts, Refuted, Verdict, check, check_alone, refute};
 use doc_register::Conflicts;
-use history::History;
+use history::{HashKeys, History};
 use std::alloc::Global;
 use std::io::Read;
 use std::sync::Wait;
@@ -165,6 +165,7 @@ fn history_answer<R: Threads + Wait + Sync>(
 pub fn check_answer<T: Threads + Wait + Sync, R: Read>(
     rt: &T,
     alloc: Global,
+    keys: HashKeys,
     reader: &mut R,
     workers: usize,
     conflicts: Conflicts,
@@ -174,7 +175,7 @@ pub fn check_answer<T: Threads + Wait + Sync, R: Read>(
     ensures { IfOk result (λ answer. AnswersInput conflicts (R.remaining reader.old) answer.status
         answer.text.items) }
 {
-    match read_history(alloc, reader) {
+    match read_history(alloc, keys, reader) {
         Ok(Ok(history)) => history_answer(rt, alloc, history, workers, conflicts),
         Ok(Err(fault)) => {
             let answer = refusal(alloc, fault)?;

@@ -5,7 +5,7 @@ ghost use Rattle.witness.specs.Documents.{doc_places};
 ghost use Rattle.witness.specs.Text.{witness_text};
 
 use api_lines::{InputFault, TextFault};
-use history::{History, read_from};
+use history::{HashKeys, History, read_from};
 use std::alloc::Global;
 use std::io::{BufReader, Read};
 use version_pair::DocId;
@@ -14,10 +14,11 @@ use witness::{Place, read_witness_from};
 // How many bytes are asked for at once.
 const CHUNK: usize = 32_768;
 
-/// The history whose text the reader has to its end; or the first line that is refused. What comes after that line is not
+/// The history, with these keys, whose text the reader has to its end; or the first line that is refused. What comes after that line is not
 /// read. A fault of the reader of any kind, an interruption too, ends the reading.
 pub fn read_history<R: Read>(
     alloc: Global,
+    keys: HashKeys,
     reader: &mut R,
 ) -> Result<Result<History, TextFault>, InputFault>
     ensures text { IfOk result (λ told. IfSome (R.remaining reader.old)
@@ -27,7 +28,7 @@ pub fn read_history<R: Read>(
         (λ fault. history_text text ≡ Err fault))) }
 {
     match BufReader::with_capacity(alloc, CHUNK, reader) {
-        Ok(mut input) => read_from(alloc, &mut input),
+        Ok(mut input) => read_from(alloc, keys, &mut input),
         Err(_) => Err(InputFault::NoMemory),
     }
 }

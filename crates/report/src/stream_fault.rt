@@ -15,4 +15,10 @@ pub enum StreamFault {
     /// A worker gave no answer for the document of this number, or not just one for it. Nothing was written.
     #[error("worker lost")]
     Worker(usize),
+    /// An event of a run was not recorded, or its recording was lost. Nothing was written.
+    #[error("recording lost")]
+    Recording,
+    /// A number of a run's plan or group is refused. Nothing was written.
+    #[error("setting")]
+    Setting,
 }

@@ -16,6 +16,7 @@ use crate::verify_input::verify_input;
 use crate::witness_answer::witness_answer;
 use api_lines::InputFault;
 use doc_register::Conflicts;
+use history::HashKeys;
 use std::alloc::Global;
 use std::io::{Read, Write};
 use std::sync::Wait;
@@ -54,13 +55,14 @@ fn write_answer<W: Write>(writer: &mut W, answer: &Answer) -> Result<Status, Str
 /// unanswered writes; and no pair of a shard may be taken twice. Where each write was answered (under Maybe by another reply
 /// than a conflict), `no` says that there is no order; `refuted` says so of every history. The event is the reply at which the
 /// search first fails, the call the one that it answers, and the last word tells whether the events before have an order. The
-/// documents are searched by 1 to 16 workers.
+/// documents are searched by 1 to 16 workers. What is answered doesn't depend on the keys of the hashes.
 ///
 /// The kinds of evidence are `pair-twice` of two writes, `no-writer` of one get, `stale-get` of a get and a write, and
 /// `stale-swap` of two writes, with the numbers of these calls in this order.
 pub fn check_stream<T: Threads + Wait + Sync, R: Read, W: Write>(
     rt: &T,
     alloc: Global,
+    keys: HashKeys,
     reader: &mut R,
     writer: &mut W,
     workers: usize,
@@ -88,7 +90,7 @@ pub fn check_stream<T: Threads + Wait + Sync, R: Read, W: Write>(
     ensures worker_lost { (doc : ℕ) → IsErrOf result (StreamFault.Worker doc)
         → Keeps (W.contents writer.old) (W.contents writer.new) }
 {
-    match check_answer(rt, alloc, reader, workers, conflicts) {
+    match check_answer(rt, alloc, keys, reader, workers, conflicts) {
         Ok(answer) => write_answer(writer, &answer),
         Err(Unanswered::Read) => Err(StreamFault::Read),
         Err(Unanswered::NoMemory) => Err(StreamFault::NoMemory),
@@ -100,6 +102,7 @@ pub fn check_stream<T: Threads + Wait + Sync, R: Read, W: Write>(
 /// `check_stream` where it does not.
 pub fn witness_stream<R: Read, W: Write>(
     alloc: Global,
+    keys: HashKeys,
     reader: &mut R,
     writer: &mut W,
     conflicts: Conflicts,
@@ -118,7 +121,7 @@ pub fn witness_stream<R: Read, W: Write>(
     ensures no_memory { IsErrOf result StreamFault.NoMemory → Keeps (W.contents writer.old)
         (W.contents writer.new) }
 {
-    match witness_answer(alloc, reader, conflicts) {
+    match witness_answer(alloc, keys, reader, conflicts) {
         Ok(answer) => write_answer(writer, &answer),
         Err(fault) => Err(fault_of(fault)),
     }
@@ -130,6 +133,7 @@ pub fn witness_stream<R: Read, W: Write>(
 /// A witness is not read where the history's text is refused.
 pub fn verify_stream<R: Read, Q: Read, W: Write>(
     alloc: Global,
+    keys: HashKeys,
     history: &mut R,
     witness: &mut Q,
     writer: &mut W,
@@ -150,7 +154,7 @@ pub fn verify_stream<R: Read, Q: Read, W: Write>(
     ensures no_memory { IsErrOf result StreamFault.NoMemory → Keeps (W.contents writer.old)
         (W.contents writer.new) }
 {
-    match verify_input(alloc, history, witness, conflicts) {
+    match verify_input(alloc, keys, history, witness, conflicts) {
         Ok(answer) => write_answer(writer, &answer),
         Err(fault) => Err(fault_of(fault)),
     }

@@ -7,7 +7,7 @@ use crate::input::{read_entries, read_history};
 use crate::verify_answer::{entries_answer, refused_history, refused_witness};
 use api_lines::InputFault;
 use doc_register::Conflicts;
-use history::History;
+use history::{HashKeys, History};
 use std::alloc::Global;
 use std::io::Read;
 
@@ -39,6 +39,7 @@ fn read_witness_answer<Q: Read>(
 /// the other's entries. The witness is not read where the history's text is refused.
 pub fn verify_input<R: Read, Q: Read>(
     alloc: Global,
+    keys: HashKeys,
     history: &mut R,
     witness: &mut Q,
     conflicts: Conflicts,
@@ -46,7 +47,7 @@ pub fn verify_input<R: Read, Q: Read>(
     ensures { IfOk result (λ answer. VerifiesInputs conflicts (R.remaining history.old)
         (Q.remaining witness.old) answer.status answer.text.items) }
 {
-    match read_history(alloc, history) {
+    match read_history(alloc, keys, history) {
         Ok(Ok(found)) => read_witness_answer(alloc, found, witness, conflicts),
         Ok(Err(fault)) => {
             let answer = refused_history(alloc, fault)?;

@@ -9,7 +9,7 @@ use crate::status::Status;
 use api_lines::InputFault;
 use compose::{Verdict, check_alone};
 use doc_register::Conflicts;
-use history::History;
+use history::{HashKeys, History};
 use std::alloc::{AllocError, Global};
 use std::io::Read;
 use version_pair::NoMemory;
@@ -43,13 +43,14 @@ fn history_witness(
 /// The witness of the history whose text a reader has, as a text; or the answer of a check that is not yes.
 pub fn witness_answer<R: Read>(
     alloc: Global,
+    keys: HashKeys,
     reader: &mut R,
     conflicts: Conflicts,
 ) -> Result<Answer, InputFault>
     ensures { IfOk result (λ answer. WitnessesInput conflicts (R.remaining reader.old) answer.status
         answer.text.items) }
 {
-    match read_history(alloc, reader) {
+    match read_history(alloc, keys, reader) {
         Ok(Ok(history)) => {
             let answer = history_witness(alloc, history, conflicts)?;
             Ok(answer)

@@ -86,13 +86,42 @@ fn answer<T: Threads + Wait + Sync, R: Read, Q: Read, W: Write>(
 ) -> Result<Status, StreamFault> {
     match stream {
         Stream::Check(Conflicts::Plain) => {
-            check_stream(rt, alloc, first, writer, 1, Conflicts::Plain)
+            check_stream(
+                rt,
+                alloc,
+                HashKeys::fixed(),
+                first,
+                writer,
+                1,
+                Conflicts::Plain,
+            )
         }
         Stream::Check(Conflicts::Maybe) => {
-            check_stream(rt, alloc, first, writer, 16, Conflicts::Maybe)
+            check_stream(
+                rt,
+                alloc,
+                HashKeys::fixed(),
+                first,
+                writer,
+                16,
+                Conflicts::Maybe,
+            )
         }
-        Stream::Witness(conflicts) => witness_stream(alloc, first, writer, conflicts),
-        Stream::Verify(conflicts) => verify_stream(alloc, first, second, writer, conflicts),
+        Stream::Witness(conflicts) => witness_stream(
+            alloc,
+            HashKeys::fixed(),
+            first,
+            writer,
+            conflicts,
+        ),
+        Stream::Verify(conflicts) => verify_stream(
+            alloc,
+            HashKeys::fixed(),
+            first,
+            second,
+            writer,
+            conflicts,
+        ),
         Stream::Bulk => bulk_stream(alloc, 0, first, second, writer),
     }
 }

@@ -240,14 +240,35 @@ fn agreed<T: Abort + Threads + Wait + Sync>(
     conflicts: Conflicts,
 ) -> Result<Status, Fail> {
     let mut line = Vec::new(alloc);
-    let checked = check_stream(rt, alloc, &mut { text }, &mut line, 1, conflicts)?;
+    let checked = check_stream(
+        rt,
+        alloc,
+        HashKeys::new(1, 2),
+        &mut { text },
+        &mut line,
+        1,
+        conflicts,
+    )?;
     let mut witness = Vec::new(alloc);
-    let witnessed = witness_stream(alloc, &mut { text }, &mut witness, conflicts)?;
+    let witnessed = witness_stream(
+        alloc,
+        HashKeys::fixed(),
+        &mut { text },
+        &mut witness,
+        conflicts,
+    )?;
     assert_eq!(rt; checked, witnessed, "{}", str::from_utf8(text)?);
     if checked == Status::Yes {
         let mut line = Vec::new(alloc);
         let mut entries = witness.as_slice();
-        let verified = verify_stream(alloc, &mut { text }, &mut entries, &mut line, conflicts)?;
+        let verified = verify_stream(
+            alloc,
+            HashKeys::new(3, 4),
+            &mut { text },
+            &mut entries,
+            &mut line,
+            conflicts,
+        )?;
         assert_eq!(rt; verified, Status::Yes, "{}", str::from_utf8(text)?);
     }
     Ok(checked)

@@ -79,7 +79,13 @@ fn a_written_witness_is_verified(rt: HostRuntime) -> Result<(), Fail> {
         ),
     ] {
         let mut witness = Vec::new(alloc);
-        witness_stream(alloc, &mut text.as_bytes(), &mut witness, conflicts)?;
+        witness_stream(
+            alloc,
+            HashKeys::fixed(),
+            &mut text.as_bytes(),
+            &mut witness,
+            conflicts,
+        )?;
         let entries = str::from_utf8(witness.as_slice())?;
         let stream = Stream::Verify(conflicts);
         writes(&rt, alloc, "a witness", stream, (text, entries), line)?;
