@@ -9,22 +9,27 @@ use Rattle.clap.specs.Words.{App, Kinds, Row, Rule, Text, first_of, fault_of, ne
 use Rattle.clap.specs.declared.builder.value_parser.ValueParser.TheVariants as parser
 use Rattle.doc_register.specs.declared.state.Conflicts.{Conflicts}
 use Rattle.doc_register.specs.declared.state.Conflicts.TheVariants.{Plain, Maybe}
+use Rattle.repl_group.specs.declared.fault.Fault.{Fault}
+use Rattle.repl_group.specs.declared.fault.Fault.TheVariants as fault
+use Rattle.report.specs.declared.run_setting.RunSetting.{RunSetting}
 use Rattle.casbench.specs.declared.words.Words.{Words}
 use Rattle.casbench.specs.declared.words.Words.TheVariants as words
 
 -- a check of a history, with a number of workers, a witness of one, both of standard input where no file is named, a check of a
--- witness against a history, each with a reading of conflicts; or the lines of a bulk's body and its reply, the calls numbered from a number on
+-- witness against a history, each with a reading of conflicts; or the lines of a bulk's body and its reply, the calls numbered from a number on; or a run
 pub data Asked : Type 0 where
   ToCheck : Option Text → Conflicts → ℕ → Asked
   ToWitness : Option Text → Conflicts → Asked
   ToVerify : Text → Text → Conflicts → Asked
   ToWriteBulk : Text → Text → ℕ → Asked
+  ToRun : RunSetting → Asked
 
 abbrev pub asked_by : Words → Asked
 asked_by (words.Check file reading workers) = ToCheck (option_map (λ f. f.now) file) reading workers
 asked_by (words.Witness file reading) = ToWitness (option_map (λ f. f.now) file) reading
 asked_by (words.Verify history witness reading) = ToVerify history.now witness.now reading
 asked_by (words.Bulk body reply first) = ToWriteBulk body.now reply.now first
+asked_by (words.Run setting) = ToRun setting
 
 -- the reading of conflicts of this name, which is plain where none is given
 abbrev pub reading_of : Option Text → Option Conflicts
@@ -60,6 +65,40 @@ abbrev pub bulk_of : Option Text → Option Text → Option Text → Option Aske
 bulk_of (Some body) (Some reply) first = option_map (λ n. ToWriteBulk body reply n) (number_or 0 first)
 bulk_of _ _ _ = None
 
+-- the number that is given, if one is
+abbrev pub number_given : Option Text → Option ℕ
+number_given None = None
+number_given (Some text) = number_or 0 (Some text)
+
+-- the number below 2^32 that is given, if one is
+abbrev pub small_given : Option Text → Option ℕ
+small_given text = option_and_then (λ n. if nat_lt n (2 ^ 32) then Some n else None) (number_given text)
+
+-- the fault of this name
+abbrev pub fault_named : Text → Option Fault
+fault_named name =
+    if bytes_eq name (codes "none") then Some fault.None
+    else (if bytes_eq name (codes "dirty") then Some fault.Dirty
+    else (if bytes_eq name (codes "early") then Some fault.Early
+    else (if bytes_eq name (codes "same-term") then Some fault.SameTerm
+    else (if bytes_eq name (codes "stale") then Some fault.Stale
+    else (if bytes_eq name (codes "blind") then Some fault.Blind else None)))))
+
+-- what a run is made with, where each number is given and the fault is named
+abbrev pub setting_of : Option Text → Option Text → Option Text → Option Text → Option Text → Option Text → Option RunSetting
+setting_of seed clients calls docs copies name =
+    option_and_then (λ s. option_and_then (λ a. option_and_then (λ b. option_and_then (λ d. option_and_then (λ e.
+    option_map (λ f. record { seed = s; clients = a; calls = b; docs = d; copies = e; fault = f }) (option_and_then fault_named name))
+    (small_given copies)) (small_given docs)) (small_given calls)) (small_given clients)) (number_given seed)
+
+abbrev pub setting_given : List Row → Option RunSetting
+setting_given rows =
+    setting_of (first_of (codes "seed") rows) (first_of (codes "clients") rows) (first_of (codes "calls") rows)
+    (first_of (codes "docs") rows) (first_of (codes "copies") rows) (first_of (codes "fault") rows)
+
+abbrev pub run_of : List Row → Option Asked
+run_of rows = option_map ToRun (setting_given rows)
+
 -- what a command of this name asks for, which was given these texts by the names of its arguments
 abbrev pub asked_of_command : Text → List Row → Option Asked
 asked_of_command name rows =
@@ -70,7 +109,7 @@ asked_of_command name rows =
     then verify_of (first_of (codes "history") rows) (first_of (codes "witness") rows) (first_of (codes "conflicts") rows)
     else (if bytes_eq name (codes "bulk")
     then bulk_of (first_of (codes "body") rows) (first_of (codes "reply") rows) (first_of (codes "first") rows)
-    else None)))
+    else (if bytes_eq name (codes "run") then run_of rows else None))))
 
 -- no command asks for a check of standard input by one worker
 abbrev pub asked_of : Option (Text × List Row) → Option Asked
@@ -97,6 +136,18 @@ conflicts_rule = record (file_rule (codes "conflicts")) { long = Some (codes "co
 abbrev pub workers_rule : Rule
 workers_rule = record (file_rule (codes "workers")) { long = Some (codes "workers"); parser = Some (parser.Unsigned 1 16) }
 
+-- a number below 2^32 that is required, under this name
+abbrev pub small_rule : Text → Rule
+small_rule name = record (needed_rule name) { long = Some name; parser = Some (parser.Unsigned 0 4294967295) }
+
+-- `--seed S`, S below 2^64, which is required
+abbrev pub seed_rule : Rule
+seed_rule = record (needed_rule (codes "seed")) { long = Some (codes "seed"); parser = Some (parser.Unsigned 0 18446744073709551615) }
+
+-- `--fault F`, which is required
+abbrev pub fault_rule : Rule
+fault_rule = record (needed_rule (codes "fault")) { long = Some (codes "fault") }
+
 abbrev pub check_line : App
 check_line = with_rule (with_rule (with_rule (new_app (codes "check")) (file_rule (codes "history"))) conflicts_rule) workers_rule
 
@@ -110,11 +161,23 @@ verify_line =
 abbrev pub bulk_line : App
 bulk_line = with_rule (with_rule (with_rule (new_app (codes "bulk")) (needed_rule (codes "body"))) (needed_rule (codes "reply"))) first_rule
 
--- `casbench`, which has a version, with its four commands
+-- `run` with what the clients do
+abbrev pub plan_line : App
+plan_line = with_rule (with_rule (with_rule (new_app (codes "run")) seed_rule) (small_rule (codes "clients"))) (small_rule (codes "calls"))
+
+-- and with the group
+abbrev pub run_line : App
+run_line = with_rule (with_rule (with_rule plan_line (small_rule (codes "docs"))) (small_rule (codes "copies"))) fault_rule
+
+-- `casbench`, which has a version
+abbrev pub named_line : App
+named_line = on_top (λ s. record s { has_version = true }) (new_app (codes "casbench"))
+
+-- `casbench` with its five commands
 abbrev pub command_line : App
 command_line =
-    let named : App = on_top (λ s. record s { has_version = true }) (new_app (codes "casbench")) in
-    with_subcommand (with_subcommand (with_subcommand (with_subcommand named check_line.top) witness_line.top) verify_line.top) bulk_line.top
+    with_subcommand (with_subcommand (with_subcommand (with_subcommand (with_subcommand named_line check_line.top) witness_line.top) verify_line.top) bulk_line.top)
+    run_line.top
 
 -- what the words ask for, the first of which is the program's name
 unfoldable pub asked_on : List Text → Option Asked

@@ -5,7 +5,7 @@ use Rattle.clap.specs.declared.error.kind.ErrorKind.TheVariants.{DisplayHelp, Di
 use Rattle.report.specs.declared.status.Status.{Status}
 use Rattle.report.specs.declared.status.Status.TheVariants.{Yes, No, Refuted, Refused}
 use Rattle.report.specs.declared.stream_fault.StreamFault.{StreamFault}
-use Rattle.report.specs.declared.stream_fault.StreamFault.TheVariants.{Read, Write, NoMemory, Worker}
+use Rattle.report.specs.declared.stream_fault.StreamFault.TheVariants.{Read, Write, NoMemory, Worker, Recording, Setting}
 
 abbrev pub code_of_status : Status → ℕ
 code_of_status Yes = 0
@@ -18,6 +18,8 @@ code_of_fault NoMemory = 3
 code_of_fault Read = 4
 code_of_fault Write = 4
 code_of_fault (Worker doc) = 5
+code_of_fault Recording = 5
+code_of_fault Setting = 64
 
 -- help and the version are no refusal
 abbrev pub code_of_words : ErrorKind → ℕ

@@ -25,7 +25,8 @@ pub fn fault_code(fault: StreamFault) -> u8
     match fault {
         StreamFault::NoMemory => 3,
         StreamFault::Read | StreamFault::Write => 4,
-        StreamFault::Worker(_) => 5,
+        StreamFault::Worker(_) | StreamFault::Recording => 5,
+        StreamFault::Setting => WORDS_REFUSED,
     }
 }
 
@@ -54,6 +55,8 @@ mod tests {
         assert_eq!(rt; fault_code(StreamFault::Read), 4);
         assert_eq!(rt; fault_code(StreamFault::Write), 4);
         assert_eq!(rt; fault_code(StreamFault::Worker(0)), 5);
+        assert_eq!(rt; fault_code(StreamFault::Recording), 5);
+        assert_eq!(rt; fault_code(StreamFault::Setting), 64);
         assert_eq!(rt; words_code(ErrorKind::DisplayHelp), 0);
         assert_eq!(rt; words_code(ErrorKind::DisplayVersion), 0);
         assert_eq!(rt; words_code(ErrorKind::OutOfMemory), 3);

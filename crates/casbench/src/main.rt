@@ -4,13 +4,16 @@
 mod exit;
 mod files;
 mod run;
+mod run_words;
 mod words;
 
 use clap::error::ErrorKind;
 use exit::{WORDS_REFUSED, fault_code, status_code, words_code};
+use history::HashKeys;
 use report::StreamFault;
 use run::run;
 use std::process::ExitCode;
+use std::random::RandomSource;
 use std::rt::Env;
 use std::{env, io};
 use words::read_words;
@@ -47,6 +50,16 @@ fn process_words<R: Env + AllocGlobal>(rt: &R) -> io::Result<Vec<String>> {
     Ok(words)
 }
 
+// Keys that a text can't know, drawn by the system; the fixed ones where it gives none.
+fn drawn_keys(rt: &impl RandomSource) -> HashKeys {
+    let mut first = [0; 8];
+    let mut second = [0; 8];
+    if rt.fill_bytes(&mut first).is_err() || rt.fill_bytes(&mut second).is_err() {
+        return HashKeys::fixed();
+    }
+    HashKeys::new(u64::from_le_bytes(first), u64::from_le_bytes(second))
+}
+
 fn main(rt: HostRuntime) -> ExitCode {
     let alloc = rt.alloc();
     let words = match process_words(&rt) {
@@ -57,7 +70,8 @@ fn main(rt: HostRuntime) -> ExitCode {
         Ok(asked) => asked,
         Err(error) => return ExitCode::from(tell_words(&rt, &error)),
     };
-    match run(alloc, &rt, &rt, rt.stdin(), &mut rt.stdout(), asked) {
+    let keys = drawn_keys(&rt);
+    match run(alloc, keys, &rt, &rt, rt.stdin(), &mut rt.stdout(), asked) {
         Ok(status) => ExitCode::from(status_code(status)),
         Err(fault) => ExitCode::from(tell_fault(&rt, fault)),
     }

@@ -2,15 +2,22 @@ ghost use Rattle.std.specs.Prelude.{◌≡◌, ◌≤◌, ℕ, None, IfOk, IsErr
 ghost use Rattle.std.specs.Io.KnownBytes.{Keeps};
 ghost use Rattle.doc_register.specs.declared.state.Conflicts.{Conflicts as Mode};
 ghost use Rattle.report.specs.Verdict.{HasAnswer, IsAnswered, WitnessesInput};
+ghost use Rattle.report.specs.Runs.{IsRunText};
+ghost use Rattle.report.specs.declared.run_setting.RunSetting.{RunSetting as Setting};
 
 use crate::files::{open_both, open_or};
 use crate::words::Words;
-use report::{Status, StreamFault, bulk_stream, check_stream, verify_stream, witness_stream};
+use history::HashKeys;
+use repl_group::Group;
+use report::{
+    Status, StreamFault, bulk_stream, check_stream, run_stream, verify_stream, witness_stream,
+};
 use std::alloc::Global;
 use std::io::{Read, Write};
 use std::rt::Files;
 use std::sync::Wait;
 use std::thread::Threads;
+use workload::Target;
 
 // A number of workers from 1 to 16: the nearest one where the number is another, which words never name.
 fn worker_count(workers: u64) -> usize
@@ -27,12 +34,13 @@ fn worker_count(workers: u64) -> usize
 }
 
 /// Does what the words ask for: opens the files in the order in which they were named, then reads, and writes the
-/// answer. Workers run on `threads`.
+/// answer. Workers run on `threads`; ids and pairs are found by hashes with these keys.
 ///
 /// A file that can't be opened is told on standard error by its name, and is a read fault: then nothing was read, nor
 /// written to the writer.
 pub fn run<R: Files + Eprint, T: Threads + Wait + Sync, I: Read + Drop, W: Write>(
     alloc: Global,
+    keys: HashKeys,
     rt: &R,
     threads: &T,
     input: I,
@@ -47,6 +55,10 @@ pub fn run<R: Files + Eprint, T: Threads + Wait + Sync, I: Read + Drop, W: Write
     ensures witnessed { (reading : Mode) → words.entry ≡ Words.Witness None reading
         → IfOk result (λ status. HasAnswer (WitnessesInput reading (I.remaining input) status)
         (W.contents writer.old) (W.contents writer.new)) }
+    // What the clients of a run recorded is written.
+    ensures recorded { (setting : Setting) → words.entry ≡ Words.Run setting
+        → IfOk result (λ _. HasAnswer (IsRunText ⟦<Group as Target>⟧.issued ⟦<Group as Target>⟧.gave setting)
+        (W.contents writer.old) (W.contents writer.new)) }
     ensures unread { IsErrOf result StreamFault.Read → Keeps (W.contents writer.old)
         (W.contents writer.new) }
     ensures no_memory { IsErrOf result StreamFault.NoMemory → Keeps (W.contents writer.old)
@@ -60,11 +72,19 @@ pub fn run<R: Files + Eprint, T: Threads + Wait + Sync, I: Read + Drop, W: Write
         } => {
             let mut history = open_or(rt, file, input)?;
             let workers = worker_count(workers);
-            check_stream(threads, alloc, &mut history, writer, workers, conflicts)
+            check_stream(
+                threads,
+                alloc,
+                keys,
+                &mut history,
+                writer,
+                workers,
+                conflicts,
+            )
         }
         Words::Witness { file, conflicts } => {
             let mut history = open_or(rt, file, input)?;
-            witness_stream(alloc, &mut history, writer, conflicts)
+            witness_stream(alloc, keys, &mut history, writer, conflicts)
         }
         Words::Verify {
             history,
@@ -72,12 +92,13 @@ pub fn run<R: Files + Eprint, T: Threads + Wait + Sync, I: Read + Drop, W: Write
             conflicts,
         } => {
             let (mut history, mut witness) = open_both(rt, history, witness)?;
-            verify_stream(alloc, &mut history, &mut witness, writer, conflicts)
+            verify_stream(alloc, keys, &mut history, &mut witness, writer, conflicts)
         }
         Words::Bulk { body, reply, first } => {
             let (mut body, mut reply) = open_both(rt, body, reply)?;
             bulk_stream(alloc, first, &mut body, &mut reply, writer)
         }
+        Words::Run(setting) => run_stream(threads, alloc, &setting, writer),
     }
 }
 

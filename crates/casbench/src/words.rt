@@ -2,12 +2,14 @@ ghost use Rattle.std.specs.Prelude.{◌≡◌, ◌⊎◌, [], Some, None, false,
 ghost use Rattle.clap.specs.Words.{FailsBy, HasKind, app_of, found_of, rows_of, rule_of, subcommand_rows_of};
 ghost use Rattle.clap.specs.declared.builder.command.Command.TheViews.{out-Command as fields_of};
 ghost use Rattle.casbench.specs.Asked.{asked_by, asked_of, asked_of_command, asked_on, bulk_of, check_of, faults_on, number_or as number_told, reading_of, verify_of, witness_of};
-ghost use Rattle.casbench.specs.Asked.{bulk_line, check_line, command_line, conflicts_rule, file_rule, first_rule, needed_rule, verify_line, witness_line, workers_rule};
+ghost use Rattle.casbench.specs.Asked.{bulk_line, check_line, command_line, named_line, conflicts_rule, file_rule, first_rule, needed_rule, verify_line, witness_line, workers_rule};
 
+use crate::run_words::{asked_run, run_command};
 use clap::builder::ValueParser;
 use clap::error::ErrorKind;
 use clap::{Arg, ArgMatches, Command, Error};
 use doc_register::Conflicts;
+use report::RunSetting;
 use std::alloc::{AllocError, Global};
 use std::convert::AsStr;
 
@@ -38,6 +40,8 @@ pub enum Words<'a> {
         reply: &'a str,
         first: u64,
     },
+    /// To run clients against a replication group, and to write what they recorded.
+    Run(RunSetting),
 }
 
 // The commands by their names.
@@ -48,6 +52,8 @@ const WITNESS: &str = "witness";
 const VERIFY: &str = "verify";
 
 const BULK: &str = "bulk";
+
+const RUN: &str = "run";
 
 // The arguments by their ids.
 const HISTORY: &str = "history";
@@ -177,22 +183,32 @@ fn bulk_command<'a>(alloc: Global) -> Result<Command<'a>, AllocError>
         .arg(first(alloc))
 }
 
+// The program without its commands.
+fn named_program<'a>(alloc: Global) -> Result<Command<'a>, AllocError>
+    ensures { IfOk result (λ program. app_of program ≡ named_line) }
+{
+    Ok(
+        Command::new(alloc, "casbench")
+            .bin_name("casbench")?
+            .version("0.1.0")
+            .about(
+                "Tells whether a recorded history of an OpenSearch index keeps the compare-and-set promise",
+            )
+            .after_help(
+                "Examples:\n  casbench check history.ndjson\n  casbench witness history.ndjson > history.witness\n  casbench verify history.ndjson history.witness\n  casbench bulk bulk.body bulk.reply --first 100 >> history.ndjson\n  casbench run --seed 1 --clients 4 --calls 200 --docs 3 --copies 3 --fault none",
+            ),
+    )
+}
+
 fn program<'a>(alloc: Global) -> Result<Command<'a>, AllocError>
     ensures { IfOk result (λ program. app_of program ≡ command_line) }
 {
-    Command::new(alloc, "casbench")
-        .bin_name("casbench")?
-        .version("0.1.0")
-        .about(
-            "Tells whether a recorded history of an OpenSearch index keeps the compare-and-set promise",
-        )
-        .after_help(
-            "Examples:\n  casbench check history.ndjson\n  casbench witness history.ndjson > history.witness\n  casbench verify history.ndjson history.witness\n  casbench bulk bulk.body bulk.reply --first 100 >> history.ndjson",
-        )
+    named_program(alloc)?
         .subcommand(check_command(alloc)?)?
         .subcommand(witness_command(alloc)?)?
         .subcommand(verify_command(alloc)?)?
-        .subcommand(bulk_command(alloc)?)
+        .subcommand(bulk_command(alloc)?)?
+        .subcommand(run_command(alloc)?)
 }
 
 // The reading of a conflict that is named: plain where none is, and none where the name is of no reading.
@@ -209,8 +225,8 @@ fn reading(name: Option<&str>) -> Option<Conflicts>
     }
 }
 
-// The number that is given, or another one where none is. The parse refuses a text that is none.
-fn number_or(other: u64, text: Option<&str>) -> Option<u64>
+/// The number that is given, or another one where none is. The parse refuses a text that is none.
+pub fn number_or(other: u64, text: Option<&str>) -> Option<u64>
     ensures { result ≡ number_told other (option_map (λ t. t.now) text.entry) }
 {
     match text {
@@ -299,6 +315,7 @@ fn asked_of_command<'a>(name: &str, given: &ArgMatches<'a>) -> Option<Words<'a>>
             given.get_str(REPLY),
             given.get_str(FIRST),
         ),
+        RUN => asked_run(given),
         _ => None,
     }
 }
@@ -326,12 +343,12 @@ fn parse<'a, S: AsStr>(alloc: Global, words: &'a [S]) -> Result<ArgMatches<'a>, 
     program(alloc)?.try_get_matches_from(words)
 }
 
-// The error of words that name a reading of a conflict that is none. That no command is named, or not all its files, the
+// The error of words that name a reading of a conflict that is none, or a fault that is none. That no command is named, or not all its files, the
 // parse refuses before.
 fn no_reading(alloc: Global) -> Result<Error, AllocError> {
     program(alloc)?.error(
         ErrorKind::InvalidValue,
-        "a conflict is read as plain or as maybe",
+        "a conflict is read as plain or as maybe; a fault is none, dirty, early, same-term, stale or blind",
     )
 }
 
@@ -342,7 +359,8 @@ pub fn read_words<'a, S: AsStr>(alloc: Global, words: &'a [S]) -> Result<Words<'
     ensures asked { IfOk result (λ asked. asked_on (map S.text words.entry.now)
         ≡ Some (asked_by asked)) }
     ensures taken { OnOk result (faults_on (map S.text words.entry.now) ≡ []) }
-    // The words have that fault, or what they name is none of the commands with its files and a reading of conflicts.
+    // The words have that fault, or what they name is none of the commands with its files and a reading of conflicts, or with its
+    // numbers and a fault.
     ensures refused { IfErr result (λ error. HasKind (faults_on (map S.text words.entry.now)) error
         ⊎ (asked_on (map S.text words.entry.now) ≡ None)) }
 {

@@ -189,7 +189,15 @@ fn runs<T: Abort + Threads + Wait + Sync>(
     let shelf = Shelf { steps: &done };
     let mut written = Vec::new(alloc);
     let input: &[u8] = &[];
-    let got = run(alloc, &shelf, rt, input, &mut written, words);
+    let got = run(
+        alloc,
+        HashKeys::fixed(),
+        &shelf,
+        rt,
+        input,
+        &mut written,
+        words,
+    );
     assert_eq!(rt; got, wanted, "{words:?}");
     assert_eq!(rt; done.try_borrow()?.as_str(), steps, "{words:?}");
     assert_eq!(rt; str::from_utf8(written.as_slice())?, text, "{words:?}");

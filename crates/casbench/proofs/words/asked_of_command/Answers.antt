@@ -40,3 +40,6 @@ returns-in-bulk c =
     let first : option_map (λ f. f.now) c.get_str-in-bulk-3.result ≡ first_of (codes "first") (rows_of (found_of c.args.given.now)) =
     c.get_str-in-bulk-3.ensures ∙ first_value-rows (found_of c.args.given.now) (codes "first") in
     rw (c.in-bulk.is, c.bulk_words.ensures, body, reply, first) refl
+
+pub returns-in-run : goal.returns-in-run
+returns-in-run c = rw (c.in-run.is, c.asked_run.ensures) refl

@@ -1,16 +1,12 @@
-use Rattle.std.proofs.Common.{rules, ◌≡◌, ◌∙◌, true, codes, ap, ap₂}
+use Rattle.std.proofs.Common.{◌≡◌, ◌∙◌, ap, ap₂}
 use Rattle.std.proofs.lemmas.Result.{IfOk-weaker}
-use Rattle.clap.specs.Simple.{on_top}
-use Rattle.clap.specs.Words.{App, app_of, new_app, with_subcommand}
-use Rattle.casbench.specs.Asked.{check_line, verify_line, witness_line}
+use Rattle.clap.specs.Words.{App, app_of, with_subcommand}
+use Rattle.casbench.specs.Asked.{bulk_line, check_line, named_line, verify_line, witness_line}
 use Rattle.casbench.proofs.words.program.Goals as goal
-
-abbrev named_line : App
-named_line = on_top (λ s. record s { has_version = true }) (new_app (codes "casbench"))
 
 pub returns : goal.returns
 returns c =
-    let bare : app_of c.after_help.result ≡ named_line = search rules in
+    let bare : app_of c.in_ok-named_program.field-0 ≡ named_line = c.in_ok-named_program.ensures in
     let one : app_of c.in_ok-subcommand.field-0 ≡ with_subcommand named_line check_line.top =
     c.in_ok-subcommand.ensures.shape c.in_ok-check_command.ensures.local
     ∙ ap₂ with_subcommand bare (ap (λ (a : App). a.top) c.in_ok-check_command.ensures.line) in
@@ -20,5 +16,9 @@ returns c =
     let three : app_of c.in_ok-subcommand-3.field-0 ≡ with_subcommand (with_subcommand (with_subcommand named_line check_line.top) witness_line.top) verify_line.top =
     c.in_ok-subcommand-3.ensures.shape c.in_ok-verify_command.ensures.local
     ∙ ap₂ with_subcommand two (ap (λ (a : App). a.top) c.in_ok-verify_command.ensures.line) in
-    IfOk-weaker c.subcommand-4.result _ _ (λ r h. h.shape c.in_ok-bulk_command.ensures.local
-    ∙ ap₂ with_subcommand three (ap (λ (a : App). a.top) c.in_ok-bulk_command.ensures.line)) c.subcommand-4.ensures
+    let four : app_of c.in_ok-subcommand-4.field-0
+    ≡ with_subcommand (with_subcommand (with_subcommand (with_subcommand named_line check_line.top) witness_line.top) verify_line.top) bulk_line.top =
+    c.in_ok-subcommand-4.ensures.shape c.in_ok-bulk_command.ensures.local
+    ∙ ap₂ with_subcommand three (ap (λ (a : App). a.top) c.in_ok-bulk_command.ensures.line) in
+    IfOk-weaker c.subcommand-5.result _ _ (λ r h. h.shape c.in_ok-run_command.ensures.local
+    ∙ ap₂ with_subcommand four (ap (λ (a : App). a.top) c.in_ok-run_command.ensures.line)) c.subcommand-5.ensures
