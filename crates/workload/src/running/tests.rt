@@ -255,3 +255,5 @@ fn clients_at_once(rt: HostRuntime) -> Result<(), Fail> {
     }
     Ok(())
 }
+
+mod eight_threads;
