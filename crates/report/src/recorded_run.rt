@@ -11,7 +11,7 @@ use crate::status::Status;
 use crate::stream_fault::StreamFault;
 use crate::unrecorded::{Unrecorded, cause_of};
 use history::{History, write};
-use recorder::{CloseFault, Recorder as RunRecorder, StartFault};
+use recorder::{ClockRecorder, CloseFault, StartFault};
 use repl_group::{CoreFault, Group};
 use std::alloc::Global;
 use std::io::Write;
@@ -76,7 +76,7 @@ fn recorded<T: Threads + Wait + Sync>(
     ensures run { IfOk result (IsRunOf ⟦<Group as Target>⟧.issued ⟦<Group as Target>⟧.gave plan.now) }
     ensures told { IfErr result IsOfRecording }
 {
-    let (recorder, pens) = match RunRecorder::start(alloc, plan.clients()) {
+    let (recorder, pens) = match ClockRecorder::start(alloc, plan.clients()) {
         Ok(started) => started,
         Err(StartFault::NoMemory) => return Err(Unrecorded::NoMemory),
         Err(StartFault::Count) => unreachable!(),
