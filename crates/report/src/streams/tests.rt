@@ -7,9 +7,12 @@ use std::test::Fail;
 use std::thread::Threads;
 
 mod bulks;
+mod changed;
 mod checks;
 mod documents;
 mod drawn;
+mod each_call;
+mod edges;
 mod faults;
 mod limits;
 mod verifying;

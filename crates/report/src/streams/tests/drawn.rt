@@ -10,19 +10,19 @@ const STEPS: usize = 40;
 
 // Numbers that look drawn at random.
 #[derive(Drop)]
-struct Draw {
+pub struct Draw {
     state: u64,
 }
 
 impl Draw {
-    fn of(seed: u64) -> Draw {
+    pub fn of(seed: u64) -> Draw {
         Draw {
             state: seed.wrapping_mul(0x9E37_79B9_7F4A_7C15),
         }
     }
 
     // A number below the bound; 0 where that is 0.
-    fn below(&mut self, bound: u64) -> u64 {
+    pub fn below(&mut self, bound: u64) -> u64 {
         self.state = self
             .state
             .wrapping_mul(6_364_136_223_846_793_005)
@@ -224,7 +224,7 @@ impl Group {
 }
 
 // The text of a drawn history.
-fn drawn(alloc: Global, seed: u64) -> Result<Vec<u8>, Fail> {
+pub fn drawn(alloc: Global, seed: u64) -> Result<Vec<u8>, Fail> {
     let mut group = Group::of(alloc, seed);
     for _ in 0..STEPS {
         group.step(alloc)?;
