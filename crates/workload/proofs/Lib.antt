@@ -1,4 +1,6 @@
 mod ClientLemmas
 mod DrawingLemmas
 mod PlanLemmas
+mod RoundLemmas
 mod RunningLemmas
+mod SeatLemmas

@@ -18,7 +18,7 @@ use Rattle.workload.specs.declared.target.Ticket.{Ticket}
 use Rattle.workload.specs.declared.turn.Turn.{Turn}
 
 -- what a list's element is mapped to
-mapped : {X Y : Type 0} (f : X → Y) (xs : List X) (i : ℕ) (y : Y) → slice_get (map f xs) i ≡ Some y
+pub mapped : {X Y : Type 0} (f : X → Y) (xs : List X) (i : ℕ) (y : Y) → slice_get (map f xs) i ≡ Some y
     → (x : X) × (slice_get xs i ≡ Some x) × (f x ≡ y)
 mapped f xs i y at =
     elim (slice_get_cases xs i).1 [
@@ -53,6 +53,22 @@ jobs_fit pens is_ours clients jobs are count ours i d within =
     let at : get_or jobs i d ≡ (0 + i, get_or pens i d.1) = ap (λ js. get_or js i d) are ∙ get_or-enumerate_from 0 pens i d here in
     rw at (omega arith, ours i d.1 here)
 
+-- ---- the pens of all clients
+
+-- where the list of each client's pen is longer by its run, all are
+pub longer_by_each : (issued : Ticket → List ℕ → Op → Type 0) (gave : Ticket → Progress → Type 0) (polls : ℕ) {P : Type 0} (state : P → PenState)
+    (clients : List (List Turn)) (pens done : List P) → length done ≡ length pens
+    → ((i : ℕ) (pen p : P) → slice_get pens i ≡ Some pen → slice_get done i ≡ Some p → IsLongerByClient issued gave polls clients i (state pen).list (state p).list)
+    → AreLongerByRuns issued gave polls clients (map state pens) (map state done)
+longer_by_each issued gave polls state clients pens done same_count each = record {
+  count = length-map done state ∙ same_count ∙ sym (length-map pens state);
+  each = λ client before after at_old at_new.
+      let old = mapped state pens client before at_old in
+      let new = mapped state done client after at_new in
+      let ran = each client old.0 new.0 old.1 new.1 in
+      (ran.entries, ap (λ (s : PenState). s.list) (sym new.2) ∙ ran.grows ∙ ap (λ (s : PenState). s.list ++ ran.entries) old.2, ran.run);
+}
+
 module _ (issued : Ticket → List ℕ → Op → Type 0) (gave : Ticket → Progress → Type 0) (polls : ℕ) {P : Type 0} (state : P → PenState) (is_ours : P → Type 0) (clients : List (List Turn)) where
   -- each job gave what it should
   pub record AreRun (jobs : List (ℕ × P)) (results : List (Result P RunFault)) : Type 0 where
@@ -83,14 +99,7 @@ module _ (issued : Ticket → List ℕ → Op → Type 0) (gave : Ticket → Pro
 
     -- where each job was run and gave a pen, these pens' lists are longer by the clients' runs
     pub longer_by_runs : AreLongerByRuns issued gave polls clients (map state pens) (map state done)
-    longer_by_runs = record {
-      count = length-map done state ∙ same_count ∙ sym (length-map pens state);
-      each = λ client before after at_old at_new.
-          let old = mapped state pens client before at_old in
-          let new = mapped state done client after at_new in
-          let ran = (ran_at client old.0 new.0 old.1 new.1).0 in
-          (ran.entries, ap (λ (s : PenState). s.list) (sym new.2) ∙ ran.grows ∙ ap (λ (s : PenState). s.list ++ ran.entries) old.2, ran.run);
-    }
+    longer_by_runs = longer_by_each issued gave polls state clients pens done same_count (λ i pen p at_old at_new. (ran_at i pen p at_old at_new).0)
 
     pub all_ours : All is_ours done
     all_ours i d within =

@@ -1,19 +1,17 @@
-ghost use Rattle.std.specs.Prelude.{◌≡◌, ◌+◌, ◌<◌, ◌^◌, ◌++◌, ◌∷◌, [], ℕ, All, IfOk, Some, length, slice_get};
-ghost use Rattle.history.specs.declared.event.Event.TheVariants.{Call};
-ghost use Rattle.workload.specs.ClientRuns.{doc_name as name_of, op_of};
-ghost use Rattle.workload.specs.aids.Clients.{IsHeard, IsLongerByRun, TakesTurn, ending_of, pair_in};
+ghost use Rattle.std.specs.Prelude.{◌≡◌, ◌+◌, ◌<◌, ◌^◌, ◌++◌, ◌∷◌, [], ℕ, All, IfOk, length};
+ghost use Rattle.workload.specs.aids.Clients.{BeginsTurn, EndsTurn, IsHeard, IsLongerByRun, TakesTurn, ending_of, pair_in};
 
 use crate::asked::doc_name;
 use crate::known::Known;
+use crate::open_call::OpenCall;
 use crate::plan::MOST_DOCS;
 use crate::run_fault::RunFault;
 use crate::target::{Progress, Target, TargetFault, Ticket};
 use crate::turn::Turn;
-use doc_register::{Op, Reply};
+use doc_register::Reply;
 use recorder::{RecFault, Recording};
 use std::alloc::Global;
 use std::sync::Wait;
-use version_pair::DocId;
 
 // What is heard of a ticket that is polled so often at most: its reply, or nothing.
 fn hear<R: Wait, T: Target>(
@@ -53,6 +51,56 @@ fn record_ending<R: Wait, X: Recording>(
     }
 }
 
+/// Begins a turn, whose write writes the number `k`: records its call, then submits it.
+pub fn begin_turn<R: Wait, T: Target, X: Recording>(
+    rt: &R,
+    alloc: Global,
+    target: &T,
+    recorder: &X,
+    pen: &mut X::Pen,
+    known: &Known,
+    turn: Turn,
+    k: u64,
+) -> Result<OpenCall, RunFault>
+    requires pen { X.has_pen recorder.now pen.old }
+    requires document { turn.doc < MOST_DOCS }
+    ensures begins { IfOk result (BeginsTurn T.issued (pair_in known.now) k turn
+        (X.pen_state pen.old).list (X.pen_state pen.new).list) }
+    ensures keeps { X.has_pen recorder.now pen.new }
+{
+    let op = turn.operation(known.pair(turn.doc), k);
+    let id = doc_name(alloc, turn.doc)?;
+    let no = recorder.call(rt, pen, id.copy()?, op)?;
+    let ticket = target.submit(rt, &id, &op)?;
+    Ok(OpenCall {
+        no,
+        doc: turn.doc,
+        ticket,
+    })
+}
+
+/// Ends a turn: records what was heard of its call, and knows from then on what the reply tells. Where nothing was heard,
+/// the call is lost.
+pub fn end_turn<R: Wait, X: Recording>(
+    rt: &R,
+    recorder: &X,
+    pen: &mut X::Pen,
+    known: &mut Known,
+    call: OpenCall,
+    heard: Option<Reply>,
+) -> Result<(), RunFault>
+    requires { X.has_pen recorder.now pen.old }
+    ensures ends { IfOk result (λ _. EndsTurn call heard (pair_in known.old)
+        (X.pen_state pen.old).list (X.pen_state pen.new).list (pair_in known.new)) }
+    ensures keeps { X.has_pen recorder.now pen.new }
+{
+    record_ending(rt, recorder, pen, call.no, heard)?;
+    if let Some(reply) = heard {
+        known.hear(call.doc, &reply);
+    }
+    Ok(())
+}
+
 /// Takes one turn: records the call before it is submitted, and its reply, or that it is lost, after it was polled.
 pub fn take_turn<R: Wait, T: Target, X: Recording>(
     rt: &R,
@@ -71,16 +119,9 @@ pub fn take_turn<R: Wait, T: Target, X: Recording>(
         (X.pen_state pen.old).list (X.pen_state pen.new).list (pair_in known.new)) }
     ensures keeps { X.has_pen recorder.now pen.new }
 {
-    let op = turn.operation(known.pair(turn.doc), k);
-    let id = doc_name(alloc, turn.doc)?;
-    let no = recorder.call(rt, pen, id.copy()?, op)?;
-    let ticket = target.submit(rt, &id, &op)?;
-    let heard = hear(rt, target, ticket, polls)?;
-    record_ending(rt, recorder, pen, no, heard)?;
-    if let Some(reply) = heard {
-        known.hear(turn.doc, &reply);
-    }
-    Ok(())
+    let call = begin_turn(rt, alloc, target, recorder, pen, known, turn, k)?;
+    let heard = hear(rt, target, call.ticket, polls)?;
+    end_turn(rt, recorder, pen, known, call, heard)
 }
 
 /// Takes the turns, one after the other; the first writes the number `first`, each later one a number more. Answers the

@@ -1,4 +1,4 @@
-ghost use Rattle.std.specs.Prelude.{◌≡◌, ◌+◌, ◌<◌, ◌≤◌, ◌^◌, ◌↔◌, ◌*◌, All, IfOk, List, Some, slice_get, take, IsTrue, length, map, nat_lt, sum_by};
+ghost use Rattle.std.specs.Prelude.{◌≡◌, ◌+◌, ◌<◌, ◌≤◌, ◌^◌, ◌↔◌, ◌*◌, All, IfOk, IfSome, List, Some, slice_get, take, IsTrue, length, map, nat_lt, option_map, sum_by};
 ghost use Rattle.std.specs.List.{list_any};
 ghost use Rattle.workload.specs.Plans.{is_far, is_idle, is_too_large, lacks_turns, refusal_of, refusal_told, turn_at, turn_count};
 ghost use Rattle.workload.specs.declared.turn.Turn.{Turn};
@@ -174,6 +174,17 @@ impl Plan {
             number += turns.len() as u64;
         }
         number
+    }
+
+    /// The turn of a client at a place, with the number that its write writes; `None` past its last turn.
+    pub(crate) fn numbered_turn(&self, client: usize, i: usize) -> Option<(Turn, u64)>
+        requires { client < length self.now }
+        ensures turn { option_map (λ numbered. numbered.0) result ≡ turn_at self.now client i }
+        ensures number { IfSome result (λ numbered. numbered.1 ≡ 1 + turn_count (take client self.now) + i) }
+        ensures document { IfSome result (λ numbered. numbered.0.doc < MOST_DOCS) }
+    {
+        let turn = *self.turns(client).get(i)?;
+        Some((turn, self.first_number(client) + i as u64))
     }
 }
 

@@ -4,9 +4,10 @@ use Rattle.version_pair.specs.declared.pair.Pair.{Pair}
 use Rattle.doc_register.specs.declared.op.Op.{Op}
 use Rattle.doc_register.specs.declared.reply.Reply.{Reply as Answer}
 use Rattle.history.specs.declared.event.Event.{Event}
-use Rattle.history.specs.declared.event.Event.TheVariants.{Reply, Lost}
+use Rattle.history.specs.declared.event.Event.TheVariants.{Call, Reply, Lost}
 use Rattle.recorder.specs.Pens.{PenState}
-use Rattle.workload.specs.ClientRuns.{IsClientRun, IsRunFrom, IsTurn, Known, after_ending, nothing_known}
+use Rattle.workload.specs.ClientRuns.{IsClientRun, IsRunFrom, IsTurn, Known, after_ending, doc_name, nothing_known, op_of}
+use Rattle.workload.specs.declared.open_call.OpenCall.{OpenCall}
 use Rattle.workload.specs.declared.run_fault.RunFault.{RunFault}
 use Rattle.workload.specs.declared.target.Progress.{Progress}
 use Rattle.workload.specs.declared.target.Progress.TheVariants.{Waiting, Done, Unknown}
@@ -21,6 +22,18 @@ pair_in pairs doc = unwrap_or (slice_get pairs doc) None
 abbrev pub ending_of : ℕ → Option Answer → Event
 ending_of n None = Lost n
 ending_of n (Some r) = Reply n r
+
+-- The list is longer by the call of the turn, which is open: for what is asked for at that turn its ticket was issued.
+pub record BeginsTurn (issued : Ticket → List ℕ → Op → Type 0) (known : Known) (k : ℕ) (turn : Turn) (old new : List (ℕ × Event)) (call : OpenCall) : Type 0 where
+  pub grows : new ≡ old ++ (call.no, Call call.no 0 (doc_name turn.doc) (op_of turn.kind (known turn.doc) k)) ∷ []
+  pub is_of : call.doc ≡ turn.doc
+  pub was_issued : issued call.ticket (doc_name turn.doc) (op_of turn.kind (known turn.doc) k)
+
+-- The list is longer by the ending of the open call of which this was heard, or nothing, and this is known after it.
+pub record EndsTurn (call : OpenCall) (heard : Option Answer) (known : Known) (old new : List (ℕ × Event)) (after : Known) : Type 0 where
+  pub number : ℕ
+  pub grows : new ≡ old ++ (number, ending_of call.no heard) ∷ []
+  pub knows : after ≡ after_ending known call.doc (ending_of call.no heard)
 
 module _ (issued : Ticket → List ℕ → Op → Type 0) (gave : Ticket → Progress → Type 0) (polls : ℕ) where
   -- what is heard of a ticket that is polled: a reply, or nothing where it waits, or its outcome is unknown

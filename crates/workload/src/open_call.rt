@@ -1,0 +1,15 @@
+ghost use Rattle.std.specs.Prelude.{◌<◌};
+ghost use Rattle.workload.specs.declared.plan.TheConstants.{MOST_DOCS};
+
+use crate::target::Ticket;
+
+/// A call that was recorded and submitted, and has no ending yet.
+#[derive(Clone, Copy, Debug)]
+pub struct OpenCall {
+    /// The number of the call.
+    pub no: u64,
+    /// The number of its document.
+    pub doc: u32,
+    pub ticket: Ticket,
+    ghost near: { doc < MOST_DOCS },
+}

@@ -1,0 +1,96 @@
+ghost use Rattle.std.specs.Prelude.{◌≡◌, ◌<◌, All, IfOk, length, map, replicate};
+ghost use Rattle.recorder.specs.Pens.{new_pen};
+ghost use Rattle.recorder.specs.Recordings.{lists_of};
+ghost use Rattle.workload.specs.ClientRuns.{AreClientRuns, AreLongerByRuns};
+ghost use Rattle.workload.specs.aids.Seats.{AreNew, VisitsEach};
+
+use crate::plan::Plan;
+use crate::run_fault::RunFault;
+use crate::seat::{Seat, visit};
+use crate::target::Target;
+use recorder::Recording;
+use std::alloc::{AllocError, Global};
+use std::sync::Wait;
+
+// The clients before their first turns, in the order of their pens.
+fn seated<P: Drop>(alloc: Global, pens: Vec<P>) -> Result<Vec<Seat<P>>, AllocError>
+    ensures { IfOk result (λ seats. AreNew pens.items seats.items) }
+{
+    let mut seats = Vec::with_capacity(alloc, pens.len())?;
+    for pen in pens {
+        seats.push(Seat::new(alloc, seats.len(), pen)?)?;
+    }
+    Ok(seats)
+}
+
+// Visits each client once, in their order, and tells whether one of them had something to do.
+fn visit_each<R: Wait, T: Target, X: Recording>(
+    rt: &R,
+    alloc: Global,
+    plan: &Plan,
+    target: &T,
+    recorder: &X,
+    seats: &mut Vec<Seat<X::Pen>>,
+    polls: u32,
+) -> Result<bool, RunFault>
+    requires clients { All (λ seat. seat.client < length plan.now) seats.old.items }
+    requires pens { All (λ seat. X.has_pen recorder.now seat.pen) seats.old.items }
+    ensures visits { IfOk result (VisitsEach T.issued T.gave polls X.pen_state plan.now
+        seats.old.items seats.new.items) }
+    ensures clients { IfOk result (λ _. All (λ seat. seat.client < length plan.now) seats.new.items) }
+    ensures pens { IfOk result (λ _. All (λ seat. X.has_pen recorder.now seat.pen) seats.new.items) }
+{
+    let mut acted = false;
+    for seat in seats.iter_mut() {
+        if visit(rt, alloc, plan, target, recorder, seat, polls)? {
+            acted = true;
+        }
+    }
+    Ok(acted)
+}
+
+// The pens of the clients, in their order.
+fn pens_of<P: Drop>(alloc: Global, seats: Vec<Seat<P>>) -> Result<Vec<P>, AllocError>
+    ensures { IfOk result (λ pens. pens.items ≡ map (λ seat. seat.pen) seats.items) }
+{
+    let mut pens = Vec::with_capacity(alloc, seats.len())?;
+    for seat in seats {
+        pens.push(seat.pen)?;
+    }
+    Ok(pens)
+}
+
+/// Runs the clients of the plan on the caller's thread, in rounds: each round visits each client once, in their order, until all
+/// are done. The pens are theirs, in their order, and are answered in that order.
+///
+/// A client does one thing at a visit: it begins its next turn, or polls its open call once. What it records is what it records
+/// under `run_clients`; a call that isn't polled, as `turns` is 0, is lost at the visit after it was submitted. So one plan,
+/// target and recorder give one recording.
+///
+/// The first fault that a client meets ends the run; `NoMemory` also where seating the clients or gathering the pens was refused
+/// memory. The pens are then given up. It returns only if each call of the target and of the recorder does.
+pub fn run_in_turns<R: Wait, T: Target, X: Recording>(
+    rt: &R,
+    alloc: Global,
+    plan: &Plan,
+    target: &T,
+    recorder: &X,
+    pens: Vec<X::Pen>,
+    turns: u32,
+) -> Result<Vec<X::Pen>, RunFault>
+where
+    X::Pen: Drop,
+    requires count { length pens.items ≡ length plan.now }
+    requires pens { All (X.has_pen recorder.now) pens.items }
+    ensures runs { IfOk result (λ done. AreLongerByRuns T.issued T.gave turns plan.now
+        (map X.pen_state pens.items) (map X.pen_state done.items)) }
+    // Of new pens the lists are the runs of the clients, and nothing else.
+    ensures of_new_pens { map X.pen_state pens.items ≡ replicate (length plan.now) new_pen
+        → IfOk result (λ done. AreClientRuns T.issued T.gave turns plan.now
+        (lists_of (map X.pen_state done.items))) }
+    ensures keeps { IfOk result (λ done. All (X.has_pen recorder.now) done.items) }
+{
+    let mut seats = seated(alloc, pens)?;
+    'rounds: while visit_each(rt, alloc, plan, target, recorder, &mut seats, turns)? {}
+    Ok(pens_of(alloc, seats)?)
+}

@@ -1,0 +1,141 @@
+ghost use Rattle.std.specs.Prelude.{◌≡◌, ◌<◌, ℕ, IfOk, List, length, true};
+ghost use Rattle.workload.specs.aids.Seats.{IsNew, Visits};
+ghost use Rattle.workload.specs.declared.turn.Turn.{Turn};
+
+use crate::client::{begin_turn, end_turn};
+use crate::known::Known;
+use crate::plan::Plan;
+use crate::polled_call::{Polled, PolledCall};
+use crate::run_fault::RunFault;
+use crate::target::Target;
+use recorder::Recording;
+use std::alloc::{AllocError, Global};
+use std::sync::Wait;
+
+/// A client between two visits.
+#[derive(Drop)]
+pub struct Seat<P> {
+    /// The number of the client.
+    pub client: usize,
+    pub pen: P,
+    pub known: Known,
+    /// How many turns it has begun.
+    pub begun: usize,
+    /// The call of the last of them, until it has its ending.
+    pub open_call: Option<PolledCall>,
+}
+
+// Begins the next turn of a client that has no open call, if a turn is left.
+fn begin_next<R: Wait, T: Target, X: Recording>(
+    rt: &R,
+    alloc: Global,
+    plan: &Plan,
+    target: &T,
+    recorder: &X,
+    seat: &mut Seat<X::Pen>,
+    polls: u32,
+) -> Result<bool, RunFault>
+    requires client { seat.old.client < length plan.now }
+    requires pen { X.has_pen recorder.now seat.old.pen }
+    requires idle { seat.old.open_call ≡ None }
+    ensures visits { IfOk result (Visits T.issued T.gave polls X.pen_state plan.now seat.old seat.new) }
+    ensures keeps { IfOk result (λ _. X.has_pen recorder.now seat.new.pen) }
+{
+    let Some((turn, k)) = plan.numbered_turn(seat.client, seat.begun) else {
+        return Ok(false);
+    };
+    let call = begin_turn(
+        rt,
+        alloc,
+        target,
+        recorder,
+        &mut seat.pen,
+        &seat.known,
+        turn,
+        k,
+    )?;
+    seat.begun += 1;
+    seat.open_call = Some(PolledCall {
+        call,
+        polls_left: polls,
+    });
+    Ok(true)
+}
+
+// Polls the open call of a client once, and ends its turn unless the call is to be polled again.
+fn poll_open<R: Wait, T: Target, X: Recording>(
+    rt: &R,
+    target: &T,
+    recorder: &X,
+    seat: &mut Seat<X::Pen>,
+    polled: PolledCall,
+) -> Result<(), RunFault>
+    requires pen { X.has_pen recorder.now seat.old.pen }
+    requires call { seat.old.open_call ≡ Some polled }
+    ensures visits { IfOk result (λ _. (polls : ℕ) (clients : List (List Turn))
+        → Visits T.issued T.gave polls X.pen_state clients seat.old seat.new true) }
+    ensures keeps { IfOk result (λ _. X.has_pen recorder.now seat.new.pen) }
+{
+    match polled.poll(rt, target)? {
+        Polled::Waits => {
+            seat.open_call = Some(PolledCall {
+                polls_left: polled.polls_left - 1,
+                ..polled
+            });
+        }
+        Polled::Ends(heard) => {
+            end_turn(
+                rt,
+                recorder,
+                &mut seat.pen,
+                &mut seat.known,
+                polled.call,
+                heard,
+            )?;
+            seat.open_call = None;
+        }
+    }
+    Ok(())
+}
+
+/// Visits a client: begins its next turn, or polls its open call once, and tells whether there was something to do.
+///
+/// The visit that begins a turn records its call and submits it, and doesn't poll it. The visit of the last poll records the call's
+/// ending; a call that may not be polled at all is lost at the next visit.
+pub fn visit<R: Wait, T: Target, X: Recording>(
+    rt: &R,
+    alloc: Global,
+    plan: &Plan,
+    target: &T,
+    recorder: &X,
+    seat: &mut Seat<X::Pen>,
+    polls: u32,
+) -> Result<bool, RunFault>
+    requires client { seat.old.client < length plan.now }
+    requires pen { X.has_pen recorder.now seat.old.pen }
+    ensures visits { IfOk result (Visits T.issued T.gave polls X.pen_state plan.now seat.old seat.new) }
+    ensures keeps { IfOk result (λ _. X.has_pen recorder.now seat.new.pen) }
+{
+    match seat.open_call {
+        Some(polled) => {
+            poll_open(rt, target, recorder, seat, polled)?;
+            Ok(true)
+        }
+        None => begin_next(rt, alloc, plan, target, recorder, seat, polls),
+    }
+}
+
+impl<P: Drop> Seat<P> {
+    /// A client before its first turn.
+    pub fn new(alloc: Global, client: usize, pen: P) -> Result<Seat<P>, AllocError>
+        ensures { IfOk result (IsNew client pen) }
+    {
+        Ok(Seat {
+            client,
+            pen,
+            known: Known::nothing(alloc)?,
+            begun: 0,
+            open_call: None,
+        })
+    }
+}
