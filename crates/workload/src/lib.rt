@@ -1,4 +1,5 @@
-//! The workload: what a target of recorded calls is, plans of what clients ask of it, and client threads.
+//! The workload: what a target of recorded calls is, plans of what clients ask of it, and clients that run on threads or
+//! in turns.
 #![tactic(auto)]
 
 mod asked;
@@ -15,6 +16,8 @@ mod run_fault;
 mod running;
 mod seat;
 mod target;
+#[cfg(test)]
+mod testing;
 mod turn;
 
 pub use plan::{MOST_CLIENTS, MOST_DOCS, MOST_TURNS, Plan};

@@ -94,3 +94,6 @@ where
     'rounds: while visit_each(rt, alloc, plan, target, recorder, &mut seats, turns)? {}
     Ok(pens_of(alloc, seats)?)
 }
+
+#[cfg(test)]
+mod tests;

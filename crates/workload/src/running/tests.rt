@@ -1,84 +1,15 @@
 use super::*;
 use crate::target::{Progress, TargetFault, Ticket};
-use crate::turn::{Kind, Turn};
+use crate::testing::{
+    Closed, Counting, Slow, WAYS, Way, gets, recorded, run, text_by_clock, text_recorded,
+};
 use doc_register::{Op, Reply};
-use history::{Event, History, write};
+use history::Event;
 use recorder::{Pen, RecFault, Recorder};
 use std::sync::atomic::{AtomicU64, Ordering};
 use std::test::Fail;
 use std::time::{Clock, Duration};
 use version_pair::{DocId, Pair};
-
-// A plan of so many clients, each with so many gets of document 0.
-fn gets(alloc: Global, clients: usize, count: usize) -> Result<Plan, Fail> {
-    let mut lists = Vec::new(alloc);
-    for _ in 0..clients {
-        let mut turns = Vec::new(alloc);
-        for _ in 0..count {
-            turns.push(Turn {
-                doc: 0,
-                kind: Kind::Get,
-            })?;
-        }
-        lists.push(turns)?;
-    }
-    Ok(Plan::of(lists)?)
-}
-
-// What the clients of the plan record, each polling a call so often at most.
-fn recorded<R: Threads + Wait + Sync, T: Target + Sync>(
-    rt: &R,
-    alloc: Global,
-    plan: &Plan,
-    target: &T,
-    turns: u32,
-) -> Result<History, Fail> {
-    let (recorder, pens) = Recorder::start(alloc, plan.clients())?;
-    let pens = run_clients(rt, alloc, plan, target, &recorder, pens, turns)?;
-    match recorder.close(pens) {
-        Ok(history) => Ok(history),
-        Err(_) => Err("a history".into()),
-    }
-}
-
-// The text of what they record.
-fn text_recorded<R: Threads + Wait + Sync, T: Target + Sync>(
-    rt: &R,
-    alloc: Global,
-    plan: &Plan,
-    target: &T,
-    turns: u32,
-) -> Result<String, Fail> {
-    let history = recorded(rt, alloc, plan, target, turns)?;
-    let text = write(alloc, &history)?;
-    Ok(String::from_str(alloc, str::from_utf8(&text)?)?)
-}
-
-// A target of one operation, which tells that it waits so often, and then its end.
-#[derive(Drop)]
-struct Slow {
-    waits: AtomicU64,
-    end: Progress,
-}
-
-impl Target for Slow {
-    ghost issued = { λ _ _ _. Unit {0} };
-
-    ghost gave = { λ _ _. Unit {0} };
-
-    fn submit<R: Wait>(&self, _rt: &R, _id: &DocId, _op: &Op) -> Result<Ticket, TargetFault> {
-        Ok(Ticket(0))
-    }
-
-    fn poll<R: Wait>(&self, _rt: &R, _ticket: Ticket) -> Result<Progress, TargetFault> {
-        let left = self.waits.load(Ordering::SeqCst);
-        if left == 0 {
-            return Ok(self.end);
-        }
-        self.waits.store(left - 1, Ordering::SeqCst);
-        Ok(Progress::Waiting)
-    }
-}
 
 const CALL: &str = "{\"e\":\"call\",\"id\":\"d0\",\"n\":0,\"op\":\"get\"}\n";
 
@@ -97,74 +28,39 @@ fn waiting_and_unknown(rt: HostRuntime) -> Result<(), Fail> {
         (2, Progress::Done(Reply::Missing), 2, LOST),
         (0, Progress::Done(Reply::Missing), 0, LOST),
     ] {
-        let target = Slow {
+        let slow = || Slow {
             waits: AtomicU64::new(waits),
             end,
         };
-        let text = text_recorded(&rt, alloc, &plan, &target, turns)?;
         let wanted = format!(in alloc; "{CALL}{ending}")?;
+        for way in WAYS {
+            let text = text_recorded(way, &rt, alloc, &plan, &slow(), turns)?;
+            assert_eq!(rt; text.as_str(), wanted.as_str(), "{way:?} {waits} {turns}");
+        }
+        let text = text_by_clock(&rt, alloc, &plan, &slow(), turns)?;
         assert_eq!(rt; text.as_str(), wanted.as_str(), "{waits} {turns}");
     }
     Ok(())
 }
 
-// A target whose tickets count from 0, and which answers each with its number at once.
-#[derive(Drop)]
-struct Counting {
-    next: AtomicU64,
-}
-
-impl Target for Counting {
-    ghost issued = { λ _ _ _. Unit {0} };
-
-    ghost gave = { λ _ _. Unit {0} };
-
-    fn submit<R: Wait>(&self, _rt: &R, _id: &DocId, _op: &Op) -> Result<Ticket, TargetFault> {
-        Ok(Ticket(self.next.fetch_add(1, Ordering::SeqCst)))
-    }
-
-    fn poll<R: Wait>(&self, _rt: &R, ticket: Ticket) -> Result<Progress, TargetFault> {
-        match Pair::new(1, 0) {
-            Some(pair) => Ok(Progress::Done(Reply::Found { pair, k: ticket.0 })),
-            None => Ok(Progress::Unknown),
-        }
-    }
-}
-
 #[test]
 fn each_ticket_has_its_reply(rt: HostRuntime) -> Result<(), Fail> {
     let alloc = rt.alloc();
-    let target = Counting {
-        next: AtomicU64::new(0),
-    };
-    let history = recorded(&rt, alloc, &gets(alloc, 1, 3)?, &target, 1)?;
-    assert_eq!(rt; history.len(), 6);
     let pair = Pair::new(1, 0).ok_or("a pair")?;
-    for k in 0..3 {
-        let Event::Reply { reply, .. } = history.event(2 * k + 1) else {
-            return Err("a reply".into());
+    for way in WAYS {
+        let target = Counting {
+            next: AtomicU64::new(0),
         };
-        assert_eq!(rt; *reply, Reply::Found { pair, k: k as u64 });
+        let history = recorded(way, &rt, alloc, &gets(alloc, 1, 3)?, &target, 1)?;
+        assert_eq!(rt; history.len(), 6, "{way:?}");
+        for k in 0..3 {
+            let Event::Reply { reply, .. } = history.event(2 * k + 1) else {
+                return Err("a reply".into());
+            };
+            assert_eq!(rt; *reply, Reply::Found { pair, k: k as u64 }, "{way:?}");
+        }
     }
     Ok(())
-}
-
-// A target that takes nothing.
-#[derive(Drop)]
-struct Closed;
-
-impl Target for Closed {
-    ghost issued = { λ _ _ _. Unit {0} };
-
-    ghost gave = { λ _ _. Unit {0} };
-
-    fn submit<R: Wait>(&self, _rt: &R, _id: &DocId, _op: &Op) -> Result<Ticket, TargetFault> {
-        Err(TargetFault::Full)
-    }
-
-    fn poll<R: Wait>(&self, _rt: &R, _ticket: Ticket) -> Result<Progress, TargetFault> {
-        Ok(Progress::Unknown)
-    }
 }
 
 // Fills the recording by calls of `d0`.
@@ -180,9 +76,15 @@ fn fill<R: Wait>(rt: &R, alloc: Global, recorder: &Recorder, pen: &mut Pen) -> R
 fn refused_by_the_target(rt: HostRuntime) -> Result<(), Fail> {
     let alloc = rt.alloc();
     let plan = gets(alloc, 1, 1)?;
-    let (recorder, pens) = Recorder::start(alloc, plan.clients())?;
-    let told = run_clients(&rt, alloc, &plan, &Closed, &recorder, pens, 1);
-    assert_eq!(rt; told.err(), Some(RunFault::Target(TargetFault::Full)));
+    for way in WAYS {
+        let (recorder, pens) = Recorder::start(alloc, plan.clients())?;
+        let told = run(way, &rt, alloc, &plan, &Closed, &recorder, pens, 1);
+        assert_eq!(rt;
+            told.err(),
+            Some(RunFault::Target(TargetFault::Full)),
+            "{way:?}"
+        );
+    }
     Ok(())
 }
 
@@ -190,13 +92,19 @@ fn refused_by_the_target(rt: HostRuntime) -> Result<(), Fail> {
 fn recorded_before_submitted(rt: HostRuntime) -> Result<(), Fail> {
     let alloc = rt.alloc();
     let plan = gets(alloc, 1, 1)?;
-    let (recorder, mut pens) = Recorder::start(alloc, 1)?;
-    for pen in &mut pens {
-        fill(&rt, alloc, &recorder, pen)?;
+    for way in WAYS {
+        let (recorder, mut pens) = Recorder::start(alloc, 1)?;
+        for pen in &mut pens {
+            fill(&rt, alloc, &recorder, pen)?;
+        }
+        assert_eq!(rt; pens.len(), plan.clients());
+        let told = run(way, &rt, alloc, &plan, &Closed, &recorder, pens, 1);
+        assert_eq!(rt;
+            told.err(),
+            Some(RunFault::Record(RecFault::Full)),
+            "{way:?}"
+        );
     }
-    assert_eq!(rt; pens.len(), plan.clients());
-    let told = run_clients(&rt, alloc, &plan, &Closed, &recorder, pens, 1);
-    assert_eq!(rt; told.err(), Some(RunFault::Record(RecFault::Full)));
     Ok(())
 }
 
@@ -239,7 +147,7 @@ fn clients_at_once(rt: HostRuntime) -> Result<(), Fail> {
         clock: &rt,
         begun: AtomicU64::new(0),
     };
-    let history = recorded(&rt, alloc, &gets(alloc, 2, 1)?, &meeting, 10)?;
+    let history = recorded(Way::Threads, &rt, alloc, &gets(alloc, 2, 1)?, &meeting, 10)?;
     assert_eq!(rt; history.len(), 4);
     for place in 0..2 {
         assert!(rt; matches!(history.event(place), Event::Call { no, .. } if *no == place as u64));

@@ -1,0 +1,198 @@
+//! What tests of runs share: plans of gets, targets, and what is recorded in each way in which clients are run.
+
+ghost use Rattle.std.specs.Prelude.{◌≡◌, length};
+
+use crate::plan::Plan;
+use crate::rounds::run_in_turns;
+use crate::run_fault::RunFault;
+use crate::running::run_clients;
+use crate::target::{Progress, Target, TargetFault, Ticket};
+use crate::turn::{Kind, Turn};
+use doc_register::{Op, Reply};
+use history::{History, write};
+use recorder::{ClockRecorder, Pen, Recorder};
+use std::alloc::Global;
+use std::sync::Wait;
+use std::sync::atomic::{AtomicU64, Ordering};
+use std::test::Fail;
+use std::thread::Threads;
+use version_pair::{DocId, Pair};
+
+/// A plan of so many clients, each with so many gets of document 0.
+pub fn gets(alloc: Global, clients: usize, count: usize) -> Result<Plan, Fail> {
+    let mut lists = Vec::new(alloc);
+    for _ in 0..clients {
+        let mut turns = Vec::new(alloc);
+        for _ in 0..count {
+            turns.push(Turn {
+                doc: 0,
+                kind: Kind::Get,
+            })?;
+        }
+        lists.push(turns)?;
+    }
+    Ok(Plan::of(lists)?)
+}
+
+/// How the clients of a plan are run.
+#[derive(Clone, Copy, Debug)]
+pub enum Way {
+    Threads,
+    Turns,
+}
+
+/// Both ways.
+pub const WAYS: [Way; 2] = [Way::Threads, Way::Turns];
+
+/// Runs the clients of the plan, each polling a call so often at most.
+pub fn run<R: Threads + Wait + Sync, T: Target + Sync>(
+    way: Way,
+    rt: &R,
+    alloc: Global,
+    plan: &Plan,
+    target: &T,
+    recorder: &Recorder,
+    pens: Vec<Pen>,
+    turns: u32,
+) -> Result<Vec<Pen>, RunFault>
+    requires { length pens.items ≡ length plan.now }
+{
+    match way {
+        Way::Threads => run_clients(rt, alloc, plan, target, recorder, pens, turns),
+        Way::Turns => run_in_turns(rt, alloc, plan, target, recorder, pens, turns),
+    }
+}
+
+/// What the clients of the plan record, each polling a call so often at most.
+pub fn recorded<R: Threads + Wait + Sync, T: Target + Sync>(
+    way: Way,
+    rt: &R,
+    alloc: Global,
+    plan: &Plan,
+    target: &T,
+    turns: u32,
+) -> Result<History, Fail> {
+    let (recorder, pens) = Recorder::start(alloc, plan.clients())?;
+    let pens = run(way, rt, alloc, plan, target, &recorder, pens, turns)?;
+    match recorder.close(pens) {
+        Ok(history) => Ok(history),
+        Err(_) => Err("a history".into()),
+    }
+}
+
+// What the clients of the plan record in turns by a clock recorder.
+fn recorded_by_clock<R: Wait, T: Target>(
+    rt: &R,
+    alloc: Global,
+    plan: &Plan,
+    target: &T,
+    turns: u32,
+) -> Result<History, Fail> {
+    let (recorder, pens) = ClockRecorder::start(alloc, plan.clients())?;
+    let pens = run_in_turns(rt, alloc, plan, target, &recorder, pens, turns)?;
+    match recorder.close(pens) {
+        Ok(history) => Ok(history),
+        Err(_) => Err("a history".into()),
+    }
+}
+
+// The text of a history.
+fn text_of(alloc: Global, history: &History) -> Result<String, Fail> {
+    let text = write(alloc, history)?;
+    Ok(String::from_str(alloc, str::from_utf8(&text)?)?)
+}
+
+/// The text of what the clients of the plan record.
+pub fn text_recorded<R: Threads + Wait + Sync, T: Target + Sync>(
+    way: Way,
+    rt: &R,
+    alloc: Global,
+    plan: &Plan,
+    target: &T,
+    turns: u32,
+) -> Result<String, Fail> {
+    text_of(alloc, &recorded(way, rt, alloc, plan, target, turns)?)
+}
+
+/// The text of what the clients of the plan record in turns by a clock recorder.
+pub fn text_by_clock<R: Wait, T: Target>(
+    rt: &R,
+    alloc: Global,
+    plan: &Plan,
+    target: &T,
+    turns: u32,
+) -> Result<String, Fail> {
+    text_of(alloc, &recorded_by_clock(rt, alloc, plan, target, turns)?)
+}
+
+/// A target of one operation, which tells that it waits so often, and then its end.
+#[derive(Drop)]
+pub struct Slow {
+    pub waits: AtomicU64,
+    pub end: Progress,
+}
+
+impl Target for Slow {
+    ghost issued = { λ _ _ _. Unit {0} };
+
+    ghost gave = { λ _ _. Unit {0} };
+
+    fn submit<R: Wait>(&self, _rt: &R, _id: &DocId, _op: &Op) -> Result<Ticket, TargetFault> {
+        Ok(Ticket(0))
+    }
+
+    fn poll<R: Wait>(&self, _rt: &R, _ticket: Ticket) -> Result<Progress, TargetFault> {
+        let left = self.waits.load(Ordering::SeqCst);
+        if left == 0 {
+            return Ok(self.end);
+        }
+        self.waits.store(left - 1, Ordering::SeqCst);
+        Ok(Progress::Waiting)
+    }
+}
+
+/// The reply of a get that found the number of this ticket.
+pub fn found(ticket: Ticket) -> Progress {
+    match Pair::new(1, 0) {
+        Some(pair) => Progress::Done(Reply::Found { pair, k: ticket.0 }),
+        None => Progress::Unknown,
+    }
+}
+
+/// A target whose tickets count from 0, and which answers each with its number at once.
+#[derive(Drop)]
+pub struct Counting {
+    pub next: AtomicU64,
+}
+
+impl Target for Counting {
+    ghost issued = { λ _ _ _. Unit {0} };
+
+    ghost gave = { λ _ _. Unit {0} };
+
+    fn submit<R: Wait>(&self, _rt: &R, _id: &DocId, _op: &Op) -> Result<Ticket, TargetFault> {
+        Ok(Ticket(self.next.fetch_add(1, Ordering::SeqCst)))
+    }
+
+    fn poll<R: Wait>(&self, _rt: &R, ticket: Ticket) -> Result<Progress, TargetFault> {
+        Ok(found(ticket))
+    }
+}
+
+/// A target that takes nothing.
+#[derive(Drop)]
+pub struct Closed;
+
+impl Target for Closed {
+    ghost issued = { λ _ _ _. Unit {0} };
+
+    ghost gave = { λ _ _. Unit {0} };
+
+    fn submit<R: Wait>(&self, _rt: &R, _id: &DocId, _op: &Op) -> Result<Ticket, TargetFault> {
+        Err(TargetFault::Full)
+    }
+
+    fn poll<R: Wait>(&self, _rt: &R, _ticket: Ticket) -> Result<Progress, TargetFault> {
+        Ok(Progress::Unknown)
+    }
+}
