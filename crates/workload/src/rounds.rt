@@ -60,15 +60,15 @@ fn pens_of<P: Drop>(alloc: Global, seats: Vec<Seat<P>>) -> Result<Vec<P>, AllocE
     Ok(pens)
 }
 
-/// Runs the clients of the plan on the caller's thread, in rounds: each round visits each client once, in their order, until all
-/// are done. The pens are theirs, in their order, and are answered in that order.
+/// Runs the clients of the plan on the caller's thread, in rounds: each round visits each client once, in their order, until
+/// all are done. The pens are theirs, in their order, and are answered in that order.
 ///
-/// A client does one thing at a visit: it begins its next turn, or polls its open call once. What it records is what it records
-/// under `run_clients`; a call that isn't polled, as `turns` is 0, is lost at the visit after it was submitted. So one plan,
-/// target and recorder give one recording.
+/// A client does one thing at a visit: it begins its next turn, or polls its open call once. So it records what it would
+/// under `run_clients`, and against a target that answers alike each run of a plan gives the same recording. A call that
+/// waits at its last poll is recorded as lost at that visit; where `turns` is 0, at the visit after it was submitted.
 ///
-/// The first fault that a client meets ends the run; `NoMemory` also where seating the clients or gathering the pens was refused
-/// memory. The pens are then given up. It returns only if each call of the target and of the recorder does.
+/// The first fault that a client meets ends the run, and the pens are given up; `NoMemory` also where seating the clients or
+/// gathering the pens was refused memory. It returns if each call of the target and of the recorder does.
 pub fn run_in_turns<R: Wait, T: Target, X: Recording>(
     rt: &R,
     alloc: Global,

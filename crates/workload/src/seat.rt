@@ -25,6 +25,21 @@ pub struct Seat<P> {
     pub open_call: Option<PolledCall>,
 }
 
+impl<P: Drop> Seat<P> {
+    /// A client before its first turn.
+    pub fn new(alloc: Global, client: usize, pen: P) -> Result<Seat<P>, AllocError>
+        ensures { IfOk result (IsNew client pen) }
+    {
+        Ok(Seat {
+            client,
+            pen,
+            known: Known::nothing(alloc)?,
+            begun: 0,
+            open_call: None,
+        })
+    }
+}
+
 // Begins the next turn of a client that has no open call, if a turn is left.
 fn begin_next<R: Wait, T: Target, X: Recording>(
     rt: &R,
@@ -122,20 +137,5 @@ pub fn visit<R: Wait, T: Target, X: Recording>(
             Ok(true)
         }
         None => begin_next(rt, alloc, plan, target, recorder, seat, polls),
-    }
-}
-
-impl<P: Drop> Seat<P> {
-    /// A client before its first turn.
-    pub fn new(alloc: Global, client: usize, pen: P) -> Result<Seat<P>, AllocError>
-        ensures { IfOk result (IsNew client pen) }
-    {
-        Ok(Seat {
-            client,
-            pen,
-            known: Known::nothing(alloc)?,
-            begun: 0,
-            open_call: None,
-        })
     }
 }

@@ -41,10 +41,22 @@ pub enum Way {
     Turns,
 }
 
-/// Both ways.
-pub const WAYS: [Way; 2] = [Way::Threads, Way::Turns];
+/// By which recorder.
+#[derive(Clone, Copy, Debug)]
+pub enum Form {
+    Lock,
+    Clock,
+}
 
-/// Runs the clients of the plan, each polling a call so often at most.
+/// Both ways, by each recorder.
+pub const WAYS: [(Way, Form); 4] = [
+    (Way::Threads, Form::Lock),
+    (Way::Threads, Form::Clock),
+    (Way::Turns, Form::Lock),
+    (Way::Turns, Form::Clock),
+];
+
+/// Runs the clients of the plan by the lock form, each polling a call so often at most.
 pub fn run<R: Threads + Wait + Sync, T: Target + Sync>(
     way: Way,
     rt: &R,
@@ -63,8 +75,8 @@ pub fn run<R: Threads + Wait + Sync, T: Target + Sync>(
     }
 }
 
-/// What the clients of the plan record, each polling a call so often at most.
-pub fn recorded<R: Threads + Wait + Sync, T: Target + Sync>(
+// What the clients of the plan record by the lock form.
+fn recorded_by_lock<R: Threads + Wait + Sync, T: Target + Sync>(
     way: Way,
     rt: &R,
     alloc: Global,
@@ -80,8 +92,9 @@ pub fn recorded<R: Threads + Wait + Sync, T: Target + Sync>(
     }
 }
 
-// What the clients of the plan record in turns by a clock recorder.
-fn recorded_by_clock<R: Wait, T: Target>(
+// What the clients of the plan record by the clock form.
+fn recorded_by_clock<R: Threads + Wait + Sync, T: Target + Sync>(
+    way: Way,
     rt: &R,
     alloc: Global,
     plan: &Plan,
@@ -89,40 +102,43 @@ fn recorded_by_clock<R: Wait, T: Target>(
     turns: u32,
 ) -> Result<History, Fail> {
     let (recorder, pens) = ClockRecorder::start(alloc, plan.clients())?;
-    let pens = run_in_turns(rt, alloc, plan, target, &recorder, pens, turns)?;
+    let pens = match way {
+        Way::Threads => run_clients(rt, alloc, plan, target, &recorder, pens, turns)?,
+        Way::Turns => run_in_turns(rt, alloc, plan, target, &recorder, pens, turns)?,
+    };
     match recorder.close(pens) {
         Ok(history) => Ok(history),
         Err(_) => Err("a history".into()),
     }
 }
 
-// The text of a history.
-fn text_of(alloc: Global, history: &History) -> Result<String, Fail> {
-    let text = write(alloc, history)?;
-    Ok(String::from_str(alloc, str::from_utf8(&text)?)?)
+/// What the clients of the plan record, each polling a call so often at most.
+pub fn recorded<R: Threads + Wait + Sync, T: Target + Sync>(
+    (way, form): (Way, Form),
+    rt: &R,
+    alloc: Global,
+    plan: &Plan,
+    target: &T,
+    turns: u32,
+) -> Result<History, Fail> {
+    match form {
+        Form::Lock => recorded_by_lock(way, rt, alloc, plan, target, turns),
+        Form::Clock => recorded_by_clock(way, rt, alloc, plan, target, turns),
+    }
 }
 
-/// The text of what the clients of the plan record.
+/// The text of what they record.
 pub fn text_recorded<R: Threads + Wait + Sync, T: Target + Sync>(
-    way: Way,
+    way: (Way, Form),
     rt: &R,
     alloc: Global,
     plan: &Plan,
     target: &T,
     turns: u32,
 ) -> Result<String, Fail> {
-    text_of(alloc, &recorded(way, rt, alloc, plan, target, turns)?)
-}
-
-/// The text of what the clients of the plan record in turns by a clock recorder.
-pub fn text_by_clock<R: Wait, T: Target>(
-    rt: &R,
-    alloc: Global,
-    plan: &Plan,
-    target: &T,
-    turns: u32,
-) -> Result<String, Fail> {
-    text_of(alloc, &recorded_by_clock(rt, alloc, plan, target, turns)?)
+    let history = recorded(way, rt, alloc, plan, target, turns)?;
+    let text = write(alloc, &history)?;
+    Ok(String::from_str(alloc, str::from_utf8(&text)?)?)
 }
 
 /// A target of one operation, which tells that it waits so often, and then its end.

@@ -1,6 +1,6 @@
 use super::*;
 use crate::target::{Progress, TargetFault, Ticket};
-use crate::testing::{WAYS, Way, found, gets, run, text_by_clock, text_recorded};
+use crate::testing::{Form, Way, found, gets, run, text_recorded};
 use crate::turn::{Kind, Turn};
 use doc_register::Op;
 use recorder::Recorder;
@@ -82,10 +82,11 @@ fn one_action_at_each_visit(rt: HostRuntime) -> Result<(), Fail> {
     )?;
     let plan = Plan::of(vec![in alloc; first, second]?)?;
     let waits = [true, false, false, true, false, true, false];
-    let text = text_recorded(Way::Turns, &rt, alloc, &plan, &Pacing::new(&waits), 2)?;
-    assert_eq!(rt; text.as_str(), INTERLEAVED);
-    let text = text_by_clock(&rt, alloc, &plan, &Pacing::new(&waits), 2)?;
-    assert_eq!(rt; text.as_str(), INTERLEAVED);
+    for form in [Form::Lock, Form::Clock] {
+        let target = Pacing::new(&waits);
+        let text = text_recorded((Way::Turns, form), &rt, alloc, &plan, &target, 2)?;
+        assert_eq!(rt; text.as_str(), INTERLEAVED, "{form:?}");
+    }
     Ok(())
 }
 
@@ -99,10 +100,19 @@ const BOTH_LOST: &str = concat!(
 #[test]
 fn lost_unpolled_at_the_next_visit(rt: HostRuntime) -> Result<(), Fail> {
     let alloc = rt.alloc();
-    let target = Pacing::new(&[]);
-    let text = text_recorded(Way::Turns, &rt, alloc, &gets(alloc, 2, 1)?, &target, 0)?;
-    assert_eq!(rt; text.as_str(), BOTH_LOST);
-    assert_eq!(rt; target.polls.load(Ordering::SeqCst), 0);
+    for form in [Form::Lock, Form::Clock] {
+        let target = Pacing::new(&[]);
+        let text = text_recorded(
+            (Way::Turns, form),
+            &rt,
+            alloc,
+            &gets(alloc, 2, 1)?,
+            &target,
+            0,
+        )?;
+        assert_eq!(rt; text.as_str(), BOTH_LOST, "{form:?}");
+        assert_eq!(rt; target.polls.load(Ordering::SeqCst), 0, "{form:?}");
+    }
     Ok(())
 }
 
@@ -135,7 +145,7 @@ fn the_first_fault_is_told(rt: HostRuntime) -> Result<(), Fail> {
     let first = turns_of(alloc, &[(Kind::Get, 0)])?;
     let second = turns_of(alloc, &[(Kind::Get, 1)])?;
     let plan = Plan::of(vec![in alloc; first, second]?)?;
-    for way in WAYS {
+    for way in [Way::Threads, Way::Turns] {
         let (recorder, pens) = Recorder::start(alloc, plan.clients())?;
         let told = run(way, &rt, alloc, &plan, &Failing, &recorder, pens, 1);
         let wanted = match way {

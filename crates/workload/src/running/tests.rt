@@ -1,11 +1,10 @@
 use super::*;
 use crate::target::{Progress, TargetFault, Ticket};
-use crate::testing::{
-    Closed, Counting, Slow, WAYS, Way, gets, recorded, run, text_by_clock, text_recorded,
-};
+use crate::testing::{Closed, Counting, Form, Slow, WAYS, Way, gets, recorded, run, text_recorded};
 use doc_register::{Op, Reply};
 use history::Event;
 use recorder::{Pen, RecFault, Recorder};
+use std::process::Abort;
 use std::sync::atomic::{AtomicU64, Ordering};
 use std::test::Fail;
 use std::time::{Clock, Duration};
@@ -28,17 +27,15 @@ fn waiting_and_unknown(rt: HostRuntime) -> Result<(), Fail> {
         (2, Progress::Done(Reply::Missing), 2, LOST),
         (0, Progress::Done(Reply::Missing), 0, LOST),
     ] {
-        let slow = || Slow {
-            waits: AtomicU64::new(waits),
-            end,
-        };
         let wanted = format!(in alloc; "{CALL}{ending}")?;
         for way in WAYS {
-            let text = text_recorded(way, &rt, alloc, &plan, &slow(), turns)?;
+            let target = Slow {
+                waits: AtomicU64::new(waits),
+                end,
+            };
+            let text = text_recorded(way, &rt, alloc, &plan, &target, turns)?;
             assert_eq!(rt; text.as_str(), wanted.as_str(), "{way:?} {waits} {turns}");
         }
-        let text = text_by_clock(&rt, alloc, &plan, &slow(), turns)?;
-        assert_eq!(rt; text.as_str(), wanted.as_str(), "{waits} {turns}");
     }
     Ok(())
 }
@@ -76,7 +73,7 @@ fn fill<R: Wait>(rt: &R, alloc: Global, recorder: &Recorder, pen: &mut Pen) -> R
 fn refused_by_the_target(rt: HostRuntime) -> Result<(), Fail> {
     let alloc = rt.alloc();
     let plan = gets(alloc, 1, 1)?;
-    for way in WAYS {
+    for way in [Way::Threads, Way::Turns] {
         let (recorder, pens) = Recorder::start(alloc, plan.clients())?;
         let told = run(way, &rt, alloc, &plan, &Closed, &recorder, pens, 1);
         assert_eq!(rt;
@@ -88,23 +85,34 @@ fn refused_by_the_target(rt: HostRuntime) -> Result<(), Fail> {
     Ok(())
 }
 
+// The fault of a client whose pen has filled the recording, at a target that takes nothing.
+fn told_when_full<R: Threads + Wait + Sync>(
+    way: Way,
+    rt: &R,
+    alloc: Global,
+) -> Result<Option<RunFault>, Fail> {
+    let plan = gets(alloc, 1, 1)?;
+    let (recorder, mut pens) = Recorder::start(alloc, plan.clients())?;
+    for pen in &mut pens {
+        fill(rt, alloc, &recorder, pen)?;
+    }
+    if pens.len() != plan.clients() {
+        return Err("the pens".into());
+    }
+    Ok(run(way, rt, alloc, &plan, &Closed, &recorder, pens, 1).err())
+}
+
 #[test]
 fn recorded_before_submitted(rt: HostRuntime) -> Result<(), Fail> {
-    let alloc = rt.alloc();
-    let plan = gets(alloc, 1, 1)?;
-    for way in WAYS {
-        let (recorder, mut pens) = Recorder::start(alloc, 1)?;
-        for pen in &mut pens {
-            fill(&rt, alloc, &recorder, pen)?;
-        }
-        assert_eq!(rt; pens.len(), plan.clients());
-        let told = run(way, &rt, alloc, &plan, &Closed, &recorder, pens, 1);
-        assert_eq!(rt;
-            told.err(),
-            Some(RunFault::Record(RecFault::Full)),
-            "{way:?}"
-        );
-    }
+    let told = told_when_full(Way::Threads, &rt, rt.alloc())?;
+    assert_eq!(rt; told, Some(RunFault::Record(RecFault::Full)));
+    Ok(())
+}
+
+#[test]
+fn recorded_before_submitted_in_turns(rt: HostRuntime) -> Result<(), Fail> {
+    let told = told_when_full(Way::Turns, &rt, rt.alloc())?;
+    assert_eq!(rt; told, Some(RunFault::Record(RecFault::Full)));
     Ok(())
 }
 
@@ -140,15 +148,19 @@ impl<C: Clock> Target for Meeting<'_, C> {
     }
 }
 
-#[test]
-fn clients_at_once(rt: HostRuntime) -> Result<(), Fail> {
-    let alloc = rt.alloc();
+// Two clients on threads meet at their target, and record both calls before both replies.
+fn meet<R: Threads + Wait + Sync + Clock + Abort>(
+    form: Form,
+    rt: &R,
+    alloc: Global,
+) -> Result<(), Fail> {
     let meeting = Meeting {
-        clock: &rt,
+        clock: rt,
         begun: AtomicU64::new(0),
     };
-    let history = recorded(Way::Threads, &rt, alloc, &gets(alloc, 2, 1)?, &meeting, 10)?;
-    assert_eq!(rt; history.len(), 4);
+    let plan = gets(alloc, 2, 1)?;
+    let history = recorded((Way::Threads, form), rt, alloc, &plan, &meeting, 10)?;
+    assert_eq!(rt; history.len(), 4, "{form:?}");
     for place in 0..2 {
         assert!(rt; matches!(history.event(place), Event::Call { no, .. } if *no == place as u64));
         assert!(rt;
@@ -162,6 +174,16 @@ fn clients_at_once(rt: HostRuntime) -> Result<(), Fail> {
         );
     }
     Ok(())
+}
+
+#[test]
+fn clients_at_once(rt: HostRuntime) -> Result<(), Fail> {
+    meet(Form::Lock, &rt, rt.alloc())
+}
+
+#[test]
+fn clients_at_once_by_clock(rt: HostRuntime) -> Result<(), Fail> {
+    meet(Form::Clock, &rt, rt.alloc())
 }
 
 mod eight_threads;
