@@ -1,8 +1,9 @@
 -- What a visit makes of a client.
-use Rattle.std.proofs.Common.{◌≡◌, ◌∙◌, ℕ, ◌+◌, ◌-◌, ◌*◌, ◌<◌, ◌++◌, ◌∷◌, [], List, Option, Some, None, ap, append_assoc, arith, drop, inl, length, refl, slice_get, subst, sym, take, true, zero, suc}
+use Rattle.std.proofs.Common.{◌≡◌, ◌∙◌, ℕ, ◌+◌, ◌-◌, ◌*◌, ◌<◌, ◌++◌, ◌∷◌, [], List, Option, Some, None, ap, append_assoc, arith, drop, inl, length, refl, slice_get, subst, suc, sym, take, true, zero}
 use Rattle.std.specs.Prelude.{option_and_then, unwrap_or}
 use Rattle.std.proofs.lemmas.List.{drop_more}
 use Rattle.std.proofs.lemmas.Option.{get_or_from_slice_get, slice_get_within}
+use Rattle.version_pair.specs.declared.pair.Pair.{Pair}
 use Rattle.doc_register.specs.declared.op.Op.{Op}
 use Rattle.doc_register.specs.declared.reply.Reply.{Reply as Answer}
 use Rattle.history.specs.declared.event.Event.{Event}
@@ -12,7 +13,6 @@ use Rattle.workload.specs.ClientRuns.{Ends, Known, after_ending, doc_name, op_of
 use Rattle.workload.specs.Plans.{turn_at, turn_count}
 use Rattle.workload.specs.aids.Clients.{BeginsTurn, EndsTurn, IsHeard, IsLongerByFront, TakesTurn, ending_of, pair_in}
 use Rattle.workload.specs.aids.Seats.{IsLongerByOpen, IsLongerSoFar, Visits, turns_of}
-use Rattle.version_pair.specs.declared.pair.Pair.{Pair}
 use Rattle.workload.specs.declared.open_call.OpenCall.{OpenCall}
 use Rattle.workload.specs.declared.polled_call.PolledCall.{PolledCall}
 use Rattle.workload.specs.declared.seat.Seat.{Seat}
@@ -45,7 +45,7 @@ fewer_begun count begun polls within =
 
 module _ (issued : Ticket → List ℕ → Op → Type 0) (gave : Ticket → Progress → Type 0) (polls : ℕ) where
   -- a turn that was begun, heard of and ended was taken
-  pub turn_taken : (known after : Known) (k : ℕ) (turn : Turn) (old list new : List (ℕ × Event)) (call : OpenCall) (heard : Option Answer)
+  turn_taken : (known after : Known) (k : ℕ) (turn : Turn) (old list new : List (ℕ × Event)) (call : OpenCall) (heard : Option Answer)
       → BeginsTurn issued known k turn old list call → IsHeard issued gave polls call.ticket heard
       → EndsTurn call heard known list new after → TakesTurn issued gave polls known k turn old new after
   turn_taken known after k turn old list new call heard begins hears ends = record {

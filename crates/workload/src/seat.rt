@@ -115,8 +115,8 @@ fn poll_open<R: Wait, T: Target, X: Recording>(
 
 /// Visits a client: begins its next turn, or polls its open call once, and tells whether there was something to do.
 ///
-/// The visit that begins a turn records its call and submits it, and doesn't poll it. The visit of the last poll records the call's
-/// ending; a call that may not be polled at all is lost at the next visit.
+/// The visit that begins a turn records its call and submits it, and doesn't poll it. The visit of the last poll records the
+/// call's ending; a call that may not be polled at all is lost at the next visit.
 pub fn visit<R: Wait, T: Target, X: Recording>(
     rt: &R,
     alloc: Global,

@@ -57,8 +57,8 @@ fn turns_of(alloc: Global, turns: &[(Kind, u32)]) -> Result<Vec<Turn>, Fail> {
     Ok(list)
 }
 
-// The first call waits at its first poll; so the second client is answered first, and begins its second turn in the round in
-// which the first client is answered. The fifth call, of the pair that the second client was told, is polled twice.
+// Call 0 waits at its first poll; so the second client is answered first, and begins its second turn in the round in which
+// the first client is answered. Call 4, under the condition of the pair that the second client was told, waits at both polls.
 const INTERLEAVED: &str = concat!(
     "{\"e\":\"call\",\"id\":\"d0\",\"n\":0,\"op\":\"get\"}\n",
     "{\"e\":\"call\",\"id\":\"d1\",\"n\":1,\"op\":\"get\"}\n",
