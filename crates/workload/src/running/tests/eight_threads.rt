@@ -1,7 +1,16 @@
 ghost use Rattle.std.specs.Prelude.{◌<◌, length};
 
-use super::*;
+use crate::plan::Plan;
+use crate::running::run_clients;
+use crate::target::{Progress, Target, TargetFault, Ticket};
+use crate::turn::{Kind, Turn};
+use doc_register::Op;
+use history::{Event, History};
 use recorder::{ClockRecorder, CloseFault};
+use std::alloc::Global;
+use std::sync::Wait;
+use std::test::Fail;
+use version_pair::DocId;
 
 // How many clients there are, and how many writes each asks for: with their endings each records 100,000 events.
 const CLIENTS: usize = 8;
