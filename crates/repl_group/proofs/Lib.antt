@@ -1,6 +1,9 @@
 mod FollowLemmas
 mod HonestLemmas
+mod KeepLemmas
 mod ListLemmas
+mod LogLemmas
+mod LossLemmas
 mod MachineLemmas
 mod RequestLemmas
 mod RunLemmas

@@ -9,7 +9,7 @@ use Rattle.version_pair.specs.declared.pair.Pair.{Pair}
 use Rattle.doc_register.specs.declared.op.Op.{Op}
 use Rattle.repl_group.specs.declared.request.Request.{Request}
 use Rattle.repl_group.specs.declared.request.Stage.TheVariants.{InFlight}
-use Rattle.repl_group.specs.declared.shard_copy.ShardCopy.{ShardCopy}
+use Rattle.repl_group.specs.Copies.{ShardCopy}
 use Rattle.repl_group.specs.declared.step.Answer.TheVariants.{Ticket, Done}
 use Rattle.repl_group.specs.declared.step.Step.TheVariants as step
 use Rattle.repl_group.specs.Copies.{document_in, next_seq}

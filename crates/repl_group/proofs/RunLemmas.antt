@@ -20,7 +20,7 @@ use Rattle.repl_group.specs.declared.held_write.HeldWrite.{HeldWrite}
 use Rattle.repl_group.specs.declared.request.Request.{Request}
 use Rattle.repl_group.specs.declared.request.Stage.{Stage}
 use Rattle.repl_group.specs.declared.request.Stage.TheVariants.{Queued, InFlight, Answered, Lost}
-use Rattle.repl_group.specs.declared.shard_copy.ShardCopy.{ShardCopy}
+use Rattle.repl_group.specs.Copies.{ShardCopy}
 use Rattle.repl_group.specs.declared.step.Answer.{Answer}
 use Rattle.repl_group.specs.declared.step.Step.{Step}
 use Rattle.repl_group.specs.declared.step.Step.TheVariants as step

@@ -7,6 +7,13 @@ use Rattle.doc_register.specs.declared.state.DocState.{DocState}
 use Rattle.doc_register.specs.declared.state.DocState.TheVariants.{Never, Gone, Here}
 use Rattle.repl_group.specs.declared.held_write.HeldWrite.{HeldWrite}
 
+-- a copy of the shard that a group keeps: what it holds, whether it is cut off from the others, and whether each
+-- acknowledged write has to be on it
+pub record ShardCopy : Type 0 where
+  pub writes : List (ℕ × HeldWrite)
+  pub is_cut : Bool
+  pub is_in_sync : Bool
+
 -- the write of the ticket is held
 abbrev pub holds : List (ℕ × HeldWrite) → ℕ → Bool
 holds writes t = is_some (lookup (◌==◌ t) writes)

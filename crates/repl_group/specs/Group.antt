@@ -14,12 +14,11 @@ use Rattle.repl_group.specs.declared.fault.Fault.{Fault}
 use Rattle.repl_group.specs.declared.held_write.HeldWrite.{HeldWrite}
 use Rattle.repl_group.specs.declared.request.Request.{Request}
 use Rattle.repl_group.specs.declared.request.Stage.TheVariants.{Queued, InFlight, Answered}
-use Rattle.repl_group.specs.declared.shard_copy.ShardCopy.{ShardCopy}
 use Rattle.repl_group.specs.declared.step.Answer.{Answer}
 use Rattle.repl_group.specs.declared.step.Answer.TheVariants.{Ticket, Done, Waits, NotNow, Full}
 use Rattle.repl_group.specs.declared.step.Step.{Step}
 use Rattle.repl_group.specs.declared.step.Step.TheVariants as step
-use Rattle.repl_group.specs.Copies.{document_in, holds, next_seq, with_write}
+use Rattle.repl_group.specs.Copies.{ShardCopy, document_in, holds, next_seq, with_write}
 use Rattle.repl_group.specs.Faults.{is_blind, is_dirty, is_early, is_same_term, is_stale}
 use Rattle.repl_group.specs.Operations.{is_get, unconditional}
 use Rattle.repl_group.specs.Requests.{answer_in, flight_of, is_busy, is_queued, with_flights_lost, with_stage}

@@ -7,7 +7,7 @@ use Rattle.repl_group.specs.declared.fault.Fault.TheVariants as fault
 use Rattle.repl_group.specs.declared.request.Request.{Request}
 use Rattle.repl_group.specs.declared.request.Stage.{Stage}
 use Rattle.repl_group.specs.declared.request.Stage.TheVariants.{Queued, InFlight, Answered, Lost}
-use Rattle.repl_group.specs.declared.shard_copy.ShardCopy.{ShardCopy}
+use Rattle.repl_group.specs.Copies.{ShardCopy}
 use Rattle.repl_group.specs.declared.step.Step.{Step}
 use Rattle.repl_group.specs.Group.{GroupState, IsRun, start, write_of}
 

@@ -1,169 +1,180 @@
-ghost use Rattle.std.specs.Prelude.{◌≡◌, ℕ, ◌+◌, cond, List, count_by, ◌<◌, ◌||◌, Some, length, not, slice_get, replicate, slice_set, vec_len, IfOk, OnErr, OnOk, false, map, true};
+ghost use Rattle.std.specs.Prelude.{◌≡◌, ◌<◌, ◌&&◌, ◌||◌, [], Some, false, length, not, slice_get, replicate, slice_set, IfOk, OnErr, OnOk, map, option_map, true};
 ghost use Rattle.std.specs.List.{list_all};
-ghost use Rattle.std.specs.Option.{option_copied};
-ghost use Rattle.repl_group.specs.Copies.{holds};
+ghost use Rattle.std.specs.Option.{option_map_or};
+ghost use Rattle.repl_group.specs.Copies.{ShardCopy, document_in, holds as is_held, next_seq as next_of};
 ghost use Rattle.repl_group.specs.Group.{copy_with, led_by, new_copy};
-ghost use Rattle.repl_group.specs.declared.held_write.HeldWrite.{HeldWrite as Write};
-ghost use Rattle.repl_group.specs.declared.shard_copy.ShardCopy.{ShardCopy as CopyState};
-ghost use Rattle.repl_group.specs.aids.Following.{follows};
+ghost use Rattle.repl_group.specs.aids.Keeping.{standing_of};
 
 use crate::held_write::HeldWrite;
-use crate::shard_copy::ShardCopy;
-use crate::writes::Writes;
+use crate::replica::Replica;
+use crate::replicas::{find_replica, follow, new_replicas, renew};
+use crate::standing::Standing;
+use crate::write_log::WriteLog;
+use doc_register::DocState;
 use std::alloc::Global;
-use std::mem;
+use std::marker::Model;
 use version_pair::NoMemory;
 
-/// This many copies that hold nothing, in sync and reached.
-pub fn new_copies(alloc: Global, count: u32) -> Result<Vec<ShardCopy>, NoMemory>
-    ensures { IfOk result (λ copies. copies.items ≡ replicate count new_copy) }
-{
-    let mut copies = Vec::new(alloc);
-    for _ in 0..count {
-        copies.push(ShardCopy {
-            writes: Writes::new(alloc),
-            is_cut: false,
-            is_in_sync: true,
-        })?;
+/// The copies of a group, numbered from 0.
+///
+/// What they hold stands in one log, of which each copy has its place. So to let a copy hold what another one holds is to
+/// give it the other's place, and takes no time for the writes. Contracts see the list of the copies.
+#[derive(Debug, Drop)]
+pub struct Copies {
+    log: WriteLog,
+    list: Vec<Replica>,
+}
+
+impl Model for Copies {
+    ghost use Rattle.std.specs.Prelude.{List, map};
+    ghost use Rattle.repl_group.specs.Copies.{ShardCopy};
+
+    ghost Value = { List ShardCopy };
+
+    ghost use Rattle.repl_group.specs.aids.Keeping.{AreKept, copy_of};
+
+    ghost view = { λ c. map (copy_of c.log) c.list.items };
+
+    ghost invariant = { λ c. AreKept c.log c.list.items };
+}
+
+impl Copies {
+    /// This many copies that hold nothing, in sync and reached.
+    pub fn new(alloc: Global, count: u32) -> Result<Copies, NoMemory>
+        ensures { IfOk result (λ copies. copies ≡ replicate count new_copy) }
+    {
+        let list = new_replicas(alloc, count)?;
+        Ok(Copies {
+            log: WriteLog::new(alloc),
+            list,
+        })
     }
-    Ok(copies)
-}
 
-/// The copy of this number.
-pub fn find_copy(copies: &[ShardCopy], copy: u32) -> Option<&ShardCopy>
-    ensures { option_copied result ≡ slice_get copies.now copy }
-{
-    copies.get(copy as usize)
-}
+    /// How many there are.
+    pub fn len(&self) -> usize
+        ensures { result ≡ length self.now }
+    {
+        self.list.len()
+    }
 
-/// Whether each copy in sync holds the write of the ticket.
-pub fn is_on_all_in_sync(copies: &[ShardCopy], ticket: u64) -> bool
-    ensures { result ≡ list_all (λ y. not y.is_in_sync || holds y.writes ticket) copies.now }
-{
-    copies
-        .iter()
-        .all(|copy| !copy.is_in_sync || copy.writes.holds(ticket))
-}
+    /// Whether the copy of this number is cut off, and whether it is in sync.
+    pub fn find(&self, copy: u32) -> Option<Standing>
+        ensures { result ≡ option_map standing_of (slice_get self.now copy) }
+    {
+        let replica = find_replica(&self.list, copy)?;
+        Some(Standing {
+            is_cut: replica.is_cut,
+            is_in_sync: replica.is_in_sync,
+        })
+    }
 
-/// Adds the write of a ticket to a copy, where it does not hold it yet. A refusal changes nothing.
-pub fn add_write(
-    copies: &mut Vec<ShardCopy>,
-    copy: u32,
-    ticket: u64,
-    write: HeldWrite,
-) -> Result<(), NoMemory>
-    requires { copy < vec_len copies.old }
-    ensures ok { OnOk result ((y : CopyState) → slice_get copies.old.items copy ≡ Some y
-        → copies.new.items ≡ slice_set copies.old.items copy (copy_with y ticket write)) }
-    ensures len { length copies.new.items ≡ length copies.old.items }
-    ensures err { OnErr result (copies.new.items ≡ copies.old.items) }
-{
-    copies[copy as usize].writes.add(ticket, write)
-}
-
-/// Sets whether a copy is cut off.
-pub fn set_cut(copies: &mut Vec<ShardCopy>, copy: u32, is_cut: bool)
-    requires { copy < vec_len copies.old }
-    ensures set { (y : CopyState) → slice_get copies.old.items copy ≡ Some y
-        → copies.new.items ≡ slice_set copies.old.items copy (record y { is_cut = is_cut }) }
-    ensures len { length copies.new.items ≡ length copies.old.items }
-{
-    copies[copy as usize].is_cut = is_cut;
-}
-
-/// Sets whether a copy is in sync.
-pub fn set_in_sync(copies: &mut Vec<ShardCopy>, copy: u32, is_in_sync: bool)
-    requires { copy < vec_len copies.old }
-    ensures set { (y : CopyState) → slice_get copies.old.items copy ≡ Some y
-        → copies.new.items ≡ slice_set copies.old.items copy (record y { is_in_sync = is_in_sync }) }
-    ensures len { length copies.new.items ≡ length copies.old.items }
-{
-    copies[copy as usize].is_in_sync = is_in_sync;
-}
-
-/// A copy that is reached again, in sync, with these writes.
-pub fn renew(copies: &mut Vec<ShardCopy>, copy: u32, writes: Writes)
-    requires { copy < vec_len copies.old }
-    ensures set { copies.new.items ≡ slice_set copies.old.items copy (record { writes = writes; is_cut = false; is_in_sync = true }) }
-    ensures len { length copies.new.items ≡ length copies.old.items }
-{
-    copies[copy as usize] = ShardCopy {
-        writes,
-        is_cut: false,
-        is_in_sync: true,
-    };
-}
-
-// Whether the copy takes the writes of a new primary.
-fn is_follower(copy: &ShardCopy) -> bool
-    ensures { result ≡ follows copy.now }
-{
-    copy.is_in_sync && !copy.is_cut
-}
-
-// How many copies take the writes of a new primary.
-fn follower_count(copies: &[ShardCopy]) -> usize
-    ensures { result ≡ count_by follows copies.now }
-{
-    let mut count = 0;
-    for copy in copies {
-        if is_follower(copy) {
-            count += 1;
+    /// Whether a copy holds the write of the ticket.
+    pub fn holds(&self, copy: u32, ticket: u64) -> bool
+        ensures { result ≡ is_held (option_map_or (λ y. y.writes) (slice_get self.now copy) []) ticket }
+    {
+        match find_replica(&self.list, copy) {
+            Some(replica) => self.log.holds(replica.held.place(), ticket),
+            None => false,
         }
     }
-    count
-}
 
-// So many copies of the writes.
-fn copies_of(alloc: Global, writes: &Writes, count: usize) -> Result<Vec<Writes>, NoMemory>
-    ensures { IfOk result (λ sets. sets.items ≡ replicate count writes.now) }
-{
-    let mut sets = Vec::new(alloc);
-    for _ in 0..count {
-        sets.push(writes.copy()?)?;
+    /// The document of this number, as a copy has it.
+    pub fn document(&self, copy: u32, doc: usize) -> DocState
+        ensures { result ≡ document_in (option_map_or (λ y. y.writes) (slice_get self.now copy) []) doc }
+    {
+        match find_replica(&self.list, copy) {
+            Some(replica) => replica.held.document(doc),
+            None => DocState::Never,
+        }
     }
-    Ok(sets)
-}
 
-// Leads a copy by one of the sets, all of which are the writes of the new primary; a copy that is cut is not in sync any
-// more.
-fn lead(copy: &mut ShardCopy, sets: &mut Vec<Writes>)
-    ensures { (writes : List (ℕ × Write)) (n : ℕ) → sets.old.items ≡ replicate (n + cond (follows copy.old) 1 0) writes
-        → (copy.new ≡ led_by writes copy.old) × (sets.new.items ≡ replicate n writes) }
-{
-    if !is_follower(copy) {
-        copy.is_in_sync = false;
-        return;
+    /// The sequence number of the next write at a copy, at most 2^63, which is none any more.
+    pub fn next_seq(&self, copy: u32) -> u64
+        ensures { result ≡ next_of (option_map_or (λ y. y.writes) (slice_get self.now copy) []) }
+    {
+        match find_replica(&self.list, copy) {
+            Some(replica) => replica.held.next_seq(),
+            None => 0,
+        }
     }
-    if let Some(set) = sets.pop() {
-        copy.writes = set;
-    }
-}
 
-// Leads each copy by one of the sets.
-fn hand_over(copies: &mut Vec<ShardCopy>, mut sets: Vec<Writes>)
-    ensures { (writes : List (ℕ × Write)) → sets.items ≡ replicate (count_by follows copies.old.items) writes
-        → copies.new.items ≡ map (led_by writes) copies.old.items }
-{
-    for copy in copies.iter_mut() {
-        lead(copy, &mut sets);
+    /// Whether each copy in sync holds the write of the ticket.
+    pub fn is_on_all_in_sync(&self, ticket: u64) -> bool
+        ensures { result ≡ list_all (λ y. not y.is_in_sync || is_held y.writes ticket) self.now }
+    {
+        for replica in &self.list {
+            if replica.is_in_sync && !self.log.holds(replica.held.place(), ticket) {
+                return false;
+            }
+        }
+        true
     }
-}
 
-/// Gives the copies that are in sync and not cut the writes of the new primary, which is one of them; the cut ones are
-/// not in sync any more. A refusal changes nothing. It takes the time of the writes for each of these copies.
-pub fn follow(copies: &mut Vec<ShardCopy>, primary: u32) -> Result<(), NoMemory>
-    requires { primary < vec_len copies.old }
-    ensures ok { OnOk result ((y : CopyState) → slice_get copies.old.items primary ≡ Some y → follows y ≡ true
-        → copies.new.items ≡ map (led_by y.writes) copies.old.items) }
-    ensures err { OnErr result (copies.new.items ≡ copies.old.items) }
-{
-    let alloc = *copies.allocator();
-    let others = follower_count(copies).saturating_sub(1);
-    let mut sets = copies_of(alloc, &copies[primary as usize].writes, others)?;
-    sets.reserve(1)?;
-    let own = mem::replace(&mut copies[primary as usize].writes, Writes::new(alloc));
-    sets.push_reserved(own);
-    hand_over(copies, sets);
-    Ok(())
+    /// Adds the write of a ticket to a copy, where it does not hold it yet. A refusal changes nothing.
+    pub fn add_write(&mut self, copy: u32, ticket: u64, write: HeldWrite) -> Result<(), NoMemory>
+        requires { copy < length self.old }
+        ensures ok { OnOk result ((y : ShardCopy) → slice_get self.old copy ≡ Some y
+            → self.new ≡ slice_set self.old copy (copy_with y ticket write)) }
+        ensures len { length self.new ≡ length self.old }
+        ensures err { OnErr result (self.new ≡ self.old) }
+    {
+        let place = self.list[copy as usize].held.place();
+        if self.log.holds(place, ticket) {
+            return Ok(());
+        }
+        let next = self.log.push(place, ticket, write)?;
+        self.list[copy as usize].held.add(next, write)?;
+        Ok(())
+    }
+
+    /// Sets whether a copy is cut off.
+    pub fn set_cut(&mut self, copy: u32, is_cut: bool)
+        requires { copy < length self.old }
+        ensures set { (y : ShardCopy) → slice_get self.old copy ≡ Some y
+            → self.new ≡ slice_set self.old copy (record y { is_cut = is_cut }) }
+        ensures len { length self.new ≡ length self.old }
+    {
+        self.list[copy as usize].is_cut = is_cut;
+    }
+
+    /// Sets whether a copy is in sync.
+    pub fn set_in_sync(&mut self, copy: u32, is_in_sync: bool)
+        requires { copy < length self.old }
+        ensures set { (y : ShardCopy) → slice_get self.old copy ≡ Some y
+            → self.new ≡ slice_set self.old copy (record y { is_in_sync = is_in_sync }) }
+        ensures len { length self.new ≡ length self.old }
+    {
+        self.list[copy as usize].is_in_sync = is_in_sync;
+    }
+
+    /// Lets a copy hold what the primary holds, reached again and in sync. A refusal changes nothing. It takes the time
+    /// of the documents.
+    pub fn renew(&mut self, copy: u32, primary: u32) -> Result<(), NoMemory>
+        requires copy { copy < length self.old }
+        requires primary { primary < length self.old }
+        ensures ok { OnOk result (self.new ≡ slice_set self.old copy (record {
+          writes = option_map_or (λ y. y.writes) (slice_get self.old primary) [];
+          is_cut = false;
+          is_in_sync = true;
+        })) }
+        ensures len { length self.new ≡ length self.old }
+        ensures err { OnErr result (self.new ≡ self.old) }
+    {
+        let held = self.list[primary as usize].held.copy()?;
+        renew(&mut self.list, copy, held);
+        Ok(())
+    }
+
+    /// Lets the copies that are in sync and not cut hold what the new primary holds, which is one of them; the cut ones
+    /// are not in sync any more. A refusal changes nothing. It takes the time of the documents for each of these copies.
+    pub fn follow(&mut self, primary: u32) -> Result<(), NoMemory>
+        requires there { primary < length self.old }
+        requires follows { (y : ShardCopy) → slice_get self.old primary ≡ Some y → (y.is_in_sync && not y.is_cut) ≡ true }
+        ensures ok { OnOk result ((y : ShardCopy) → slice_get self.old primary ≡ Some y → self.new ≡ map (led_by y.writes) self.old) }
+        ensures len { length self.new ≡ length self.old }
+        ensures err { OnErr result (self.new ≡ self.old) }
+    {
+        follow(&mut self.list, primary)?;
+        Ok(())
+    }
 }

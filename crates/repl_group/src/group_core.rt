@@ -54,8 +54,9 @@ impl Core {
     /// Takes one step, or refuses it for want of memory.
     ///
     /// Every answer but `Ticket` and `Done` leaves the group as it was, and so does a refusal. A step takes the time of
-    /// looking its documents, tickets and copies up, and at most that of the tickets in flight; `Heal` and `Promote` take
-    /// the time of the writes that they hand over, `Promote` that of all tickets too.
+    /// looking its documents, tickets and copies up, and at most that of the tickets in flight; `Copy` and `Ack` also that
+    /// of the writes that a copy took since the ticket was first performed; `Heal` and `Promote` that of the documents, for
+    /// each copy that takes them. No step takes longer for the writes and the tickets that the group has had.
     pub fn step(&mut self, step: Step) -> Result<Answer, NoMemory>
         ensures ok { IfOk result (λ answer. Takes self.old step answer self.new) }
         ensures err { OnErr result (self.new ≡ self.old) }

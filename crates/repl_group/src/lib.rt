@@ -5,17 +5,20 @@ mod copies;
 mod fault;
 mod group;
 mod group_core;
+mod held;
 mod held_write;
 pub mod laws;
 mod machine;
 mod polling;
+mod replica;
+mod replicas;
 mod request;
 mod requests;
-mod shard_copy;
+mod standing;
 mod step;
 #[cfg(test)]
 mod testing;
-mod writes;
+mod write_log;
 
 pub use fault::{CoreFault, Fault};
 pub use group::Group;

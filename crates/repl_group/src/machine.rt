@@ -2,16 +2,14 @@ ghost use Rattle.std.specs.Prelude.{◌≡◌, ◌==◌, ◌&&◌, ◌||◌, Som
 ghost use Rattle.repl_group.specs.Group.{IsCopyCount, Performs, ServesGet, ServesWrite, Shows, Gives, document_at as document_seen, greatest, is_held as held, is_in_sync, is_primary_cut as primary_cut, most_tickets, op_read as read_of, result_of, start};
 ghost use Rattle.repl_group.specs.Copies.{document_in, next_seq};
 ghost use Rattle.repl_group.specs.Requests.{in_flight_from, is_busy as busy, is_queued as queued};
-ghost use Rattle.repl_group.specs.declared.shard_copy.ShardCopy.{ShardCopy as CopyState};
+ghost use Rattle.repl_group.specs.Copies.{ShardCopy as CopyState};
 ghost use Rattle.repl_group.specs.declared.step.Step.TheVariants as steps;
 
-use crate::copies::{
-    add_write, find_copy, follow, is_on_all_in_sync, new_copies, renew, set_cut, set_in_sync,
-};
+use crate::copies::Copies;
 use crate::fault::Fault;
 use crate::request::{Request, is_get, unconditional};
 use crate::requests::Requests;
-use crate::shard_copy::ShardCopy;
+use crate::standing::Standing;
 use crate::step::{Answer, Step};
 use doc_register::{DocState, Op, Reply, is_performed, performed_reply, shown_reply};
 use indexmap::IndexSet;
@@ -33,7 +31,7 @@ pub struct Machine {
     primary: u32,
     docs: IndexSet<DocId>,
     requests: Requests,
-    copies: Vec<ShardCopy>,
+    copies: Copies,
 }
 
 impl Model for Machine {
@@ -49,10 +47,10 @@ impl Model for Machine {
       primary = m.primary;
       docs = m.docs.keys;
       requests = m.requests.list;
-      copies = m.copies.items;
+      copies = m.copies;
     } };
 
-    ghost invariant = { λ m. IsFormed m.term m.primary m.copies.items };
+    ghost invariant = { λ m. IsFormed m.term m.primary m.copies };
 }
 
 impl Machine {
@@ -61,7 +59,7 @@ impl Machine {
         requires { IsCopyCount count }
         ensures { IfOk result (λ machine. machine ≡ start fault count) }
     {
-        let copies = new_copies(alloc, count)?;
+        let copies = Copies::new(alloc, count)?;
         Ok(Machine {
             fault,
             term: 1,
@@ -76,7 +74,7 @@ impl Machine {
     fn is_primary_cut(&self) -> bool
         ensures { result ≡ primary_cut self.now }
     {
-        match find_copy(&self.copies, self.primary) {
+        match self.copies.find(self.primary) {
             Some(copy) => copy.is_cut,
             None => false,
         }
@@ -86,10 +84,7 @@ impl Machine {
     fn document_at(&self, copy: u32, doc: usize) -> DocState
         ensures { result ≡ document_seen self.now copy doc }
     {
-        match find_copy(&self.copies, copy) {
-            Some(copy) => copy.writes.document(doc),
-            None => DocState::Never,
-        }
+        self.copies.document(copy, doc)
     }
 
     /// Whether the write of a ticket may be acknowledged.
@@ -97,12 +92,9 @@ impl Machine {
         ensures { result ≡ held self.now ticket }
     {
         if !self.fault.is_early() {
-            return is_on_all_in_sync(&self.copies, ticket);
+            return self.copies.is_on_all_in_sync(ticket);
         }
-        match find_copy(&self.copies, self.primary) {
-            Some(copy) => copy.writes.holds(ticket),
-            None => false,
-        }
+        self.copies.holds(self.primary, ticket)
     }
 
     /// The operation as the primary reads it.
@@ -117,8 +109,8 @@ impl Machine {
     }
 
     /// Whether a copy may take a write in flight.
-    fn may_take_write(&self, copy: &ShardCopy) -> bool
-        ensures { result ≡ (copy.now.is_in_sync && not copy.now.is_cut && not (primary_cut self.now)) }
+    fn may_take_write(&self, copy: Standing) -> bool
+        ensures { result ≡ (copy.is_in_sync && not copy.is_cut && not (primary_cut self.now)) }
     {
         copy.is_in_sync && !copy.is_cut && !self.is_primary_cut()
     }
@@ -131,15 +123,15 @@ impl Machine {
     }
 
     /// Whether the copy of this number may leave those in sync.
-    fn may_drop(&self, number: u32, copy: &ShardCopy) -> bool
-        ensures { result ≡ (copy.now.is_in_sync && copy.now.is_cut && not (number == self.now.primary) && not (primary_cut self.now)) }
+    fn may_drop(&self, number: u32, copy: Standing) -> bool
+        ensures { result ≡ (copy.is_in_sync && copy.is_cut && not (number == self.now.primary) && not (primary_cut self.now)) }
     {
         copy.is_in_sync && copy.is_cut && number != self.primary && !self.is_primary_cut()
     }
 
     /// Whether the copy of this number may become the primary.
-    fn may_lead(&self, number: u32, copy: &ShardCopy) -> bool
-        ensures { result ≡ (copy.now.is_in_sync && not copy.now.is_cut && not (number == self.now.primary) && nat_lt self.now.term greatest) }
+    fn may_lead(&self, number: u32, copy: Standing) -> bool
+        ensures { result ≡ (copy.is_in_sync && not copy.is_cut && not (number == self.now.primary) && nat_lt self.now.term greatest) }
     {
         copy.is_in_sync && !copy.is_cut && number != self.primary && self.term < GREATEST_TERM
     }
@@ -215,7 +207,8 @@ impl Machine {
             return Ok(Answer::NotNow);
         };
         self.requests.reserve()?;
-        add_write(&mut self.copies, self.primary, ticket, request.write(pair))?;
+        self.copies
+            .add_write(self.primary, ticket, request.write(pair))?;
         self.requests.launch(ticket, request, pair, before);
         Ok(Answer::Done)
     }
@@ -227,7 +220,7 @@ impl Machine {
         ensures ok { IfOk result (λ answer. ServesWrite self.old ticket request answer self.new) }
         ensures err { OnErr result (self.new ≡ self.old) }
     {
-        let Some(primary) = find_copy(&self.copies, self.primary) else {
+        let Some(primary) = self.copies.find(self.primary) else {
             return Ok(Answer::NotNow);
         };
         if primary.is_cut {
@@ -236,8 +229,8 @@ impl Machine {
         if self.requests.is_busy(request.doc) {
             return Ok(Answer::Waits);
         }
-        let before = primary.writes.document(request.doc);
-        let seq = primary.writes.next_seq();
+        let before = self.document_at(self.primary, request.doc);
+        let seq = self.copies.next_seq(self.primary);
         if is_performed(before, self.op_read(request)) {
             return self.perform(ticket, request, seq, before);
         }
@@ -270,7 +263,7 @@ impl Machine {
         let Some(request) = self.requests.get(ticket) else {
             return Ok(Answer::NotNow);
         };
-        let Some(target) = find_copy(&self.copies, copy) else {
+        let Some(target) = self.copies.find(copy) else {
             return Ok(Answer::NotNow);
         };
         let Some((pair, _)) = request.stage.flight() else {
@@ -279,7 +272,7 @@ impl Machine {
         if !self.may_take_write(target) {
             return Ok(Answer::NotNow);
         }
-        add_write(&mut self.copies, copy, ticket, request.write(pair))?;
+        self.copies.add_write(copy, ticket, request.write(pair))?;
         Ok(Answer::Done)
     }
 
@@ -306,31 +299,30 @@ impl Machine {
     fn cut(&mut self, copy: u32) -> Answer
         ensures { Gives self.old (steps.Cut copy) result self.new }
     {
-        let Some(target) = find_copy(&self.copies, copy) else {
+        let Some(target) = self.copies.find(copy) else {
             return Answer::NotNow;
         };
         if target.is_cut {
             return Answer::NotNow;
         }
-        set_cut(&mut self.copies, copy, true);
+        self.copies.set_cut(copy, true);
         Answer::Done
     }
 
     /// Reaches a copy again. A refusal changes nothing. Where the copy takes what the primary holds, it takes the time of
-    /// all that.
+    /// the documents.
     fn heal(&mut self, copy: u32) -> Result<Answer, NoMemory>
         ensures ok { IfOk result (λ answer. Gives self.old (steps.Heal copy) answer self.new) }
         ensures err { OnErr result (self.new ≡ self.old) }
     {
-        if find_copy(&self.copies, copy).is_none() {
+        let Some(_) = self.copies.find(copy) else {
             return Ok(Answer::NotNow);
-        }
+        };
         if self.is_left_alone(copy) {
-            set_cut(&mut self.copies, copy, false);
+            self.copies.set_cut(copy, false);
             return Ok(Answer::Done);
         }
-        let writes = self.copies[self.primary as usize].writes.copy()?;
-        renew(&mut self.copies, copy, writes);
+        self.copies.renew(copy, self.primary)?;
         Ok(Answer::Done)
     }
 
@@ -338,28 +330,29 @@ impl Machine {
     fn drop_copy(&mut self, copy: u32) -> Answer
         ensures { Gives self.old (steps.Drop copy) result self.new }
     {
-        let Some(target) = find_copy(&self.copies, copy) else {
+        let Some(target) = self.copies.find(copy) else {
             return Answer::NotNow;
         };
         if !self.may_drop(copy, target) {
             return Answer::NotNow;
         }
-        set_in_sync(&mut self.copies, copy, false);
+        self.copies.set_in_sync(copy, false);
         Answer::Done
     }
 
-    /// Makes a copy the primary. A refusal changes nothing. It takes the time of all that the copy holds.
+    /// Makes a copy the primary. A refusal changes nothing. It takes the time of the documents, for each copy that follows,
+    /// and of the writes in flight.
     fn promote(&mut self, copy: u32) -> Result<Answer, NoMemory>
         ensures ok { IfOk result (λ answer. Gives self.old (steps.Promote copy) answer self.new) }
         ensures err { OnErr result (self.new ≡ self.old) }
     {
-        let Some(target) = find_copy(&self.copies, copy) else {
+        let Some(target) = self.copies.find(copy) else {
             return Ok(Answer::NotNow);
         };
         if !self.may_lead(copy, target) {
             return Ok(Answer::NotNow);
         }
-        follow(&mut self.copies, copy)?;
+        self.copies.follow(copy)?;
         self.requests.lose_flights();
         if !self.fault.is_same_term() {
             self.term += 1;
@@ -410,7 +403,7 @@ impl Machine {
     pub fn in_sync(&self, copy: u32) -> bool
         ensures { result ≡ is_in_sync self.now copy }
     {
-        match find_copy(&self.copies, copy) {
+        match self.copies.find(copy) {
             Some(copy) => copy.is_in_sync,
             None => false,
         }

@@ -85,12 +85,14 @@ fn lost(request: Request) -> Request
     }
 }
 
-// Loses what is in flight.
-fn lose(list: &mut Vec<Request>)
+// Loses what is in flight, which are these tickets.
+fn lose(list: &mut Vec<Request>, tickets: &[u64])
+    requires { tickets.now ≡ in_flight_from 0 list.old.items }
     ensures { list.new.items ≡ with_flights_lost list.old.items }
 {
-    for request in list.iter_mut() {
-        *request = lost(*request);
+    for ticket in tickets {
+        let place = *ticket as usize;
+        list[place] = lost(list[place]);
     }
 }
 
@@ -205,11 +207,11 @@ impl Requests {
         self.busy.swap_remove(&request.doc);
     }
 
-    /// Loses what is in flight. It takes the time of all requests.
+    /// Loses what is in flight. It takes the time of the writes in flight.
     pub fn lose_flights(&mut self)
         ensures { self.new.list ≡ with_flights_lost self.old.list }
     {
-        lose(&mut self.list);
+        lose(&mut self.list, &self.in_flight);
         self.in_flight.clear();
         self.busy.clear();
     }

@@ -1,7 +1,7 @@
 -- What is always so of the machine of a group.
 use Rattle.std.specs.Prelude.{ℕ, ◌<◌, ◌≤◌, ◌^◌, List, length}
 use Rattle.repl_group.specs.Group.{IsCopyCount}
-use Rattle.repl_group.specs.declared.shard_copy.ShardCopy.{ShardCopy}
+use Rattle.repl_group.specs.Copies.{ShardCopy}
 
 pub record IsFormed (term primary : ℕ) (copies : List ShardCopy) : Type 0 where
   pub term_from_one : 1 ≤ term

@@ -70,6 +70,33 @@ fn named_faults(rt: HostRuntime) -> Result<(), Fail> {
     Ok(())
 }
 
+// A write is performed, and then acknowledged or lost by a promotion, behind which another one is performed: where the term
+// is kept, both get the same pair.
+#[test]
+fn kept_term_gives_one_pair_to_two_tickets(rt: HostRuntime) -> Result<(), Fail> {
+    for (fault, script, want) in [
+        (
+            Fault::SameTerm,
+            "index 1; serve 0; copy 0 1; ack 0; result 0",
+            "ticket 0; done; done; done; indexed (1,0) true; ",
+        ),
+        (
+            Fault::SameTerm,
+            "index 1; serve 0; promote 1; index 2; serve 1; copy 1 0; ack 1; result 1; result 0",
+            "ticket 0; done; done; ticket 1; done; done; done; indexed (1,0) true; none; ",
+        ),
+        (
+            Fault::None,
+            "index 1; serve 0; promote 1; index 2; serve 1; copy 1 0; ack 1; result 1; result 0",
+            "ticket 0; done; done; ticket 1; done; done; done; indexed (2,0) true; none; ",
+        ),
+    ] {
+        let told = played(rt.alloc(), 2, fault, script)?;
+        assert_eq!(rt; told.as_str(), want, "{fault:?}");
+    }
+    Ok(())
+}
+
 #[test]
 fn copies_refused(rt: HostRuntime) -> Result<(), Fail> {
     let alloc = rt.alloc();

@@ -1,11 +1,22 @@
-use Rattle.std.proofs.Common.{◌<◌, ◌∙◌, ap, arith, length, sym}
-use Rattle.std.specs.Prelude.{slice_set}
-use Rattle.std.proofs.lemmas.List.Edits.{map_over_more}
-use Rattle.repl_group.specs.Requests.{lost_request}
+use Rattle.std.proofs.Common.{◌<◌, ◌+◌, arith, refl, subst, sym}
+use Rattle.std.specs.Prelude.{slice_index_or, slice_set}
+use Rattle.repl_group.proofs.LossLemmas.{AreLostTo, all_lost, lost_further, ticket_there}
 use Rattle.repl_group.proofs.requests.lose.Goals as goal
 
-pub loop-request-preserved : goal.loop-request-preserved
-loop-request-preserved c =
-    let within : c.loop-request.request-index < length c.deref_mut-request-items.result.now = omega (arith, c.loop-request-test.true, c.loop-request.auto.request-items) in
-    ap (slice_set c.loop-request.request-items c.loop-request.request-index) (c.lost.ensures ∙ ap lost_request (sym c.request-item.is))
-    ∙ map_over_more lost_request c.deref_mut-request-items.result.now c.loop-request.request-items c.loop-request.request-index c.request-item.result within c.loop-request.invariant c.request-item.is
+pub index-requires : goal.index-requires
+index-requires c =
+    subst (λ n. slice_index_or c.args.tickets.now c.loop-ticket.ticket-index 0 < n) (sym c.loop-ticket.list.ok.0)
+    (ticket_there c.loop-ticket.ticket-index c.args.list.now.items c.args.tickets.now c.loop-ticket.list.items _ c.loop-ticket-test.true refl c.loop-ticket.invariant)
+
+pub index_mut-requires : goal.index_mut-requires
+index_mut-requires c =
+    subst (λ n. slice_index_or c.args.tickets.now c.loop-ticket.ticket-index 0 < n) (sym c.loop-ticket.list.ok.0)
+    (ticket_there c.loop-ticket.ticket-index c.args.list.now.items c.args.tickets.now c.loop-ticket.list.items _ c.loop-ticket-test.true refl c.loop-ticket.invariant)
+
+pub loop-ticket-preserved : goal.loop-ticket-preserved
+loop-ticket-preserved c =
+    subst (λ x. AreLostTo (c.loop-ticket.ticket-index + 1) c.args.list.now.items c.args.tickets.now (slice_set c.loop-ticket.list.items (slice_index_or c.args.tickets.now c.loop-ticket.ticket-index 0) x)) (sym c.lost.ensures)
+    (lost_further c.loop-ticket.ticket-index c.args.list.now.items c.args.tickets.now c.loop-ticket.list.items _ c.loop-ticket-test.true refl c.loop-ticket.invariant c.index.result.now c.index.ensures)
+
+pub returns : goal.returns
+returns c = all_lost c.loop-ticket.ticket-index c.args.list.now.items c.args.tickets.now c.loop-ticket.list.items (omega (arith, c.loop-ticket-test.false)) c.loop-ticket.invariant

@@ -9,8 +9,8 @@ use Rattle.repl_group.proofs.machine.Machine.perform.Goals as goal
 pub returns-clause-ok : goal.returns-clause-ok
 returns-clause-ok c y at =
     let seen = c.requires.seen y at in
-    let found : slice_get c.self.inside.copies.items c.self.inside.primary ≡ Some y = ap (λ (w : GroupState). slice_get w.copies w.primary) c.self.view_is ∙ at in
+    let found : slice_get c.self.inside.copies c.self.inside.primary ≡ Some y = ap (λ (w : GroupState). slice_get w.copies w.primary) c.self.view_is ∙ at in
     performs_done c.args.self.now _ c.args.ticket c.args.request y c.in-Some.pair _ _ c.self.view_is c.in-Some.ensures.value.0 (c.in-Some.ensures.value.1 ∙ seen.0)
     (c.launch.ensures ∙ (ap (λ r. with_stage r c.args.ticket c.args.request (InFlight c.in-Some.pair c.args.before)) c.in_ok-reserve.ensures.same
     ∙ ap (λ s. with_stage c.self.inside.requests.list c.args.ticket c.args.request (InFlight c.in-Some.pair s)) seen.1))
-    (c.in_ok-add_write.ensures.ok y found ∙ ap (λ h. slice_set c.self.inside.copies.items c.self.inside.primary (copy_with y c.args.ticket h)) c.write.ensures)
+    (c.in_ok-add_write.ensures.ok y found ∙ ap (λ h. slice_set c.self.inside.copies c.self.inside.primary (copy_with y c.args.ticket h)) c.write.ensures)
