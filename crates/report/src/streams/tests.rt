@@ -14,6 +14,7 @@ mod drawn;
 mod each_call;
 mod edges;
 mod faults;
+mod groups;
 mod limits;
 mod verifying;
 mod witnesses;

@@ -103,6 +103,11 @@ pub const GROUP_STALE: &str = r#"{"e":"call","n":0,"id":"d","op":"index","k":1}
 {"e":"reply","n":3,"status":200,"body":{"_index":"i","_id":"d","_version":1,"_seq_no":0,"_primary_term":1,"found":true,"_source":{"k":1}}}
 "#;
 
+pub const GROUP_SAME_TERM: &str = r#"{"e":"call","n":0,"id":"a","op":"index","k":1}
+{"e":"call","n":1,"id":"b","op":"index","k":2}
+{"e":"reply","n":1,"status":201,"body":{"_index":"i","_id":"b","_version":1,"result":"created","_shards":{"total":2,"successful":1,"failed":0},"_seq_no":0,"_primary_term":1}}
+"#;
+
 pub const NO_WRITER: &str = r#"{"e":"call","n":0,"id":"d","op":"index","k":1}
 {"e":"reply","n":0,"status":201,"body":{"_index":"i","_id":"d","_version":1,"result":"created","_shards":{"total":2,"successful":1,"failed":0},"_seq_no":0,"_primary_term":1}}
 {"e":"call","n":1,"id":"d","op":"get"}
