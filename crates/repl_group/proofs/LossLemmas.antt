@@ -11,6 +11,7 @@ use Rattle.repl_group.specs.Requests.{in_flight_from, is_in_flight, lost_from, l
 use Rattle.repl_group.proofs.FollowLemmas.{map-set}
 use Rattle.repl_group.proofs.ListLemmas.{same_some}
 use Rattle.repl_group.proofs.LogLemmas.{get-within}
+use Rattle.repl_group.proofs.RequestLemmas.{lost_grounded}
 
 first : {t u : ℕ} {ts us : List ℕ} → t ∷ ts ≡ u ∷ us → (t ≡ u) × (ts ≡ us)
 first {t} {u} {ts} {us} same = (same_some (ap head same), ap tail same) where
@@ -22,23 +23,17 @@ first {t} {u} {ts} {us} same = (same_some (ap head same), ap tail same) where
   tail [] = []
   tail (n ∷ ns) = ns
 
-grounded : (s : Stage) → is_in_flight (lost_from s) ≡ false
-grounded Queued = refl
-grounded (InFlight q before) = refl
-grounded (Answered r) = refl
-grounded (Lost q) = refl
-
 lost-twice : (s : Stage) → lost_from (lost_from s) ≡ lost_from s
 lost-twice Queued = refl
 lost-twice (InFlight q before) = refl
 lost-twice (Answered r) = refl
 lost-twice (Lost q) = refl
 
-lost-grounded : (s : Stage) → is_in_flight s ≡ false → lost_from s ≡ s
-lost-grounded Queued is = refl
-lost-grounded (InFlight q before) is = absurd (true≢false is)
-lost-grounded (Answered r) is = refl
-lost-grounded (Lost q) is = refl
+lost-same : (s : Stage) → is_in_flight s ≡ false → lost_from s ≡ s
+lost-same Queued is = refl
+lost-same (InFlight q before) is = absurd (true≢false is)
+lost-same (Answered r) is = refl
+lost-same (Lost q) is = refl
 
 -- what the first of the tickets in flight stands for, and the tickets in flight where it is lost
 abbrev IsFirst : ℕ → List Request → ℕ → List ℕ → Type 0
@@ -60,7 +55,7 @@ first_lost i (x ∷ xs) t ts is = by_test (is_in_flight x.stage) refl is (λ the
     x,
     sym (first here).0 ∙ nothing i,
     refl,
-    ap (λ b. if b then i ∷ in_flight_from (i + 1) xs else in_flight_from (i + 1) xs) (grounded x.stage) ∙ (first here).1,
+    ap (λ b. if b then i ∷ in_flight_from (i + 1) xs else in_flight_from (i + 1) xs) (lost_grounded x.stage) ∙ (first here).1,
   )
   by_test false stands there further =
       let rest = further there in (
@@ -78,7 +73,7 @@ none_left i (x ∷ xs) none = by_test (is_in_flight x.stage) refl none (λ there
       → (in_flight_from (i + 1) xs ≡ [] → with_flights_lost xs ≡ xs) → with_flights_lost (x ∷ xs) ≡ x ∷ xs
   by_test true flies here further = let impossible : i ∷ in_flight_from (i + 1) xs ≡ [] = here in absurd (cc)
   by_test false stands there further =
-      ap (λ s. record x { stage = s } ∷ with_flights_lost xs) (lost-grounded x.stage stands) ∙ ap (λ ys. x ∷ ys) (further there)
+      ap (λ s. record x { stage = s } ∷ with_flights_lost xs) (lost-same x.stage stands) ∙ ap (λ ys. x ∷ ys) (further there)
 
 -- how far the tickets are lost
 abbrev pub AreLostTo : ℕ → List Request → List ℕ → List Request → Type 0

@@ -140,7 +140,7 @@ pub in_flight-append : (i : ℕ) (xs : List Request) (x : Request) → is_in_fli
 in_flight-append i [] x was = ap (λ b. first_or b i []) was
 in_flight-append i (z ∷ zs) x was = ap (first_or (is_in_flight z.stage) i) (in_flight-append (i + 1) zs x was)
 
-lost_grounded : (s : Stage) → is_in_flight (lost_from s) ≡ false
+pub lost_grounded : (s : Stage) → is_in_flight (lost_from s) ≡ false
 lost_grounded Queued = refl
 lost_grounded (InFlight q before) = refl
 lost_grounded (Answered r) = refl
