@@ -5,6 +5,8 @@ use history::HashKeys;
 use repl_group::Fault;
 use std::test::Fail;
 
+mod in_turns;
+
 // A run with the seed 1 of one client, one call, one document and one copy, without a fault.
 const ONE_CALL: RunSetting = RunSetting {
     seed: 1,
@@ -26,16 +28,16 @@ fn text_of<T: Threads + Wait + Sync>(
     Ok(text)
 }
 
-#[test]
-fn one_call_run(rt: HostRuntime) -> Result<(), Fail> {
-    let alloc = rt.alloc();
-    let text = text_of(&rt, alloc, &ONE_CALL)?;
-    assert_eq!(rt; text.iter().filter(|byte| **byte == b'\n').count(), 2);
-    assert!(rt; text.starts_with(b"{\"e\":\"call\",\"id\":\"d0\","));
+// The line of a check of the text, and its status.
+fn checked<T: Threads + Wait + Sync>(
+    rt: &T,
+    alloc: Global,
+    text: &[u8],
+) -> Result<(Status, Vec<u8>), Fail> {
     let mut line = Vec::new(alloc);
-    let mut reader = text.as_slice();
-    check_stream(
-        &rt,
+    let mut reader = text;
+    let status = check_stream(
+        rt,
         alloc,
         HashKeys::fixed(),
         &mut reader,
@@ -43,6 +45,16 @@ fn one_call_run(rt: HostRuntime) -> Result<(), Fail> {
         1,
         Conflicts::Plain,
     )?;
+    Ok((status, line))
+}
+
+#[test]
+fn one_call_run(rt: HostRuntime) -> Result<(), Fail> {
+    let alloc = rt.alloc();
+    let text = text_of(&rt, alloc, &ONE_CALL)?;
+    assert_eq!(rt; text.iter().filter(|byte| **byte == b'\n').count(), 2);
+    assert!(rt; text.starts_with(b"{\"e\":\"call\",\"id\":\"d0\","));
+    let (_, line) = checked(&rt, alloc, &text)?;
     assert_eq!(rt; str::from_utf8(&line)?, "yes docs=1 calls=1 left_out=0\n");
     Ok(())
 }
