@@ -11,9 +11,9 @@ pub enum BulkFault {
     Half(u64),
     /// A number of the action's condition is not whole or outside its range.
     Range(u64),
-    /// The reply has another number of items than the request.
+    /// The reply has no list of items, or another number of them than the request; or a call would be numbered past 2^64-1.
     Count,
-    /// The item is no reply to its action.
+    /// The item is no reply to its action, or one about another document.
     Kind(usize),
     /// A growth was refused memory.
     NoMemory,

@@ -29,7 +29,7 @@ pub enum TextCause {
     NoCall,
     /// The call of this number has an ending already.
     Ended,
-    /// The history has its most events.
+    /// The history has its most events, or the witness its most documents and places.
     Full,
     /// The document was called before on another shard.
     ShardMoved,

@@ -126,7 +126,8 @@ pub fn check_alone(
 /// The same, the documents being searched by at most this many workers, 1 to 16, each on a thread of its own where one can
 /// be made; each passes the gate before each document. With one document there is one worker.
 ///
-/// The workers' number is looked at first. Each fault hands the history back.
+/// The workers' number is looked at first: `NoWorkers`, `TooMany`. Then the faults of the workers' messages are told, as
+/// `check_pool::answers` tells them, and `NoMemory`. Each fault hands the history back.
 pub fn check<R: Threads + Wait + Sync, G: Gate + Sync>(
     rt: &R,
     alloc: Global,

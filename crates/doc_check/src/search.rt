@@ -155,7 +155,7 @@ fn answer_by_sweep(
 ///
 /// First the order of the replies is tried; then the sweep, which finds an order of the answered calls alone where
 /// there is one; then the rules, which complete unanswered writes; last the search forward in time, which completes them
-/// too.
+/// too. `NoMemory` gives up the id and the records.
 pub fn answer(
     alloc: Global,
     id: DocId,
@@ -181,7 +181,7 @@ pub fn answer(
 /// the documents of the shard use, by rising pair; the document's own may be among them. It invents pairs only where one
 /// is left.
 ///
-/// That nothing is found says nothing.
+/// That nothing is found says nothing. `NoMemory` gives up the id and the records.
 pub fn answer_among(
     alloc: Global,
     id: DocId,

@@ -12,7 +12,8 @@ use std::io::BufRead;
 /// The history whose text a reader has to its end; or the first line that is refused, with its first cause, as `read` tells
 /// them of the text. What comes after that line is not read.
 ///
-/// The history has these keys. A line at most is held, and no more than 65,537 bytes of one.
+/// The history has these keys. A line at most is held, and no more than 65,537 bytes of one. `Read` is told where the reader
+/// failed, `NoMemory` where a growth was refused: how far it has read is then not said.
 pub fn read_from<B: BufRead>(
     alloc: Global,
     keys: HashKeys,

@@ -68,7 +68,7 @@ fn progress(core: &Core, ticket: u64) -> Progress
     }
 }
 
-/// What a submission does in one hold of the group's lock: the step `Submit`.
+/// What a submission does in one hold of the group's lock: the step `Submit`. `Full` is told before want of memory.
 pub fn submit_step(core: &mut Core, id: &DocId, op: &Op) -> Result<Ticket, TargetFault>
     ensures submits { Submits core.old id.now op.now result core.new }
     ensures honest { IsHonestUnlessFaulty core.new }

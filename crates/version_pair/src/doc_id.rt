@@ -43,7 +43,7 @@ impl Model for DocId {
 }
 
 impl DocId {
-    /// The id with the bytes of the text.
+    /// The id with the bytes of the text; or `Empty` for the empty text, `TooLong` for one of more than 512 bytes, `NoMemory`.
     pub fn new(alloc: Global, text: &str) -> Result<DocId, IdFault>
         ensures ok { IfOk result (λ id. (id ≡ text.now) × IsIdLength (length text.now)) }
         ensures empty { IsErrOf result IdFault.Empty ↔ (length text.now ≡ 0) }

@@ -12,7 +12,8 @@ use version_pair::DocId;
 /// The documents of the witness text that a reader has to its end, each with its places; or the first line that is refused,
 /// with its first cause, as `read_witness` tells them of the text. What comes after that line is not read.
 ///
-/// A line at most is held, and no more than 65,537 bytes of one.
+/// A line at most is held, and no more than 65,537 bytes of one. `Read` is told where the reader failed, `NoMemory` where a growth
+/// was refused: how far it has read is then not said.
 pub fn read_witness_from<B: BufRead>(
     alloc: Global,
     input: &mut B,
