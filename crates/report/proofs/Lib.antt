@@ -3,3 +3,4 @@ mod WitnessLimits
 mod AnswerLemmas
 mod OffenceLemmas
 mod RunLemmas
+mod PageLemmas

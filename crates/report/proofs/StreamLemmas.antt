@@ -6,6 +6,7 @@ use Rattle.std.proofs.KnownBytes.{Appends-nil, Appends-trans}
 use Rattle.std.proofs.Math.Seq.{take-append_seam}
 use Rattle.std.proofs.lemmas.List.{take_all}
 use Rattle.std.proofs.Common.{length-drop, take-append-drop}
+use Rattle.report.specs.Explained.{HasPageFront}
 use Rattle.report.specs.Verdict.{HasAnswer, HasFront}
 use Rattle.report.specs.declared.status.Status.{Status}
 use Rattle.report.specs.declared.stream_fault.StreamFault.{StreamFault}
@@ -71,3 +72,12 @@ pub wrote_front : (r : Result Status StreamFault) (P : Status → List ℕ → T
     → IsErrOf r Write → HasFront P old new
 wrote_front (Ok s) P old new status text written is cut = let impossible : Ok s ≡ Err Write = cut in absurd (cc)
 wrote_front (Err f) P old new status text written is cut = (status, text, written.1.0, written.1.1, is)
+
+-- a text that is written whole is a front of itself
+pub whole_front : (P : Status → List ℕ → Type 0) (old new : Option (List ℕ)) (status : Status) (text : List ℕ) → Appends old new text → P status text → HasFront P old new
+whole_front P old new status text written is =
+    (status, text, length text, subst (Appends old new) (sym (take_all (length text) text (omega arith))) written, is)
+
+-- a writer that was left has the front of no byte of a page
+pub no_page : (old : Option (List ℕ)) → HasPageFront old old
+no_page old = ([], 0, Appends-nil old, ([], refl))

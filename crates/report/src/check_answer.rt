@@ -9,6 +9,7 @@ ghost use Rattle.report.specs.Verdict.{AnswersInput, IsAnswer, IsWitnessAnswer};
 use crate::answer::Answer;
 use crate::before_name::before_name;
 use crate::cause_name::cause_name;
+use crate::finding::{Failing, Finding};
 use crate::input::read_history;
 use crate::offence::{Offence, first_offence};
 use crate::refuted_line::refuted_line;
@@ -65,26 +66,28 @@ fn refuted(alloc: Global, evidence: Refuted, offence: Offence) -> Result<Answer,
     Ok(Answer::of(Status::Refuted, line))
 }
 
-/// The answer to a text of a history for which no order was found: with the evidence that there is none, where some is found.
-pub fn case_answer(alloc: Global, case: &Case) -> Result<Answer, NoMemory>
-    ensures { IfOk result (λ answer. (input : List ℕ) → IsHistoryText input case.now.events
-        → IsAnswer case.now.conflicts input answer.status answer.text.items
-        × IsWitnessAnswer case.now.conflicts input answer.status answer.text.items) }
+/// The answer to a text of a history for which no order was found: with the evidence that there is none, where some is found;
+/// and what it tells.
+pub fn case_answer(alloc: Global, case: &Case) -> Result<(Answer, Failing), NoMemory>
+    ensures { IfOk result (λ told. (input : List ℕ) → IsHistoryText input case.now.events
+        → IsAnswer case.now.conflicts input told.0.status told.0.text.items
+        × IsWitnessAnswer case.now.conflicts input told.0.status told.0.text.items) }
 {
     // A look at the history: that no order was found for it is known from here on.
     let _ = case.history();
     let evidence = refute(alloc, case)?;
     let offence = first_offence(alloc, case)?;
+    let failing = Failing { evidence, offence };
     match evidence {
         Some(evidence) => {
             // What evidence says of a history is known from here on.
             evidence_refutes();
             let answer = refuted(alloc, evidence, offence)?;
-            Ok(answer)
+            Ok((answer, failing))
         }
         None => {
             let answer = no(alloc, offence)?;
-            Ok(answer)
+            Ok((answer, failing))
         }
     }
 }
@@ -135,27 +138,27 @@ fn verdict_by<R: Threads + Wait + Sync>(
     }
 }
 
-// The answer to a text that was read as this history.
-fn history_answer<R: Threads + Wait + Sync>(
+/// The answer to a text that was read as this history, and what was found of it.
+pub fn history_answer<R: Threads + Wait + Sync>(
     rt: &R,
     alloc: Global,
     history: History,
     workers: usize,
     conflicts: Conflicts,
-) -> Result<Answer, Unanswered>
+) -> Result<(Answer, Finding), Unanswered>
     requires some { 1 ≤ workers }
     requires few { workers ≤ 16 }
-    ensures { IfOk result (λ answer. (input : List ℕ) → IsHistoryText input history
-        → IsAnswer conflicts input answer.status answer.text.items) }
+    ensures { IfOk result (λ told. (input : List ℕ) → IsHistoryText input history
+        → IsAnswer conflicts input told.0.status told.0.text.items) }
 {
     match verdict_by(rt, alloc, history, workers, conflicts) {
         Ok(Verdict::Yes(proof)) => {
             let answer = yes(alloc, Counts::of(&proof))?;
-            Ok(answer)
+            Ok((answer, Finding::Explained(proof)))
         }
         Ok(Verdict::No(case)) => {
-            let answer = case_answer(alloc, &case)?;
-            Ok(answer)
+            let (answer, failing) = case_answer(alloc, &case)?;
+            Ok((answer, Finding::Unexplained(case, failing)))
         }
         Err(fault) => Err(fault),
     }
@@ -176,7 +179,10 @@ pub fn check_answer<T: Threads + Wait + Sync, R: Read>(
         answer.text.items) }
 {
     match read_history(alloc, keys, reader) {
-        Ok(Ok(history)) => history_answer(rt, alloc, history, workers, conflicts),
+        Ok(Ok(history)) => {
+            let (answer, _) = history_answer(rt, alloc, history, workers, conflicts)?;
+            Ok(answer)
+        }
         Ok(Err(fault)) => {
             let answer = refusal(alloc, fault)?;
             Ok(answer)

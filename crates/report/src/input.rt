@@ -11,8 +11,8 @@ use std::io::{BufReader, Read};
 use version_pair::DocId;
 use witness::{Place, read_witness_from};
 
-// How many bytes are asked for at once.
-const CHUNK: usize = 32_768;
+/// How many bytes are asked for at once.
+pub const CHUNK: usize = 32_768;
 
 /// The history, with these keys, whose text the reader has to its end; or the first line that is refused. What comes after that line is not
 /// read. A fault of the reader of any kind, an interruption too, ends the reading.

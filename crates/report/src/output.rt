@@ -1,6 +1,9 @@
-ghost use Rattle.std.specs.Prelude.{◌≡◌, ◌<◌, ◌≤◌, ℕ, [], IfNone, IfSome, OnOk, OnErr, length, take};
+ghost use Rattle.std.specs.Prelude.{◌≡◌, ◌<◌, ◌≤◌, ℕ, [], IfNone, IfSome, MatchResult, OnOk, OnErr, length, take};
 ghost use Rattle.std.specs.Io.KnownBytes.{Appends};
 
+use crate::answer::Answer;
+use crate::status::Status;
+use crate::stream_fault::StreamFault;
 use std::io::Write;
 
 /// The writer failed, or took no byte.
@@ -34,4 +37,18 @@ pub fn write_text<W: Write>(writer: &mut W, text: &[u8]) -> Result<(), NotWritte
         rest = &rest[count..];
     }
     Ok(())
+}
+
+/// Writes the answer, and tells its status. After a write fault a front of its text is written.
+pub fn write_answer<W: Write>(writer: &mut W, answer: &Answer) -> Result<Status, StreamFault>
+    ensures { MatchResult result
+        (λ status. (status ≡ answer.now.status) × Appends (W.contents writer.old)
+        (W.contents writer.new) answer.now.text.items)
+        (λ fault. (fault ≡ StreamFault.Write) × ((n : ℕ) × Appends (W.contents writer.old)
+        (W.contents writer.new) (take n answer.now.text.items))) }
+{
+    match write_text(writer, &answer.text) {
+        Ok(()) => Ok(answer.status),
+        Err(_) => Err(StreamFault::Write),
+    }
 }

@@ -1,14 +1,13 @@
-ghost use Rattle.std.specs.Prelude.{◌≡◌, ◌≢◌, ◌≤◌, ℕ, IfOk, IsErrOf, MatchResult, take};
-ghost use Rattle.std.specs.Io.KnownBytes.{Appends, Keeps};
+ghost use Rattle.std.specs.Prelude.{◌≡◌, ◌≢◌, ◌≤◌, ℕ, IfOk, IsErrOf};
+ghost use Rattle.std.specs.Io.KnownBytes.{Keeps};
 ghost use Rattle.report.specs.aids.Faults.{stream_fault};
 ghost use Rattle.report.specs.Bulk.{AnswersBulk};
 ghost use Rattle.report.specs.Verdict.{AnswersInput, HasAnswer, HasFront, IsAnswered, IsCutOff, VerifiesInputs, WitnessesInput};
 
-use crate::answer::Answer;
 use crate::bulk_answer::bulk_answer;
 use crate::check_answer::check_answer;
 use crate::input::read_all;
-use crate::output::write_text;
+use crate::output::write_answer;
 use crate::status::Status;
 use crate::stream_fault::StreamFault;
 use crate::unanswered::Unanswered;
@@ -29,20 +28,6 @@ fn fault_of(fault: InputFault) -> StreamFault
     match fault {
         InputFault::Read => StreamFault::Read,
         InputFault::NoMemory => StreamFault::NoMemory,
-    }
-}
-
-// Writes the answer, and tells its status. After a write fault a front of its text is written.
-fn write_answer<W: Write>(writer: &mut W, answer: &Answer) -> Result<Status, StreamFault>
-    ensures { MatchResult result
-        (λ status. (status ≡ answer.now.status) × Appends (W.contents writer.old)
-        (W.contents writer.new) answer.now.text.items)
-        (λ fault. (fault ≡ StreamFault.Write) × ((n : ℕ) × Appends (W.contents writer.old)
-        (W.contents writer.new) (take n answer.now.text.items))) }
-{
-    match write_text(writer, &answer.text) {
-        Ok(()) => Ok(answer.status),
-        Err(_) => Err(StreamFault::Write),
     }
 }
 
@@ -202,4 +187,4 @@ pub fn bulk_stream<R: Read, Q: Read, W: Write>(
 #[cfg(test)]
 mod tests;
 #[cfg(test)]
-mod texts;
+pub mod texts;

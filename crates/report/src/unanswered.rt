@@ -1,3 +1,4 @@
+use crate::stream_fault::StreamFault;
 use api_lines::InputFault;
 use std::alloc::AllocError;
 
@@ -28,6 +29,21 @@ impl From<InputFault> for Unanswered {
         match fault {
             InputFault::Read => Unanswered::Read,
             InputFault::NoMemory => Unanswered::NoMemory,
+        }
+    }
+}
+
+impl From<Unanswered> for StreamFault {
+    ghost use Rattle.std.specs.Prelude.{◌≡◌};
+    ghost use Rattle.report.specs.aids.Faults.{fault_unanswered};
+
+    ghost from_gives = { λ fault told. told ≡ fault_unanswered fault };
+
+    fn from(fault: Unanswered) -> StreamFault {
+        match fault {
+            Unanswered::Read => StreamFault::Read,
+            Unanswered::NoMemory => StreamFault::NoMemory,
+            Unanswered::Worker(doc) => StreamFault::Worker(doc),
         }
     }
 }

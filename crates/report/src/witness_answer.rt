@@ -33,7 +33,7 @@ fn history_witness(
             })
         }
         Ok(Verdict::No(case)) => {
-            let answer = case_answer(alloc, &case)?;
+            let (answer, _) = case_answer(alloc, &case)?;
             Ok(answer)
         }
         Err(_) => Err(AllocError),

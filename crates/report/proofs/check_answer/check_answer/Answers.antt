@@ -1,16 +1,15 @@
 use Rattle.std.proofs.Common.{◌≡◌, subst, Ok, Err}
-use Rattle.std.proofs.lemmas.Result.{IfOk-weaker}
 use Rattle.std.specs.Prelude.{IfOk, IfSome, MatchResult}
 use Rattle.history.specs.Reading.{history_text}
 use Rattle.history.specs.Text.{IsHistoryText}
 use Rattle.report.proofs.AnswerLemmas.{if_each}
 use Rattle.report.proofs.check_answer.check_answer.Goals as goal
 
-pub returns-in-Ok-Ok : goal.returns-in-Ok-Ok
-returns-in-Ok-Ok g c =
+pub returns-in_ok-answer-in-Ok-Ok : goal.returns-in_ok-answer-in-Ok-Ok
+returns-in_ok-answer-in-Ok-Ok g c =
     let input = g.R.Read.remaining c.args.reader.now in
     let read = subst (λ told. IfSome input (λ text. IfOk told (IsHistoryText text))) c.in-Ok-Ok.field-0-is c.in-Ok-Ok.ensures.text in
-    IfOk-weaker c.history_answer.result _ _ (λ answer each. if_each input read each) c.history_answer.ensures
+    if_each input read (λ text is. c.in_ok-answer-in-Ok-Ok.ensures text is)
 
 pub returns-in_ok-answer-in-Ok-Err : goal.returns-in_ok-answer-in-Ok-Err
 returns-in_ok-answer-in-Ok-Err g c =

@@ -1,0 +1,16 @@
+-- What a story that is written says of the bytes that were read.
+use Rattle.std.specs.Prelude.{◌≡◌, ℕ, ◌++◌, List, Option, take}
+use Rattle.std.specs.Io.KnownBytes.{Appends}
+use Rattle.doc_register.specs.declared.state.Conflicts.{Conflicts}
+use Rattle.report.specs.Pages.{IsPage}
+use Rattle.report.specs.Verdict.{AnswersInput}
+use Rattle.report.specs.declared.status.Status.{Status}
+
+-- The text begins with the line of a check, which is an answer to the bytes that the reader had; a story follows.
+abbrev pub ExplainsInput : Conflicts → Option (List ℕ) → Status → List ℕ → Type 0
+ExplainsInput mode input status text =
+    (line story : List ℕ) × (text ≡ line ++ story) × AnswersInput mode input status line
+
+-- the writer holds a page beside what it held, or a front of one
+abbrev pub HasPageFront : Option (List ℕ) → Option (List ℕ) → Type 0
+HasPageFront old new = (page : List ℕ) × (n : ℕ) × Appends old new (take n page) × IsPage page

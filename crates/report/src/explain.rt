@@ -1,0 +1,127 @@
+//! Stories: what an answer means, for people.
+
+ghost use Rattle.std.specs.Prelude.{◌≡◌, ◌≤◌, ◌++◌, ℕ, List, IfOk};
+ghost use Rattle.report.specs.Explained.{ExplainsInput};
+ghost use Rattle.report.specs.Pages.{IsPage};
+ghost use Rattle.report.specs.Verdict.{AnswersInput};
+
+use crate::answer::Answer;
+use crate::check_answer::{history_answer, refusal};
+use crate::explain::numbered_input::read_numbered;
+use crate::explain::page_pieces::pieces_of;
+use crate::explain::plain::plain_text;
+use crate::explain::story::Story;
+use crate::explain::telling::{refused_story, story_of};
+use crate::page::page_bytes;
+use crate::unanswered::Unanswered;
+use doc_register::Conflicts;
+use history::HashKeys;
+use std::alloc::Global;
+use std::io::Read;
+use std::sync::Wait;
+use std::thread::Threads;
+use version_pair::NoMemory;
+
+mod calls;
+mod drawing;
+mod event_lines;
+mod evidence;
+mod failing;
+mod lanes;
+mod numbered_input;
+mod order_before;
+mod page_pieces;
+mod plain;
+mod refused;
+mod story;
+mod telling;
+mod words;
+
+// The line of a check of the text of a reader, and what it means.
+fn explained<T: Threads + Wait + Sync, R: Read>(
+    rt: &T,
+    alloc: Global,
+    keys: HashKeys,
+    reader: &mut R,
+    workers: usize,
+    conflicts: Conflicts,
+) -> Result<(Answer, Story), Unanswered>
+    requires some { 1 ≤ workers }
+    requires few { workers ≤ 16 }
+    ensures { IfOk result (λ told. AnswersInput conflicts (R.remaining reader.old) told.0.status
+        told.0.text.items) }
+{
+    match read_numbered(alloc, keys, reader) {
+        Ok(Ok((history, lines))) => {
+            let (answer, finding) = history_answer(rt, alloc, history, workers, conflicts)?;
+            let story = story_of(alloc, &finding, &lines)?;
+            Ok((answer, story))
+        }
+        Ok(Err(refused)) => {
+            let answer = refusal(alloc, refused.fault)?;
+            let story = refused_story(alloc, &refused)?;
+            Ok((answer, story))
+        }
+        Err(fault) => Err(Unanswered::from(fault)),
+    }
+}
+
+// The line of an answer, as text.
+fn line_of(answer: &Answer) -> &str {
+    match str::from_utf8(answer.text.as_slice()) {
+        Ok(line) => line,
+        Err(_) => "",
+    }
+}
+
+// The answer with the story behind its line.
+fn with_story(alloc: Global, answer: Answer, story: &Story) -> Result<Answer, NoMemory>
+    ensures status { IfOk result (λ told. told.status ≡ answer.status) }
+    ensures line { IfOk result (λ told. (rest : List ℕ) × (told.text.items ≡ answer.text.items ++ rest)) }
+{
+    let plain = plain_text(alloc, story)?;
+    let Answer { status, mut text } = answer;
+    text.extend_from_slice(plain.as_bytes())?;
+    Ok(Answer { status, text })
+}
+
+/// The line of a check of the text of a reader, with a story behind it.
+pub fn explained_text<T: Threads + Wait + Sync, R: Read>(
+    rt: &T,
+    alloc: Global,
+    keys: HashKeys,
+    reader: &mut R,
+    workers: usize,
+    conflicts: Conflicts,
+) -> Result<Answer, Unanswered>
+    requires some { 1 ≤ workers }
+    requires few { workers ≤ 16 }
+    ensures { IfOk result (λ told. ExplainsInput conflicts (R.remaining reader.old) told.status
+        told.text.items) }
+{
+    let (answer, story) = explained(rt, alloc, keys, reader, workers, conflicts)?;
+    let told = with_story(alloc, answer, &story)?;
+    Ok(told)
+}
+
+/// The same, and the story as a page.
+pub fn explained_page<T: Threads + Wait + Sync, R: Read>(
+    rt: &T,
+    alloc: Global,
+    keys: HashKeys,
+    reader: &mut R,
+    workers: usize,
+    conflicts: Conflicts,
+) -> Result<(Answer, Vec<u8>), Unanswered>
+    requires some { 1 ≤ workers }
+    requires few { workers ≤ 16 }
+    ensures text { IfOk result (λ told. ExplainsInput conflicts (R.remaining reader.old) told.0.status
+        told.0.text.items) }
+    ensures page { IfOk result (λ told. IsPage told.1.items) }
+{
+    let (answer, story) = explained(rt, alloc, keys, reader, workers, conflicts)?;
+    let pieces = pieces_of(alloc, line_of(&answer), &story)?;
+    let page = page_bytes(alloc, &pieces)?;
+    let told = with_story(alloc, answer, &story)?;
+    Ok((told, page))
+}

@@ -1,0 +1,99 @@
+ghost use Rattle.std.specs.Prelude.{◌≡◌, ◌≤◌, ℕ, IfOk, IsErrOf, OnOk};
+ghost use Rattle.std.specs.Io.KnownBytes.{Keeps};
+ghost use Rattle.report.specs.Explained.{ExplainsInput, HasPageFront};
+ghost use Rattle.report.specs.Pages.{IsPage};
+ghost use Rattle.report.specs.Verdict.{HasAnswer, HasFront};
+
+use crate::explain::{explained_page, explained_text};
+use crate::output::{write_answer, write_text};
+use crate::status::Status;
+use crate::stream_fault::StreamFault;
+use doc_register::Conflicts;
+use history::HashKeys;
+use std::alloc::Global;
+use std::io::{Read, Write};
+use std::sync::Wait;
+use std::thread::Threads;
+
+/// Reads a history text to its end and writes the line that `check_stream` writes for it, and after it a story of what was
+/// found, for people: where no order was found the calls that matter, why no order explains the reply, and the order before
+/// it; where one was found what became of the calls of unknown outcome; where the text was refused its line.
+pub fn explain_stream<T: Threads + Wait + Sync, R: Read, W: Write>(
+    rt: &T,
+    alloc: Global,
+    keys: HashKeys,
+    reader: &mut R,
+    writer: &mut W,
+    workers: usize,
+    conflicts: Conflicts,
+) -> Result<Status, StreamFault>
+    requires some_workers { 1 ≤ workers }
+    requires few_workers { workers ≤ 16 }
+    // What it writes begins with a line that answers the bytes of the reader as the line of `check_stream` does.
+    ensures answered { IfOk result (λ status. HasAnswer (ExplainsInput conflicts (R.remaining reader.old) status)
+        (W.contents writer.old) (W.contents writer.new)) }
+    // After a write fault a front of such a text is written, and after any other fault nothing is.
+    ensures cut_off { IsErrOf result StreamFault.Write
+        → HasFront (ExplainsInput conflicts (R.remaining reader.old)) (W.contents writer.old)
+        (W.contents writer.new) }
+    ensures unread { IsErrOf result StreamFault.Read → Keeps (W.contents writer.old)
+        (W.contents writer.new) }
+    ensures no_memory { IsErrOf result StreamFault.NoMemory → Keeps (W.contents writer.old)
+        (W.contents writer.new) }
+    ensures worker_lost { (doc : ℕ) → IsErrOf result (StreamFault.Worker doc)
+        → Keeps (W.contents writer.old) (W.contents writer.new) }
+{
+    match explained_text(rt, alloc, keys, reader, workers, conflicts) {
+        Ok(answer) => write_answer(writer, &answer),
+        Err(fault) => Err(StreamFault::from(fault)),
+    }
+}
+
+/// The same, and writes to `page` the story as a page of HTML, with a drawing of the calls. The page is written last.
+pub fn explain_page_stream<T: Threads + Wait + Sync, R: Read, W: Write, P: Write>(
+    rt: &T,
+    alloc: Global,
+    keys: HashKeys,
+    reader: &mut R,
+    writer: &mut W,
+    page: &mut P,
+    workers: usize,
+    conflicts: Conflicts,
+) -> Result<Status, StreamFault>
+    requires some_workers { 1 ≤ workers }
+    requires few_workers { workers ≤ 16 }
+    ensures answered { IfOk result (λ status. HasAnswer (ExplainsInput conflicts (R.remaining reader.old) status)
+        (W.contents writer.old) (W.contents writer.new)) }
+    // The page is made of markup of this crate, numbers, and escaped texts.
+    ensures page { OnOk result (HasAnswer IsPage (P.contents page.old) (P.contents page.new)) }
+    // After a write fault a front of each is written, and after any other fault nothing is.
+    ensures cut_off { IsErrOf result StreamFault.Write
+        → HasFront (ExplainsInput conflicts (R.remaining reader.old)) (W.contents writer.old)
+        (W.contents writer.new) }
+    ensures page_cut_off { IsErrOf result StreamFault.Write
+        → HasPageFront (P.contents page.old) (P.contents page.new) }
+    ensures unread { IsErrOf result StreamFault.Read
+        → Keeps (W.contents writer.old) (W.contents writer.new)
+        × Keeps (P.contents page.old) (P.contents page.new) }
+    ensures no_memory { IsErrOf result StreamFault.NoMemory
+        → Keeps (W.contents writer.old) (W.contents writer.new)
+        × Keeps (P.contents page.old) (P.contents page.new) }
+    ensures worker_lost { (doc : ℕ) → IsErrOf result (StreamFault.Worker doc)
+        → Keeps (W.contents writer.old) (W.contents writer.new)
+        × Keeps (P.contents page.old) (P.contents page.new) }
+{
+    let (answer, bytes) = match explained_page(rt, alloc, keys, reader, workers, conflicts) {
+        Ok(told) => told,
+        Err(fault) => return Err(StreamFault::from(fault)),
+    };
+    match write_answer(writer, &answer) {
+        Ok(status) => match write_text(page, &bytes) {
+            Ok(()) => Ok(status),
+            Err(_) => Err(StreamFault::Write),
+        },
+        Err(fault) => Err(fault),
+    }
+}
+
+#[cfg(test)]
+mod tests;
