@@ -16,13 +16,15 @@ use Rattle.casbench.specs.declared.words.Words.{Words}
 use Rattle.casbench.specs.declared.words.Words.TheVariants as words
 
 -- a check of a history, with a number of workers, a witness of one, both of standard input where no file is named, a check of a
--- witness against a history, each with a reading of conflicts; or the lines of a bulk's body and its reply, the calls numbered from a number on; or a run
+-- witness against a history, each with a reading of conflicts; or the lines of a bulk's body and its reply, the calls numbered from a number on; or a run; or
+-- a check that is told, with a file for the page or none
 pub data Asked : Type 0 where
   ToCheck : Option Text → Conflicts → ℕ → Asked
   ToWitness : Option Text → Conflicts → Asked
   ToVerify : Text → Text → Conflicts → Asked
   ToWriteBulk : Text → Text → ℕ → Asked
   ToRun : RunSetting → Asked
+  ToExplain : Option Text → Conflicts → ℕ → Option Text → Asked
 
 abbrev pub asked_by : Words → Asked
 asked_by (words.Check file reading workers) = ToCheck (option_map (λ f. f.now) file) reading workers
@@ -30,6 +32,7 @@ asked_by (words.Witness file reading) = ToWitness (option_map (λ f. f.now) file
 asked_by (words.Verify history witness reading) = ToVerify history.now witness.now reading
 asked_by (words.Bulk body reply first) = ToWriteBulk body.now reply.now first
 asked_by (words.Run setting) = ToRun setting
+asked_by (words.Explain file reading workers page) = ToExplain (option_map (λ f. f.now) file) reading workers (option_map (λ t. t.now) page)
 
 -- the reading of conflicts of this name, which is plain where none is given
 abbrev pub reading_of : Option Text → Option Conflicts
@@ -52,6 +55,11 @@ number_or other (Some text) = if is_number text then Some (digits_value 10 (with
 abbrev pub check_of : Option Text → Option Text → Option Text → Option Asked
 check_of file name workers =
     option_and_then (λ reading. option_map (λ n. ToCheck file reading n) (number_or 1 workers)) (reading_of name)
+
+-- one worker where no number is given
+abbrev pub explain_of : Option Text → Option Text → Option Text → Option Text → Option Asked
+explain_of file name workers page =
+    option_and_then (λ reading. option_map (λ n. ToExplain file reading n page) (number_or 1 workers)) (reading_of name)
 
 abbrev pub witness_of : Option Text → Option Text → Option Asked
 witness_of file name = option_map (λ reading. ToWitness file reading) (reading_of name)
@@ -109,7 +117,10 @@ asked_of_command name rows =
     then verify_of (first_of (codes "history") rows) (first_of (codes "witness") rows) (first_of (codes "conflicts") rows)
     else (if bytes_eq name (codes "bulk")
     then bulk_of (first_of (codes "body") rows) (first_of (codes "reply") rows) (first_of (codes "first") rows)
-    else (if bytes_eq name (codes "run") then run_of rows else None))))
+    else (if bytes_eq name (codes "run") then run_of rows
+    else (if bytes_eq name (codes "explain")
+    then explain_of (first_of (codes "history") rows) (first_of (codes "conflicts") rows) (first_of (codes "workers") rows) (first_of (codes "html") rows)
+    else None)))))
 
 -- no command asks for a check of standard input by one worker
 abbrev pub asked_of : Option (Text × List Row) → Option Asked
@@ -136,6 +147,10 @@ conflicts_rule = record (file_rule (codes "conflicts")) { long = Some (codes "co
 abbrev pub workers_rule : Rule
 workers_rule = record (file_rule (codes "workers")) { long = Some (codes "workers"); parser = Some (parser.Unsigned 1 16) }
 
+-- `--html OUT`
+abbrev pub html_rule : Rule
+html_rule = record (file_rule (codes "html")) { long = Some (codes "html") }
+
 -- a number below 2^32 that is required, under this name
 abbrev pub small_rule : Text → Rule
 small_rule name = record (needed_rule name) { long = Some name; parser = Some (parser.Unsigned 0 4294967295) }
@@ -150,6 +165,14 @@ fault_rule = record (needed_rule (codes "fault")) { long = Some (codes "fault") 
 
 abbrev pub check_line : App
 check_line = with_rule (with_rule (with_rule (new_app (codes "check")) (file_rule (codes "history"))) conflicts_rule) workers_rule
+
+-- `explain` with what a check takes
+abbrev pub searched_line : App
+searched_line = with_rule (with_rule (with_rule (new_app (codes "explain")) (file_rule (codes "history"))) conflicts_rule) workers_rule
+
+-- and with the page
+abbrev pub explain_line : App
+explain_line = with_rule searched_line html_rule
 
 abbrev pub witness_line : App
 witness_line = with_rule (with_rule (new_app (codes "witness")) (file_rule (codes "history"))) conflicts_rule
@@ -173,11 +196,11 @@ run_line = with_rule (with_rule (with_rule plan_line (small_rule (codes "docs"))
 abbrev pub named_line : App
 named_line = on_top (λ s. record s { has_version = true }) (new_app (codes "casbench"))
 
--- `casbench` with its five commands
+-- `casbench` with its six commands
 abbrev pub command_line : App
 command_line =
-    with_subcommand (with_subcommand (with_subcommand (with_subcommand (with_subcommand named_line check_line.top) witness_line.top) verify_line.top) bulk_line.top)
-    run_line.top
+    with_subcommand (with_subcommand (with_subcommand (with_subcommand (with_subcommand (with_subcommand named_line check_line.top) witness_line.top) verify_line.top) bulk_line.top)
+    run_line.top) explain_line.top
 
 -- what the words ask for, the first of which is the program's name
 unfoldable pub asked_on : List Text → Option Asked

@@ -74,3 +74,27 @@ pub fn open_both<R: Files + Eprint>(
     let second = open(rt, second)?;
     Ok((first, second))
 }
+
+/// The file, empty and open to be written; the history text is that of the file `read`, where one is named. That it can't be
+/// opened, or is the file that is read, is told on standard error by its name, and is a write fault.
+pub fn create<R: Files + Eprint>(
+    rt: &R,
+    path: &str,
+    read: Option<&str>,
+) -> Result<R::File, StreamFault>
+    ensures { IfErr result (λ fault. fault ≡ StreamFault.Write) }
+{
+    if let Some(read) = read {
+        if read == path {
+            let _ = eprintln!(rt; "casbench: {path}: the history would be overwritten");
+            return Err(StreamFault::Write);
+        }
+    }
+    match fs::create(rt, path) {
+        Ok(file) => Ok(file),
+        Err(error) => {
+            tell_unopened(rt, path, &error);
+            Err(StreamFault::Write)
+        }
+    }
+}

@@ -1,16 +1,19 @@
-ghost use Rattle.std.specs.Prelude.{◌≡◌, ◌≤◌, ℕ, None, IfOk, IsErrOf};
+ghost use Rattle.std.specs.Prelude.{◌≡◌, ◌≤◌, ℕ, List, Option, None, IfOk, IsErrOf};
+ghost use Rattle.std.proofs.Common.{Bor};
 ghost use Rattle.std.specs.Io.KnownBytes.{Keeps};
 ghost use Rattle.doc_register.specs.declared.state.Conflicts.{Conflicts as Mode};
+ghost use Rattle.report.specs.Explained.{ExplainsInput};
 ghost use Rattle.report.specs.Verdict.{HasAnswer, IsAnswered, WitnessesInput};
 ghost use Rattle.report.specs.Runs.{IsRunText};
 ghost use Rattle.report.specs.declared.run_setting.RunSetting.{RunSetting as Setting};
 
-use crate::files::{open_both, open_or};
+use crate::files::{create, open_both, open_or};
 use crate::words::Words;
 use history::HashKeys;
 use repl_group::Group;
 use report::{
-    Status, StreamFault, bulk_stream, check_stream, run_stream, verify_stream, witness_stream,
+    Status, StreamFault, bulk_stream, check_stream, explain_page_stream, explain_stream,
+    run_stream, verify_stream, witness_stream,
 };
 use std::alloc::Global;
 use std::io::{Read, Write};
@@ -54,6 +57,11 @@ pub fn run<R: Files + Eprint, T: Threads + Wait + Sync, I: Read + Drop, W: Write
     // The witness of the input is written, with conflicts read as the words say.
     ensures witnessed { (reading : Mode) → words.entry ≡ Words.Witness None reading
         → IfOk result (λ status. HasAnswer (WitnessesInput reading (I.remaining input) status)
+        (W.contents writer.old) (W.contents writer.new)) }
+    // A check of the input that is told begins with its answer, whether a page is written too or not.
+    ensures explained { (reading : Mode) (workers : ℕ) (page : Option (Bor (List ℕ)))
+        → words.entry ≡ Words.Explain None reading workers page
+        → IfOk result (λ status. HasAnswer (ExplainsInput reading (I.remaining input) status)
         (W.contents writer.old) (W.contents writer.new)) }
     // What the clients of a run recorded is written.
     ensures recorded { (setting : Setting) → words.entry ≡ Words.Run setting
@@ -99,6 +107,39 @@ pub fn run<R: Files + Eprint, T: Threads + Wait + Sync, I: Read + Drop, W: Write
             bulk_stream(alloc, first, &mut body, &mut reply, writer)
         }
         Words::Run(setting) => run_stream(threads, alloc, &setting, writer),
+        Words::Explain {
+            file,
+            conflicts,
+            workers,
+            page,
+        } => {
+            let mut history = open_or(rt, file, input)?;
+            let count = worker_count(workers);
+            match page {
+                None => explain_stream(
+                    threads,
+                    alloc,
+                    keys,
+                    &mut history,
+                    writer,
+                    count,
+                    conflicts,
+                ),
+                Some(path) => {
+                    let mut page = create(rt, path, file)?;
+                    explain_page_stream(
+                        threads,
+                        alloc,
+                        keys,
+                        &mut history,
+                        writer,
+                        &mut page,
+                        count,
+                        conflicts,
+                    )
+                }
+            }
+        }
     }
 }
 

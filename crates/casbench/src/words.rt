@@ -1,8 +1,8 @@
 ghost use Rattle.std.specs.Prelude.{◌≡◌, ◌⊎◌, [], Some, None, false, IfOk, IfErr, OnOk, codes, map, option_map};
 ghost use Rattle.clap.specs.Words.{FailsBy, HasKind, app_of, found_of, rows_of, rule_of, subcommand_rows_of};
 ghost use Rattle.clap.specs.declared.builder.command.Command.TheViews.{out-Command as fields_of};
-ghost use Rattle.casbench.specs.Asked.{asked_by, asked_of, asked_of_command, asked_on, bulk_of, check_of, faults_on, number_or as number_told, reading_of, verify_of, witness_of};
-ghost use Rattle.casbench.specs.Asked.{bulk_line, check_line, command_line, named_line, conflicts_rule, file_rule, first_rule, needed_rule, verify_line, witness_line, workers_rule};
+ghost use Rattle.casbench.specs.Asked.{asked_by, asked_of, asked_of_command, asked_on, bulk_of, check_of, explain_of, faults_on, number_or as number_told, reading_of, verify_of, witness_of};
+ghost use Rattle.casbench.specs.Asked.{bulk_line, check_line, command_line, named_line, conflicts_rule, explain_line, file_rule, first_rule, html_rule, needed_rule, searched_line, verify_line, witness_line, workers_rule};
 
 use crate::run_words::{asked_run, run_command};
 use clap::builder::ValueParser;
@@ -42,6 +42,14 @@ pub enum Words<'a> {
     },
     /// To run clients against a replication group, and to write what they recorded.
     Run(RunSetting),
+    /// To check a history text as `Check` does and to tell what was found; and to write it as a page to a file, where one is
+    /// named.
+    Explain {
+        file: Option<&'a str>,
+        conflicts: Conflicts,
+        workers: u64,
+        page: Option<&'a str>,
+    },
 }
 
 // The commands by their names.
@@ -55,6 +63,8 @@ const BULK: &str = "bulk";
 
 const RUN: &str = "run";
 
+const EXPLAIN: &str = "explain";
+
 // The arguments by their ids.
 const HISTORY: &str = "history";
 
@@ -67,6 +77,8 @@ const FIRST: &str = "first";
 const CONFLICTS: &str = "conflicts";
 
 const WORKERS: &str = "workers";
+
+const HTML: &str = "html";
 
 // The readings of a conflict by their names.
 const PLAIN: &str = "plain";
@@ -131,6 +143,17 @@ fn workers<'a>(alloc: Global) -> Arg<'a>
         .help("How many workers search the documents, 1 to 16; 1 where it is left out")
 }
 
+// The file of the page, which may be left out.
+fn html<'a>(alloc: Global) -> Arg<'a>
+    ensures rule { rule_of result ≡ html_rule }
+    ensures local { result.global ≡ false }
+{
+    Arg::new(alloc, HTML)
+        .long(HTML)
+        .value_name("OUT")
+        .help("Write the story as a page of HTML too, to this file")
+}
+
 fn check_command<'a>(alloc: Global) -> Result<Command<'a>, AllocError>
     ensures line { IfOk result (λ command. app_of command ≡ check_line) }
     ensures local { IfOk result (λ command. (fields_of command).has_globals ≡ false) }
@@ -183,6 +206,26 @@ fn bulk_command<'a>(alloc: Global) -> Result<Command<'a>, AllocError>
         .arg(first(alloc))
 }
 
+// The command with the text and the arguments of a check.
+fn searched_command<'a>(alloc: Global) -> Result<Command<'a>, AllocError>
+    ensures line { IfOk result (λ command. app_of command ≡ searched_line) }
+    ensures local { IfOk result (λ command. (fields_of command).has_globals ≡ false) }
+{
+    Command::new(alloc, EXPLAIN)
+        .about("Check a history and tell what was found, for people")
+        .after_help("Example:\n  casbench explain history.ndjson --html story.html")
+        .arg(history(alloc))?
+        .arg(conflicts(alloc))?
+        .arg(workers(alloc))
+}
+
+fn explain_command<'a>(alloc: Global) -> Result<Command<'a>, AllocError>
+    ensures line { IfOk result (λ command. app_of command ≡ explain_line) }
+    ensures local { IfOk result (λ command. (fields_of command).has_globals ≡ false) }
+{
+    searched_command(alloc)?.arg(html(alloc))
+}
+
 // The program without its commands.
 fn named_program<'a>(alloc: Global) -> Result<Command<'a>, AllocError>
     ensures { IfOk result (λ program. app_of program ≡ named_line) }
@@ -195,7 +238,7 @@ fn named_program<'a>(alloc: Global) -> Result<Command<'a>, AllocError>
                 "Tells whether a recorded history of an OpenSearch index keeps the compare-and-set promise",
             )
             .after_help(
-                "Examples:\n  casbench check history.ndjson\n  casbench witness history.ndjson > history.witness\n  casbench verify history.ndjson history.witness\n  casbench bulk bulk.body bulk.reply --first 100 >> history.ndjson\n  casbench run --seed 1 --clients 4 --calls 200 --docs 3 --copies 3 --fault none",
+                "Examples:\n  casbench check history.ndjson\n  casbench witness history.ndjson > history.witness\n  casbench verify history.ndjson history.witness\n  casbench bulk bulk.body bulk.reply --first 100 >> history.ndjson\n  casbench run --seed 1 --clients 4 --calls 200 --docs 3 --copies 3 --fault none\n  casbench explain history.ndjson --html story.html",
             ),
     )
 }
@@ -208,7 +251,8 @@ fn program<'a>(alloc: Global) -> Result<Command<'a>, AllocError>
         .subcommand(witness_command(alloc)?)?
         .subcommand(verify_command(alloc)?)?
         .subcommand(bulk_command(alloc)?)?
-        .subcommand(run_command(alloc)?)
+        .subcommand(run_command(alloc)?)?
+        .subcommand(explain_command(alloc)?)
 }
 
 // The reading of a conflict that is named: plain where none is, and none where the name is of no reading.
@@ -300,6 +344,28 @@ fn bulk_words<'a>(
     })
 }
 
+// A check of a history that is told, where a reading is named or none, a number of workers or none, and a file for the page or
+// none.
+fn explain_words<'a>(
+    file: Option<&'a str>,
+    conflicts: Option<&'a str>,
+    workers: Option<&'a str>,
+    page: Option<&'a str>,
+) -> Option<Words<'a>>
+    ensures { option_map asked_by result
+        ≡ explain_of (option_map (λ f. f.now) file.entry) (option_map (λ t. t.now) conflicts.entry) (option_map
+        (λ t. t.now) workers.entry) (option_map (λ t. t.now) page.entry) }
+{
+    let conflicts = reading(conflicts)?;
+    let workers = number_or(1, workers)?;
+    Some(Words::Explain {
+        file,
+        conflicts,
+        workers,
+        page,
+    })
+}
+
 // What the command of this name asks for.
 fn asked_of_command<'a>(name: &str, given: &ArgMatches<'a>) -> Option<Words<'a>>
     ensures { option_map asked_by result
@@ -316,6 +382,12 @@ fn asked_of_command<'a>(name: &str, given: &ArgMatches<'a>) -> Option<Words<'a>>
             given.get_str(FIRST),
         ),
         RUN => asked_run(given),
+        EXPLAIN => explain_words(
+            file,
+            given.get_str(CONFLICTS),
+            given.get_str(WORKERS),
+            given.get_str(HTML),
+        ),
         _ => None,
     }
 }

@@ -404,6 +404,65 @@ fn files_of_a_bulk(rt: HostRuntime) -> Result<(), Fail> {
     Ok(())
 }
 
+const STORY_OF_NOTHING: &str = r#"yes docs=0 calls=0 left_out=0
+
+One order of the calls explains every reply.
+Documents: 0. Calls: 0. Calls of unknown outcome that took effect in the order that was found: 0. Calls that stand in no place of it, so that they changed nothing: 0.
+"#;
+
+// The shelf's files take no bytes, so a page fails, behind the story.
+#[test]
+fn files_of_a_story(rt: HostRuntime) -> Result<(), Fail> {
+    let unwritten = Err(StreamFault::Write);
+    for (file, page, wanted, text, steps) in [
+        (None, None, Ok(Status::Yes), STORY_OF_NOTHING, ""),
+        (
+            Some("h"),
+            None,
+            Ok(Status::Yes),
+            STORY_OF_NOTHING,
+            "open h;read h;",
+        ),
+        (
+            Some("h"),
+            Some("w"),
+            unwritten,
+            STORY_OF_NOTHING,
+            "open h;open w;read h;",
+        ),
+        (
+            Some("h"),
+            Some("h"),
+            unwritten,
+            "",
+            "open h;tell casbench: h: the history would be overwritten;",
+        ),
+        (
+            Some("h"),
+            Some("absent"),
+            unwritten,
+            "",
+            "open h;open absent;tell casbench: absent: no such file;",
+        ),
+        (
+            Some("absent"),
+            Some("w"),
+            Err(StreamFault::Read),
+            "",
+            "open absent;tell casbench: absent: no such file;",
+        ),
+    ] {
+        let words = Words::Explain {
+            file,
+            conflicts: Conflicts::Plain,
+            workers: 1,
+            page,
+        };
+        runs(&rt, rt.alloc(), words, wanted, text, steps)?;
+    }
+    Ok(())
+}
+
 #[test]
 fn both_files_open_before_one_is_read(rt: HostRuntime) -> Result<(), Fail> {
     let alloc = rt.alloc();

@@ -149,6 +149,51 @@ fn bulks_and_their_first_numbers(rt: HostRuntime) -> Result<(), Fail> {
     Ok(())
 }
 
+#[test]
+fn stories_and_their_pages(rt: HostRuntime) -> Result<(), Fail> {
+    let (plain, maybe) = (Conflicts::Plain, Conflicts::Maybe);
+    for (words, file, conflicts, workers, page) in [
+        (&["casbench", "explain"][..], None, plain, 1, None),
+        (
+            &["casbench", "explain", "h", "--html", "p"][..],
+            Some("h"),
+            plain,
+            1,
+            Some("p"),
+        ),
+        (
+            &[
+                "casbench",
+                "explain",
+                "--html=-",
+                "--workers",
+                "3",
+                "--conflicts=maybe",
+                "h",
+            ][..],
+            Some("h"),
+            maybe,
+            3,
+            Some("-"),
+        ),
+    ] {
+        let wanted = Words::Explain {
+            file,
+            conflicts,
+            workers,
+            page,
+        };
+        reads(&rt, rt.alloc(), words, wanted)?;
+    }
+    let unknown = ErrorKind::UnknownArgument;
+    refuses(
+        &rt,
+        rt.alloc(),
+        &["casbench", "check", "--html", "p"],
+        unknown,
+    )
+}
+
 // The kind and the text of the error that the words are.
 fn refusal(alloc: Global, words: &[&str]) -> Result<(ErrorKind, String), Fail> {
     match read_words(alloc, words) {

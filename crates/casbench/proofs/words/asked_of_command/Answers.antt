@@ -43,3 +43,15 @@ returns-in-bulk c =
 
 pub returns-in-run : goal.returns-in-run
 returns-in-run c = rw (c.in-run.is, c.asked_run.ensures) refl
+
+pub returns-in-explain : goal.returns-in-explain
+returns-in-explain c =
+    let file : option_map (λ f. f.now) c.get_str-file.result ≡ first_of (codes "history") (rows_of (found_of c.args.given.now)) =
+    c.get_str-file.ensures ∙ first_value-rows (found_of c.args.given.now) (codes "history") in
+    let reading : option_map (λ t. t.now) c.get_str-in-explain.result ≡ first_of (codes "conflicts") (rows_of (found_of c.args.given.now)) =
+    c.get_str-in-explain.ensures ∙ first_value-rows (found_of c.args.given.now) (codes "conflicts") in
+    let workers : option_map (λ t. t.now) c.get_str-in-explain-2.result ≡ first_of (codes "workers") (rows_of (found_of c.args.given.now)) =
+    c.get_str-in-explain-2.ensures ∙ first_value-rows (found_of c.args.given.now) (codes "workers") in
+    let page : option_map (λ t. t.now) c.get_str-in-explain-3.result ≡ first_of (codes "html") (rows_of (found_of c.args.given.now)) =
+    c.get_str-in-explain-3.ensures ∙ first_value-rows (found_of c.args.given.now) (codes "html") in
+    rw (c.in-explain.is, c.explain_words.ensures, file, reading, workers, page) refl

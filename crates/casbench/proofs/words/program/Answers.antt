@@ -1,7 +1,7 @@
 use Rattle.std.proofs.Common.{◌≡◌, ◌∙◌, ap, ap₂}
 use Rattle.std.proofs.lemmas.Result.{IfOk-weaker}
 use Rattle.clap.specs.Words.{App, app_of, with_subcommand}
-use Rattle.casbench.specs.Asked.{bulk_line, check_line, named_line, verify_line, witness_line}
+use Rattle.casbench.specs.Asked.{bulk_line, check_line, named_line, run_line, verify_line, witness_line}
 use Rattle.casbench.proofs.words.program.Goals as goal
 
 pub returns : goal.returns
@@ -20,5 +20,9 @@ returns c =
     ≡ with_subcommand (with_subcommand (with_subcommand (with_subcommand named_line check_line.top) witness_line.top) verify_line.top) bulk_line.top =
     c.in_ok-subcommand-4.ensures.shape c.in_ok-bulk_command.ensures.local
     ∙ ap₂ with_subcommand three (ap (λ (a : App). a.top) c.in_ok-bulk_command.ensures.line) in
-    IfOk-weaker c.subcommand-5.result _ _ (λ r h. h.shape c.in_ok-run_command.ensures.local
-    ∙ ap₂ with_subcommand four (ap (λ (a : App). a.top) c.in_ok-run_command.ensures.line)) c.subcommand-5.ensures
+    let five : app_of c.in_ok-subcommand-5.field-0
+    ≡ with_subcommand (with_subcommand (with_subcommand (with_subcommand (with_subcommand named_line check_line.top) witness_line.top) verify_line.top) bulk_line.top) run_line.top =
+    c.in_ok-subcommand-5.ensures.shape c.in_ok-run_command.ensures.local
+    ∙ ap₂ with_subcommand four (ap (λ (a : App). a.top) c.in_ok-run_command.ensures.line) in
+    IfOk-weaker c.subcommand-6.result _ _ (λ r h. h.shape c.in_ok-explain_command.ensures.local
+    ∙ ap₂ with_subcommand five (ap (λ (a : App). a.top) c.in_ok-explain_command.ensures.line)) c.subcommand-6.ensures
