@@ -75,21 +75,15 @@ pub fn open_both<R: Files + Eprint>(
     Ok((first, second))
 }
 
-/// The file, empty and open to be written; the history text is that of the file `read`, where one is named. That it can't be
-/// opened, or is the file that is read, is told on standard error by its name, and is a write fault.
-pub fn create<R: Files + Eprint>(
-    rt: &R,
-    path: &str,
-    read: Option<&str>,
-) -> Result<R::File, StreamFault>
+// Tells on standard error that a page would be written over the history; also where standard error fails.
+fn tell_overwritten(rt: &impl Eprint, path: &str) {
+    let _ = eprintln!(rt; "casbench: {path}: the history would be overwritten");
+}
+
+// The file, empty and open to be written. That it can't be opened is told on standard error by its name.
+fn create<R: Files + Eprint>(rt: &R, path: &str) -> Result<R::File, StreamFault>
     ensures { IfErr result (λ fault. fault ≡ StreamFault.Write) }
 {
-    if let Some(read) = read {
-        if read == path {
-            let _ = eprintln!(rt; "casbench: {path}: the history would be overwritten");
-            return Err(StreamFault::Write);
-        }
-    }
     match fs::create(rt, path) {
         Ok(file) => Ok(file),
         Err(error) => {
@@ -97,4 +91,26 @@ pub fn create<R: Files + Eprint>(
             Err(StreamFault::Write)
         }
     }
+}
+
+/// The file that is named, empty and open to be written, or none where none is. That it can't be opened, or is the file that is
+/// read, is told on standard error by its name, and is a write fault.
+pub fn create_or_none<R: Files + Eprint>(
+    rt: &R,
+    path: Option<&str>,
+    read: Option<&str>,
+) -> Result<Option<R::File>, StreamFault>
+    ensures none { path.entry ≡ None → result ≡ Ok None }
+    ensures err { IfErr result (λ fault. fault ≡ StreamFault.Write) }
+{
+    let Some(path) = path else {
+        return Ok(None);
+    };
+    if let Some(read) = read {
+        if read == path {
+            tell_overwritten(rt, path);
+            return Err(StreamFault::Write);
+        }
+    }
+    Ok(Some(create(rt, path)?))
 }

@@ -7,8 +7,9 @@ ghost use Rattle.report.specs.Verdict.{HasAnswer, IsAnswered, WitnessesInput};
 ghost use Rattle.report.specs.Runs.{IsRunText};
 ghost use Rattle.report.specs.declared.run_setting.RunSetting.{RunSetting as Setting};
 
-use crate::files::{create, open_both, open_or};
+use crate::files::{create_or_none, open_both, open_or};
 use crate::words::Words;
+use doc_register::Conflicts;
 use history::HashKeys;
 use repl_group::Group;
 use report::{
@@ -33,6 +34,34 @@ fn worker_count(workers: u64) -> usize
         16
     } else {
         workers as usize
+    }
+}
+
+// Checks a history and tells what was found, on a page too where there is a writer for one.
+fn explain<T: Threads + Wait + Sync, R: Read, W: Write, P: Write>(
+    threads: &T,
+    alloc: Global,
+    keys: HashKeys,
+    history: &mut R,
+    writer: &mut W,
+    page: Option<&mut P>,
+    workers: usize,
+    conflicts: Conflicts,
+) -> Result<Status, StreamFault>
+    requires some { 1 ≤ workers }
+    requires few { workers ≤ 16 }
+    ensures explained { IfOk result (λ status. HasAnswer (ExplainsInput conflicts (R.remaining history.old) status)
+        (W.contents writer.old) (W.contents writer.new)) }
+    ensures unread { IsErrOf result StreamFault.Read → Keeps (W.contents writer.old)
+        (W.contents writer.new) }
+    ensures no_memory { IsErrOf result StreamFault.NoMemory → Keeps (W.contents writer.old)
+        (W.contents writer.new) }
+{
+    match page {
+        None => explain_stream(threads, alloc, keys, history, writer, workers, conflicts),
+        Some(page) => explain_page_stream(
+            threads, alloc, keys, history, writer, page, workers, conflicts,
+        ),
     }
 }
 
@@ -114,31 +143,17 @@ pub fn run<R: Files + Eprint, T: Threads + Wait + Sync, I: Read + Drop, W: Write
             page,
         } => {
             let mut history = open_or(rt, file, input)?;
-            let count = worker_count(workers);
-            match page {
-                None => explain_stream(
-                    threads,
-                    alloc,
-                    keys,
-                    &mut history,
-                    writer,
-                    count,
-                    conflicts,
-                ),
-                Some(path) => {
-                    let mut page = create(rt, path, file)?;
-                    explain_page_stream(
-                        threads,
-                        alloc,
-                        keys,
-                        &mut history,
-                        writer,
-                        &mut page,
-                        count,
-                        conflicts,
-                    )
-                }
-            }
+            let mut page = create_or_none(rt, page, file)?;
+            explain(
+                threads,
+                alloc,
+                keys,
+                &mut history,
+                writer,
+                page.as_mut(),
+                worker_count(workers),
+                conflicts,
+            )
         }
     }
 }

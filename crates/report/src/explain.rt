@@ -27,6 +27,7 @@ mod drawing;
 mod event_lines;
 mod evidence;
 mod failing;
+mod kept;
 mod lanes;
 mod numbered_input;
 mod order_before;
@@ -35,6 +36,7 @@ mod plain;
 mod refused;
 mod story;
 mod telling;
+mod window;
 mod words;
 
 // The line of a check of the text of a reader, and what it means.

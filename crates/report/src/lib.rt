@@ -1,4 +1,5 @@
-//! Bytes in, a line or a text out: a history checked, its witness written, a witness verified, a bulk as history lines.
+//! Bytes in, a line or a text out: a history checked, and what was found told; its witness written, a witness verified, a bulk as
+//! history lines.
 #![tactic(auto)]
 
 mod answer;
@@ -30,7 +31,6 @@ mod witness_answer;
 
 pub use explain_streams::{explain_page_stream, explain_stream};
 pub use offence::{Offence, first_offence};
-pub use page::{Markup, Piece};
 pub use recorded_run::{RUN_POLLS, run_stream};
 pub use run_setting::RunSetting;
 pub use status::Status;

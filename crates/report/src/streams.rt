@@ -10,7 +10,6 @@ use crate::input::read_all;
 use crate::output::write_answer;
 use crate::status::Status;
 use crate::stream_fault::StreamFault;
-use crate::unanswered::Unanswered;
 use crate::verify_input::verify_input;
 use crate::witness_answer::witness_answer;
 use api_lines::InputFault;
@@ -77,9 +76,7 @@ pub fn check_stream<T: Threads + Wait + Sync, R: Read, W: Write>(
 {
     match check_answer(rt, alloc, keys, reader, workers, conflicts) {
         Ok(answer) => write_answer(writer, &answer),
-        Err(Unanswered::Read) => Err(StreamFault::Read),
-        Err(Unanswered::NoMemory) => Err(StreamFault::NoMemory),
-        Err(Unanswered::Worker(doc)) => Err(StreamFault::Worker(doc)),
+        Err(fault) => Err(StreamFault::from(fault)),
     }
 }
 

@@ -165,8 +165,8 @@ impl Named {
         }
     }
 
-    // Whether the call is one of them, or made a version that they name.
-    fn matters(&self, call: &Call<'_>) -> bool {
+    /// Whether the call is one of them, or made a version that they name.
+    pub fn matters(&self, call: &Call<'_>) -> bool {
         if self.mark(call.record.no) != Mark::Plain {
             return true;
         }

@@ -17,7 +17,7 @@ pub const BAR_HEIGHT: u64 = 12;
 pub const BOX_HEIGHT: u64 = 40;
 
 // Where the first event stands, and where a call without a reply ends.
-const LEFT: u64 = 12;
+const LEFT: u64 = 20;
 
 const RIGHT: u64 = 1160;
 
@@ -219,7 +219,11 @@ pub fn drawing_of(
     let lanes_end = (lanes.len() as u64)
         .saturating_mul(LANE_HEIGHT)
         .saturating_add(TOP);
-    let boxes = boxes_of(alloc, order, lanes_end.saturating_add(GAP))?;
+    let boxes = boxes_of(
+        alloc,
+        order,
+        lanes_end.saturating_add(GAP).saturating_add(GAP),
+    )?;
     let height = match boxes.last() {
         Some(last) => last.y.saturating_add(BOX_HEIGHT).saturating_add(4),
         None => lanes_end,

@@ -2,6 +2,7 @@ use crate::explain::calls::{Call, Named, call_of, calls_told, evidence_calls, id
 use crate::explain::drawing::drawing_of;
 use crate::explain::event_lines::EventLines;
 use crate::explain::evidence::evidence_words;
+use crate::explain::kept::{Kept, MOST_DRAWN};
 use crate::explain::order_before::{OrderBefore, order_before, places_told};
 use crate::explain::story::{Part, Story};
 use crate::explain::telling::MOST_TOLD;
@@ -12,9 +13,6 @@ use doc_register::Conflicts;
 use history::{Event, History};
 use std::alloc::Global;
 use version_pair::NoMemory;
-
-// How many calls are drawn.
-const MOST_DRAWN: usize = 200;
 
 // The documents of the offence and of the evidence, the offence's first, by their numbers.
 fn subjects(alloc: Global, history: &History, failing: &Failing) -> Result<Vec<usize>, NoMemory> {
@@ -42,47 +40,6 @@ fn last_event(alloc: Global, history: &History, failing: &Failing) -> Result<usi
         }
     }
     Ok(last)
-}
-
-// The calls of a document up to an event.
-fn add_calls<'h>(
-    history: &'h History,
-    doc: usize,
-    last: usize,
-    calls: &mut Vec<Call<'h>>,
-) -> Result<(), NoMemory> {
-    if doc >= history.docs() {
-        return Ok(());
-    }
-    let id = history.doc(doc);
-    let shard = history.shard(doc);
-    for record in history.records(doc)?.iter() {
-        if record.call_at <= last {
-            calls.push(Call {
-                id,
-                shard,
-                record: *record,
-            })?;
-        }
-    }
-    Ok(())
-}
-
-// The calls of the documents up to an event, in their order.
-fn calls_of<'h>(
-    alloc: Global,
-    history: &'h History,
-    docs: &[usize],
-    last: usize,
-) -> Result<Vec<Call<'h>>, NoMemory> {
-    let mut calls = Vec::new(alloc);
-    for doc in docs {
-        add_calls(history, *doc, last, &mut calls)?;
-    }
-    if docs.len() > 1 {
-        calls.sort_unstable_by_key(|call| call.record.call_at);
-    }
-    Ok(calls)
 }
 
 // What is told first of a failing history.
@@ -179,14 +136,14 @@ fn add_sentences(
 // Adds the calls that matter.
 fn add_told(
     alloc: Global,
-    calls: &[Call<'_>],
+    kept: &Kept<'_>,
     named: &Named,
     lines: &EventLines,
     several: bool,
     parts: &mut Vec<Part>,
 ) -> Result<(), NoMemory> {
-    let chosen = named.chosen(alloc, calls, MOST_TOLD)?;
-    let left_out = calls.len().saturating_sub(chosen.len());
+    let chosen = named.chosen(alloc, &kept.calls, MOST_TOLD)?;
+    let left_out = kept.count.saturating_sub(chosen.len());
     parts.push(Part::Heading("The calls that matter, in the order of their events"))?;
     parts.push(Part::Paragraph(String::from_str(alloc, NOTATION)?))?;
     parts.push(Part::Calls(calls_told(alloc, &chosen, named, lines, several)?))?;
@@ -211,7 +168,7 @@ fn add_order(
         parts.push(Part::Heading("An order of the document's calls before that reply"))?;
         if order.left_out > 0 {
             let left_out = order.left_out;
-            parts.push(Part::Paragraph(format!(in alloc; "Places before these: {left_out}.")?))?;
+            parts.push(Part::Paragraph(format!(in alloc; "Earlier calls in it: {left_out}.")?))?;
         }
         parts.push(Part::Order(places_told(alloc, order)?))?;
     }
@@ -221,33 +178,55 @@ fn add_order(
 // Adds the writes that were never answered.
 fn add_unanswered(
     alloc: Global,
-    calls: &[Call<'_>],
+    kept: &Kept<'_>,
     lines: &EventLines,
     parts: &mut Vec<Part>,
 ) -> Result<(), NoMemory> {
-    let mut count = 0usize;
+    if kept.unanswered.is_empty() {
+        return Ok(());
+    }
     let mut told = Vec::new(alloc);
-    for call in calls {
-        if call.may_have_happened() {
-            count = count.saturating_add(1);
-            if told.len() < MOST_TOLD {
-                let line = lines.line(call.record.call_at);
-                let no = call.record.no;
-                let id = id_words(alloc, call.id)?;
-                let asked = op_words(alloc, call.record.op)?;
-                told.push(format!(in alloc; "line {line}, call {no} of {id}: {asked}")?)?;
+    for call in kept.unanswered.iter() {
+        let line = lines.line(call.record.call_at);
+        let no = call.record.no;
+        let id = id_words(alloc, call.id)?;
+        let asked = op_words(alloc, call.record.op)?;
+        told.push(format!(in alloc; "line {line}, call {no} of {id}: {asked}")?)?;
+    }
+    let more = kept.unanswered_count.saturating_sub(told.len());
+    parts.push(Part::Heading("Writes without a reply, which may or may not have happened"))?;
+    parts.push(Part::Items(told))?;
+    if more > 0 {
+        parts.push(Part::Paragraph(format!(in alloc; "Earlier ones: {more}.")?))?;
+    }
+    Ok(())
+}
+
+// What is kept of the calls of the documents, and an order of those of the first one before the broken reply.
+fn gathered<'h>(
+    alloc: Global,
+    case: &'h Case,
+    failing: &Failing,
+    named: &Named,
+    docs: &[usize],
+) -> Result<(Kept<'h>, Option<OrderBefore>), NoMemory> {
+    let history = case.history();
+    let event = failing.offence.event;
+    let last = last_event(alloc, history, failing)?;
+    let mut kept = Kept::new(alloc);
+    let mut order = None;
+    for (i, doc) in docs.iter().enumerate() {
+        if *doc < history.docs() {
+            let id = history.doc(*doc);
+            let records = history.records(*doc)?;
+            kept.keep(named, (id, history.shard(*doc)), &records, last)?;
+            if i == 0 && failing.offence.before_shown {
+                order = order_before(alloc, case, event, id, &records, MOST_TOLD)?;
             }
         }
     }
-    if count > 0 {
-        let more = count.saturating_sub(told.len());
-        parts.push(Part::Heading("Writes without a reply, which may or may not have happened"))?;
-        parts.push(Part::Items(told))?;
-        if more > 0 {
-            parts.push(Part::Paragraph(format!(in alloc; "And {more} more.")?))?;
-        }
-    }
-    Ok(())
+    kept.sort();
+    Ok((kept, order))
 }
 
 /// What is told of a history for which no order was found.
@@ -257,22 +236,14 @@ pub fn failing_story(
     failing: &Failing,
     lines: &EventLines,
 ) -> Result<Story, NoMemory> {
-    let history = case.history();
-    let docs = subjects(alloc, history, failing)?;
-    let last = last_event(alloc, history, failing)?;
-    let calls = calls_of(alloc, history, &docs, last)?;
-    let named = Named::of(alloc, history, failing)?;
+    let docs = subjects(alloc, case.history(), failing)?;
+    let named = Named::of(alloc, case.history(), failing)?;
     let several = docs.len() > 1;
-    let order = match docs.first() {
-        Some(doc) if failing.offence.before_shown => {
-            order_before(alloc, case, failing.offence.event, *doc, MOST_TOLD)?
-        }
-        _ => None,
-    };
+    let (kept, order) = gathered(alloc, case, failing, &named, &docs)?;
     let mut parts = Vec::new(alloc);
     add_sentences(alloc, case, failing, lines, &mut parts)?;
-    add_told(alloc, &calls, &named, lines, several, &mut parts)?;
-    let drawn = named.chosen(alloc, &calls, MOST_DRAWN)?;
+    add_told(alloc, &kept, &named, lines, several, &mut parts)?;
+    let drawn = named.chosen(alloc, &kept.calls, MOST_DRAWN)?;
     let drawing = drawing_of(
         alloc,
         &drawn,
@@ -284,7 +255,7 @@ pub fn failing_story(
     )?;
     parts.push(Part::Drawing(drawing))?;
     add_order(alloc, &order, &mut parts)?;
-    add_unanswered(alloc, &calls, lines, &mut parts)?;
+    add_unanswered(alloc, &kept, lines, &mut parts)?;
     Ok(Story {
         title: title_of(alloc, failing)?,
         parts,

@@ -1,11 +1,12 @@
 use crate::explain::story::PlaceTold;
+use crate::explain::window::window_before;
 use crate::explain::words::{op_words, state_words};
 use compose::Case;
 use doc_check::{DocAnswer, answer};
 use doc_register::{DocState, Reply, state_after};
 use history::Rec;
 use std::alloc::Global;
-use version_pair::{NoMemory, Pair};
+use version_pair::{DocId, NoMemory, Pair};
 use witness::{DocWitness, Place};
 
 /// A place of an order: its call, and what the document is after it.
@@ -52,23 +53,28 @@ fn step_from(state: DocState, place: Place, record: Rec) -> Step {
     }
 }
 
-// The last so many places of a witness.
-fn last_steps(alloc: Global, witness: &DocWitness, most: usize) -> Result<OrderBefore, NoMemory> {
-    let left_out = witness.places().len().saturating_sub(most);
+// The last so many places of a witness, of which so many first ones are not told.
+fn last_steps(
+    alloc: Global,
+    witness: &DocWitness,
+    untold: usize,
+    most: usize,
+) -> Result<OrderBefore, NoMemory> {
+    let first = witness.places().len().saturating_sub(most).max(untold);
     let mut state = DocState::Never;
     let mut order = OrderBefore {
-        left_out,
+        left_out: first.saturating_sub(untold),
         start: state,
         steps: Vec::new(alloc),
     };
     for (i, place) in witness.places().iter().enumerate() {
-        if i == left_out {
+        if i == first {
             order.start = state;
         }
         if let Some(record) = witness.records().get(place.rec) {
             let step = step_from(state, *place, *record);
             state = step.state;
-            if i >= left_out {
+            if i >= first {
                 order.steps.push(step)?;
             }
         }
@@ -77,23 +83,23 @@ fn last_steps(alloc: Global, witness: &DocWitness, most: usize) -> Result<OrderB
 }
 
 /// The last so many places of an order of the document's calls before an event; `None` where the search of the document
-/// alone finds none. The document is numbered as in the history.
+/// alone finds none.
 pub fn order_before(
     alloc: Global,
     case: &Case,
     event: usize,
-    doc: usize,
+    id: &DocId,
+    records: &[Rec],
     most: usize,
 ) -> Result<Option<OrderBefore>, NoMemory> {
-    let front = case.history().front(event);
-    if doc >= front.docs() {
-        return Ok(None);
-    }
-    let records = front.records(doc)?;
-    let id = front.doc(doc).copy()?;
-    match answer(alloc, id, records, front.seen(), case.conflicts())? {
+    let window = window_before(alloc, records, event, case.conflicts(), most)?;
+    let untold = if window.is_prefixed { 1 } else { 0 };
+    let answered_before = window.answered_before;
+    let seen = case.history().front(event).seen();
+    match answer(alloc, id.copy()?, window.records, seen, case.conflicts())? {
         DocAnswer::Found(witness) => {
-            let order = last_steps(alloc, &witness, most)?;
+            let mut order = last_steps(alloc, &witness, untold, most)?;
+            order.left_out = order.left_out.saturating_add(answered_before);
             Ok(Some(order))
         }
         DocAnswer::NotFound(_) => Ok(None),

@@ -156,28 +156,35 @@ impl Pieces {
         self.fixed(Markup::GroupEnd)
     }
 
-    // Adds the axis: the first line, and the place of the broken reply.
-    fn axis(&mut self, drawing: &Drawing) -> Result<(), NoMemory> {
-        self.fixed(Markup::AxisStart)?;
-        self.fixed(Markup::WordsX)?;
-        self.number(12)?;
+    // Adds the number of a line of the text, above the lanes.
+    fn line_number(&mut self, x: u64, line: u64) -> Result<(), NoMemory> {
+        self.at(Markup::WordsX, x)?;
         self.at(Markup::BoxY, 14)?;
         self.fixed(Markup::WordsAt)?;
         self.text("line ")?;
-        self.number(drawing.first_line)?;
-        self.fixed(Markup::WordsEnd)?;
+        self.number(line)?;
+        self.fixed(Markup::WordsEnd)
+    }
+
+    // Adds the axis: the first line, the place of the broken reply, and what the boxes are.
+    fn axis(&mut self, drawing: &Drawing) -> Result<(), NoMemory> {
+        self.fixed(Markup::AxisStart)?;
+        self.line_number(20, drawing.first_line)?;
         self.at(Markup::HereX, drawing.here)?;
         self.at(Markup::LineY, 20)?;
         self.at(Markup::LineToX, drawing.here)?;
         self.at(Markup::LineToY, drawing.lanes_end)?;
         self.fixed(Markup::ShapeEnd)?;
-        if drawing.here > 90 {
-            self.at(Markup::WordsX, drawing.here.saturating_sub(24))?;
-            self.at(Markup::BoxY, 14)?;
-            self.fixed(Markup::WordsAt)?;
-            self.text("line ")?;
-            self.number(drawing.here_line)?;
-            self.fixed(Markup::WordsEnd)?;
+        if drawing.here > 110 {
+            self.line_number(drawing.here.saturating_sub(24), drawing.here_line)?;
+        }
+        if !drawing.boxes.is_empty() {
+            let y = drawing.lanes_end.saturating_add(34);
+            self.words(
+                20,
+                y,
+                "The document's versions, in the order before that reply:",
+            )?;
         }
         self.fixed(Markup::GroupEnd)
     }

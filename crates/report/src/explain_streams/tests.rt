@@ -310,9 +310,53 @@ fn a_thousand_open_calls(rt: HostRuntime) -> Result<(), Fail> {
             "  line 962, call 961: index k=1 -> no reply (open at the same time: 962, 963, 964, 965, 966, 967, 968, 969 and 31 more)\n"
         )
     );
-    assert!(rt; text.contains("And 960 more."));
+    assert!(rt; text.contains("Earlier ones: 960."));
     assert_eq!(rt; count_of(page, "<g class=\"bar"), 200);
     assert_eq!(rt; count_of(page, "<g class=\"bar lost\">"), 199);
+    Ok(())
+}
+
+// A text of a hundred writes, one after the other, and then a get of the first version.
+fn long_text(alloc: Global) -> Result<String, Fail> {
+    let mut text = String::new(alloc);
+    for no in 0..100u32 {
+        let line = format!(in alloc;
+            "{{\"e\":\"call\",\"n\":{no},\"id\":\"d\",\"op\":\"index\",\"k\":{no}}}\n"
+        )?;
+        text.push_str(line.as_str())?;
+        let (status, result) = if no == 0 {
+            (201, "created")
+        } else {
+            (200, "updated")
+        };
+        let line = format!(in alloc;
+            "{{\"e\":\"reply\",\"n\":{no},\"status\":{status},\"body\":{{\"result\":\"{result}\",\"_seq_no\":{no},\"_primary_term\":1}}}}\n"
+        )?;
+        text.push_str(line.as_str())?;
+    }
+    text.push_str(
+        r#"{"e":"call","n":100,"id":"d","op":"get"}
+{"e":"reply","n":100,"status":200,"body":{"_seq_no":0,"_primary_term":1,"found":true,"_source":{"k":0}}}
+"#,
+    )?;
+    Ok(text)
+}
+
+#[test]
+fn the_end_of_a_long_order(rt: HostRuntime) -> Result<(), Fail> {
+    let text = long_text(rt.alloc())?;
+    let (text, _) = told(&rt, rt.alloc(), text.as_str())?;
+    let text = str::from_utf8(text.as_slice())?;
+    for line in [
+        "refuted kind=stale-get calls=100,1 event=201 call=100 before=shown\n",
+        "\n  line 1, call 0: index k=0 -> line 2: created as 1/0\n",
+        "\n* line 3, call 1: index k=1 -> line 4: updated as 1/1\n  line 127, call 63: index k=63 -> line 128: updated as 1/63\n",
+        "\nEarlier calls that are not told: 61.\n",
+        "\nEarlier calls in it: 60.\n  call 60: index k=60 -> 1/60 k=60\n",
+        "\n  call 99: index k=99 -> 1/99 k=99\n",
+    ] {
+        assert!(rt; text.contains(line), "{line}");
+    }
     Ok(())
 }
 

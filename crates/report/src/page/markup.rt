@@ -23,6 +23,7 @@ p.line { padding: 8px 12px; border: 1px solid var(--edge); border-radius: 6px; m
 table { border-collapse: collapse; font-size: 14px; }
 th, td { text-align: left; vertical-align: top; padding: 4px 14px 4px 8px; border-bottom: 1px solid var(--edge); overflow-wrap: anywhere; }
 th { color: var(--soft); font-weight: 600; }
+th, td:first-child, td:nth-child(2), td:nth-child(3) { white-space: nowrap; }
 tr { break-inside: avoid; }
 tr.broken td { border-top: 2px solid var(--bad); border-bottom: 2px solid var(--bad); font-weight: 600; }
 tr.broken td:first-child { border-left: 6px solid var(--bad); }
@@ -32,7 +33,7 @@ li { overflow-wrap: anywhere; }
 figure { margin: 12px 0; }
 figcaption { color: var(--soft); font-size: 14px; }
 svg { width: 100%; height: auto; display: block; }
-svg text { font-size: 12px; fill: var(--ink); }
+svg text { font-size: 12px; fill: var(--ink); stroke: var(--paper); stroke-width: 3px; paint-order: stroke; }
 .axis text { fill: var(--soft); }
 .axis line { stroke: var(--edge); }
 .axis .here { stroke: var(--bad); stroke-width: 2; stroke-dasharray: 2 3; }
@@ -45,7 +46,7 @@ svg text { font-size: 12px; fill: var(--ink); }
 .broken path { stroke: var(--ink); }
 .version rect { fill: none; stroke: var(--edge); stroke-width: 1.5; }
 .version path { stroke: var(--soft); fill: none; stroke-width: 1.5; }
-@media print { body { font-size: 12px; } main { padding: 0; max-width: none; } figure, table { break-inside: avoid; } }
+@media print { body, table, figcaption, p.line { font-size: 11px; } h1 { font-size: 18px; } h2 { font-size: 14px; } th, td { padding: 2px 8px 2px 4px; } main { padding: 0; max-width: none; } }
 "#;
 
 const BODY_START: &str = r#"</style>
