@@ -24,6 +24,8 @@ RUNS = [
     ("check lost-write-explains-conflict.ndjson", 0, "yes docs=1 calls=3 left_out=0\n"),
     ("check documents-interleaved.ndjson --workers 2", 0, "yes docs=2 calls=4 left_out=0\n"),
     ("check pair-twice-over-documents.ndjson", 1, "refuted kind=pair-twice calls=0,1 event=3 call=1 before=shown\n"),
+    ("explain lost-write-explains-conflict.ndjson", 0, None),
+    ("explain pair-twice-over-documents.ndjson", 1, None),
     ("verify verify-good-order.ndjson verify-good-order.witness", 0, "verified docs=1 calls=4 left_out=0\n"),
     ("witness verify-good-order.ndjson", 0, None),
     ("bulk bulk.body bulk.reply", 0, None),
@@ -88,7 +90,7 @@ def tried_run(refusing, program, words, status, line):
 
 def tried_test(refusing, program, name):
     """Tries a test: it passes, or it fails for want of memory."""
-    is_right = lambda answer: answer[0] == 0 or answer[0] > 0 and any(it in answer[1] + answer[2] for it in WANTS)
+    is_right = lambda answer: answer[0] == 0 or any(it in answer[1] + answer[2] for it in WANTS)
     ample, _ = refusing.run([program, name], 0)
     if ample[0] != 0:
         return 0, ample
