@@ -36,7 +36,7 @@ RUNS = [
 NO_MEMORY = (3, b"", b"casbench: no memory\n")
 
 # What a test may fail for: want of memory, or that its own writer, a list, was refused it.
-WANTS = (b"NoMemory", b"AllocError", b"AllocFailed", b"error: Write")
+WANTS = (b"NoMemory", b"AllocError", b"AllocFailed", b"no memory", b"error: Write")
 
 # Tests by their crates: recordings, a group, a run.
 TESTS = [
