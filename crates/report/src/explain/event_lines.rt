@@ -1,3 +1,4 @@
+use api_lines::lines::is_blank;
 use std::alloc::Global;
 use version_pair::NoMemory;
 
@@ -8,12 +9,6 @@ pub struct EventLines {
     events: usize,
     // For each blank line how many events stand before it; rising.
     blank: Vec<usize>,
-}
-
-// Whether a line that isn't refused is no event.
-fn is_blank(line: &[u8]) -> bool {
-    line.iter()
-        .all(|byte| matches!(*byte, b' ' | b'\t' | b'\r'))
 }
 
 impl EventLines {
