@@ -164,6 +164,3 @@ pub fn read_bulk(alloc: Global, body: &[u8]) -> Result<Vec<(DocId, Op)>, BulkFau
     }
     bulk.into_items(number)
 }
-
-#[cfg(test)]
-mod tests;

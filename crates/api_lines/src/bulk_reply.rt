@@ -171,6 +171,3 @@ pub fn read_bulk_reply(
         Err(LineFault::NoMemory) => Err(BulkFault::NoMemory),
     }
 }
-
-#[cfg(test)]
-mod tests;

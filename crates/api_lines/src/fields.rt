@@ -97,6 +97,3 @@ pub fn line_fields(value: &Value) -> LineFields<'_>
         body: body_of_line(value),
     }
 }
-
-#[cfg(test)]
-mod tests;

@@ -174,6 +174,3 @@ pub fn line_said(alloc: Global, line: &LineFields<'_>) -> Result<LineSaid, LineF
         _ => Err(LineFault::Told(TextCause::Shape)),
     }
 }
-
-#[cfg(test)]
-mod tests;

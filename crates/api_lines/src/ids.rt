@@ -16,18 +16,3 @@ pub fn document_id(alloc: Global, text: &str) -> Result<DocId, LineFault>
         Err(IdFault::NoMemory) => Err(LineFault::NoMemory),
     }
 }
-
-#[cfg(test)]
-mod tests {
-    use super::*;
-    use std::test::Fail;
-
-    #[test]
-    fn ids(rt: HostRuntime) -> Result<(), Fail> {
-        let refused = Some(LineFault::Told(TextCause::Id));
-        assert_eq!(rt; document_id(rt.alloc(), "").err(), refused);
-        let id = document_id(rt.alloc(), "d").map_err(|_| "an id")?;
-        assert_eq!(rt; id.as_str(), "d");
-        Ok(())
-    }
-}

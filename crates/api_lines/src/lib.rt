@@ -16,8 +16,6 @@ pub mod lines;
 mod number;
 mod reply_table;
 mod scanner;
-#[cfg(test)]
-mod testing;
 mod text_fault;
 mod token_field;
 mod token_fields;

@@ -90,6 +90,3 @@ pub fn next_line<B: BufRead>(reader: &mut B, line: &mut Vec<u8>) -> Result<bool,
     }
     Ok(true)
 }
-
-#[cfg(test)]
-mod tests;

@@ -161,6 +161,3 @@ pub fn read_reply(op: &Op, id: &DocId, status: u16, body: &Value) -> Heard
 {
     heard_of(op, id, status, &body_fields(body))
 }
-
-#[cfg(test)]
-mod tests;

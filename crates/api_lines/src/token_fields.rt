@@ -191,6 +191,3 @@ pub fn quick_fields(line: &str) -> Option<LineFields<'_>>
         None
     }
 }
-
-#[cfg(test)]
-mod tests;

@@ -91,6 +91,3 @@ pub fn write_reply(alloc: Global, id: &DocId, reply: &Reply) -> Result<(u16, Val
     let body = written_body(alloc, id, reply)?;
     Ok((written_status(reply), body))
 }
-
-#[cfg(test)]
-mod tests;

@@ -40,27 +40,3 @@ pub fn words_code(kind: ErrorKind) -> u8
         _ => WORDS_REFUSED,
     }
 }
-
-#[cfg(test)]
-mod tests {
-    use super::*;
-
-    #[test]
-    fn exit_statuses(rt: HostRuntime) {
-        assert_eq!(rt; status_code(Status::Yes), 0);
-        assert_eq!(rt; status_code(Status::No), 1);
-        assert_eq!(rt; status_code(Status::Refuted), 1);
-        assert_eq!(rt; status_code(Status::Refused), 2);
-        assert_eq!(rt; fault_code(StreamFault::NoMemory), 3);
-        assert_eq!(rt; fault_code(StreamFault::Read), 4);
-        assert_eq!(rt; fault_code(StreamFault::Write), 4);
-        assert_eq!(rt; fault_code(StreamFault::Worker(0)), 5);
-        assert_eq!(rt; fault_code(StreamFault::Recording), 5);
-        assert_eq!(rt; fault_code(StreamFault::Setting), 64);
-        assert_eq!(rt; words_code(ErrorKind::DisplayHelp), 0);
-        assert_eq!(rt; words_code(ErrorKind::DisplayVersion), 0);
-        assert_eq!(rt; words_code(ErrorKind::OutOfMemory), 3);
-        assert_eq!(rt; words_code(ErrorKind::UnknownArgument), 64);
-        assert_eq!(rt; words_code(ErrorKind::MissingRequiredArgument), 64);
-    }
-}

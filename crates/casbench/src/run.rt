@@ -157,6 +157,3 @@ pub fn run<R: Files + Eprint, T: Threads + Wait + Sync, I: Read + Drop, W: Write
         }
     }
 }
-
-#[cfg(test)]
-mod tests;

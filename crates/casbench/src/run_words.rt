@@ -181,6 +181,3 @@ pub fn asked_run<'a>(given: &ArgMatches<'a>) -> Option<Words<'a>>
     let setting = setting_given(given)?;
     Some(Words::Run(setting))
 }
-
-#[cfg(test)]
-mod tests;

@@ -442,6 +442,3 @@ pub fn read_words<'a, S: AsStr>(alloc: Global, words: &'a [S]) -> Result<Words<'
         None => Err(no_reading(alloc)?),
     }
 }
-
-#[cfg(test)]
-mod tests;

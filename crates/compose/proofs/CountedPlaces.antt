@@ -16,7 +16,7 @@ use Rattle.compose.specs.Counts.{calls_of}
 use Rattle.compose.specs.Covers.{AreCover}
 use Rattle.compose.specs.Laws.{places_in}
 use Rattle.compose.specs.Verdicts.{AreWitnesses}
-use Rattle.compose.proofs.FilterLemmas.{mapped_from}
+use Rattle.evidence.proofs.FilterLemmas.{mapped_from}
 use Rattle.compose.proofs.Filtering.{rank, rank_at, rank_once}
 use Rattle.compose.proofs.Locality.{covers_explain}
 use Rattle.compose.proofs.Points.{call_place, called_there}

@@ -18,9 +18,10 @@ use Rattle.witness.specs.Places.{AreValid}
 use Rattle.witness.specs.Laws.{ArePlacedBy, IsPlacedBy, TellsOf}
 use Rattle.witness.specs.Text.{DocPlaces}
 use Rattle.witness.proofs.DocumentLaws.{places_are_orders}
-use Rattle.compose.specs.Covers.{AreCover, ArePairsDistinct, IsEntered, IsTakenAt, taken_by}
+use Rattle.compose.specs.Covers.{AreCover, ArePairsDistinct, IsEntered, IsTakenAt}
+use Rattle.evidence.specs.Taking.{taken_by}
 use Rattle.compose.specs.Laws.{restricted}
-use Rattle.compose.proofs.FilterLemmas.{mapped_at, mapped_from}
+use Rattle.evidence.proofs.FilterLemmas.{mapped_at, mapped_from}
 use Rattle.compose.proofs.CalledDocuments.{shard_of_call}
 use Rattle.compose.proofs.ListedDocuments.{documents_apart}
 use Rattle.compose.proofs.RestrictedOrders.{restricted_change, restricted_explains, restricted_from, restricted_once}

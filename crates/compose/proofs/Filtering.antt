@@ -2,7 +2,7 @@
 use Rattle.std.proofs.Common.{ℕ, zero, suc, ◌≡◌, ◌<◌, ◌⊎◌, inl, inr, List, [], ◌∷◌, ◌++◌, map, refl, sym, ap, subst, ◌∙◌, arith, Bool, true, false, cond, Some, slice_get}
 use Rattle.std.specs.Prelude.{filter}
 use Rattle.doc_check.proofs.Lists.{Has}
-use Rattle.compose.proofs.FilterLemmas.{kept_from}
+use Rattle.evidence.proofs.FilterLemmas.{kept_from}
 use Rattle.history.proofs.ListLemmas.{compare, none_is_not_some, same_some}
 
 -- ---- all or none

@@ -1,6 +1,4 @@
-mod FilterLemmas
 mod ListedDocuments
-mod HeardLemmas
 mod RestrictedOrders
 mod CoverLemmas
 mod UnpairedPlaces
@@ -25,12 +23,9 @@ mod Yielded
 mod VerdictLemmas
 mod WorkerLemmas
 mod FaultLaws
-mod EarlierSteps
-mod EvidenceLaws
-mod CallsByNumber
-mod EvidenceLemmas
 mod ShardParts
 mod ShardRuns
 mod ShardOrders
 mod ShardMerge
 mod ShardLocality
+mod OffenceLemmas

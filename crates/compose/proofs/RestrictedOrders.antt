@@ -22,9 +22,9 @@ use Rattle.history.proofs.HistoryLemmas.{call_passes}
 use Rattle.history.proofs.ListLemmas.{compare, none_is_not_some, same_some}
 use Rattle.witness.specs.Laws.{AllChange, ExplainsDocument}
 use Rattle.compose.specs.Laws.{is_kept, part_of_order, restricted}
-use Rattle.compose.proofs.FilterLemmas.{kept_from, kept_order, mapped_from}
+use Rattle.evidence.proofs.FilterLemmas.{kept_from, kept_order, mapped_from}
 use Rattle.compose.proofs.Filtering.{place_kept}
-use Rattle.compose.proofs.HeardLemmas.{heard_is_reply, reply_is_heard, same_call}
+use Rattle.evidence.proofs.HeardLemmas.{heard_is_reply, reply_is_heard, same_call}
 
 -- ---- places in the restricted order
 

@@ -13,12 +13,13 @@ use Rattle.witness.specs.Places.{AreValid}
 use Rattle.witness.specs.Text.{DocPlaces}
 use Rattle.witness.specs.Witness.{Witness}
 use Rattle.doc_check.specs.NoOrders.{AreUnpaired, HasNoOrder}
-use Rattle.compose.specs.Covers.{AreAllUnpaired, AreCover, HasNoUnpairedCover, IsOfShard, IsTakenAt, taken_by}
+use Rattle.compose.specs.Covers.{AreAllUnpaired, AreCover, HasNoUnpairedCover, IsOfShard, IsTakenAt}
+use Rattle.evidence.specs.Taking.{taken_by}
 use Rattle.compose.specs.VerifyFaults.{IsTakenTwice}
 use Rattle.compose.specs.Verdicts.{AreWitnesses}
 use Rattle.compose.specs.aids.Searched.{AreSearched, IsSearched}
 use Rattle.compose.specs.aids.Taken.{IsTwice, pairs_taken}
-use Rattle.compose.proofs.FilterLemmas.{mapped_at, mapped_from}
+use Rattle.evidence.proofs.FilterLemmas.{mapped_at, mapped_from}
 use Rattle.compose.proofs.ListedDocuments.{documents_apart}
 use Rattle.compose.proofs.TakenPlaces.{AreOwn, entries_of, taken_twice, twice_taken}
 

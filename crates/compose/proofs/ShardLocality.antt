@@ -10,8 +10,8 @@ use Rattle.history.specs.Events.{IsCallAt, IsHistory, IsReplyAt, PassesAt, Prece
 use Rattle.history.specs.Order.{Explains, IsOfCall, Placed, run_of}
 use Rattle.history.proofs.HistoryLemmas.{answered_call, call_passes}
 use Rattle.compose.specs.Shards.{LocalByShard, part_of_shard}
-use Rattle.compose.proofs.CallsByNumber.{same_shard}
-use Rattle.compose.proofs.FilterLemmas.{mapped_from}
+use Rattle.evidence.proofs.CallsByNumber.{same_shard}
+use Rattle.evidence.proofs.FilterLemmas.{mapped_from}
 use Rattle.compose.proofs.Filtering.{filter_made, part_from, rank, rank_at, rank_once}
 use Rattle.compose.proofs.Points.{Pointed, call_place, called_there, placed_at, placed_of, pointed_at}
 use Rattle.compose.proofs.ShardMerge.{AreMerged, IsOrderOn, is_on, merged, those_on}

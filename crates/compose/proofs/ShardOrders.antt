@@ -10,7 +10,7 @@ use Rattle.history.specs.Events.{IsCallAt, IsHistory, IsReplyAt, Precedes}
 use Rattle.history.specs.Order.{Explains, IsOfCall, Placed, run_of}
 use Rattle.history.proofs.ListLemmas.{compare}
 use Rattle.compose.specs.Shards.{concerns, part_of_shard}
-use Rattle.compose.proofs.FilterLemmas.{kept_order, mapped_from}
+use Rattle.evidence.proofs.FilterLemmas.{kept_order, mapped_from}
 use Rattle.compose.proofs.Filtering.{filter_made, part_from, rank, rank_at, rank_rises, ranked_from}
 use Rattle.compose.proofs.ShardParts.{call_in_part, on_shard, part_precedes, part_reply}
 use Rattle.compose.proofs.ShardRuns.{HaveOneShard, is_in, legal_in}

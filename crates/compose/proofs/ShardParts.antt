@@ -12,8 +12,8 @@ use Rattle.history.specs.Events.{IsCallAt, IsHistory, IsReplyAt, PassesAt, Prece
 use Rattle.history.proofs.HistoryLemmas.{call_at, call_passes, reply_passes}
 use Rattle.history.proofs.ListLemmas.{compare, none_is_not_some, same_some}
 use Rattle.compose.specs.Shards.{IsSplitByShard, concerns, is_call_on, part_of_shard}
-use Rattle.compose.proofs.CallsByNumber.{same_shard}
-use Rattle.compose.proofs.FilterLemmas.{kept_order}
+use Rattle.evidence.proofs.CallsByNumber.{same_shard}
+use Rattle.evidence.proofs.FilterLemmas.{kept_order}
 use Rattle.compose.proofs.Filtering.{filter_none, part_from, rank, rank_at, rank_rises, ranked_from}
 
 -- ---- calls on a shard

@@ -15,10 +15,11 @@ use Rattle.witness.specs.declared.place.Place.{Place}
 use Rattle.witness.specs.Documents.{witness_places}
 use Rattle.witness.specs.Text.{DocPlaces}
 use Rattle.witness.specs.Witness.{Witness}
-use Rattle.compose.specs.Covers.{IsOfShard, IsTakenAt, taken_by}
+use Rattle.compose.specs.Covers.{IsOfShard, IsTakenAt}
+use Rattle.evidence.specs.Taking.{taken_by}
 use Rattle.compose.specs.VerifyFaults.{IsTakenTwice}
 use Rattle.compose.specs.aids.Taken.{IsTwice, pair_at, pairs_of_document, pairs_taken, shard_in}
-use Rattle.compose.proofs.FilterLemmas.{mapped_at, mapped_from}
+use Rattle.evidence.proofs.FilterLemmas.{mapped_at, mapped_from}
 use Rattle.compose.proofs.FlatPlaces.{AreInside, IsBefore, IsInside, flat_in_order, inside_in_order}
 use Rattle.compose.proofs.ListedDocuments.{documents_apart}
 

@@ -23,7 +23,7 @@ use Rattle.witness.specs.Laws.{ArePlacedBy, TellsOf}
 use Rattle.doc_check.specs.NoOrders.{AreUnpaired, IsTold}
 use Rattle.compose.specs.Laws.{IsSettled, restricted}
 use Rattle.compose.proofs.CoverLemmas.{tells_of}
-use Rattle.compose.proofs.HeardLemmas.{record_heard, reply_is_heard}
+use Rattle.evidence.proofs.HeardLemmas.{record_heard, reply_is_heard}
 use Rattle.compose.proofs.RestrictedOrders.{restricted_from}
 
 -- ---- settled histories

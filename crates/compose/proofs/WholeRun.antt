@@ -17,7 +17,8 @@ use Rattle.history.proofs.ListLemmas.{none_is_not_some, same_some}
 use Rattle.witness.specs.declared.place.Place.{Place}
 use Rattle.witness.specs.Laws.{ArePlacedBy, IsPlacedBy, TellsOf}
 use Rattle.witness.specs.Text.{DocPlaces}
-use Rattle.compose.specs.Covers.{AreCover, IsOfShard, IsTakenAt, taken_by}
+use Rattle.compose.specs.Covers.{AreCover, IsOfShard, IsTakenAt}
+use Rattle.evidence.specs.Taking.{taken_by}
 use Rattle.compose.proofs.CalledDocuments.{document_called}
 use Rattle.compose.proofs.Filtering.{filter_all, part_from, rank, rank_once}
 use Rattle.compose.proofs.Gathering.{AreGathered, IsPartOf}

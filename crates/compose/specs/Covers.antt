@@ -1,9 +1,7 @@
 -- Covers: the entries of a witness text that explain a history of any number of documents.
-use Rattle.std.specs.Prelude.{◌≡◌, ℕ, List, Option, Some, None, slice_get}
+use Rattle.std.specs.Prelude.{◌≡◌, ℕ, List, Some, slice_get}
 use Rattle.version_pair.specs.declared.pair.Pair.{Pair}
-use Rattle.doc_register.specs.declared.reply.Reply.{Reply}
 use Rattle.doc_register.specs.declared.state.Conflicts.{Conflicts}
-use Rattle.doc_register.specs.Run.{pair_taken}
 use Rattle.history.specs.declared.event.Event.{Event}
 use Rattle.history.specs.declared.record.Rec.{Rec}
 use Rattle.history.specs.Events.{documents_of, records_of}
@@ -11,6 +9,7 @@ use Rattle.witness.specs.declared.place.Place.{Place}
 use Rattle.witness.specs.Places.{AreValid, IsPlaceOf}
 use Rattle.witness.specs.Text.{DocPlaces}
 use Rattle.doc_check.specs.NoOrders.{AreUnpaired}
+use Rattle.evidence.specs.Taking.{taken_by}
 
 -- the document is one of the history, and of this shard
 abbrev pub IsOfShard : List Event → List ℕ → ℕ → Type 0
@@ -35,11 +34,6 @@ abbrev pub AreComplete : List Event → List DocPlaces → Type 0
 AreComplete events entries = (k : ℕ) (d : List ℕ × ℕ) → slice_get (documents_of events) k ≡ Some d → IsEntered entries d.0
 
 -- ---- pairs
-
--- the pair that a call takes: the one that its reply tells, or the one that is given to its place
-abbrev pub taken_by : Option (ℕ × Reply) → Option Pair → Option Pair
-taken_by None given = given
-taken_by (Some heard) given = pair_taken heard.1 given
 
 -- at the place j of the entry i a call takes the pair q of the shard h
 pub record IsTakenAt (events : List Event) (entries : List DocPlaces) (i j h : ℕ) (q : Pair) : Type 0 where

@@ -5,5 +5,5 @@ pub mod Laws
 pub mod Verdicts
 pub mod Checked
 pub mod aids
-pub mod Evidence
 pub mod Shards
+pub mod Offences

@@ -3,4 +3,4 @@ pub mod Searched
 pub mod Joined
 pub mod Worked
 pub mod Verified
-pub mod AnsweredCalls
+pub mod Replies

@@ -1,6 +1,5 @@
 //! Laws of covers and of shards, each the contract of a function that does nothing.
 
-ghost use Rattle.compose.specs.Evidence.{EvidenceRefutes};
 ghost use Rattle.compose.specs.Laws.{CoversExplain, FaultyAreNoCover, OrdersAreCovers, PlainlyRightAreCovered, SettledHaveNoOrder};
 ghost use Rattle.compose.specs.Shards.{LocalByShard};
 
@@ -33,12 +32,6 @@ pub fn plainly_right_are_covered()
 #[tactic(auto, using(crate::proofs::FaultLaws::faulty_are_no_cover))]
 pub fn faulty_are_no_cover()
     ensures { FaultyAreNoCover }
-{}
-
-/// Shows that a history in which evidence holds is not linearizable, however its pending calls are completed.
-#[tactic(auto, using(crate::proofs::EvidenceLaws::evidence_refutes))]
-pub fn evidence_refutes()
-    ensures { EvidenceRefutes }
 {}
 
 /// Shows that a history is split into the parts of its shards, each of them a history, and that it is linearizable exactly

@@ -1,19 +1,18 @@
-//! All documents of a history together: whether one order of all its calls explains it, and whether the entries of a
-//! witness text cover it.
+//! All documents of a history together: whether one order of all its calls explains it, the reply at which the search for
+//! one first fails, and whether the entries of a witness text cover it.
 #![tactic(auto)]
 
-mod answered_call;
 mod case;
 mod checking;
 mod counts;
-mod evidence;
+mod finding;
 mod found;
 mod joined;
 pub mod laws;
 mod narrowing;
+mod offence;
 mod proof;
 mod refutation;
-mod refuted;
 mod renumbered;
 mod second_look;
 mod taken;
@@ -24,13 +23,11 @@ mod workers;
 pub use case::Case;
 pub use checking::{CheckFault, Verdict, check, check_alone, is_explained};
 pub use counts::Counts;
-pub use evidence::refutes;
+pub use evidence::{Refuted, refutes};
+pub use finding::{Failing, Finding};
 pub use narrowing::narrowed;
+pub use offence::{Offence, first_offence};
 pub use proof::Proof;
 pub use refutation::refute;
-pub use refuted::Refuted;
 pub use verification::verify;
 pub use verify_fault::VerifyFault;
-
-#[cfg(test)]
-mod tests;

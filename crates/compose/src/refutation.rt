@@ -1,42 +1,10 @@
-//! The search for evidence: what is found is looked at again before it is told, so that only evidence which holds is.
-
-mod answered_calls;
-mod lost_updates;
-mod pairs_taken_twice;
-mod stale_reads;
-mod unwritten_reads;
-
 ghost use Rattle.std.specs.Prelude.{IfOk, IfSome};
-ghost use Rattle.compose.specs.Evidence.{Holds};
+ghost use Rattle.evidence.specs.Evidence.{Holds};
 
 use crate::case::Case;
-use crate::evidence::refutes;
-use crate::refuted::Refuted;
-use answered_calls::AnsweredCalls;
-use doc_register::Conflicts;
-use history::History;
-use lost_updates::least_stale_swap;
-use pairs_taken_twice::least_pair_twice;
-use stale_reads::least_stale_get;
+use evidence::{Refuted, find_evidence};
 use std::alloc::Global;
-use unwritten_reads::least_without_writer;
 use version_pair::NoMemory;
-
-// The evidence, where it holds.
-fn confirmed(history: &History, found: Option<Refuted>, conflicts: Conflicts) -> Option<Refuted>
-    ensures { IfSome result (Holds conflicts history.now) }
-{
-    match found {
-        Some(evidence) => {
-            if refutes(history, &evidence, conflicts) {
-                Some(evidence)
-            } else {
-                None
-            }
-        }
-        None => None,
-    }
-}
 
 /// Evidence that holds in the case's history, with conflicts read as the case reads them: of the first kind that does, in
 /// the order of `Refuted`, and of that kind the one with the least call numbers, the first number counting first.
@@ -44,21 +12,5 @@ fn confirmed(history: &History, found: Option<Refuted>, conflicts: Conflicts) ->
 pub fn refute(alloc: Global, case: &Case) -> Result<Option<Refuted>, NoMemory>
     ensures { IfOk result (λ told. IfSome told (Holds case.now.conflicts case.now.events)) }
 {
-    let history = case.history();
-    let conflicts = case.conflicts();
-    let calls = AnsweredCalls::of(alloc, history)?;
-    let twice = least_pair_twice(alloc, &calls.writes)?;
-    if let Some(evidence) = confirmed(history, twice, conflicts) {
-        return Ok(Some(evidence));
-    }
-    let unwritten = least_without_writer(alloc, history, &calls.gets, conflicts)?;
-    if let Some(evidence) = confirmed(history, unwritten, conflicts) {
-        return Ok(Some(evidence));
-    }
-    let stale = least_stale_get(&calls.gets, &calls.writes);
-    if let Some(evidence) = confirmed(history, stale, conflicts) {
-        return Ok(Some(evidence));
-    }
-    let swap = least_stale_swap(alloc, &calls.writes)?;
-    Ok(confirmed(history, swap, conflicts))
+    find_evidence(alloc, case.history(), case.conflicts())
 }

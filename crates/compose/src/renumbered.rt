@@ -2,7 +2,7 @@ ghost use Rattle.std.specs.Prelude.{◌≡◌, IfOk, IfSome};
 ghost use Rattle.compose.specs.aids.Searched.{AreAlike, IsAlike};
 
 use crate::renumbered::free_numbers::FreeNumbers;
-use crate::renumbered::gaps::{Gap, Gaps};
+use crate::renumbered::gaps::{Gap, Gaps, Wanting};
 use history::Front;
 use std::alloc::{AllocError, Global};
 use version_pair::{NoMemory, Pair};
@@ -14,25 +14,57 @@ pub mod gaps;
 /// Another pair for a place: the number of the witness, that of the place, the pair.
 pub type Change = (usize, usize, Pair);
 
-// Other pairs for the places of a gap, in their order: each takes the least number above the one before that is free in the
-// shard and that no call of the document names. False where the gap has no such number left.
+// Free pairs for the places of a gap, in their order: each takes the least above the one before that it may take. `None` where
+// the gap has too few.
+fn free_pairs(
+    alloc: Global,
+    wanting: Wanting<'_>,
+    free: &mut FreeNumbers,
+) -> Result<Option<Vec<Pair>>, NoMemory> {
+    let mut pairs = Vec::new(alloc);
+    let mut from = wanting.gap.from;
+    for place in &wanting.gap.places {
+        let Some(pair) = free.least(wanting, *place, from)? else {
+            return Ok(None);
+        };
+        pairs.push(pair)?;
+        from = pair.seq().saturating_add(1);
+    }
+    Ok(Some(pairs))
+}
+
+// Free pairs for the places of a gap that no call of the document names, where there are enough; else any that the places may
+// take.
+fn pairs_for(
+    alloc: Global,
+    gaps: &Gaps,
+    gap: &Gap,
+    free: &mut FreeNumbers,
+) -> Result<Option<Vec<Pair>>, NoMemory> {
+    for avoids in [true, false] {
+        if let Some(pairs) = free_pairs(alloc, Wanting { gaps, gap, avoids }, free)? {
+            return Ok(Some(pairs));
+        }
+    }
+    Ok(None)
+}
+
+// Gives the places of a gap other pairs. False where there are too few.
 fn fill(
+    alloc: Global,
     gaps: &Gaps,
     gap: &Gap,
     free: &mut FreeNumbers,
     changes: &mut Vec<Change>,
 ) -> Result<bool, NoMemory> {
-    let mut from = gap.from;
-    for i in 0..gap.places.len() {
-        let Some(seq) = free.least(gap, from, gaps)? else {
-            return Ok(false);
-        };
-        let Some(pair) = Pair::new(gap.upper.term(), seq) else {
-            return Ok(false);
-        };
-        free.take(gap.shard, pair)?;
-        changes.push((gap.witness, gap.places[i], pair))?;
-        from = seq.saturating_add(1);
+    let Some(pairs) = pairs_for(alloc, gaps, gap, free)? else {
+        return Ok(false);
+    };
+    for i in 0..pairs.len() {
+        free.take(gap.shard, pairs[i])?;
+        if let Some(place) = gap.places.get(i) {
+            changes.push((gap.witness, *place, pairs[i]))?;
+        }
     }
     Ok(true)
 }
@@ -55,7 +87,7 @@ fn changes_in(
         let Some(gap) = gaps.list.get(k) else {
             return Ok(None);
         };
-        if !fill(gaps, gap, &mut free, &mut changes)? {
+        if !fill(alloc, gaps, gap, &mut free, &mut changes)? {
             return Ok(None);
         }
     }
@@ -143,7 +175,8 @@ pub fn with_all(
 }
 
 /// Other pairs for those that were invented between two pairs of one term: over all documents of a shard, the gap with the
-/// least upper end first, each takes the least number that is free in the shard. `None` where a gap has too few.
+/// least upper end first, each takes the least number that is free in the shard, one that a call of its document names only where
+/// too few others are. `None` where a gap has too few.
 ///
 /// Nothing is promised of the numbers: whether they are distinct is looked at again.
 pub fn changes_of(

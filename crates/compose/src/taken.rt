@@ -1,7 +1,7 @@
 ghost use Rattle.std.specs.Prelude.{◌≡◌, ◌<◌, ◌++◌, ◌∷◌, ◌⊎◌, ◌↔◌, ℕ, List, [], IfOk, IsTrue, OnOk};
 ghost use Rattle.version_pair.specs.declared.pair.Pair.{Pair as Version};
 ghost use Rattle.version_pair.specs.PairOrder.{IsBelow};
-ghost use Rattle.compose.specs.Covers.{taken_by};
+ghost use Rattle.evidence.specs.Taking.{taken_by};
 ghost use Rattle.compose.specs.aids.Taken.{AreNoted, IsLeastTwice, IsLesser, pair_at, pairs_at, pairs_of_document, pairs_taken, shard_in};
 
 use doc_register::Reply;

@@ -19,7 +19,7 @@ use Rattle.witness.specs.declared.place.Place.{Place}
 use Rattle.witness.specs.Places.{AreValid}
 use Rattle.doc_check.specs.NoOrders.{AreUnpaired, HasNoOrder}
 use Rattle.doc_check.specs.ReplyOrder.{IsReplyOrder, answered_at, answered_records, by_reply, unpaired_place}
-use Rattle.doc_check.specs.aids.Chain.{IsChain, Rises}
+use Rattle.write_chain.specs.Chain.{IsChain, Rises}
 use Rattle.doc_check.specs.aids.Order.{IsStretchOrder}
 use Rattle.doc_check.specs.aids.Sweep.{AreGiven, AreSpread, IsOfSweep}
 use Rattle.doc_check.proofs.Lists.{KeyRises, RisesBy, has_back, has_moved, not_below, not_below_then, once_moved, same_rising, sorted_at}

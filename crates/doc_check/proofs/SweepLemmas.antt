@@ -9,7 +9,7 @@ use Rattle.doc_register.specs.declared.reply.Reply.{Reply}
 use Rattle.history.specs.declared.record.Rec.{Rec}
 use Rattle.history.proofs.ListLemmas.{none_is_not_some, same_some}
 use Rattle.witness.specs.declared.place.Place.{Place}
-use Rattle.doc_check.specs.aids.Chain.{pair_of}
+use Rattle.write_chain.specs.Chain.{pair_of}
 use Rattle.doc_check.specs.aids.Stretches.{Fits, cap}
 use Rattle.doc_check.specs.aids.Sweep.{AreGiven, AreMoments, AreSpread, IsGiven, IsMet, IsMoment, IsStuck, IsUpTo, Moment, StandsIn}
 

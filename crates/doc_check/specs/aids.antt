@@ -1,4 +1,3 @@
-pub mod Chain
 pub mod Stretches
 pub mod Sweep
 pub mod Order

@@ -1,15 +1,12 @@
 //! The search for one document: an order of its calls that explains them, or that it has none of its answered calls.
 #![tactic(auto)]
 
-mod chain;
-mod forward;
 mod latest;
 pub mod laws;
 mod moments;
 mod no_order;
 mod order;
 mod reply_order;
-mod rules;
 mod search;
 mod settled;
 mod stretches;
@@ -18,6 +15,3 @@ mod sweep;
 pub use no_order::NoOrder;
 pub use search::{DocAnswer, answer, answer_among};
 pub use settled::is_settled;
-
-#[cfg(test)]
-mod tests;

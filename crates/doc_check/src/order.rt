@@ -1,11 +1,11 @@
 ghost use Rattle.std.specs.Prelude.{◌≡◌, IfOk, length};
 ghost use Rattle.doc_check.specs.aids.Order.{IsStretchOrder, standing_made, standings_from};
 
-use crate::chain::performed_pair;
 use history::Rec;
 use std::alloc::Global;
 use version_pair::NoMemory;
 use witness::Place;
+use write_chain::performed_pair;
 
 // Where a record stands: its stretch, its turn there, the place of its reply, its number.
 type Standing = (usize, usize, usize, usize);

@@ -5,20 +5,19 @@ ghost use Rattle.doc_check.specs.NoOrders.{HasNoOrder};
 ghost use Rattle.doc_check.specs.Search.{FindsUnpaired, FollowsReplies, IsAbout, id_of, mode_of, records_of};
 ghost use Rattle.doc_check.specs.aids.Sweep.{IsOfSweep};
 
-use crate::chain::{chain_of, rises};
-use crate::forward::searched;
 use crate::no_order::NoOrder;
 use crate::order::order_of;
 use crate::reply_order::reply_order;
-use crate::rules::completed;
 use crate::settled::is_settled;
 use crate::stretches::Stretches;
 use crate::sweep::sweep;
+use completing::{completed, searched};
 use doc_register::Conflicts;
 use history::{Rec, Seen};
 use std::alloc::{AllocError, Global};
 use version_pair::{DocId, NoMemory, Pair};
 use witness::{Broken, DocWitness, Place};
+use write_chain::{chain_of, rises};
 
 /// What the search found for a document.
 #[derive(Debug, Drop)]

@@ -2,15 +2,15 @@ ghost use Rattle.std.specs.Prelude.{◌≡◌, ◌≤◌, ◌<◌, ◌↔◌, �
 ghost use Rattle.doc_register.specs.declared.reply.Reply.TheVariants.{Conflict};
 ghost use Rattle.doc_register.specs.Register.{HasPair};
 ghost use Rattle.doc_register.specs.Run.{pair_taken};
-ghost use Rattle.doc_check.specs.aids.Chain.{IsChain, Rises, pair_of};
+ghost use Rattle.write_chain.specs.Chain.{IsChain, Rises, pair_of};
 ghost use Rattle.doc_check.specs.aids.Stretches.{AreLaidOut, AreStretches, FitsAs, HoldsNowhere, IsGuess, IsLatest, IsReadIn, ReadFits, WriteFits, state_in};
 
-use crate::chain::{pairs_of, performed_pair, states_of};
 use crate::latest::latest_stretches;
 use doc_register::{DocState, Op, Reply, step};
 use history::Rec;
 use std::alloc::Global;
 use version_pair::{NoMemory, Pair};
+use write_chain::{pairs_of, performed_pair, states_of};
 
 /// The chain of a document, and what each stretch of it allows. Stretch 0 lies before the first write of the chain,
 /// stretch j after the j-th.

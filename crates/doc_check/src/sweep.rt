@@ -1,16 +1,16 @@
 ghost use Rattle.std.specs.Prelude.{◌≡◌, ◌<◌, ◌≤◌, Some, IfOk, IfSome, IfNone, MatchOption, List, length, slice_get};
 ghost use Rattle.history.specs.declared.record.Rec.{Rec as Call};
 ghost use Rattle.witness.specs.declared.place.Place.{Place};
-ghost use Rattle.doc_check.specs.aids.Chain.{pair_of};
+ghost use Rattle.write_chain.specs.Chain.{pair_of};
 ghost use Rattle.doc_check.specs.aids.Stretches.{AreStretches, cap};
 ghost use Rattle.doc_check.specs.aids.Sweep.{AreGiven, AreSpread, IsMet, IsStuck};
 
-use crate::chain::performed_pair;
 use crate::moments::{Moment, moments_of};
 use crate::stretches::Stretches;
 use history::Rec;
 use std::alloc::Global;
 use version_pair::NoMemory;
+use write_chain::performed_pair;
 
 // The last stretch for what stands before a record in this stretch: a write is the first of its own.
 fn last_before(found: Rec, stretch: usize) -> usize

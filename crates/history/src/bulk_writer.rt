@@ -156,6 +156,3 @@ pub fn bulk_text(
         Err(_) => Err(BulkFault::NoMemory),
     }
 }
-
-#[cfg(test)]
-mod tests;

@@ -152,6 +152,3 @@ impl<'h> Front<'h> {
         &calls[..count]
     }
 }
-
-#[cfg(test)]
-mod tests;

@@ -280,6 +280,3 @@ fn starts_below(places: &[usize], bound: usize) -> bool
         None => false,
     }
 }
-
-#[cfg(test)]
-mod tests;

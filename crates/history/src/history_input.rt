@@ -36,6 +36,3 @@ pub fn read_from<B: BufRead>(
     }
     Ok(Ok(reader.finish()))
 }
-
-#[cfg(test)]
-mod tests;

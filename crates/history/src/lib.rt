@@ -19,8 +19,6 @@ mod record;
 mod records;
 mod refusal;
 mod seen;
-#[cfg(test)]
-mod testing;
 mod writer;
 mod written_line;
 

@@ -157,8 +157,3 @@ pub fn read(alloc: Global, text: &[u8]) -> Result<History, ReadFault>
     }
     Ok(reader.finish())
 }
-
-#[cfg(test)]
-mod drawn;
-#[cfg(test)]
-mod tests;

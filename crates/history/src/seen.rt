@@ -86,6 +86,3 @@ impl History {
         self.whole().seen()
     }
 }
-
-#[cfg(test)]
-mod tests;

@@ -67,6 +67,3 @@ pub fn write(alloc: Global, history: &History) -> Result<Vec<u8>, NoMemory>
     }
     Ok(text)
 }
-
-#[cfg(test)]
-mod tests;

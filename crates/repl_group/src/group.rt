@@ -86,6 +86,3 @@ impl Target for Group {
         self.locked.lock(rt).poll(ticket)
     }
 }
-
-#[cfg(test)]
-mod tests;

@@ -124,6 +124,3 @@ impl Core {
         self.machine.in_flight_at(place)
     }
 }
-
-#[cfg(test)]
-mod tests;

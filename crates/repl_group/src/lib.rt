@@ -16,8 +16,6 @@ mod request;
 mod requests;
 mod standing;
 mod step;
-#[cfg(test)]
-mod testing;
 mod write_log;
 
 pub use fault::{CoreFault, Fault};

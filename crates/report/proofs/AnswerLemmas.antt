@@ -12,13 +12,13 @@ use Rattle.witness.specs.declared.place.Place.{Place}
 use Rattle.witness.specs.Text.{AreWithinLimits, witness_text}
 use Rattle.witness.specs.Witness.{Witness}
 use Rattle.compose.specs.Covers.{AreCover}
-use Rattle.compose.specs.Evidence.{Holds}
-use Rattle.compose.specs.declared.refuted.Refuted.{Refuted as Evidence}
+use Rattle.evidence.specs.Evidence.{Holds}
+use Rattle.evidence.specs.declared.refuted.Refuted.{Refuted as Evidence}
 use Rattle.compose.specs.Verdicts.{AreWitnesses, HasNoOrderFound}
 use Rattle.compose.specs.VerifyFaults.{IsFirstVerifyFault}
 use Rattle.compose.specs.declared.verify_fault.VerifyFault.{VerifyFault}
-use Rattle.report.specs.Offences.{IsOffence}
-use Rattle.report.specs.declared.offence.Offence.{Offence}
+use Rattle.compose.specs.Offences.{IsOffence}
+use Rattle.compose.specs.declared.offence.Offence.{Offence}
 use Rattle.report.specs.declared.status.Status.{Status}
 use Rattle.report.specs.declared.status.Status.TheVariants.{No, Refuted, Refused}
 use Rattle.report.specs.Lines.{broken_line, refused_file_line, refused_line, refuted_line}

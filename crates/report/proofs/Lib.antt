@@ -1,6 +1,4 @@
 mod StreamLemmas
 mod WitnessLimits
 mod AnswerLemmas
-mod OffenceLemmas
 mod RunLemmas
-mod PageLemmas

@@ -2,7 +2,7 @@
 use Rattle.std.specs.Prelude.{◌≡◌, ℕ, ◌++◌, List, Option, take}
 use Rattle.std.specs.Io.KnownBytes.{Appends}
 use Rattle.doc_register.specs.declared.state.Conflicts.{Conflicts}
-use Rattle.report.specs.Pages.{IsPage}
+use Rattle.page.specs.Pages.{IsPage}
 use Rattle.report.specs.Verdict.{AnswersInput}
 use Rattle.report.specs.declared.status.Status.{Status}
 

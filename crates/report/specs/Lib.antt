@@ -1,9 +1,6 @@
-pub mod Offences
 pub mod Bulk
 pub mod Lines
 pub mod Verdict
-pub mod Markups
-pub mod Pages
 pub mod Explained
 pub mod Runs
 pub mod aids

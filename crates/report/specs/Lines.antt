@@ -6,11 +6,11 @@ use Rattle.api_lines.specs.declared.bulk_fault.BulkFault.{BulkFault}
 use Rattle.api_lines.specs.declared.bulk_fault.BulkFault.TheVariants as bulk
 use Rattle.witness.specs.declared.broken.Broken.{Broken}
 use Rattle.witness.specs.declared.broken.Broken.TheVariants.{Stranger as StrangePlace, Twice, Absent, Late, PairMissing, PairGiven, Illegal, NoMemory}
-use Rattle.compose.specs.declared.refuted.Refuted.{Refuted}
-use Rattle.compose.specs.declared.refuted.Refuted.TheVariants as evidence
+use Rattle.evidence.specs.declared.refuted.Refuted.{Refuted}
+use Rattle.evidence.specs.declared.refuted.Refuted.TheVariants as evidence
 use Rattle.compose.specs.declared.verify_fault.VerifyFault.{VerifyFault}
 use Rattle.compose.specs.declared.verify_fault.VerifyFault.TheVariants as fault
-use Rattle.report.specs.declared.offence.Offence.{Offence}
+use Rattle.compose.specs.declared.offence.Offence.{Offence}
 
 -- the printed name of a cause
 abbrev pub cause_name : TextCause → List ℕ

@@ -10,14 +10,14 @@ use Rattle.history.specs.Reading.{history_text}
 use Rattle.history.specs.Text.{IsHistoryText}
 use Rattle.compose.specs.Counts.{calls_of}
 use Rattle.compose.specs.Covers.{AreCover}
-use Rattle.compose.specs.Evidence.{Holds}
-use Rattle.compose.specs.declared.refuted.Refuted.{Refuted as Evidence}
+use Rattle.evidence.specs.Evidence.{Holds}
+use Rattle.evidence.specs.declared.refuted.Refuted.{Refuted as Evidence}
 use Rattle.compose.specs.Verdicts.{HasNoOrderFound, HasOrder}
 use Rattle.compose.specs.VerifyFaults.{IsFirstVerifyFault}
 use Rattle.compose.specs.declared.verify_fault.VerifyFault.{VerifyFault}
 use Rattle.witness.specs.Text.{DocPlaces, witness_text}
-use Rattle.report.specs.Offences.{IsOffence}
-use Rattle.report.specs.declared.offence.Offence.{Offence}
+use Rattle.compose.specs.Offences.{IsOffence}
+use Rattle.compose.specs.declared.offence.Offence.{Offence}
 use Rattle.report.specs.Lines.{broken_line, no_line, refused_file_line, refused_line, refuted_line, verified_line, yes_line}
 use Rattle.report.specs.declared.status.Status.{Status}
 use Rattle.report.specs.declared.status.Status.TheVariants.{Yes, No, Refuted, Refused}

@@ -72,6 +72,3 @@ pub fn fault_line(alloc: Global, fault: VerifyFault) -> Result<String, NoMemory>
         VerifyFault::NoMemory => Err(AllocError),
     }
 }
-
-#[cfg(test)]
-mod tests;

@@ -9,17 +9,18 @@ ghost use Rattle.report.specs.Verdict.{AnswersInput, IsAnswer, IsWitnessAnswer};
 use crate::answer::Answer;
 use crate::before_name::before_name;
 use crate::cause_name::cause_name;
-use crate::finding::{Failing, Finding};
 use crate::input::read_history;
-use crate::offence::{Offence, first_offence};
 use crate::refuted_line::refuted_line;
 use crate::status::Status;
 use crate::unanswered::Unanswered;
 use api_lines::TextFault;
 use check_pool::{NoGate, PoolFault};
-use compose::laws::evidence_refutes;
-use compose::{Case, CheckFault, Counts, Refuted, Verdict, check, check_alone, refute};
+use compose::{
+    Case, CheckFault, Counts, Failing, Finding, Offence, Refuted, Verdict, check, check_alone,
+    first_offence, refute,
+};
 use doc_register::Conflicts;
+use evidence::laws::evidence_refutes;
 use history::{HashKeys, History};
 use std::alloc::Global;
 use std::io::Read;

@@ -1,18 +1,13 @@
 //! Stories: what an answer means, for people.
 
 ghost use Rattle.std.specs.Prelude.{◌≡◌, ◌≤◌, ◌++◌, ℕ, List, IfOk};
+ghost use Rattle.page.specs.Pages.{IsPage};
 ghost use Rattle.report.specs.Explained.{ExplainsInput};
-ghost use Rattle.report.specs.Pages.{IsPage};
 ghost use Rattle.report.specs.Verdict.{AnswersInput};
 
 use crate::answer::Answer;
 use crate::check_answer::{history_answer, refusal};
-use crate::explain::numbered_input::read_numbered;
-use crate::explain::page_pieces::pieces_of;
-use crate::explain::plain::plain_text;
-use crate::explain::story::Story;
-use crate::explain::telling::{refused_story, story_of};
-use crate::page::page_bytes;
+use crate::input::read_numbered;
 use crate::unanswered::Unanswered;
 use doc_register::Conflicts;
 use history::HashKeys;
@@ -20,24 +15,8 @@ use std::alloc::Global;
 use std::io::Read;
 use std::sync::Wait;
 use std::thread::Threads;
+use story::{Story, page_of, plain_text, refused_story, story_of};
 use version_pair::NoMemory;
-
-mod calls;
-mod drawing;
-mod event_lines;
-mod evidence;
-mod failing;
-mod kept;
-mod lanes;
-mod numbered_input;
-mod order_before;
-mod page_pieces;
-mod plain;
-mod refused;
-mod story;
-mod telling;
-mod window;
-mod words;
 
 // The line of a check of the text of a reader, and what it means.
 fn explained<T: Threads + Wait + Sync, R: Read>(
@@ -122,8 +101,7 @@ pub fn explained_page<T: Threads + Wait + Sync, R: Read>(
     ensures page { IfOk result (λ told. IsPage told.1.items) }
 {
     let (answer, story) = explained(rt, alloc, keys, reader, workers, conflicts)?;
-    let pieces = pieces_of(alloc, line_of(&answer), &story)?;
-    let page = page_bytes(alloc, &pieces)?;
+    let page = page_of(alloc, line_of(&answer), &story)?;
     let told = with_story(alloc, answer, &story)?;
     Ok((told, page))
 }

@@ -1,7 +1,7 @@
 ghost use Rattle.std.specs.Prelude.{◌≡◌, ◌≤◌, ℕ, IfOk, IsErrOf, OnOk};
 ghost use Rattle.std.specs.Io.KnownBytes.{Keeps};
+ghost use Rattle.page.specs.Pages.{IsPage};
 ghost use Rattle.report.specs.Explained.{ExplainsInput, HasPageFront};
-ghost use Rattle.report.specs.Pages.{IsPage};
 ghost use Rattle.report.specs.Verdict.{HasAnswer, HasFront};
 
 use crate::explain::{explained_page, explained_text};
@@ -64,7 +64,7 @@ pub fn explain_page_stream<T: Threads + Wait + Sync, R: Read, W: Write, P: Write
     requires few_workers { workers ≤ 16 }
     ensures answered { IfOk result (λ status. HasAnswer (ExplainsInput conflicts (R.remaining reader.old) status)
         (W.contents writer.old) (W.contents writer.new)) }
-    // The page is made of markup of this crate, numbers, and escaped texts.
+    // The page is made of markup of the crate `page`, numbers, and escaped texts.
     ensures page { OnOk result (HasAnswer IsPage (P.contents page.old) (P.contents page.new)) }
     // After a write fault a front of each is written, and after any other fault nothing is.
     ensures cut_off { IsErrOf result StreamFault.Write
@@ -94,6 +94,3 @@ pub fn explain_page_stream<T: Threads + Wait + Sync, R: Read, W: Write, P: Write
         Err(fault) => Err(fault),
     }
 }
-
-#[cfg(test)]
-mod tests;

@@ -155,6 +155,3 @@ pub fn run_stream<T: Threads + Wait + Sync, W: Write>(
         Err(cause) => Err(fault_of(cause)),
     }
 }
-
-#[cfg(test)]
-mod tests;

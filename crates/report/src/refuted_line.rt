@@ -2,8 +2,7 @@ ghost use Rattle.std.specs.Prelude.{◌≡◌, IfOk, string_bytes};
 ghost use Rattle.report.specs.Lines.{both_numbers, kind_name as told_kind, named_calls as told_calls, refuted_line as told_line};
 
 use crate::before_name::before_name;
-use crate::offence::Offence;
-use compose::Refuted;
+use compose::{Offence, Refuted};
 use std::alloc::Global;
 use version_pair::NoMemory;
 

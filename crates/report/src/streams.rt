@@ -180,8 +180,3 @@ pub fn bulk_stream<R: Read, Q: Read, W: Write>(
         Err(_) => Err(StreamFault::NoMemory),
     }
 }
-
-#[cfg(test)]
-mod tests;
-#[cfg(test)]
-pub mod texts;

@@ -1,5 +1,5 @@
-use crate::evidence::condition;
 use doc_register::{Conflicts, DocState, Op, Reply, is_performed, state_after};
+use evidence::condition;
 use history::Rec;
 use std::alloc::Global;
 use version_pair::{NoMemory, Pair};

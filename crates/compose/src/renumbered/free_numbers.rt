@@ -1,4 +1,4 @@
-use crate::renumbered::gaps::{Gap, Gaps};
+use crate::renumbered::gaps::Wanting;
 use history::HashKeys;
 use indexmap::IndexMap;
 use std::alloc::Global;
@@ -59,18 +59,28 @@ impl FreeNumbers {
         Ok(())
     }
 
-    /// The least number from this one on, below the gap's upper end, that is free and that no call of the gap's document
-    /// names.
-    pub fn least(&mut self, gap: &Gap, from: u64, gaps: &Gaps) -> Result<Option<u64>, NoMemory> {
+    /// The least pair of the gap's term from the number on, below the gap's upper end, that is free and that the place may
+    /// take.
+    pub fn least(
+        &mut self,
+        wanting: Wanting<'_>,
+        place: usize,
+        from: u64,
+    ) -> Result<Option<Pair>, NoMemory> {
+        let upper = wanting.gap.upper;
+        let shard = wanting.gap.shard;
         let mut start = from;
-        for _ in 0..gaps.names().saturating_add(1) {
-            let seq = self.first(gap.shard, gap.upper.term(), start);
-            self.point(gap.shard, gap.upper.term(), start, seq)?;
-            if seq >= gap.upper.seq() {
+        for _ in 0..wanting.gaps.names().saturating_add(1) {
+            let seq = self.first(shard, upper.term(), start);
+            self.point(shard, upper.term(), start, seq)?;
+            if seq >= upper.seq() {
                 return Ok(None);
             }
-            if !gaps.is_named(gap.witness, gap.upper.term(), seq) {
-                return Ok(Some(seq));
+            let Some(pair) = Pair::new(upper.term(), seq) else {
+                return Ok(None);
+            };
+            if wanting.may_take(place, pair) {
+                return Ok(Some(pair));
             }
             start = seq.saturating_add(1);
         }

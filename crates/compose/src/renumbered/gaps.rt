@@ -1,6 +1,7 @@
 use crate::renumbered::free_numbers::FreeNumbers;
 use crate::taken::{pair_of_place, shard_of};
 use doc_register::{Op, Reply};
+use evidence::condition;
 use history::{Front, HashKeys, Rec};
 use indexmap::IndexSet;
 use std::alloc::Global;
@@ -26,6 +27,31 @@ pub struct Gaps {
     pub list: Vec<Gap>,
     // The pairs that conditions and gets of a document name, each with the number of its witness.
     named: IndexSet<(usize, Pair), HashKeys>,
+    // The pairs that no write may take since a write on that condition is refused directly behind it, each with the numbers
+    // of its witness and of its place.
+    refused: IndexSet<(usize, usize, Pair), HashKeys>,
+}
+
+/// A gap that numbers are looked for.
+#[derive(Clone, Copy)]
+pub struct Wanting<'g> {
+    pub gaps: &'g Gaps,
+    pub gap: &'g Gap,
+    /// Whether the pairs that calls of the document name are avoided.
+    pub avoids: bool,
+}
+
+impl Wanting<'_> {
+    /// Whether a place of the gap may take the pair: no call of the document names it; or, where that is not asked, no
+    /// write on that condition is refused while the document has it.
+    pub fn may_take(&self, place: usize, pair: Pair) -> bool {
+        let number = self.gap.witness;
+        if self.avoids {
+            !self.gaps.named.contains(&(number, pair))
+        } else {
+            !self.gaps.refused.contains(&(number, place, pair))
+        }
+    }
 }
 
 // The pair that the call names: that of its condition, or the one that it found.
@@ -57,6 +83,7 @@ impl Gaps {
         Gaps {
             list: Vec::new(alloc),
             named: IndexSet::with_hasher(alloc, keys),
+            refused: IndexSet::with_hasher(alloc, keys),
         }
     }
 
@@ -65,12 +92,26 @@ impl Gaps {
         self.named.len()
     }
 
-    /// Whether a call of the witness's document names the pair.
-    pub fn is_named(&self, witness: usize, term: u64, seq: u64) -> bool {
-        match Pair::new(term, seq) {
-            Some(pair) => self.named.contains(&(witness, pair)),
-            None => false,
+    // Notes the conditions of the writes that are refused while the document has the pair of an invented write.
+    fn note_refused(&mut self, number: usize, witness: &DocWitness) -> Result<(), NoMemory> {
+        let mut present = None;
+        let places = witness.places();
+        for i in 0..places.len() {
+            let Some(found) = witness.records().get(places[i].rec) else {
+                return Ok(());
+            };
+            if pair_of_place(witness.records(), places[i]).is_some() {
+                let is_there = !matches!(found.op, Op::Delete { .. });
+                present = if is_there && places[i].pair.is_some() {
+                    Some(i)
+                } else {
+                    None
+                };
+            } else if let (Some(place), Some(pair)) = (present, condition(found.op)) {
+                self.refused.insert((number, place, pair))?;
+            }
         }
+        Ok(())
     }
 
     // Notes the pairs that the calls of a document name, where some place of it gives a pair.
@@ -83,7 +124,7 @@ impl Gaps {
                 self.named.insert((number, pair))?;
             }
         }
-        Ok(())
+        self.note_refused(number, witness)
     }
 
     // Whether the place gives a pair that was invented.

@@ -1,7 +1,7 @@
-use crate::evidence::condition;
 use crate::taken::shard_of;
 use doc_check::DocAnswer;
 use doc_register::Reply;
+use evidence::condition;
 use history::{Front, Rec};
 use std::alloc::Global;
 use version_pair::{NoMemory, Pair};

@@ -2,7 +2,7 @@ use Rattle.std.proofs.Common.{ℕ, List, sym, subst, ◌∙◌, Option, Vec, Glo
 use Rattle.std.proofs.lemmas.Bool.{false≢true}
 use Rattle.std.proofs.lemmas.Option.{MatchOption-at_none, MatchOption-at_some}
 use Rattle.witness.specs.declared.place.Place.{Place}
-use Rattle.doc_check.specs.aids.Chain.{Rises}
+use Rattle.write_chain.specs.Chain.{Rises}
 use Rattle.doc_check.specs.aids.Order.{IsStretchOrder}
 use Rattle.doc_check.specs.aids.Sweep.{AreGiven, AreSpread}
 use Rattle.doc_check.proofs.SearchLemmas.{equal_pairs_none, order_of_sweep, unspread_none}

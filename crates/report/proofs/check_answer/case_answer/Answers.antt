@@ -1,6 +1,6 @@
 use Rattle.std.proofs.Common.{subst}
 use Rattle.std.specs.Prelude.{IfSome}
-use Rattle.compose.specs.Evidence.{Holds}
+use Rattle.evidence.specs.Evidence.{Holds}
 use Rattle.report.proofs.AnswerLemmas.{is_refuted}
 use Rattle.report.proofs.check_answer.case_answer.Goals as goal
 

@@ -3,7 +3,7 @@ use Rattle.std.specs.List.{HoldsAt}
 use Rattle.std.specs.List.Sorted.{IsBinarySearchResult}
 use Rattle.std.specs.declared.cmp.Ordering.TheVariants.{Equal}
 use Rattle.version_pair.specs.declared.pair.Pair.{Pair}
-use Rattle.doc_check.specs.aids.Chain.{pair_cmp}
+use Rattle.write_chain.specs.Chain.{pair_cmp}
 use Rattle.doc_check.proofs.StretchLemmas.{pair_found, pair_missed}
 use Rattle.doc_check.proofs.stretches.Stretches.of_pair.Goals as goal
 

@@ -3,7 +3,7 @@ use Rattle.std.specs.List.{HoldsAt}
 use Rattle.std.specs.List.Sorted.{IsBinarySearchResult}
 use Rattle.std.specs.declared.cmp.Ordering.TheVariants.{Equal}
 use Rattle.version_pair.specs.declared.pair.Pair.{Pair}
-use Rattle.doc_check.specs.aids.Chain.{pair_cmp}
+use Rattle.write_chain.specs.Chain.{pair_cmp}
 use Rattle.doc_check.proofs.StretchLemmas.{write_above, write_found, write_missed, write_other}
 use Rattle.doc_check.proofs.stretches.Stretches.of_write.Goals as goal
 use Rattle.doc_check.proofs.stretches.Stretches.of_write.Goals.{else-link-bound-via-then-link-bound+else-index-rec, else-link-bound-via-else-link-bound}

@@ -1,0 +1,12 @@
+mod bulk;
+mod bulk_reply;
+mod fields;
+mod history_line;
+mod ids;
+mod line_input;
+mod lines;
+mod number;
+mod reply_table;
+mod testing;
+mod token_fields;
+mod written_reply;

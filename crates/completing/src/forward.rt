@@ -1,0 +1,185 @@
+use crate::forward::failed::Failed;
+use crate::forward::moves::{Turn, is_lost, next_write};
+use crate::forward::standing::Standing;
+use crate::forward::walk::{Placed, Walk};
+use crate::rules::link::Link;
+use crate::rules::numbers::numbered;
+use doc_register::Conflicts;
+use history::{Rec, Seen};
+use std::alloc::Global;
+use version_pair::{NoMemory, Pair};
+use witness::Place;
+
+pub mod failed;
+pub mod free;
+pub mod kind;
+pub mod known;
+pub mod lines;
+pub mod moves;
+pub mod numbers;
+pub mod standing;
+pub mod walk;
+
+// A place that the walk came to, and what is tried there next.
+#[derive(Clone, Copy)]
+struct Choice {
+    standing: Standing,
+    // How many records were placed.
+    placed: usize,
+    turn: Turn,
+}
+
+// What a step of the search gives.
+#[derive(Clone, Copy, PartialEq, Eq)]
+enum Step {
+    // All answered records are placed.
+    Done,
+    // It goes on.
+    More,
+    // Nothing is left to try.
+    Stuck,
+}
+
+// A search and the places that it may come back to.
+#[derive(Drop)]
+struct Search<'a> {
+    walk: Walk<'a>,
+    choices: Vec<Choice>,
+    failed: Failed,
+}
+
+impl Search<'_> {
+    // Places the reads, and notes the place, where something can come of it; else goes back to the last one.
+    fn arrive(&mut self) -> Result<(), NoMemory> {
+        self.walk.place_reads()?;
+        if self.failed.has(self.walk.standing.key()) || is_lost(&mut self.walk) {
+            self.go_back();
+        } else {
+            self.choices.push(Choice {
+                standing: self.walk.standing,
+                placed: self.walk.order.len(),
+                turn: Turn::Next(0),
+            })?;
+        }
+        Ok(())
+    }
+
+    // Takes back what was placed since the last place.
+    fn go_back(&mut self) {
+        if let Some(last) = self.choices.last() {
+            self.walk.take_back(last.standing, last.placed);
+        }
+    }
+
+    // Leaves the last place, at which nothing is left to try; at the beginning of a stretch only once all numbers of
+    // insertions were tried.
+    fn leave(&mut self) {
+        let room = self.walk.room();
+        if let Some(last) = self.choices.last_mut() {
+            if let Some(more) = last.standing.with_more(room) {
+                last.standing = more;
+                last.turn = Turn::Next(0);
+                self.walk.standing = more;
+                return;
+            }
+        }
+        if let Some(last) = self.choices.pop() {
+            self.failed.note(last.standing.key());
+            self.go_back();
+        }
+    }
+
+    // One step.
+    fn step(&mut self) -> Result<Step, NoMemory> {
+        if self.walk.is_done() {
+            return Ok(Step::Done);
+        }
+        let Some(last) = self.choices.last_mut() else {
+            return Ok(Step::Stuck);
+        };
+        match next_write(&mut self.walk, &mut last.turn) {
+            Some(write) => {
+                self.walk.perform(write)?;
+                self.arrive()?;
+            }
+            None => self.leave(),
+        }
+        Ok(Step::More)
+    }
+}
+
+// The chain of the walk, and of each record that is not in it the stretch.
+fn walked(alloc: Global, walk: &Walk) -> Result<(Vec<Link>, Vec<Option<usize>>), NoMemory> {
+    let mut links = Vec::new(alloc);
+    let mut given = vec![in alloc; None; walk.records.len()]?;
+    for placed in &walk.order {
+        match *placed {
+            Placed::Read(rec) => {
+                if let Some(stretch) = given.get_mut(rec) {
+                    *stretch = Some(links.len());
+                }
+            }
+            Placed::Known(rec, at) => links.push(Link {
+                pair: walk.known.get(at).map(|known| known.pair),
+                rec,
+            })?,
+            Placed::Inserted(rec) => links.push(Link { pair: None, rec })?,
+            Placed::Turned(rec) => {
+                if let Some(stretch) = given.get_mut(rec) {
+                    *stretch = None;
+                }
+                links.push(Link { pair: None, rec })?;
+            }
+        }
+    }
+    Ok((links, given))
+}
+
+// How many steps a search of so many records may take.
+fn most_steps(records: usize) -> usize {
+    records.saturating_mul(4).saturating_add(100_000)
+}
+
+// The chain of an order that the search finds, and of each record that is not in it the stretch.
+fn found_chain(
+    alloc: Global,
+    records: &[Rec],
+    conflicts: Conflicts,
+    used: &[Pair],
+) -> Result<Option<(Vec<Link>, Vec<Option<usize>>)>, NoMemory> {
+    let Some(walk) = Walk::of(alloc, records, conflicts, used)? else {
+        return Ok(None);
+    };
+    let mut search = Search {
+        walk,
+        choices: Vec::new(alloc),
+        failed: Failed::of(alloc, records.len())?,
+    };
+    search.arrive()?;
+    let most = most_steps(records.len());
+    for _ in 0..most {
+        match search.step()? {
+            Step::Done => return Ok(Some(walked(alloc, &search.walk)?)),
+            Step::More if search.walk.steps < most => {}
+            Step::More | Step::Stuck => return Ok(None),
+        }
+    }
+    Ok(None)
+}
+
+/// An order that completes unanswered writes, by a search forward in time, with room for an invented pair only where a
+/// number is left that none of the pairs in use has. `None` where none is found in a number of steps in proportion to
+/// the records. What is found is a guess, to be checked.
+pub fn searched(
+    alloc: Global,
+    records: &[Rec],
+    seen: Seen,
+    conflicts: Conflicts,
+    used: &[Pair],
+) -> Result<Option<Vec<Place>>, NoMemory> {
+    // (What the search keeps is given up before the places are made, so that memory holds one of the two.)
+    match found_chain(alloc, records, conflicts, used)? {
+        Some((links, given)) => numbered(alloc, records, &links, &given, seen),
+        None => Ok(None),
+    }
+}

@@ -1,0 +1,320 @@
+use crate::forward::kind::Kind;
+use crate::forward::standing::Document;
+use crate::forward::walk::{Placed, Walk};
+use crate::rules::link::{condition, leaves_it, needs};
+use doc_register::Conflicts;
+use history::Rec;
+
+/// What is tried next at a place.
+#[derive(Clone, Copy)]
+pub enum Turn {
+    /// The writes that the next known pair can have, from so many on.
+    Next(usize),
+    /// An unanswered delete.
+    Delete,
+    /// An unanswered write of the document.
+    Index,
+    /// The conflicts whose replies stand there or behind, as performed writes.
+    Conflict(usize),
+    /// The conflicts of creates that were placed as refused, as performed writes, those left out that were placed last,
+    /// so many.
+    Turned(usize),
+    /// Nothing.
+    Done,
+}
+
+// How many conflicts of a kind are looked at.
+const MOST_WAITING: usize = 64;
+
+// Whether the document before the write is as it needs it.
+fn fits(walk: &Walk, found: Rec) -> bool {
+    let document = walk.standing.document;
+    let needed = needs(found);
+    if needed.is_some() && needed != Some(document.is_live()) {
+        return false;
+    }
+    match condition(found.op) {
+        Some(pair) => match document {
+            Document::Known(at) => match walk.known.get(at) {
+                Some(present) => present.pair == pair,
+                None => false,
+            },
+            _ => false,
+        },
+        None => true,
+    }
+}
+
+// The write with the next known pair, where it may be placed and fits.
+fn fitting(walk: &Walk, rec: usize) -> Option<usize> {
+    let found = walk.record(rec)?;
+    if walk.may_be_placed(rec) && fits(walk, found) {
+        Some(rec)
+    } else {
+        None
+    }
+}
+
+// The first of the writes of the number, called there or later, that may have the next known pair; and the turn after
+// it.
+fn first_numbered(walk: &Walk, number: u64, from: usize) -> Option<(usize, usize)> {
+    for (call_at, rec) in walk.numbers.waiting(number, from).iter().take(MOST_WAITING) {
+        if fitting(walk, *rec).is_some() {
+            return Some((*rec, call_at.saturating_add(1)));
+        }
+    }
+    None
+}
+
+// The unanswered delete that would be performed, one on condition of the present pair first.
+fn lost_delete(walk: &mut Walk) -> Option<usize> {
+    if let Document::Known(at) = walk.standing.document {
+        if let Some(rec) = walk.first(Kind::LostDeleteOn(at)) {
+            return Some(rec);
+        }
+    }
+    walk.first(Kind::LostDelete)
+}
+
+// The unanswered write of the document that would be performed, one on condition of the present pair first.
+fn lost_index(walk: &mut Walk) -> Option<usize> {
+    if let Document::Known(at) = walk.standing.document {
+        if let Some(rec) = walk.first(Kind::LostIndexOn(at)) {
+            return Some(rec);
+        }
+    }
+    if !walk.standing.document.is_live() {
+        if let Some(rec) = walk.first(Kind::LostCreate) {
+            return Some(rec);
+        }
+    }
+    walk.first(Kind::LostIndex)
+}
+
+// The first by reply of the conflicts of a kind that may be placed, with a reply there or behind.
+fn first_conflict(walk: &Walk, kind: Kind, from: usize, deletes: bool) -> Option<(usize, usize)> {
+    let mut first: Option<(usize, usize)> = None;
+    for (_, rec) in walk.lines.waiting(kind).iter().take(MOST_WAITING) {
+        if let Some(reply_at) = performable(walk, *rec, from, deletes) {
+            let is_first = match first {
+                Some(entry) => reply_at < entry.0,
+                None => true,
+            };
+            if is_first {
+                first = Some((reply_at, *rec));
+            }
+        }
+    }
+    first
+}
+
+// The place of the reply of a conflict that may be placed.
+fn performable(walk: &Walk, rec: usize, from: usize, deletes: bool) -> Option<usize> {
+    let found = walk.record(rec)?;
+    let (reply_at, _) = found.heard?;
+    let is_kind = deletes || leaves_it(found.op);
+    if from <= reply_at && is_kind && walk.may_be_placed(rec) {
+        Some(reply_at)
+    } else {
+        None
+    }
+}
+
+// The earlier one of two.
+fn earlier(a: Option<(usize, usize)>, b: Option<(usize, usize)>) -> Option<(usize, usize)> {
+    match (a, b) {
+        (Some(x), Some(y)) => Some(if y.0 < x.0 { y } else { x }),
+        (Some(x), None) => Some(x),
+        (None, b) => b,
+    }
+}
+
+// The first by reply of the conflicts that would be performed, with a reply there or behind.
+fn conflict(walk: &mut Walk, from: usize, deletes: bool) -> Option<(usize, usize)> {
+    if walk.reading == Conflicts::Plain {
+        return None;
+    }
+    let free = first_conflict(walk, Kind::FreeConflict, from, deletes);
+    let other = match walk.standing.document {
+        Document::Absent => first_conflict(walk, Kind::CreateConflict, from, deletes),
+        Document::Known(at) => first_conflict(walk, Kind::ConflictOn(at), from, deletes),
+        Document::Invented => None,
+    };
+    earlier(free, other)
+}
+
+// The writes that can have the next known pair, of which nothing is known but that some condition names it: one
+// unanswered write, then the conflicts.
+fn unnumbered(walk: &mut Walk, from: usize) -> Option<(usize, usize)> {
+    if from == 0 {
+        if let Some(rec) = lost_index(walk) {
+            return Some((rec, 1));
+        }
+    }
+    let (reply_at, rec) = conflict(walk, from, false)?;
+    Some((rec, reply_at.saturating_add(1)))
+}
+
+// The next write that can have the next known pair, from a turn on, and the turn after it.
+fn next_known(walk: &mut Walk, from: usize) -> Option<(usize, usize)> {
+    if !walk.standing.has_inserted() {
+        return None;
+    }
+    let entry = walk.known.get(walk.standing.passed)?;
+    match (entry.writer, entry.number) {
+        (Some(rec), _) if from == 0 => Some((fitting(walk, rec)?, 1)),
+        (Some(_), _) => None,
+        (None, Some(number)) => {
+            walk.numbers.pass(number, &walk.placed);
+            first_numbered(walk, number, from)
+        }
+        (None, None) => unnumbered(walk, from),
+    }
+}
+
+// The write that has the next known pair, or is the only one of its number.
+fn next_writer(walk: &Walk) -> Option<Rec> {
+    let entry = walk.known.get(walk.standing.passed)?;
+    let rec = match entry.writer {
+        Some(rec) => rec,
+        None => walk.numbers.only(entry.number?)?,
+    };
+    walk.record(rec)
+}
+
+// The last one that was placed of the conflicts of creates that may be writes after all, so many of what was placed last
+// left out; and how many to leave out then.
+fn turned(walk: &Walk, from: usize) -> Option<(usize, usize)> {
+    for back in from..MOST_WAITING {
+        let next = back.saturating_add(1);
+        let at = walk.order.len().checked_sub(next)?;
+        match walk.order.get(at) {
+            Some(Placed::Read(rec)) if walk.may_turn(*rec) => return Some((*rec, next)),
+            _ => {}
+        }
+    }
+    None
+}
+
+// Whether the next write needs the document to be, or not to be, as it is not.
+fn next_misses(walk: &Walk) -> bool {
+    match next_writer(walk) {
+        Some(found) => match needs(found) {
+            Some(live) => live != walk.standing.document.is_live(),
+            None => false,
+        },
+        None => false,
+    }
+}
+
+// Whether an inserted delete serves something, or an inserted write of the document.
+fn serves(walk: &mut Walk, delete: bool) -> bool {
+    let document = walk.standing.document;
+    if let Document::Known(at) = document {
+        if walk.first(Kind::ConflictOn(at)).is_some() {
+            return true;
+        }
+    }
+    if delete != document.is_live() {
+        return false;
+    }
+    let waiting = if delete {
+        Kind::Missing
+    } else {
+        Kind::CreateConflict
+    };
+    walk.first(waiting).is_some() || next_misses(walk)
+}
+
+// Whether a write may be inserted before the next known pair: there is a number for it, and the next write does not ask
+// for the very pair that is present.
+fn may_insert(walk: &Walk) -> bool {
+    if walk.room() == 0 || walk.standing.inserted >= walk.standing.budget {
+        return false;
+    }
+    match next_writer(walk) {
+        Some(found) => condition(found.op).is_none(),
+        None => true,
+    }
+}
+
+// An unanswered write to insert, a delete or a write of the document.
+fn inserted(walk: &mut Walk, delete: bool) -> Option<usize> {
+    if !may_insert(walk) || !serves(walk, delete) {
+        return None;
+    }
+    if delete {
+        lost_delete(walk)
+    } else {
+        lost_index(walk)
+    }
+}
+
+// A create's conflict that was placed as refused, to be performed here, and how many to leave out then.
+fn turn_back(walk: &mut Walk, from: usize) -> Option<(usize, usize)> {
+    let is_asked = walk.reading == Conflicts::Maybe
+        && !walk.standing.document.is_live()
+        && may_insert(walk)
+        && serves(walk, false);
+    if is_asked { turned(walk, from) } else { None }
+}
+
+// The write that is tried at a turn, where there is one, and the next turn.
+fn tried(walk: &mut Walk, turn: Turn) -> (Option<Placed>, Turn) {
+    match turn {
+        Turn::Next(from) => match next_known(walk, from) {
+            Some((rec, next)) => (
+                Some(Placed::Known(rec, walk.standing.passed)),
+                Turn::Next(next),
+            ),
+            None => (None, Turn::Delete),
+        },
+        Turn::Delete => (inserted(walk, true).map(Placed::Inserted), Turn::Index),
+        Turn::Index => (
+            inserted(walk, false).map(Placed::Inserted),
+            Turn::Conflict(0),
+        ),
+        Turn::Conflict(from) => match conflict(walk, from, true) {
+            Some((reply_at, rec)) if may_insert(walk) => (
+                Some(Placed::Inserted(rec)),
+                Turn::Conflict(reply_at.saturating_add(1)),
+            ),
+            _ => (None, Turn::Turned(0)),
+        },
+        Turn::Turned(from) => match turn_back(walk, from) {
+            Some((rec, next)) => (Some(Placed::Turned(rec)), Turn::Turned(next)),
+            None => (None, Turn::Done),
+        },
+        Turn::Done => (None, Turn::Done),
+    }
+}
+
+/// The next write to try at a place, where one is left. The turn goes on.
+pub fn next_write(walk: &mut Walk, turn: &mut Turn) -> Option<Placed> {
+    for _ in 0..5 {
+        let (write, next) = tried(walk, *turn);
+        *turn = next;
+        if write.is_some() {
+            return write;
+        }
+    }
+    None
+}
+
+/// Whether nothing can come of the place: a get found the present pair and can't be placed, or the next write is on
+/// condition of a pair that is gone.
+pub fn is_lost(walk: &mut Walk) -> bool {
+    if let Document::Known(at) = walk.standing.document {
+        if walk
+            .lines
+            .first(Kind::Found(at), &walk.placed, usize::MAX)
+            .is_some()
+        {
+            return true;
+        }
+    }
+    match next_writer(walk) {
+        Some(found) => condition(found.op).is_some() && !fits(walk, found),
+        None => false,
+    }
+}

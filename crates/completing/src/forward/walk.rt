@@ -1,0 +1,348 @@
+use crate::forward::free::rooms;
+use crate::forward::kind::{Kind, kinds_of};
+use crate::forward::known::KnownPairs;
+use crate::forward::lines::Lines;
+use crate::forward::numbers::Numbers;
+use crate::forward::standing::{Document, Standing, mark_of, mixed};
+use crate::rules::by_number::number_of;
+use crate::rules::link::leaves_it;
+use crate::rules::queue::is_left;
+use doc_register::Conflicts;
+use history::Rec;
+use std::alloc::Global;
+use version_pair::{NoMemory, Pair};
+
+/// A record that was placed.
+#[derive(Clone, Copy)]
+pub enum Placed {
+    /// It reads, or is refused.
+    Read(usize),
+    /// A write with the known pair.
+    Known(usize, usize),
+    /// A write with a pair that nothing names.
+    Inserted(usize),
+    /// Such a write, which was placed before as one that is refused.
+    Turned(usize),
+}
+
+impl Placed {
+    /// The record.
+    pub fn rec(self) -> usize {
+        match self {
+            Placed::Read(rec)
+            | Placed::Known(rec, _)
+            | Placed::Inserted(rec)
+            | Placed::Turned(rec) => rec,
+        }
+    }
+}
+
+/// A walk forward in time over a document's records.
+#[derive(Drop)]
+pub struct Walk<'a> {
+    pub records: &'a [Rec],
+    pub reading: Conflicts,
+    pub known: KnownPairs,
+    pub numbers: Numbers,
+    pub lines: Lines,
+    kinds: Vec<Option<Kind>>,
+    // Before each known pair how many writes may be inserted.
+    rooms: Vec<u64>,
+    // The answered records by place of reply.
+    replies: Vec<(usize, usize)>,
+    // The conflicts on pairs by place of call.
+    conflicts: Vec<(usize, usize)>,
+    pub placed: Vec<bool>,
+    // The conflicts that were placed as refused and are writes after all.
+    turned: Vec<bool>,
+    pub order: Vec<Placed>,
+    pub standing: Standing,
+    /// How many records were placed, those included that were taken back.
+    pub steps: usize,
+}
+
+// The answered records by place of reply.
+fn by_reply(alloc: Global, records: &[Rec]) -> Result<Vec<(usize, usize)>, NoMemory> {
+    let mut replies = Vec::new(alloc);
+    for rec in 0..records.len() {
+        if let Some(heard) = records[rec].heard {
+            replies.push((heard.0, rec))?;
+        }
+    }
+    replies.sort_unstable();
+    Ok(replies)
+}
+
+// The conflicts on pairs by place of call.
+fn conflicts_by_call(
+    alloc: Global,
+    records: &[Rec],
+    kinds: &[Option<Kind>],
+) -> Result<Vec<(usize, usize)>, NoMemory> {
+    let mut conflicts = Vec::new(alloc);
+    for rec in 0..records.len() {
+        match kinds.get(rec) {
+            Some(Some(kind)) if kind.is_conflict_on_pair() => {
+                conflicts.push((records[rec].call_at, rec))?;
+            }
+            _ => {}
+        }
+    }
+    conflicts.sort_unstable();
+    Ok(conflicts)
+}
+
+// Sets a mark of a record.
+fn set(marks: &mut [bool], rec: usize, to: bool) {
+    if let Some(mark) = marks.get_mut(rec) {
+        *mark = to;
+    }
+}
+
+impl Walk<'_> {
+    /// A walk before its first step. `None` where the records speak against each other.
+    pub fn of<'a>(
+        alloc: Global,
+        records: &'a [Rec],
+        reading: Conflicts,
+        used: &[Pair],
+    ) -> Result<Option<Walk<'a>>, NoMemory> {
+        let numbers = Numbers::of(alloc, records, reading)?;
+        let Some(known) = KnownPairs::of(alloc, records, &numbers)? else {
+            return Ok(None);
+        };
+        let kinds = kinds_of(alloc, records, &known, &numbers)?;
+        let rooms = rooms(alloc, &known, used)?;
+        Ok(Some(Walk {
+            records,
+            reading,
+            lines: Lines::of(alloc, records, &kinds, known.len())?,
+            replies: by_reply(alloc, records)?,
+            conflicts: conflicts_by_call(alloc, records, &kinds)?,
+            placed: vec![in alloc; false; records.len()]?,
+            turned: vec![in alloc; false; records.len()]?,
+            order: Vec::new(alloc),
+            standing: Standing::start(),
+            steps: 0,
+            known,
+            numbers,
+            kinds,
+            rooms,
+        }))
+    }
+
+    /// The record with the number.
+    pub fn record(&self, rec: usize) -> Option<Rec> {
+        self.records.get(rec).copied()
+    }
+
+    /// The least reply of the answered records that are left: what is placed has to be called before it.
+    pub fn limit(&self) -> usize {
+        match self.replies.get(self.standing.replies) {
+            Some(entry) => entry.0,
+            None => usize::MAX,
+        }
+    }
+
+    /// Whether all answered records are placed.
+    pub fn is_done(&self) -> bool {
+        self.standing.replies >= self.replies.len()
+    }
+
+    /// Whether the record is left and may be placed.
+    pub fn may_be_placed(&self, rec: usize) -> bool {
+        match self.record(rec) {
+            Some(found) => is_left(&self.placed, rec) && found.call_at < self.limit(),
+            None => false,
+        }
+    }
+
+    /// The first record of the kind that may be placed.
+    pub fn first(&mut self, kind: Kind) -> Option<usize> {
+        let limit = self.limit();
+        self.lines.first(kind, &self.placed, limit)
+    }
+
+    /// How many writes may be inserted before the next known pair.
+    pub fn room(&self) -> u64 {
+        match self.rooms.get(self.standing.passed) {
+            Some(room) => room.saturating_sub(self.standing.inserted),
+            None => 0,
+        }
+    }
+
+    // Passes over the replies of what is placed.
+    fn pass_replies(&mut self) {
+        for i in self.standing.replies..self.replies.len() {
+            match self.replies.get(i) {
+                Some((_, rec)) if !is_left(&self.placed, *rec) => {
+                    self.standing.replies = i.saturating_add(1);
+                }
+                _ => return,
+            }
+        }
+    }
+
+    // Places a record.
+    fn place(&mut self, placed: Placed) -> Result<(), NoMemory> {
+        self.order.push(placed)?;
+        self.set(placed, true);
+        self.steps = self.steps.saturating_add(1);
+        self.standing.mark ^= self.mark(placed);
+        if let Some(found) = self.record(placed.rec()) {
+            self.standing.latest = self.standing.latest.max(found.call_at);
+        }
+        Ok(())
+    }
+
+    // What a placed record adds to the mark of the standing. An unanswered write on condition of a pair adds nothing: it
+    // is of no use behind that pair.
+    fn mark(&self, placed: Placed) -> u64 {
+        let rec = placed.rec();
+        match (placed, self.kinds.get(rec)) {
+            (Placed::Turned(_), _) => mixed(mark_of(rec)),
+            (_, Some(Some(Kind::LostDeleteOn(_) | Kind::LostIndexOn(_)))) => 0,
+            _ => mark_of(rec),
+        }
+    }
+
+    // Notes that a record is placed, or is not.
+    fn set(&mut self, placed: Placed, is_placed: bool) {
+        if let Placed::Turned(rec) = placed {
+            set(&mut self.turned, rec, is_placed);
+        } else {
+            set(&mut self.placed, placed.rec(), is_placed);
+        }
+    }
+
+    // Places the records of a kind that may be placed, as reads.
+    fn place_all(&mut self, kind: Kind) -> Result<(), NoMemory> {
+        for _ in 0..self.records.len() {
+            match self.first(kind) {
+                Some(rec) => self.place(Placed::Read(rec))?,
+                None => return Ok(()),
+            }
+        }
+        Ok(())
+    }
+
+    // Whether the record is a conflict on the pair that the document has.
+    fn is_on_present(&self, rec: usize) -> bool {
+        match (self.kinds.get(rec), self.standing.document) {
+            (Some(Some(Kind::ConflictOn(at))), Document::Known(present)) => *at == present,
+            _ => false,
+        }
+    }
+
+    // Places the conflicts on other pairs than the document has that were not met before.
+    fn place_conflicts(&mut self) -> Result<(), NoMemory> {
+        let limit = self.limit();
+        for i in self.standing.conflicts..self.conflicts.len() {
+            match self.conflicts.get(i).copied() {
+                Some((call_at, rec)) if call_at < limit => {
+                    self.standing.conflicts = i.saturating_add(1);
+                    if is_left(&self.placed, rec) && !self.is_on_present(rec) {
+                        self.place(Placed::Read(rec))?;
+                    }
+                }
+                _ => return Ok(()),
+            }
+        }
+        Ok(())
+    }
+
+    // Places what the document allows.
+    fn place_allowed(&mut self) -> Result<(), NoMemory> {
+        self.pass_replies();
+        match self.standing.document {
+            Document::Absent => self.place_all(Kind::Missing)?,
+            Document::Known(at) => {
+                self.place_all(Kind::Found(at))?;
+                self.place_all(Kind::CreateConflict)?;
+            }
+            Document::Invented => self.place_all(Kind::CreateConflict)?,
+        }
+        self.place_conflicts()
+    }
+
+    /// Places each read, and each conflict as one that was refused, that may be placed.
+    pub fn place_reads(&mut self) -> Result<(), NoMemory> {
+        for _ in 0..self.records.len().saturating_add(1) {
+            let before = self.order.len();
+            self.place_allowed()?;
+            if self.order.len() == before {
+                return Ok(());
+            }
+        }
+        Ok(())
+    }
+
+    // The document after the write.
+    fn after(&self, write: Placed) -> Document {
+        match (self.record(write.rec()), write) {
+            (Some(found), Placed::Known(_, at)) if leaves_it(found.op) => Document::Known(at),
+            (Some(found), Placed::Inserted(_) | Placed::Turned(_)) if leaves_it(found.op) => {
+                Document::Invented
+            }
+            _ => Document::Absent,
+        }
+    }
+
+    /// Performs a write, and places what waits for the end of the pair before it.
+    pub fn perform(&mut self, write: Placed) -> Result<(), NoMemory> {
+        let before = self.standing.document;
+        self.place(write)?;
+        self.standing.document = self.after(write);
+        match write {
+            Placed::Known(_, at) => {
+                self.standing.passed = at.saturating_add(1);
+                self.standing.inserted = 0;
+                self.standing.budget = 0;
+            }
+            _ => self.standing.inserted = self.standing.inserted.saturating_add(1),
+        }
+        self.pass_replies();
+        if let Document::Known(at) = before {
+            self.place_all(Kind::ConflictOn(at))?;
+        }
+        Ok(())
+    }
+
+    /// Takes back what was placed since: the standing then, and how many records were placed.
+    pub fn take_back(&mut self, standing: Standing, placed: usize) {
+        for _ in placed..self.order.len() {
+            if let Some(last) = self.order.pop() {
+                self.set(last, false);
+                self.put_back(last.rec());
+            }
+        }
+        self.standing = standing;
+    }
+
+    // Puts a record back where it waits.
+    fn put_back(&mut self, rec: usize) {
+        let Some(found) = self.record(rec) else {
+            return;
+        };
+        if let Some(Some(kind)) = self.kinds.get(rec) {
+            self.lines.put_back(*kind, found.call_at, rec);
+        }
+        if let Some(k) = number_of(found, self.reading) {
+            self.numbers.put_back(k, found.call_at, rec);
+        }
+    }
+
+    /// Whether the record is a create's conflict that was placed as one that is refused, and can stand here as well.
+    pub fn may_turn(&self, rec: usize) -> bool {
+        let is_create = self.kinds.get(rec) == Some(&Some(Kind::CreateConflict));
+        match self.record(rec) {
+            Some(found) => match found.heard {
+                Some(heard) => {
+                    is_create && is_left(&self.turned, rec) && self.standing.latest < heard.0
+                }
+                None => false,
+            },
+            None => false,
+        }
+    }
+}

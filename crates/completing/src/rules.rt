@@ -1,0 +1,50 @@
+use crate::rules::lost::Lost;
+use crate::rules::named::named_chain;
+use crate::rules::numbers::numbered;
+use crate::rules::round::{Round, next_round};
+use doc_register::Conflicts;
+use history::{Rec, Seen};
+use std::alloc::Global;
+use version_pair::{NoMemory, Pair};
+use witness::Place;
+
+pub mod asking;
+pub mod by_number;
+pub mod flags;
+pub mod link;
+pub mod lost;
+pub mod named;
+pub mod named_pairs;
+pub mod numbers;
+pub mod performing;
+pub mod plan;
+pub mod queue;
+pub mod refused;
+pub mod room;
+pub mod round;
+pub mod stand;
+
+/// An order that completes unanswered writes, by rules: first the pairs that are named get their writes; then, in
+/// rounds, the flags that do not fit ask for writes, then the calls that find no stretch, and then the conflicts that
+/// nothing refuses become writes. `None` where a rule finds no write to take. What is found is a guess, to be checked.
+pub fn completed(
+    alloc: Global,
+    records: &[Rec],
+    seen: Seen,
+    conflicts: Conflicts,
+) -> Result<Option<Vec<Place>>, NoMemory> {
+    let mut lost = Lost::of(alloc, records)?;
+    let Some(mut links) = named_chain(alloc, records, &mut lost, conflicts)? else {
+        return Ok(None);
+    };
+    for _ in 0..records.len().saturating_add(1) {
+        match next_round(alloc, records, links, &mut lost, conflicts)? {
+            Round::More(more) => links = more,
+            Round::Done(links, stretches) => {
+                return numbered(alloc, records, &links, &stretches, seen);
+            }
+            Round::Stuck => return Ok(None),
+        }
+    }
+    Ok(None)
+}

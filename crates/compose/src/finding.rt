@@ -1,0 +1,22 @@
+use crate::case::Case;
+use crate::offence::Offence;
+use crate::proof::Proof;
+use evidence::Refuted;
+
+/// What is told of a history for which no order was found.
+#[derive(Clone, Copy, Debug, PartialEq, Eq)]
+pub struct Failing {
+    /// The evidence that there is none, where some was found.
+    pub evidence: Option<Refuted>,
+    /// The reply at which the search first fails.
+    pub offence: Offence,
+}
+
+/// What was found of a history.
+#[derive(Debug, Drop)]
+pub enum Finding {
+    /// An order that explains it.
+    Explained(Proof),
+    /// None.
+    Unexplained(Case, Failing),
+}

@@ -1,6 +1,0 @@
-use Rattle.std.proofs.Common.{◌≡◌, ◌++◌, drop}
-use Rattle.doc_check.specs.aids.Chain.{performed_records}
-use Rattle.doc_check.proofs.chain.performed.Given as goal
-
-abbrev pub invariant-loop-k : goal.invariant-loop-k
-invariant-loop-k l = l.links.items ++ performed_records l.k (drop l.k l.records) ≡ performed_records 0 l.records

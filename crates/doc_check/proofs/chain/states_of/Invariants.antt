@@ -1,7 +1,0 @@
-use Rattle.std.proofs.Common.{◌≡◌, ◌∷◌, map, take}
-use Rattle.doc_register.specs.declared.state.DocState.TheVariants.{Never}
-use Rattle.doc_check.specs.aids.Chain.{after_link}
-use Rattle.doc_check.proofs.chain.states_of.Given as goal
-
-abbrev pub invariant-loop-link : goal.invariant-loop-link
-invariant-loop-link l = l.states.items ≡ Never ∷ map (after_link l.records) (take l.link-index l.chain)

@@ -1,0 +1,293 @@
+-- Evidence that holds in a history leaves it no order.
+use Rattle.std.proofs.Common.{ℕ, ◌≡◌, ◌<◌, ◌⊎◌, inl, inr, List, refl, sym, ap, subst, ◌∙◌, arith, Option, Some, None, option_and_then, slice_get}
+use Rattle.std.proofs.lemmas.Bool.{cases_lt}
+use Rattle.version_pair.specs.declared.pair.Pair.{Pair}
+use Rattle.version_pair.specs.PairOrder.{IsBelow}
+use Rattle.doc_register.specs.declared.op.Op.{Op}
+use Rattle.doc_register.specs.declared.op.Op.TheVariants.{Get, Index, Delete, Create}
+use Rattle.doc_register.specs.declared.reply.Reply.{Reply as Answer}
+use Rattle.doc_register.specs.declared.reply.Reply.TheVariants.{Indexed, Deleted, Found, Missing, Conflict}
+use Rattle.doc_register.specs.declared.state.Conflicts.{Conflicts}
+use Rattle.doc_register.specs.declared.state.Conflicts.TheVariants.{Plain, Maybe}
+use Rattle.doc_register.specs.declared.state.DocState.{DocState}
+use Rattle.doc_register.specs.declared.state.DocState.TheVariants.{Never, Gone, Here}
+use Rattle.doc_register.specs.Register.{DocStep, HasPair, Performs, shown}
+use Rattle.doc_register.specs.Run.{Entry, IsLegalRun, pair_taken, start, taken, taken_at}
+use Rattle.doc_register.proofs.RunLemmas.{AtMost, below_new, not_below_itself, step_kind, taken_of}
+use Rattle.doc_register.proofs.RunLaws.{no_pair_twice, pair_performs}
+use Rattle.history.specs.declared.event.Event.{Event}
+use Rattle.history.specs.declared.event.Event.TheVariants.{Call, Reply}
+use Rattle.history.specs.Events.{IsCallAt, IsHistory, PassesAt, Precedes, heard_of, is_call}
+use Rattle.history.specs.Order.{Explains, IsLinearizable, IsOfCall, Placed, run_of}
+use Rattle.history.proofs.HistoryLemmas.{call_passes}
+use Rattle.history.proofs.ListLemmas.{none_is_not_some, same_some}
+use Rattle.evidence.specs.Taking.{taken_by}
+use Rattle.evidence.specs.Evidence.{EvidenceRefutes, HasNoWriter, IsPairTwice, IsPerformed, IsStaleGet, IsStaleSwap, MayTake, condition_of, number_given}
+use Rattle.evidence.specs.declared.refuted.Refuted.TheVariants as evidence
+use Rattle.evidence.proofs.EarlierSteps.{GivesNumber, IsGivenBefore, StepsAbove, above_taken, steps_from}
+use Rattle.evidence.proofs.FilterLemmas.{mapped_at, mapped_from}
+use Rattle.evidence.proofs.CallsByNumber.{same_shard}
+use Rattle.evidence.proofs.HeardLemmas.{heard_is_reply, same_call}
+
+-- ---- answered calls in an order
+
+-- where an answered call stands in an order
+record IsPlaced (order : List Placed) (n h : ℕ) (d : List ℕ) (op : Op) (r : Answer) : Type 0 where
+  pub place : ℕ
+  pub placed : Placed
+  pub at : slice_get order place ≡ Some placed
+  pub number : placed.no ≡ n
+  pub shard : placed.entry.shard ≡ h
+  pub doc : placed.entry.doc ≡ d
+  pub operation : placed.entry.op ≡ op
+  pub reply : placed.entry.reply ≡ r
+  pub entry : slice_get (run_of order) place ≡ Some placed.entry
+
+-- an answered call stands in each order that explains the history
+placed : (mode : Conflicts) (events : List Event) (order : List Placed) → IsHistory events → Explains mode events order
+    → (i n h y : ℕ) (d : List ℕ) (op : Op) (r : Answer) → IsCallAt events i n h d op → heard_of events n ≡ Some (y, r) → IsPlaced order n h d op r
+placed mode events order history explains i n h y d op r call heard =
+    let x = explains.is_order.answered y n r (heard_is_reply events history i n h d op call y r heard) in
+    let of : IsOfCall events x.1 = explains.is_order.calls x.0 x.1 x.2 in
+    let place : of.0 ≡ i = history.called_once n of.0 i
+    (subst (λ m. PassesAt (is_call m) events of.0) x.3 (call_passes events of.0 x.1.no x.1.entry.shard x.1.entry.doc x.1.entry.op of.1))
+    (call_passes events i n h d op call) in
+    let moved : IsCallAt events i x.1.no x.1.entry.shard x.1.entry.doc x.1.entry.op = subst (λ c. IsCallAt events c x.1.no x.1.entry.shard x.1.entry.doc x.1.entry.op) place of.1 in
+    let same = same_call events i x.1.no n x.1.entry.shard h x.1.entry.doc d x.1.entry.op op moved call in
+    record {
+      place = x.0;
+      placed = x.1;
+      at = x.2;
+      number = x.3;
+      shard = same_shard events i x.1.no n x.1.entry.shard h x.1.entry.doc d x.1.entry.op op moved call;
+      doc = same.1;
+      operation = same.2;
+      reply = x.4;
+      entry = mapped_at (λ (p : Placed). p.entry) order x.0 x.1 x.2;
+    }
+
+-- ---- performed calls in an order
+
+-- what was heard shows a pair, whatever the entry hides
+shown_taken : (r : Answer) (h : Option Pair) (q : Pair) → pair_taken r None ≡ Some q → pair_taken r h ≡ Some q
+shown_taken (Indexed p created) h q is = is
+shown_taken (Deleted p found) h q is = is
+shown_taken (Found p k) h q is = absurd (none_is_not_some q is)
+shown_taken Missing h q is = absurd (none_is_not_some q is)
+shown_taken Conflict h q is = absurd (none_is_not_some q is)
+
+shown_heard : (heard : Option (ℕ × Answer)) (q : Pair) → taken_by heard None ≡ Some q → (y : ℕ) × (r : Answer) × (heard ≡ Some (y, r)) × (pair_taken r None ≡ Some q)
+shown_heard None q is = absurd (none_is_not_some q is)
+shown_heard (Some (y, r)) q is = (y, r, refl, is)
+
+-- where a performed call stands in an order
+record IsPlacedWith (order : List Placed) (n h : ℕ) (d : List ℕ) (op : Op) (q : Pair) : Type 0 where
+  pub reply : Answer
+  pub own : IsPlaced order n h d op reply
+  pub takes : pair_taken own.placed.entry.reply own.placed.entry.hidden ≡ Some q
+  pub shows : pair_taken reply None ≡ Some q
+
+placed_with : (mode : Conflicts) (events : List Event) (order : List Placed) → IsHistory events → Explains mode events order
+    → (n : ℕ) (d : List ℕ) (q : Pair) (w : IsPerformed events n d q) → IsPlacedWith order n w.shard d w.op q
+placed_with mode events order history explains n d q w =
+    let heard = shown_heard (heard_of events n) q w.shows in
+    let own = placed mode events order history explains w.called n w.shard heard.0 d w.op heard.1 w.call heard.2 in
+    record {
+      reply = heard.1;
+      own = own;
+      takes = ap (λ r. pair_taken r own.placed.entry.hidden) own.reply ∙ shown_taken heard.1 own.placed.entry.hidden q heard.3;
+      shows = heard.3;
+    }
+
+-- ---- a pair twice
+
+pair_twice : (mode : Conflicts) (events : List Event) (a b : ℕ) → IsHistory events → IsPairTwice events a b → ¬ IsLinearizable mode events
+pair_twice mode events a b history twice (order, explains) =
+    let one = placed_with mode events order history explains a twice.doc twice.pair twice.one in
+    let two = placed_with mode events order history explains b twice.other twice.pair twice.two in
+    let q : ℕ × Pair = (twice.one.shard, twice.pair) in
+    let same : one.own.place ≡ two.own.place = no_pair_twice (run_of order) explains.legal one.own.place two.own.place q
+    (takes_at order one.own.place one.own.placed.entry twice.one.shard twice.pair one.own.entry one.own.shard one.takes)
+    (takes_at order two.own.place two.own.placed.entry twice.one.shard twice.pair two.own.entry (two.own.shard ∙ sym twice.same_shard) two.takes) in
+    let call : one.own.placed ≡ two.own.placed = same_some one.own.placed two.own.placed (sym one.own.at ∙ (ap (slice_get order) same ∙ two.own.at)) in
+    twice.apart (sym one.own.number ∙ (ap (λ (p : Placed). p.no) call ∙ two.own.number)) where
+      takes_at : (order : List Placed) (i : ℕ) (e : Entry) (h : ℕ) (q : Pair) → slice_get (run_of order) i ≡ Some e → e.shard ≡ h → pair_taken e.reply e.hidden ≡ Some q
+          → taken_at (run_of order) i ≡ Some (h, q)
+      takes_at order i e h q at shard takes =
+          ap (λ o. option_and_then taken o) at ∙ (taken_of e (Some q) takes ∙ ap (λ g. Some (g, q)) shard)
+
+-- ---- a stale get
+
+-- a get that finds a pair stands where the document has it
+found_has : (x : DocState) (op : Op) (h : Option Pair) (y : DocState) (p : Pair) (k : ℕ) → DocStep x op (Found p k) h y → x ≡ Here p k
+found_has x Get h y p k step = by_state x step.0 where
+  by_state : (x : DocState) → Found p k ≡ shown x → x ≡ Here p k
+  by_state Never is = let impossible : Found p k ≡ Missing = is in absurd (cc)
+  by_state (Gone q) is = let impossible : Found p k ≡ Missing = is in absurd (cc)
+  by_state (Here q n) is = let same : Found p k ≡ Found q n = is in let one : p ≡ q = cc in let two : k ≡ n = cc in cc
+found_has x (Index n c) h y p k step = absurd step
+found_has x (Delete c) h y p k step = absurd step
+found_has x (Create n) h y p k step = absurd step
+
+-- two pairs are not each below the other
+not_both : (p q : Pair) → IsBelow p q → IsBelow q p → ⊥
+not_both p q below above = not_below_itself p (below_new p p (Here q 0) (inr below) above)
+
+-- no pair below one that the document has at least is its pair
+not_lower : (p q : Pair) (x : DocState) → AtMost q x → HasPair x p → IsBelow p q → ⊥
+not_lower p q Never most has below = absurd most
+not_lower p q (Gone r) most has below = absurd has
+not_lower p q (Here r k) (inl same) has below = not_below_itself p (subst (IsBelow p) (same ∙ has) below)
+not_lower p q (Here r k) (inr above) has below = not_both p q below (subst (IsBelow q) has above)
+
+-- where one call precedes another that is placed, it stands first
+stale_get : (mode : Conflicts) (events : List Event) (g w : ℕ) → IsHistory events → IsStaleGet events g w → ¬ IsLinearizable mode events
+stale_get mode events g w history stale (order, explains) =
+    let get = placed mode events order history explains stale.get.called g stale.get.shard stale.replied stale.doc stale.get.op (Found stale.found stale.number) stale.get.call stale.get.heard in
+    let write = placed_with mode events order history explains w stale.doc stale.pair stale.write in
+    let first : write.own.place < get.place =
+    explains.respects write.own.place get.place write.own.placed get.placed write.own.at get.at
+    (subst (λ n. Precedes events n get.placed.no) (sym write.own.number) (subst (λ n. Precedes events w n) (sym get.number) stale.first)) in
+    let above = above_taken (run_of order) start explains.legal.0 explains.legal.1 write.own.place get.place write.own.placed.entry get.placed.entry stale.pair first
+    write.own.entry get.entry (write.own.doc ∙ sym get.doc) write.takes in
+    let here = found_has above.before get.placed.entry.op get.placed.entry.hidden above.after stale.found stale.number
+    (subst (λ r. DocStep above.before get.placed.entry.op r get.placed.entry.hidden above.after) get.reply above.step) in
+    not_lower stale.found stale.pair above.before above.most (subst (λ x. HasPair x stale.found) (sym here) refl) stale.below
+
+-- ---- a stale swap
+
+-- a performed write with a condition stands where the document has just the pair that it asks for
+meets : (x : DocState) (op : Op) (q : Pair) (y : DocState) (c : Pair) → Performs x op q y → condition_of op ≡ Some c → HasPair x c
+meets x Get q y c w is = absurd (none_is_not_some c is)
+meets x (Index k None) q y c w is = absurd (none_is_not_some c is)
+meets x (Index k (Some b)) q y c w is = subst (HasPair x) (same_some b c is) w.allowed
+meets x (Delete None) q y c w is = absurd (none_is_not_some c is)
+meets x (Delete (Some b)) q y c w is = subst (HasPair x) (same_some b c is) w.allowed
+meets x (Create k) q y c w is = absurd (none_is_not_some c is)
+
+-- of two performed writes of one document that which stands first has the lesser pair
+lesser_first : (order : List Placed) (a b h g : ℕ) (d : List ℕ) (op o : Op) (q r : Pair) → IsLegalRun (run_of order) → (one : IsPlacedWith order a h d op q) (two : IsPlacedWith order b g d o r)
+    → two.own.place < one.own.place → IsBelow r q
+lesser_first order a b h g d op o q r legal one two before =
+    let above = above_taken (run_of order) start legal.0 legal.1 two.own.place one.own.place two.own.placed.entry one.own.placed.entry r before
+    two.own.entry one.own.entry (two.own.doc ∙ sym one.own.doc) two.takes in
+    below_new r q above.before above.most (performed one.own.placed.entry above q one.takes).rises where
+      performed : (e : Entry) (s : StepsAbove r e) (q : Pair) → pair_taken e.reply e.hidden ≡ Some q → Performs s.before e.op q s.after
+      performed e s q is = pair_performs s.before e s.after q is (step_kind s.before e.op e.reply e.hidden s.after s.step)
+
+stale_swap : (mode : Conflicts) (events : List Event) (a b : ℕ) → IsHistory events → IsStaleSwap events a b → ¬ IsLinearizable mode events
+stale_swap mode events a b history stale (order, explains) =
+    let one = placed_with mode events order history explains a stale.doc stale.pair stale.one in
+    let two = placed_with mode events order history explains b stale.doc stale.later stale.two in
+    let first : one.own.place < two.own.place = in_order one two stale.first in
+    let above = above_taken (run_of order) start explains.legal.0 explains.legal.1 one.own.place two.own.place one.own.placed.entry two.own.placed.entry stale.pair first
+    one.own.entry two.own.entry (one.own.doc ∙ sym two.own.doc) one.takes in
+    let performs = pair_performs above.before two.own.placed.entry above.after stale.later two.takes
+    (step_kind above.before two.own.placed.entry.op two.own.placed.entry.reply two.own.placed.entry.hidden above.after above.step) in
+    not_lower stale.condition stale.pair above.before above.most
+    (meets above.before two.own.placed.entry.op stale.later above.after stale.condition performs (ap condition_of two.own.operation ∙ stale.asks)) stale.below where
+      in_order : (one : IsPlacedWith order a stale.one.shard stale.doc stale.one.op stale.pair) (two : IsPlacedWith order b stale.two.shard stale.doc stale.two.op stale.later)
+          → Precedes events a b ⊎ IsBelow stale.pair stale.later → one.own.place < two.own.place
+      in_order one two (inl precedes) =
+          explains.respects one.own.place two.own.place one.own.placed two.own.placed one.own.at two.own.at
+          (subst (λ n. Precedes events n two.own.placed.no) (sym one.own.number) (subst (λ n. Precedes events a n) (sym two.own.number) precedes))
+      in_order one two (inr below) =
+          elim (cases_lt one.own.place two.own.place) as (λ _. one.own.place < two.own.place) [
+            | inl less ↦ less
+            | inr other ↦ elim (cases_lt two.own.place one.own.place) as (λ _. one.own.place < two.own.place) [
+              | inl more ↦ absurd (not_both stale.pair stale.later below
+                  (lesser_first order a b stale.one.shard stale.two.shard stale.doc stale.one.op stale.two.op stale.pair stale.later explains.legal one two more))
+              | inr under ↦ (let same : one.own.place ≡ two.own.place = omega arith in
+                  let call : one.own.placed ≡ two.own.placed = same_some one.own.placed two.own.placed (sym one.own.at ∙ (ap (slice_get order) same ∙ two.own.at)) in
+                  absurd (stale.apart (sym one.own.number ∙ (ap (λ (p : Placed). p.no) call ∙ two.own.number))))
+            ]
+          ]
+
+-- ---- no writer
+
+-- what is heard of a call that gave a number with a pair allows that it did
+may_take : (mode : Conflicts) (heard : Option (ℕ × Answer)) (e : Entry) (p : Pair) (k : ℕ) → GivesNumber p k e → (mode ≡ Plain → e.hidden ≡ None)
+    → ((y : ℕ) (r : Answer) → heard ≡ Some (y, r) → e.reply ≡ r) → MayTake mode heard p
+may_take mode None e p k gives plain told = tt
+may_take mode (Some (y, r)) e p k gives plain told = by_reply (told y r refl) gives.takes where
+  by_mode : (m : Conflicts) → mode ≡ m → e.hidden ≡ Some p → mode ≡ Maybe
+  by_mode Plain is hides = absurd (none_is_not_some p (sym (plain is) ∙ hides))
+  by_mode Maybe is hides = is
+
+  by_reply : e.reply ≡ r → ((created : _) × (e.reply ≡ Indexed p created)) ⊎ ((e.reply ≡ Conflict) × (e.hidden ≡ Some p)) → MayTake mode (Some (y, r)) p
+  by_reply same (inl shows) = subst (λ x. MayTake mode (Some (y, x)) p) (sym shows.1 ∙ same) refl
+  by_reply same (inr hides) = subst (λ x. MayTake mode (Some (y, x)) p) (sym hides.0 ∙ same) (by_mode mode refl hides.1)
+
+no_writer : (mode : Conflicts) (events : List Event) (g : ℕ) → IsHistory events → HasNoWriter mode events g → ¬ IsLinearizable mode events
+no_writer mode events g history evidence (order, explains) =
+    let get = placed mode events order history explains evidence.get.called g evidence.get.shard evidence.replied evidence.doc evidence.get.op (Found evidence.pair evidence.number) evidence.get.call
+    evidence.get.heard in
+    let step = steps_from (run_of order) start explains.legal.0 explains.legal.1 get.place get.placed.entry get.entry in
+    let here = found_has step.before get.placed.entry.op get.placed.entry.hidden step.after evidence.pair evidence.number
+    (subst (λ r. DocStep step.before get.placed.entry.op r get.placed.entry.hidden step.after) get.reply step.step) in
+    by_source get (step.came evidence.pair evidence.number here) where
+      -- the writer was called before the get was answered
+      in_time : (get : IsPlaced order g evidence.get.shard evidence.doc evidence.get.op (Found evidence.pair evidence.number))
+          → (given : IsGivenBefore (run_of order) get.place get.placed.entry.doc evidence.pair evidence.number) (p : Placed) → slice_get order given.place ≡ Some p → (of : IsOfCall events p)
+          → of.0 < evidence.replied
+      in_time get given p at of =
+          let reply = heard_is_reply events history evidence.get.called g evidence.get.shard evidence.doc evidence.get.op evidence.get.call evidence.replied (Found evidence.pair evidence.number)
+          evidence.get.heard in
+          let less : given.place < get.place = given.before in
+          elim (cases_lt of.0 evidence.replied) as (λ _. of.0 < evidence.replied) [
+            | inl before ↦ before
+            | inr other ↦ elim (cases_lt evidence.replied of.0) as (λ _. of.0 < evidence.replied) [
+              | inl after ↦ (let more : get.place < given.place = explains.respects get.place given.place get.placed p get.at at
+                  (subst (λ n. Precedes events n p.no) (sym get.number) (record {
+                    answered = evidence.replied;
+                    called = of.0;
+                    before = after;
+                    reply = (Found evidence.pair evidence.number, reply);
+                    call = call_passes events of.0 p.no p.entry.shard p.entry.doc p.entry.op of.1;
+                  })) in
+                  omega arith)
+              | inr under ↦ (let same : of.0 ≡ evidence.replied = omega arith in
+                  let impossible : Call p.no p.entry.shard p.entry.doc p.entry.op ≡ Reply g (Found evidence.pair evidence.number) =
+                  same_some (Call p.no p.entry.shard p.entry.doc p.entry.op) (Reply g (Found evidence.pair evidence.number)) (sym of.1 ∙ (ap (slice_get events) same ∙ reply)) in
+                  absurd (cc))
+            ]
+          ]
+
+      -- what was heard of a call of the order is its reply there
+      told : (i : ℕ) (p : Placed) → slice_get order i ≡ Some p → IsOfCall events p → (y : ℕ) (r : Answer) → heard_of events p.no ≡ Some (y, r) → p.entry.reply ≡ r
+      told i p at of y r heard =
+          let own = placed mode events order history explains of.0 p.no p.entry.shard y p.entry.doc p.entry.op r of.1 heard in
+          let same : own.place ≡ i = explains.is_order.once own.place i own.placed p own.at at own.number in
+          let call : own.placed ≡ p = same_some own.placed p (sym own.at ∙ (ap (slice_get order) same ∙ at)) in
+          ap (λ (q : Placed). q.entry.reply) (sym call) ∙ own.reply
+
+      gives : (get : IsPlaced order g evidence.get.shard evidence.doc evidence.get.op (Found evidence.pair evidence.number))
+          → IsGivenBefore (run_of order) get.place get.placed.entry.doc evidence.pair evidence.number → ⊥
+      gives get given =
+          let x = mapped_from (λ (p : Placed). p.entry) order given.place given.entry given.at in
+          let of : IsOfCall events x.0 = explains.is_order.calls given.place x.0 x.1 in
+          let doc : x.0.entry.doc ≡ evidence.doc = ap (λ (e : Entry). e.doc) x.2 ∙ (given.doc ∙ get.doc) in
+          evidence.none of.0 (record {
+            before = in_time get given x.0 x.1 of;
+            number = x.0.no;
+            shard = x.0.entry.shard;
+            op = x.0.entry.op;
+            call = subst (λ d. IsCallAt events of.0 x.0.no x.0.entry.shard d x.0.entry.op) doc of.1;
+            gives = ap (λ (e : Entry). number_given e.op) x.2 ∙ given.gives.number;
+            takes = may_take mode (heard_of events x.0.no) given.entry evidence.pair evidence.number given.gives
+                (λ is. ap (λ (e : Entry). e.hidden) (sym x.2) ∙ explains.is_order.plain is given.place x.0 x.1)
+                (λ y r heard. ap (λ (e : Entry). e.reply) (sym x.2) ∙ told given.place x.0 x.1 of y r heard);
+          })
+
+      by_source : (get : IsPlaced order g evidence.get.shard evidence.doc evidence.get.op (Found evidence.pair evidence.number))
+          → (Never ≡ Here evidence.pair evidence.number) ⊎ IsGivenBefore (run_of order) get.place get.placed.entry.doc evidence.pair evidence.number → ⊥
+      by_source get (inl never) = let impossible = never in cc
+      by_source get (inr given) = gives get given
+
+-- ---- the law
+
+pub evidence_refutes : EvidenceRefutes
+evidence_refutes mode events (evidence.PairTwice a b) history holds explained = pair_twice mode events a b history holds explained
+evidence_refutes mode events (evidence.NoWriter g) history holds explained = no_writer mode events g history holds explained
+evidence_refutes mode events (evidence.StaleGet g w) history holds explained = stale_get mode events g w history holds explained
+evidence_refutes mode events (evidence.StaleSwap a b) history holds explained = stale_swap mode events a b history holds explained

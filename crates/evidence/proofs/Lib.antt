@@ -1,0 +1,6 @@
+pub mod FilterLemmas
+pub mod HeardLemmas
+pub mod CallsByNumber
+mod EarlierSteps
+mod EvidenceLaws
+mod EvidenceLemmas

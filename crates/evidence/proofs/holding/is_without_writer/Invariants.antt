@@ -1,0 +1,8 @@
+use Rattle.std.proofs.Common.{◌<◌, List, ℕ}
+use Rattle.history.specs.Events.{PassesAt, is_call_of}
+use Rattle.evidence.specs.Evidence.{IsWriter}
+use Rattle.evidence.proofs.holding.is_without_writer.Given as goal
+
+abbrev pub invariant-loop-place : goal.invariant-loop-place
+invariant-loop-place l = (d : List ℕ) → PassesAt (is_call_of d) l.history l.get.called → (j : ℕ) → j < l.place
+    → ¬ IsWriter l.conflicts l.history d l.get.replied l.get.pair l.get.k j

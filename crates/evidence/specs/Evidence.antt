@@ -1,0 +1,135 @@
+-- Evidence in a history that no order of its calls explains it.
+use Rattle.std.specs.Prelude.{◌≡◌, ◌≢◌, ◌<◌, ◌⊎◌, ℕ, List, Option, Some, None}
+use Rattle.version_pair.specs.declared.pair.Pair.{Pair}
+use Rattle.version_pair.specs.PairOrder.{IsBelow}
+use Rattle.doc_register.specs.declared.op.Op.{Op}
+use Rattle.doc_register.specs.declared.op.Op.TheVariants.{Get, Index, Delete, Create}
+use Rattle.doc_register.specs.declared.reply.Reply.{Reply as Answer}
+use Rattle.doc_register.specs.declared.reply.Reply.TheVariants.{Indexed, Deleted, Found, Missing, Conflict}
+use Rattle.doc_register.specs.declared.state.Conflicts.{Conflicts}
+use Rattle.doc_register.specs.declared.state.Conflicts.TheVariants.{Maybe}
+use Rattle.history.specs.declared.event.Event.{Event}
+use Rattle.history.specs.Events.{IsCallAt, IsHistory, Precedes, heard_of}
+use Rattle.history.specs.Order.{IsLinearizable}
+use Rattle.evidence.specs.Taking.{taken_by}
+use Rattle.evidence.specs.declared.refuted.Refuted.{Refuted}
+use Rattle.evidence.specs.declared.refuted.Refuted.TheVariants as evidence
+
+-- ---- calls
+
+-- the pair that the reply to the call numbered n shows, where it has one that was performed
+abbrev pub pair_shown : List Event → ℕ → Option Pair
+pair_shown events n = taken_by (heard_of events n) None
+
+-- the number that a write gives its document
+abbrev pub number_given : Op → Option ℕ
+number_given Get = None
+number_given (Index k c) = Some k
+number_given (Delete c) = None
+number_given (Create k) = Some k
+
+-- the pair that a write asks its document to have
+abbrev pub condition_of : Op → Option Pair
+condition_of Get = None
+condition_of (Index k c) = c
+condition_of (Delete c) = c
+condition_of (Create k) = None
+
+-- The call numbered n is a write of the document d, and its reply shows that it was performed with the pair q.
+pub record IsPerformed (events : List Event) (n : ℕ) (d : List ℕ) (q : Pair) : Type 0 where
+  pub called : ℕ
+  pub shard : ℕ
+  pub op : Op
+  pub call : IsCallAt events called n shard d op
+  pub shows : pair_shown events n ≡ Some q
+
+-- The call numbered n is a get of the document d, and the reply at the place i shows that it found the pair p with the number k.
+pub record IsFound (events : List Event) (n : ℕ) (d : List ℕ) (i : ℕ) (p : Pair) (k : ℕ) : Type 0 where
+  pub called : ℕ
+  pub shard : ℕ
+  pub op : Op
+  pub call : IsCallAt events called n shard d op
+  pub heard : heard_of events n ≡ Some (i, Found p k)
+
+-- ---- writers
+
+-- What was heard of an index or a create allows that it took the pair p: it was answered with this pair, it is pending, or,
+-- under Maybe, it was answered with a conflict.
+abbrev pub MayTake : Conflicts → Option (ℕ × Answer) → Pair → Type 0
+MayTake mode None p = Unit {0}
+MayTake mode (Some (at, Indexed q created)) p = q ≡ p
+MayTake mode (Some (at, Deleted q found)) p = ⊥
+MayTake mode (Some (at, Found q k)) p = ⊥
+MayTake mode (Some (at, Missing)) p = ⊥
+MayTake mode (Some (at, Conflict)) p = mode ≡ Maybe
+
+-- The call at the place j, before i, is an index or a create which may have given the document d the number k with the pair p.
+pub record IsWriter (mode : Conflicts) (events : List Event) (d : List ℕ) (i : ℕ) (p : Pair) (k j : ℕ) : Type 0 where
+  pub before : j < i
+  pub number : ℕ
+  pub shard : ℕ
+  pub op : Op
+  pub call : IsCallAt events j number shard d op
+  pub gives : number_given op ≡ Some k
+  pub takes : MayTake mode (heard_of events number) p
+
+-- ---- the kinds of evidence
+
+-- different writes of one shard were performed with the same pair
+pub record IsPairTwice (events : List Event) (a b : ℕ) : Type 0 where
+  pub apart : a ≢ b
+  pub pair : Pair
+  pub doc : List ℕ
+  pub other : List ℕ
+  pub one : IsPerformed events a doc pair
+  pub two : IsPerformed events b other pair
+  pub same_shard : one.shard ≡ two.shard
+
+-- the get found a pair with a number, and no call before its reply may have given its document both
+pub record HasNoWriter (mode : Conflicts) (events : List Event) (g : ℕ) : Type 0 where
+  pub doc : List ℕ
+  pub replied : ℕ
+  pub pair : Pair
+  pub number : ℕ
+  pub get : IsFound events g doc replied pair number
+  pub none : (j : ℕ) → ¬ IsWriter mode events doc replied pair number j
+
+-- the get found a pair below that of a write of its document which precedes it
+pub record IsStaleGet (events : List Event) (g w : ℕ) : Type 0 where
+  pub doc : List ℕ
+  pub replied : ℕ
+  pub found : Pair
+  pub number : ℕ
+  pub pair : Pair
+  pub get : IsFound events g doc replied found number
+  pub write : IsPerformed events w doc pair
+  pub first : Precedes events w g
+  pub below : IsBelow found pair
+
+-- Different writes of one document were performed. The second has a condition below the first one's pair, and the first stands
+-- before it: it precedes it, or its pair is below the second one's.
+pub record IsStaleSwap (events : List Event) (a b : ℕ) : Type 0 where
+  pub apart : a ≢ b
+  pub doc : List ℕ
+  pub pair : Pair
+  pub later : Pair
+  pub condition : Pair
+  pub one : IsPerformed events a doc pair
+  pub two : IsPerformed events b doc later
+  pub asks : condition_of two.op ≡ Some condition
+  pub below : IsBelow condition pair
+  pub first : Precedes events a b ⊎ IsBelow pair later
+
+-- the evidence holds in the history, with conflicts read as told
+abbrev pub Holds : Conflicts → List Event → Refuted → Type 0
+Holds mode events (evidence.PairTwice a b) = IsPairTwice events a b
+Holds mode events (evidence.NoWriter g) = HasNoWriter mode events g
+Holds mode events (evidence.StaleGet g w) = IsStaleGet events g w
+Holds mode events (evidence.StaleSwap a b) = IsStaleSwap events a b
+
+-- ---- the law
+
+-- where evidence holds in a history, no order of its calls explains it, however its pending calls are completed
+abbrev pub EvidenceRefutes : Type 0
+EvidenceRefutes = (mode : Conflicts) (events : List Event) (told : Refuted) → IsHistory events → Holds mode events told
+    → ¬ IsLinearizable mode events

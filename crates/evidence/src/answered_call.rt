@@ -1,0 +1,112 @@
+ghost use Rattle.std.specs.Prelude.{◌≡◌, ◌<◌, ◌↔◌, IsTrue, List, None, ℕ, length};
+ghost use Rattle.doc_register.specs.Run.{pair_taken};
+ghost use Rattle.history.specs.Events.{IsHistory, PassesAt, heard_of, is_call_of};
+ghost use Rattle.evidence.specs.aids.AnsweredCalls.{IsFoundAs, IsPerformedAs};
+
+use doc_register::{Op, Reply};
+use history::{Event, History};
+use version_pair::Pair;
+
+/// A get that found its document. Places are numbers of events, from 0.
+#[derive(Clone, Copy, Debug, PartialEq, Eq)]
+pub struct FoundGet {
+    /// The place of the call.
+    pub called: usize,
+    /// The place of the reply.
+    pub replied: usize,
+    pub pair: Pair,
+    pub k: u64,
+}
+
+/// A write whose reply shows the pair with which it was performed. Places are numbers of events, from 0.
+#[derive(Clone, Copy, Debug, PartialEq, Eq)]
+pub struct PerformedWrite {
+    /// The place of the call.
+    pub called: usize,
+    /// The place of the reply.
+    pub replied: usize,
+    pub shard: u32,
+    pub op: Op,
+    pub pair: Pair,
+}
+
+/// What was heard of the call with this number: the place of its reply, and the reply.
+pub fn heard(history: &History, no: u64) -> Option<(usize, Reply)>
+    ensures { result ≡ heard_of history.now no }
+{
+    let Some(place) = history.ending(no) else {
+        return None;
+    };
+    match history.event(place) {
+        Event::Reply { reply, .. } => Some((place, *reply)),
+        Event::Call { .. } | Event::Lost { .. } => None,
+    }
+}
+
+/// The get with this number, where it found its document.
+pub fn found_get(history: &History, no: u64) -> Option<FoundGet>
+    requires { IsHistory history.now }
+    ensures { IsFoundAs history.now no result }
+{
+    let Some(called) = history.call(no) else {
+        return None;
+    };
+    match heard(history, no) {
+        Some((replied, Reply::Found { pair, k })) => Some(FoundGet {
+            called,
+            replied,
+            pair,
+            k,
+        }),
+        _ => None,
+    }
+}
+
+/// The pair that a reply shows to have been taken.
+pub fn pair_shown(reply: Reply) -> Option<Pair>
+    ensures { result ≡ pair_taken reply None }
+{
+    match reply {
+        Reply::Indexed { pair, .. } | Reply::Deleted { pair, .. } => Some(pair),
+        Reply::Found { .. } | Reply::Missing | Reply::Conflict => None,
+    }
+}
+
+/// The write with this number, where its reply shows that it was performed.
+pub fn performed_write(history: &History, no: u64) -> Option<PerformedWrite>
+    requires { IsHistory history.now }
+    ensures { IsPerformedAs history.now no result }
+{
+    let Some(called) = history.call(no) else {
+        return None;
+    };
+    let Event::Call { shard, op, .. } = history.event(called) else {
+        return None;
+    };
+    match heard(history, no) {
+        Some(answer) => match pair_shown(answer.1) {
+            Some(pair) => Some(PerformedWrite {
+                called,
+                replied: answer.0,
+                shard: *shard,
+                op: *op,
+                pair,
+            }),
+            None => None,
+        },
+        None => None,
+    }
+}
+
+/// Whether the calls at two places are of one document.
+pub fn are_of_one_document(history: &History, place: usize, other: usize) -> bool
+    requires one { place < length history.now }
+    requires two { other < length history.now }
+    ensures { (d : List ℕ) → PassesAt (is_call_of d) history.now place
+        → (IsTrue result ↔ PassesAt (is_call_of d) history.now other) }
+{
+    match (history.event(place), history.event(other)) {
+        (Event::Call { id, .. }, Event::Call { id: called, .. }) => id == called,
+        _ => false,
+    }
+}

@@ -1,0 +1,190 @@
+ghost use Rattle.std.specs.Prelude.{◌≡◌, ◌<◌, ◌≤◌, ◌↔◌, ◌⊎◌, IsTrue, List, Some, ℕ, length};
+ghost use Rattle.version_pair.specs.PairOrder.{IsBelow};
+ghost use Rattle.history.specs.Events.{IsHistory, PassesAt, is_call_of};
+ghost use Rattle.evidence.specs.Evidence.{HasNoWriter, Holds, IsPairTwice, IsStaleGet, IsStaleSwap, IsWriter, MayTake, condition_of, number_given};
+ghost use Rattle.evidence.specs.aids.AnsweredCalls.{AsksTooLittle};
+
+use crate::answered_call::{
+    FoundGet, PerformedWrite, are_of_one_document, found_get, heard, performed_write,
+};
+use crate::refuted::Refuted;
+use doc_register::{Conflicts, Op, Reply};
+use history::{Event, History};
+use version_pair::Pair;
+
+// Whether two writes are of one shard and have the same pair.
+fn take_one_pair(first: PerformedWrite, second: PerformedWrite) -> bool
+    ensures { IsTrue result ↔ ((first.shard ≡ second.shard) × (first.pair ≡ second.pair)) }
+{
+    first.shard == second.shard && first.pair == second.pair
+}
+
+// Whether two different writes of one shard were performed with the same pair.
+fn is_pair_twice(history: &History, one: u64, two: u64) -> bool
+    requires { IsHistory history.now }
+    ensures { IsTrue result ↔ IsPairTwice history.now one two }
+{
+    let Some(first) = performed_write(history, one) else {
+        return false;
+    };
+    let Some(second) = performed_write(history, two) else {
+        return false;
+    };
+    if one == two {
+        return false;
+    }
+    take_one_pair(first, second)
+}
+
+/// The number that a write gives its document.
+pub fn number_written(op: Op) -> Option<u64>
+    ensures { result ≡ number_given op }
+{
+    match op {
+        Op::Index { k, .. } | Op::Create { k } => Some(k),
+        Op::Get | Op::Delete { .. } => None,
+    }
+}
+
+// Whether what was heard of a write allows that it took the pair.
+fn may_take(conflicts: Conflicts, heard: Option<(usize, Reply)>, pair: Pair) -> bool
+    ensures { IsTrue result ↔ MayTake conflicts heard pair }
+{
+    match heard {
+        None => true,
+        Some((_, Reply::Indexed { pair: taken, .. })) => taken == pair,
+        Some((_, Reply::Conflict)) => conflicts == Conflicts::Maybe,
+        Some((_, Reply::Deleted { .. } | Reply::Found { .. } | Reply::Missing)) => false,
+    }
+}
+
+// Whether a write of which this was heard may have given its document the number with the pair that the get found.
+fn may_give(op: Op, heard: Option<(usize, Reply)>, get: FoundGet, conflicts: Conflicts) -> bool
+    ensures { IsTrue result ↔ ((number_given op ≡ Some get.k) × MayTake conflicts heard get.pair) }
+{
+    number_written(op) == Some(get.k) && may_take(conflicts, heard, get.pair)
+}
+
+// Whether the call at the place may have given the get's document the number with the pair that the get found.
+fn is_writer(history: &History, get: FoundGet, place: usize, conflicts: Conflicts) -> bool
+    requires get { get.called < length history.now }
+    requires place { place < length history.now }
+    requires before { place < get.replied }
+    ensures { (d : List ℕ) → PassesAt (is_call_of d) history.now get.called
+        → (IsTrue result ↔ IsWriter conflicts history.now d get.replied get.pair get.k place) }
+{
+    match history.event(place) {
+        Event::Call { no, op, .. } => {
+            may_give(*op, heard(history, *no), get, conflicts)
+                && are_of_one_document(history, get.called, place)
+        }
+        Event::Reply { .. } | Event::Lost { .. } => false,
+    }
+}
+
+// Whether no call before the get's reply may have given its document the number with the pair that it found.
+fn is_without_writer(history: &History, get: FoundGet, conflicts: Conflicts) -> bool
+    requires get { get.called < length history.now }
+    requires replied { get.replied ≤ length history.now }
+    ensures { (d : List ℕ) → PassesAt (is_call_of d) history.now get.called
+        → (IsTrue result ↔ ((j : ℕ) → ¬ IsWriter conflicts history.now d get.replied get.pair get.k j)) }
+{
+    for place in 0..get.replied {
+        if is_writer(history, get, place, conflicts) {
+            return false;
+        }
+    }
+    true
+}
+
+// Whether a get found a pair with a number that no call may have given its document.
+fn has_no_writer(history: &History, get: u64, conflicts: Conflicts) -> bool
+    requires { IsHistory history.now }
+    ensures { IsTrue result ↔ HasNoWriter conflicts history.now get }
+{
+    match found_get(history, get) {
+        Some(found) => is_without_writer(history, found, conflicts),
+        None => false,
+    }
+}
+
+/// Whether a write precedes a get which found a pair below the write's.
+pub fn is_overtaken(get: FoundGet, write: PerformedWrite) -> bool
+    ensures { IsTrue result ↔ ((write.replied < get.called) × IsBelow get.pair write.pair) }
+{
+    write.replied < get.called && get.pair.is_below(write.pair)
+}
+
+// Whether a get found a pair below that of a write of its document which precedes it.
+fn is_stale_get(history: &History, get: u64, write: u64) -> bool
+    requires { IsHistory history.now }
+    ensures { IsTrue result ↔ IsStaleGet history.now get write }
+{
+    let Some(found) = found_get(history, get) else {
+        return false;
+    };
+    let Some(newer) = performed_write(history, write) else {
+        return false;
+    };
+    is_overtaken(found, newer) && are_of_one_document(history, found.called, newer.called)
+}
+
+/// The pair that a write asks its document to have.
+pub fn condition(op: Op) -> Option<Pair>
+    ensures { result ≡ condition_of op }
+{
+    match op {
+        Op::Index { cond, .. } | Op::Delete { cond } => cond,
+        Op::Get | Op::Create { .. } => None,
+    }
+}
+
+// Whether the first write stands before the second: it precedes it, or has the lesser pair.
+fn stands_first(first: PerformedWrite, second: PerformedWrite) -> bool
+    ensures { IsTrue result ↔ ((first.replied < second.called) ⊎ IsBelow first.pair second.pair) }
+{
+    first.replied < second.called || first.pair.is_below(second.pair)
+}
+
+/// Whether the second write has a condition below the first one's pair although the first stands before it.
+pub fn asks_too_little(first: PerformedWrite, second: PerformedWrite) -> bool
+    ensures { IsTrue result ↔ AsksTooLittle first second }
+{
+    match condition(second.op) {
+        Some(asked) => asked.is_below(first.pair) && stands_first(first, second),
+        None => false,
+    }
+}
+
+// Whether two different writes of one document were performed, the second with a condition below the first one's pair
+// although the first stands before it.
+fn is_stale_swap(history: &History, one: u64, two: u64) -> bool
+    requires { IsHistory history.now }
+    ensures { IsTrue result ↔ IsStaleSwap history.now one two }
+{
+    let Some(first) = performed_write(history, one) else {
+        return false;
+    };
+    let Some(second) = performed_write(history, two) else {
+        return false;
+    };
+    if one == two {
+        return false;
+    }
+    asks_too_little(first, second) && are_of_one_document(history, first.called, second.called)
+}
+
+/// Whether the evidence holds in the history, with conflicts read as told. A call number that the history doesn't have
+/// is no evidence. It takes no memory, and one walk over the events at most.
+pub fn refutes(history: &History, evidence: &Refuted, conflicts: Conflicts) -> bool
+    ensures { IsTrue result ↔ Holds conflicts history.now evidence.now }
+{
+    // A look at the history: that it is one is known from here on.
+    let _ = history.len();
+    match *evidence {
+        Refuted::PairTwice(one, two) => is_pair_twice(history, one, two),
+        Refuted::NoWriter(get) => has_no_writer(history, get, conflicts),
+        Refuted::StaleGet(get, write) => is_stale_get(history, get, write),
+        Refuted::StaleSwap(one, two) => is_stale_swap(history, one, two),
+    }
+}

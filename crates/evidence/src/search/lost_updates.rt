@@ -1,0 +1,91 @@
+use crate::holding::{asks_too_little, condition};
+use crate::refuted::Refuted;
+use crate::search::answered_calls::AnsweredWrite;
+use std::alloc::Global;
+use version_pair::{NoMemory, Pair};
+
+// The writes of a document whose conditions are below some pair: the greatest place of their calls, and the greatest of
+// their pairs.
+#[derive(Clone, Copy, Debug)]
+struct Asking {
+    doc: usize,
+    last_called: usize,
+    greatest: Pair,
+}
+
+impl Asking {
+    // These writes and one more.
+    fn with(so_far: Option<Asking>, write: AnsweredWrite) -> Asking {
+        let performed = write.performed;
+        match so_far {
+            Some(asking) if asking.doc == write.doc => Asking {
+                doc: asking.doc,
+                last_called: asking.last_called.max(performed.called),
+                greatest: asking.greatest.max(performed.pair),
+            },
+            _ => Asking {
+                doc: write.doc,
+                last_called: performed.called,
+                greatest: performed.pair,
+            },
+        }
+    }
+
+    // Whether the write stands before one of them.
+    fn are_after(self, write: AnsweredWrite) -> bool {
+        self.doc == write.doc
+            && (write.performed.replied < self.last_called || write.performed.pair < self.greatest)
+    }
+}
+
+// The first write by its number that stands before one whose condition is below its pair.
+fn least_ignored(
+    alloc: Global,
+    writes: &[AnsweredWrite],
+) -> Result<Option<AnsweredWrite>, NoMemory> {
+    // Each write stands here by its pair, and by its condition after the writes that have just that pair.
+    let mut marks: Vec<(usize, Pair, bool, usize)> = Vec::new(alloc);
+    for i in 0..writes.len() {
+        let write = writes[i];
+        marks.push((write.doc, write.performed.pair, false, i))?;
+        if let Some(asked) = condition(write.performed.op) {
+            marks.push((write.doc, asked, true, i))?;
+        }
+    }
+    marks.sort_unstable();
+    let mut asking: Option<Asking> = None;
+    let mut least: Option<AnsweredWrite> = None;
+    for k in 0..marks.len() {
+        let (_, _, asks, i) = marks[k];
+        let Some(write) = writes.get(i) else {
+            return Ok(None);
+        };
+        if asks {
+            asking = Some(Asking::with(asking, *write));
+        } else if asking.is_some_and(|asking| asking.are_after(*write)) {
+            least = match least {
+                Some(other) if other.no < write.no => Some(other),
+                _ => Some(*write),
+            };
+        }
+    }
+    Ok(least)
+}
+
+/// The first write by its number that a swap ignored, with the first of these swaps.
+pub fn least_stale_swap(
+    alloc: Global,
+    writes: &[AnsweredWrite],
+) -> Result<Option<Refuted>, NoMemory> {
+    let Some(ignored) = least_ignored(alloc, writes)? else {
+        return Ok(None);
+    };
+    let ignoring = writes
+        .iter()
+        .filter(|write| {
+            write.doc == ignored.doc && asks_too_little(ignored.performed, write.performed)
+        })
+        .map(|write| write.no)
+        .min();
+    Ok(ignoring.map(|no| Refuted::StaleSwap(ignored.no, no)))
+}

@@ -1,0 +1,37 @@
+use crate::refuted::Refuted;
+use crate::search::answered_calls::AnsweredWrite;
+use std::alloc::Global;
+use version_pair::{NoMemory, Pair};
+
+// The lesser of two pairs of call numbers.
+fn lesser(one: (u64, u64), other: Option<(u64, u64)>) -> (u64, u64) {
+    match other {
+        Some(least) => least.min(one),
+        None => one,
+    }
+}
+
+/// The first two writes of one shard with the same pair, by their numbers.
+pub fn least_pair_twice(
+    alloc: Global,
+    writes: &[AnsweredWrite],
+) -> Result<Option<Refuted>, NoMemory> {
+    let mut taken = Vec::with_capacity(alloc, writes.len())?;
+    for write in writes {
+        taken.push((write.performed.shard, write.performed.pair, write.no))?;
+    }
+    taken.sort_unstable();
+    let mut before: Option<(u32, Pair, u64)> = None;
+    let mut least = None;
+    for i in 0..taken.len() {
+        let (shard, pair, no) = taken[i];
+        if let Some((same_shard, same_pair, first)) = before
+            && same_shard == shard
+            && same_pair == pair
+        {
+            least = Some(lesser((first, no), least));
+        }
+        before = Some((shard, pair, no));
+    }
+    Ok(least.map(|(one, two)| Refuted::PairTwice(one, two)))
+}

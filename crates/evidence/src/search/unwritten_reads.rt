@@ -1,0 +1,108 @@
+ghost use Rattle.std.specs.Prelude.{◌<◌, length};
+
+use crate::answered_call::heard;
+use crate::holding::number_written;
+use crate::refuted::Refuted;
+use crate::search::answered_calls::AnsweredGet;
+use doc_register::{Conflicts, Reply};
+use history::{Event, HashKeys, History};
+use indexmap::IndexMap;
+use std::alloc::Global;
+use version_pair::{NoMemory, Pair};
+
+// The writes of a history that gave their document a number, or may have, by document and number.
+#[derive(Debug, Drop)]
+struct Writers {
+    // The place of the first call that was answered with this pair.
+    shown: IndexMap<(usize, u64, Pair), usize, HashKeys>,
+    // The place of the first call whose pair is not known.
+    open: IndexMap<(usize, u64), usize, HashKeys>,
+}
+
+// Whether the place is known and before the end.
+fn is_before(place: Option<&usize>, end: usize) -> bool {
+    match place {
+        Some(place) => *place < end,
+        None => false,
+    }
+}
+
+impl Writers {
+    // The writers of the history.
+    fn of(alloc: Global, history: &History, conflicts: Conflicts) -> Result<Writers, NoMemory> {
+        let mut writers = Writers {
+            shown: IndexMap::with_hasher(alloc, history.keys()),
+            open: IndexMap::with_hasher(alloc, history.keys()),
+        };
+        for place in 0..history.len() {
+            writers.note(history, place, conflicts)?;
+        }
+        Ok(writers)
+    }
+
+    // Notes the event at the place, where it is the call of a writer.
+    fn note(
+        &mut self,
+        history: &History,
+        place: usize,
+        conflicts: Conflicts,
+    ) -> Result<(), NoMemory>
+        requires { place < length history.now }
+    {
+        let Event::Call { no, id, op, .. } = history.event(place) else {
+            return Ok(());
+        };
+        let (Some(k), Some(doc)) = (number_written(*op), history.doc_of(id)) else {
+            return Ok(());
+        };
+        match heard(history, *no) {
+            Some((_, Reply::Indexed { pair, .. })) => self.note_shown(doc, k, pair, place),
+            Some((_, Reply::Conflict)) if conflicts == Conflicts::Maybe => {
+                self.note_open(doc, k, place)
+            }
+            None => self.note_open(doc, k, place),
+            Some(_) => Ok(()),
+        }
+    }
+
+    // Notes a write that was answered with the pair.
+    fn note_shown(&mut self, doc: usize, k: u64, pair: Pair, place: usize) -> Result<(), NoMemory> {
+        if !self.shown.contains_key(&(doc, k, pair)) {
+            self.shown.insert((doc, k, pair), place)?;
+        }
+        Ok(())
+    }
+
+    // Notes a write whose pair is not known.
+    fn note_open(&mut self, doc: usize, k: u64, place: usize) -> Result<(), NoMemory> {
+        if !self.open.contains_key(&(doc, k)) {
+            self.open.insert((doc, k), place)?;
+        }
+        Ok(())
+    }
+
+    // Whether one of them, called before the get was answered, may have given the document what the get found.
+    fn explain(&self, get: AnsweredGet) -> bool {
+        let found = get.found;
+        is_before(
+            self.shown.get(&(get.doc, found.k, found.pair)),
+            found.replied,
+        ) || is_before(self.open.get(&(get.doc, found.k)), found.replied)
+    }
+}
+
+/// The first get without a writer, by its number.
+pub fn least_without_writer(
+    alloc: Global,
+    history: &History,
+    gets: &[AnsweredGet],
+    conflicts: Conflicts,
+) -> Result<Option<Refuted>, NoMemory> {
+    let writers = Writers::of(alloc, history, conflicts)?;
+    let least = gets
+        .iter()
+        .filter(|get| !writers.explain(**get))
+        .map(|get| get.no)
+        .min();
+    Ok(least.map(Refuted::NoWriter))
+}

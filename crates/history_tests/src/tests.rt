@@ -1,0 +1,9 @@
+mod bulk_writer;
+mod drawn_lines;
+mod front;
+mod history_input;
+mod pushes;
+mod reader;
+mod seen;
+mod testing;
+mod writer;

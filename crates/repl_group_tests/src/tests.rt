@@ -1,0 +1,3 @@
+mod group;
+mod group_core;
+mod testing;

@@ -1,0 +1,158 @@
+//! Scripts of tests: what is done to a core and what it answers, as short texts.
+//!
+//! A script is a list of lines, each ended by a semicolon. `get`, `index K`, `swap K` (an index under the condition (1,0)),
+//! `delete` and `create K` submit an operation on the document `d`; `serve T`, `copy T C`, `ack T`, `cut C`, `heal C`,
+//! `drop C` and `promote C` are steps; `result T`, `term`, `primary` and `sync C` ask.
+
+use doc_register::{Op, Reply};
+use repl_group::{Answer, Core, Fault, Step};
+use std::alloc::Global;
+use std::test::Fail;
+use version_pair::{DocId, Pair};
+
+/// The document `d`.
+pub fn document(alloc: Global) -> Result<DocId, Fail> {
+    Ok(DocId::new(alloc, "d")?)
+}
+
+// The operation that a line submits.
+fn op_of(verb: &str, k: u64) -> Option<Op> {
+    match verb {
+        "get" => Some(Op::Get),
+        "index" => Some(Op::Index { k, cond: None }),
+        "swap" => Some(Op::Index {
+            k,
+            cond: Pair::new(1, 0),
+        }),
+        "delete" => Some(Op::Delete { cond: None }),
+        "create" => Some(Op::Create { k }),
+        _ => None,
+    }
+}
+
+// The step that a line names.
+fn step_of(verb: &str, first: u64, second: u32) -> Option<Step> {
+    let copy = u32::try_from(first).unwrap_or(u32::MAX);
+    match verb {
+        "serve" => Some(Step::Serve(first)),
+        "copy" => Some(Step::Copy(first, second)),
+        "ack" => Some(Step::Ack(first)),
+        "cut" => Some(Step::Cut(copy)),
+        "heal" => Some(Step::Heal(copy)),
+        "drop" => Some(Step::Drop(copy)),
+        "promote" => Some(Step::Promote(copy)),
+        _ => None,
+    }
+}
+
+/// A reply in short words.
+pub fn reply_told(alloc: Global, reply: Option<Reply>) -> Result<String, Fail> {
+    let text = match reply {
+        None => String::from_str(alloc, "none"),
+        Some(Reply::Missing) => String::from_str(alloc, "missing"),
+        Some(Reply::Conflict) => String::from_str(alloc, "conflict"),
+        Some(Reply::Found { pair, k }) => {
+            let (term, seq) = (pair.term(), pair.seq());
+            format!(in alloc; "found ({term},{seq}) k{k}")
+        }
+        Some(Reply::Indexed { pair, created }) => {
+            let (term, seq) = (pair.term(), pair.seq());
+            format!(in alloc; "indexed ({term},{seq}) {created}")
+        }
+        Some(Reply::Deleted { pair, found }) => {
+            let (term, seq) = (pair.term(), pair.seq());
+            format!(in alloc; "deleted ({term},{seq}) {found}")
+        }
+    };
+    Ok(text?)
+}
+
+// An answer in short words.
+fn answer_told(alloc: Global, answer: Answer) -> Result<String, Fail> {
+    let text = match answer {
+        Answer::Ticket(ticket) => format!(in alloc; "ticket {ticket}"),
+        Answer::Done => String::from_str(alloc, "done"),
+        Answer::Waits => String::from_str(alloc, "waits"),
+        Answer::NotNow => String::from_str(alloc, "not now"),
+        Answer::Full => String::from_str(alloc, "full"),
+    };
+    Ok(text?)
+}
+
+// What a line that asks is told.
+fn fact_told(alloc: Global, core: &Core, verb: &str, first: u64) -> Result<String, Fail> {
+    match verb {
+        "result" => reply_told(alloc, core.result(first)),
+        "term" => {
+            let term = core.term();
+            Ok(format!(in alloc; "{term}")?)
+        }
+        "primary" => {
+            let primary = core.primary();
+            Ok(format!(in alloc; "{primary}")?)
+        }
+        "sync" => {
+            let is_in_sync = core.in_sync(u32::try_from(first).unwrap_or(u32::MAX));
+            Ok(format!(in alloc; "{is_in_sync}")?)
+        }
+        _ => Err("a verb of the scripts".into()),
+    }
+}
+
+// Takes a step, and tells its answer.
+fn step_told(alloc: Global, core: &mut Core, step: Step) -> Result<String, Fail> {
+    let answer = core.step(step)?;
+    answer_told(alloc, answer)
+}
+
+// What a line is told.
+fn line_told(
+    alloc: Global,
+    core: &mut Core,
+    verb: &str,
+    first: u64,
+    second: u32,
+) -> Result<String, Fail> {
+    if let Some(op) = op_of(verb, first) {
+        return step_told(alloc, core, Step::Submit(document(alloc)?, op));
+    }
+    match step_of(verb, first, second) {
+        Some(step) => step_told(alloc, core, step),
+        None => fact_told(alloc, core, verb, first),
+    }
+}
+
+// The number that a word spells, or 0 where there is no word.
+fn number(word: Option<&str>) -> Result<u64, Fail> {
+    match word {
+        Some(word) => Ok(word.parse::<u64>()?),
+        None => Ok(0),
+    }
+}
+
+// Plays one line.
+fn play_line(alloc: Global, core: &mut Core, line: &str) -> Result<String, Fail> {
+    let mut words = line.split_whitespace();
+    let verb = words.next().unwrap_or("");
+    let first = number(words.next())?;
+    let second = number(words.next())?;
+    line_told(
+        alloc,
+        core,
+        verb,
+        first,
+        u32::try_from(second).unwrap_or(u32::MAX),
+    )
+}
+
+/// What the core of a group is told along a script, each line's answer ended by a semicolon.
+pub fn played(alloc: Global, copies: u32, fault: Fault, script: &str) -> Result<String, Fail> {
+    let mut core = Core::new(alloc, copies, fault)?;
+    let mut text = String::new(alloc);
+    for line in script.split(';') {
+        let told = play_line(alloc, &mut core, line)?;
+        text.push_str(told.as_str())?;
+        text.push_str("; ")?;
+    }
+    Ok(text)
+}

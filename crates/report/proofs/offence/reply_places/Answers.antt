@@ -1,9 +1,0 @@
-use Rattle.std.proofs.Common.{subst, sym, ◌+◌}
-use Rattle.report.specs.aids.Replies.{AreReplies}
-use Rattle.report.proofs.OffenceLemmas.{next_event}
-use Rattle.report.proofs.offence.reply_places.Goals as goal
-
-pub loop-place-preserved : goal.loop-place-preserved
-loop-place-preserved c =
-    subst (AreReplies c.args.history.now (c.loop-place.place + 1)) (sym c.in_ok-note_reply.ensures)
-    (next_event c.args.history.now c.loop-place.place c.loop-place.places.items c.event.result.now c.loop-place.invariant c.event.ensures)

@@ -1,6 +1,0 @@
-use Rattle.std.proofs.Common.{◌≡◌, take}
-use Rattle.report.specs.Pages.{page_bytes}
-use Rattle.report.proofs.page.bytes.page_bytes.Given as goal
-
-abbrev pub invariant-loop-piece : goal.invariant-loop-piece
-invariant-loop-piece l = l.bytes.items ≡ page_bytes (take l.piece-index l.pieces)

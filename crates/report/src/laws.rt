@@ -1,8 +1,0 @@
-ghost use Rattle.report.specs.Pages.{EscapedTextsAreInert};
-
-/// Shows that an escaped text has no `<`, no `>` and no `"`, and no `&` but where one of the four entities begins that
-/// the escaping writes.
-#[tactic(auto, using(crate::proofs::PageLemmas::escaped_are_inert))]
-pub fn escaped_texts()
-    ensures { EscapedTextsAreInert }
-{}

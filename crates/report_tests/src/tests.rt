@@ -1,0 +1,4 @@
+mod explain_streams;
+mod recorded_run;
+mod streams;
+mod texts;

@@ -1,0 +1,263 @@
+use crate::event_lines::EventLines;
+use crate::parts::{CallTold, Mark};
+use crate::words::{heard_words, listed, op_words, shown};
+use compose::{Failing, Refuted};
+use doc_register::{Conflicts, Op, Reply};
+use history::{Event, History, Rec};
+use std::alloc::Global;
+use version_pair::{DocId, NoMemory, Pair};
+
+/// A call with its document.
+#[derive(Clone, Copy, Debug)]
+pub struct Call<'h> {
+    pub id: &'h DocId,
+    pub shard: u32,
+    pub record: Rec,
+}
+
+// The reply at a place.
+fn reply_at(history: &History, place: usize) -> Option<(usize, Reply)> {
+    if place >= history.len() {
+        return None;
+    }
+    match history.event(place) {
+        Event::Reply { reply, .. } => Some((place, *reply)),
+        Event::Call { .. } | Event::Lost { .. } => None,
+    }
+}
+
+/// The call with this number.
+pub fn call_of(history: &History, no: u64) -> Option<Call<'_>> {
+    let place = history.call(no)?;
+    let heard = match history.ending(no) {
+        Some(ending) => reply_at(history, ending),
+        None => None,
+    };
+    match history.event(place) {
+        Event::Call { id, shard, op, .. } => Some(Call {
+            id,
+            shard: *shard,
+            record: Rec {
+                no,
+                op: *op,
+                call_at: place,
+                heard,
+            },
+        }),
+        Event::Reply { .. } | Event::Lost { .. } => None,
+    }
+}
+
+impl Call<'_> {
+    /// The place of the reply.
+    pub fn replied(&self) -> Option<usize> {
+        self.record.heard.map(|heard| heard.0)
+    }
+
+    /// The pair with which it was performed, as its reply shows it.
+    pub fn pair_taken(&self) -> Option<Pair> {
+        match self.record.heard {
+            Some((_, Reply::Indexed { pair, .. } | Reply::Deleted { pair, .. })) => Some(pair),
+            _ => None,
+        }
+    }
+
+    /// The version that it found, and its number.
+    pub fn found(&self) -> Option<(Pair, u64)> {
+        match self.record.heard {
+            Some((_, Reply::Found { pair, k })) => Some((pair, k)),
+            _ => None,
+        }
+    }
+
+    /// The version that it asks for.
+    pub fn condition(&self) -> Option<Pair> {
+        match self.record.op {
+            Op::Index { cond, .. } | Op::Delete { cond } => cond,
+            Op::Get | Op::Create { .. } => None,
+        }
+    }
+
+    /// Whether it is a write without a reply.
+    pub fn may_have_happened(&self) -> bool {
+        self.record.heard.is_none() && self.record.op != Op::Get
+    }
+
+    /// Whether it is a write of which no reply tells whether it was performed.
+    pub fn is_unsettled(&self, conflicts: Conflicts) -> bool {
+        if conflicts == Conflicts::Maybe {
+            if let Some((_, Reply::Conflict)) = self.record.heard {
+                return true;
+            }
+        }
+        self.may_have_happened()
+    }
+
+    // Whether the two were open at the same time.
+    fn is_open_with(&self, other: &Call<'_>) -> bool {
+        let other_ends = other.replied().unwrap_or(usize::MAX);
+        let ends = self.replied().unwrap_or(usize::MAX);
+        self.record.call_at < other_ends && other.record.call_at < ends
+    }
+}
+
+/// The numbers of the calls that evidence names.
+pub fn evidence_calls(alloc: Global, evidence: Option<Refuted>) -> Result<Vec<u64>, NoMemory> {
+    match evidence {
+        Some(
+            Refuted::PairTwice(one, two)
+            | Refuted::StaleGet(one, two)
+            | Refuted::StaleSwap(one, two),
+        ) => Vec::from_slice(alloc, &[one, two]),
+        Some(Refuted::NoWriter(get)) => Vec::from_slice(alloc, &[get]),
+        None => Ok(Vec::new(alloc)),
+    }
+}
+
+/// What the calls that matter most name: their numbers, and the versions in their replies and conditions.
+#[derive(Debug, Drop)]
+pub struct Named {
+    broken: u64,
+    evidence: Vec<u64>,
+    pairs: Vec<Pair>,
+}
+
+impl Named {
+    /// What the calls of an offence and of evidence name.
+    pub fn of(alloc: Global, history: &History, failing: &Failing) -> Result<Named, NoMemory> {
+        let mut named = Named {
+            broken: failing.offence.call,
+            evidence: evidence_calls(alloc, failing.evidence)?,
+            pairs: Vec::new(alloc),
+        };
+        named.note_pairs(history, failing.offence.call)?;
+        for no in evidence_calls(alloc, failing.evidence)?.iter() {
+            named.note_pairs(history, *no)?;
+        }
+        Ok(named)
+    }
+
+    // Notes the versions that the call names.
+    fn note_pairs(&mut self, history: &History, no: u64) -> Result<(), NoMemory> {
+        if let Some(call) = call_of(history, no) {
+            if let Some(pair) = call.pair_taken() {
+                self.pairs.push(pair)?;
+            }
+            if let Some((pair, _)) = call.found() {
+                self.pairs.push(pair)?;
+            }
+            if let Some(pair) = call.condition() {
+                self.pairs.push(pair)?;
+            }
+        }
+        Ok(())
+    }
+
+    /// How the call stands out.
+    pub fn mark(&self, no: u64) -> Mark {
+        if no == self.broken {
+            Mark::Broken
+        } else if self.evidence.iter().any(|named| *named == no) {
+            Mark::Evidence
+        } else {
+            Mark::Plain
+        }
+    }
+
+    /// Whether the call is one of them, or made a version that they name.
+    pub fn matters(&self, call: &Call<'_>) -> bool {
+        if self.mark(call.record.no) != Mark::Plain {
+            return true;
+        }
+        match call.pair_taken() {
+            Some(taken) => self.pairs.iter().any(|pair| *pair == taken),
+            None => false,
+        }
+    }
+
+    /// At most so many of the calls, in their order: those that matter most, and of the others the last ones.
+    pub fn chosen<'h>(
+        &self,
+        alloc: Global,
+        calls: &[Call<'h>],
+        most: usize,
+    ) -> Result<Vec<Call<'h>>, NoMemory> {
+        let mut chosen = Vec::new(alloc);
+        for call in calls {
+            if chosen.len() < most && self.matters(call) {
+                chosen.push(*call)?;
+            }
+        }
+        for call in calls.iter().rev() {
+            if chosen.len() >= most {
+                break;
+            }
+            if !self.matters(call) {
+                chosen.push(*call)?;
+            }
+        }
+        chosen.sort_unstable_by_key(|call| call.record.call_at);
+        Ok(chosen)
+    }
+}
+
+/// A document's id in quotes, as it can be shown.
+pub fn id_words(alloc: Global, id: &DocId) -> Result<String, NoMemory> {
+    let id = shown(alloc, id.as_str())?;
+    format!(in alloc; "\"{id}\"")
+}
+
+// What was answered, and on which line.
+fn answered_words(alloc: Global, call: &Call<'_>, lines: &EventLines) -> Result<String, NoMemory> {
+    let heard = heard_words(alloc, call.record.heard)?;
+    match call.replied() {
+        Some(place) => {
+            let line = lines.line(place);
+            format!(in alloc; "line {line}: {heard}")
+        }
+        None => Ok(heard),
+    }
+}
+
+// The numbers of the other calls that were open at the same time.
+fn open_words(alloc: Global, call: &Call<'_>, calls: &[Call<'_>]) -> Result<String, NoMemory> {
+    let mut open = Vec::new(alloc);
+    for other in calls {
+        if other.record.no != call.record.no && call.is_open_with(other) {
+            open.push(other.record.no)?;
+        }
+    }
+    listed(alloc, &open)
+}
+
+/// What was asked, with the document where there are several.
+pub fn asked_words(alloc: Global, call: &Call<'_>, several: bool) -> Result<String, NoMemory> {
+    let op = op_words(alloc, call.record.op)?;
+    if !several {
+        return Ok(op);
+    }
+    let id = id_words(alloc, call.id)?;
+    format!(in alloc; "{id} {op}")
+}
+
+/// The calls in words; with their documents where there are several.
+pub fn calls_told(
+    alloc: Global,
+    calls: &[Call<'_>],
+    named: &Named,
+    lines: &EventLines,
+    several: bool,
+) -> Result<Vec<CallTold>, NoMemory> {
+    let mut told = Vec::new(alloc);
+    for call in calls {
+        told.push(CallTold {
+            mark: named.mark(call.record.no),
+            line: lines.line(call.record.call_at),
+            no: call.record.no,
+            asked: asked_words(alloc, call, several)?,
+            answered: answered_words(alloc, call, lines)?,
+            open_with: open_words(alloc, call, calls)?,
+        })?;
+    }
+    Ok(told)
+}

@@ -1,0 +1,240 @@
+use crate::calls::{Call, Named, asked_words};
+use crate::event_lines::EventLines;
+use crate::lanes::Lanes;
+use crate::order_before::OrderBefore;
+use crate::parts::Mark;
+use crate::words::{heard_words, state_words};
+use std::alloc::Global;
+use version_pair::NoMemory;
+
+/// How wide a drawing is; all its measures are in units of which it has so many.
+pub const WIDTH: u64 = 1180;
+
+/// How high a bar is.
+pub const BAR_HEIGHT: u64 = 12;
+
+/// How high the box of a version is.
+pub const BOX_HEIGHT: u64 = 40;
+
+// Where the first event stands, and where a call without a reply ends.
+const LEFT: u64 = 20;
+
+const RIGHT: u64 = 1160;
+
+// How far two events stand apart at most.
+const WIDEST_STEP: u64 = 72;
+
+// How wide ten characters are.
+const TEN_CHARACTERS: u64 = 74;
+
+// Where the first lane begins, and how high a lane is.
+const TOP: u64 = 34;
+
+const LANE_HEIGHT: u64 = 40;
+
+// What is left free between two things in a row.
+const GAP: u64 = 24;
+
+/// The bar of a call.
+#[derive(Debug, Drop)]
+pub struct Bar {
+    pub mark: Mark,
+    /// Whether it has no reply.
+    pub is_open: bool,
+    pub x: u64,
+    pub y: u64,
+    pub width: u64,
+    /// Where its words begin.
+    pub words_x: u64,
+    /// What was asked and answered.
+    pub words: String,
+}
+
+/// The box of a version of the document.
+#[derive(Debug, Drop)]
+pub struct VersionBox {
+    pub x: u64,
+    pub y: u64,
+    pub width: u64,
+    /// The version, and the number that it has.
+    pub version: String,
+    /// The call that made it.
+    pub maker: String,
+}
+
+/// The calls from left to right by their events, and the versions of the document below.
+#[derive(Debug, Drop)]
+pub struct Drawing {
+    pub height: u64,
+    /// The line of the first event.
+    pub first_line: u64,
+    /// Where the broken reply stands, and its line.
+    pub here: u64,
+    pub here_line: u64,
+    /// Where the lanes end.
+    pub lanes_end: u64,
+    pub bars: Vec<Bar>,
+    pub boxes: Vec<VersionBox>,
+}
+
+// The places of the calls and of their replies, rising.
+fn places_of(alloc: Global, calls: &[Call<'_>]) -> Result<Vec<usize>, NoMemory> {
+    let mut places = Vec::new(alloc);
+    for call in calls {
+        places.push(call.record.call_at)?;
+        if let Some(place) = call.replied() {
+            places.push(place)?;
+        }
+    }
+    places.sort_unstable();
+    Ok(places)
+}
+
+// Where an event stands from left to right, by how many of the events that are drawn stand before it.
+fn x_of(places: &[usize], place: usize) -> u64 {
+    let rank = places.partition_point(|other| *other < place) as u64;
+    let count = (places.len() as u64).saturating_add(1);
+    let step = match RIGHT.saturating_sub(LEFT).checked_div(count) {
+        Some(step) => step.min(WIDEST_STEP),
+        None => WIDEST_STEP,
+    };
+    LEFT.saturating_add(rank.saturating_mul(step)).min(RIGHT)
+}
+
+// How wide the words are.
+fn width_of(words: &str) -> u64 {
+    (words.len() as u64).saturating_mul(TEN_CHARACTERS) / 10
+}
+
+// What was asked and answered, short.
+fn bar_words(alloc: Global, call: &Call<'_>, several: bool) -> Result<String, NoMemory> {
+    let no = call.record.no;
+    let asked = asked_words(alloc, call, several)?;
+    let heard = heard_words(alloc, call.record.heard)?;
+    format!(in alloc; "{no} {asked}: {heard}")
+}
+
+// The bar of a call, in the first lane where it and its words are free.
+fn bar_of(
+    alloc: Global,
+    call: &Call<'_>,
+    places: &[usize],
+    mark: Mark,
+    several: bool,
+    lanes: &mut Lanes,
+) -> Result<Bar, NoMemory> {
+    let words = bar_words(alloc, call, several)?;
+    let x = x_of(places, call.record.call_at);
+    let end = match call.replied() {
+        Some(place) => x_of(places, place),
+        None => RIGHT,
+    };
+    let words_width = width_of(words.as_str());
+    let words_x = x.min(WIDTH.saturating_sub(words_width)).max(LEFT);
+    let taken = end
+        .max(words_x.saturating_add(words_width))
+        .saturating_add(GAP);
+    let lane = lanes.take(words_x.min(x), taken)? as u64;
+    Ok(Bar {
+        mark,
+        is_open: call.replied().is_none(),
+        x,
+        y: TOP.saturating_add(lane.saturating_mul(LANE_HEIGHT)),
+        width: end.saturating_sub(x).max(4),
+        words_x,
+        words,
+    })
+}
+
+// Adds the box of a version behind the last one, in a new row where there is no room.
+fn add_box(
+    boxes: &mut Vec<VersionBox>,
+    top: u64,
+    version: String,
+    maker: String,
+) -> Result<(), NoMemory> {
+    let characters = width_of(version.as_str()).max(width_of(maker.as_str()));
+    let width = characters.saturating_add(16);
+    let (x, y) = match boxes.last() {
+        Some(last) => {
+            let x = last.x.saturating_add(last.width).saturating_add(GAP);
+            if x.saturating_add(width) > RIGHT {
+                (LEFT, last.y.saturating_add(BOX_HEIGHT).saturating_add(12))
+            } else {
+                (x, last.y)
+            }
+        }
+        None => (LEFT, top),
+    };
+    boxes.push(VersionBox {
+        x,
+        y,
+        width,
+        version,
+        maker,
+    })?;
+    Ok(())
+}
+
+// The boxes of the versions of an order, below the lanes.
+fn boxes_of(
+    alloc: Global,
+    order: &Option<OrderBefore>,
+    top: u64,
+) -> Result<Vec<VersionBox>, NoMemory> {
+    let mut boxes = Vec::new(alloc);
+    if let Some(order) = order {
+        let start = state_words(alloc, order.start)?;
+        let before = String::from_str(alloc, "at first")?;
+        add_box(&mut boxes, top, start, before)?;
+        for step in order.steps.iter() {
+            if step.is_change {
+                let no = step.record.no;
+                let version = state_words(alloc, step.state)?;
+                let maker = format!(in alloc; "by call {no}")?;
+                add_box(&mut boxes, top, version, maker)?;
+            }
+        }
+    }
+    Ok(boxes)
+}
+
+/// A drawing of the calls, with the broken reply at the event, and of the versions of an order.
+pub fn drawing_of(
+    alloc: Global,
+    calls: &[Call<'_>],
+    named: &Named,
+    lines: &EventLines,
+    event: usize,
+    order: &Option<OrderBefore>,
+    several: bool,
+) -> Result<Drawing, NoMemory> {
+    let places = places_of(alloc, calls)?;
+    let mut lanes = Lanes::new(alloc);
+    let mut bars = Vec::new(alloc);
+    for call in calls {
+        let mark = named.mark(call.record.no);
+        bars.push(bar_of(alloc, call, &places, mark, several, &mut lanes)?)?;
+    }
+    let lanes_end = (lanes.len() as u64)
+        .saturating_mul(LANE_HEIGHT)
+        .saturating_add(TOP);
+    let boxes = boxes_of(
+        alloc,
+        order,
+        lanes_end.saturating_add(GAP).saturating_add(GAP),
+    )?;
+    let height = match boxes.last() {
+        Some(last) => last.y.saturating_add(BOX_HEIGHT).saturating_add(4),
+        None => lanes_end,
+    };
+    Ok(Drawing {
+        height,
+        first_line: lines.line(places.first().copied().unwrap_or(event)),
+        here: x_of(&places, event),
+        here_line: lines.line(event),
+        lanes_end,
+        bars,
+        boxes,
+    })
+}

@@ -1,0 +1,85 @@
+use crate::calls::{Call, Named};
+use crate::telling::MOST_TOLD;
+use history::Rec;
+use std::alloc::Global;
+use version_pair::{DocId, NoMemory};
+
+/// How many calls are drawn.
+pub const MOST_DRAWN: usize = 200;
+
+/// What is kept of the calls of some documents.
+#[derive(Debug, Drop)]
+pub struct Kept<'h> {
+    /// How many calls there are.
+    pub count: usize,
+    /// Those that matter and, of each document, the last ones: enough of them for a drawing.
+    pub calls: Vec<Call<'h>>,
+    /// How many writes have no reply.
+    pub unanswered_count: usize,
+    /// The last of them.
+    pub unanswered: Vec<Call<'h>>,
+}
+
+impl<'h> Kept<'h> {
+    /// Of no document. It allocates nothing.
+    pub fn new(alloc: Global) -> Kept<'h> {
+        Kept {
+            count: 0,
+            calls: Vec::new(alloc),
+            unanswered_count: 0,
+            unanswered: Vec::new(alloc),
+        }
+    }
+
+    // Counts a call, and keeps it where it is a write without a reply.
+    fn count_call(&mut self, call: Call<'h>) -> Result<(), NoMemory> {
+        self.count = self.count.saturating_add(1);
+        if call.may_have_happened() {
+            self.unanswered_count = self.unanswered_count.saturating_add(1);
+            if self.unanswered.len() < MOST_TOLD {
+                self.unanswered.push(call)?;
+            }
+        }
+        Ok(())
+    }
+
+    /// Keeps what is needed of the calls of a document, of this id and shard, up to an event.
+    pub fn keep(
+        &mut self,
+        named: &Named,
+        (id, shard): (&'h DocId, u32),
+        records: &[Rec],
+        last: usize,
+    ) -> Result<(), NoMemory> {
+        let mut mattering = 0;
+        let mut others = 0;
+        for record in records.iter().rev() {
+            let call = Call {
+                id,
+                shard,
+                record: *record,
+            };
+            if record.call_at > last {
+                continue;
+            }
+            self.count_call(call)?;
+            if named.matters(&call) {
+                if mattering < MOST_DRAWN {
+                    mattering += 1;
+                    self.calls.push(call)?;
+                }
+            } else if others < MOST_DRAWN {
+                others += 1;
+                self.calls.push(call)?;
+            }
+        }
+        Ok(())
+    }
+
+    /// Puts the calls into their order.
+    pub fn sort(&mut self) {
+        self.calls.sort_unstable_by_key(|call| call.record.call_at);
+        self.unanswered
+            .sort_unstable_by_key(|call| call.record.call_at);
+    }
+}

@@ -1,0 +1,124 @@
+use crate::parts::PlaceTold;
+use crate::window::window_before;
+use crate::words::{op_words, state_words};
+use compose::Case;
+use doc_check::{DocAnswer, answer};
+use doc_register::{DocState, Reply, state_after};
+use history::Rec;
+use std::alloc::Global;
+use version_pair::{DocId, NoMemory, Pair};
+use witness::{DocWitness, Place};
+
+/// A place of an order: its call, and what the document is after it.
+#[derive(Clone, Copy, Debug)]
+pub struct Step {
+    pub record: Rec,
+    pub state: DocState,
+    /// Whether the call changed the document.
+    pub is_change: bool,
+}
+
+/// An order of the calls of a document, or its end.
+#[derive(Debug, Drop)]
+pub struct OrderBefore {
+    /// How many places stand before those that are told.
+    pub left_out: usize,
+    /// What the document is before the first place that is told.
+    pub start: DocState,
+    pub steps: Vec<Step>,
+}
+
+// The pair with which the call at a place was performed.
+fn pair_at(place: Place, record: Rec) -> Option<Pair> {
+    match (place.pair, record.heard) {
+        (Some(pair), _) => Some(pair),
+        (None, Some((_, Reply::Indexed { pair, .. } | Reply::Deleted { pair, .. }))) => Some(pair),
+        (None, _) => None,
+    }
+}
+
+// The step at a place, from this state.
+fn step_from(state: DocState, place: Place, record: Rec) -> Step {
+    match pair_at(place, record) {
+        Some(pair) => Step {
+            record,
+            state: state_after(state, &record.op, pair),
+            is_change: true,
+        },
+        None => Step {
+            record,
+            state,
+            is_change: false,
+        },
+    }
+}
+
+// The last so many places of a witness, of which so many first ones are not told.
+fn last_steps(
+    alloc: Global,
+    witness: &DocWitness,
+    untold: usize,
+    most: usize,
+) -> Result<OrderBefore, NoMemory> {
+    let first = witness.places().len().saturating_sub(most).max(untold);
+    let mut state = DocState::Never;
+    let mut order = OrderBefore {
+        left_out: first.saturating_sub(untold),
+        start: state,
+        steps: Vec::new(alloc),
+    };
+    for (i, place) in witness.places().iter().enumerate() {
+        if i == first {
+            order.start = state;
+        }
+        if let Some(record) = witness.records().get(place.rec) {
+            let step = step_from(state, *place, *record);
+            state = step.state;
+            if i >= first {
+                order.steps.push(step)?;
+            }
+        }
+    }
+    Ok(order)
+}
+
+/// The last so many places of an order of the document's calls before an event; `None` where the search of the document
+/// alone finds none.
+pub fn order_before(
+    alloc: Global,
+    case: &Case,
+    event: usize,
+    id: &DocId,
+    records: &[Rec],
+    most: usize,
+) -> Result<Option<OrderBefore>, NoMemory> {
+    let window = window_before(alloc, records, event, case.conflicts(), most)?;
+    let untold = if window.is_prefixed { 1 } else { 0 };
+    let answered_before = window.answered_before;
+    let seen = case.history().front(event).seen();
+    match answer(alloc, id.copy()?, window.records, seen, case.conflicts())? {
+        DocAnswer::Found(witness) => {
+            let mut order = last_steps(alloc, &witness, untold, most)?;
+            order.left_out = order.left_out.saturating_add(answered_before);
+            Ok(Some(order))
+        }
+        DocAnswer::NotFound(_) => Ok(None),
+    }
+}
+
+/// The order in words.
+pub fn places_told(alloc: Global, order: &OrderBefore) -> Result<Vec<PlaceTold>, NoMemory> {
+    let mut told = Vec::new(alloc);
+    for step in order.steps.iter() {
+        told.push(PlaceTold {
+            no: step.record.no,
+            asked: op_words(alloc, step.record.op)?,
+            after: if step.is_change {
+                state_words(alloc, step.state)?
+            } else {
+                String::from_str(alloc, "as before")?
+            },
+        })?;
+    }
+    Ok(told)
+}

@@ -1,0 +1,58 @@
+use crate::drawing::Drawing;
+
+/// How a call stands out among the others.
+#[derive(Clone, Copy, Debug, PartialEq, Eq)]
+pub enum Mark {
+    /// It doesn't.
+    Plain,
+    /// It is one of the calls of the evidence.
+    Evidence,
+    /// Its reply is the one at which the search first fails.
+    Broken,
+}
+
+/// A call in words.
+#[derive(Debug, Drop)]
+pub struct CallTold {
+    pub mark: Mark,
+    /// The line of the call.
+    pub line: u64,
+    /// The number of the call.
+    pub no: u64,
+    /// What was asked.
+    pub asked: String,
+    /// What was answered, and on which line.
+    pub answered: String,
+    /// Which of the calls that are told were open at the same time.
+    pub open_with: String,
+}
+
+/// A place of an order in words.
+#[derive(Debug, Drop)]
+pub struct PlaceTold {
+    /// The number of the call.
+    pub no: u64,
+    /// What was asked.
+    pub asked: String,
+    /// What the document is after it.
+    pub after: String,
+}
+
+/// A part of a story.
+#[derive(Debug, Drop)]
+pub enum Part {
+    Heading(&'static str),
+    Paragraph(String),
+    Items(Vec<String>),
+    Calls(Vec<CallTold>),
+    Order(Vec<PlaceTold>),
+    Drawing(Drawing),
+}
+
+/// What is told of an answer.
+#[derive(Debug, Drop)]
+pub struct Story {
+    /// What it is about, in a sentence.
+    pub title: String,
+    pub parts: Vec<Part>,
+}

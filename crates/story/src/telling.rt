@@ -1,0 +1,103 @@
+use crate::calls::id_words;
+use crate::event_lines::EventLines;
+use crate::failing::failing_story;
+use crate::numbered_input::RefusedLine;
+use crate::parts::{Part, Story};
+use crate::refused::{cause_words, line_shown};
+use crate::words::{NOTATION, heard_words, op_words, pair_words};
+use compose::{Counts, Finding, Proof};
+use history::Rec;
+use std::alloc::Global;
+use version_pair::{DocId, NoMemory, Pair};
+
+/// How many calls are told one by one.
+pub const MOST_TOLD: usize = 40;
+
+// A call that took effect though no reply tells so.
+fn completed_words(
+    alloc: Global,
+    id: &DocId,
+    record: Rec,
+    pair: Pair,
+    lines: &EventLines,
+) -> Result<String, NoMemory> {
+    let line = lines.line(record.call_at);
+    let no = record.no;
+    let id = id_words(alloc, id)?;
+    let asked = op_words(alloc, record.op)?;
+    let heard = heard_words(alloc, record.heard)?;
+    let pair = pair_words(alloc, pair)?;
+    format!(in alloc; "line {line}, call {no} of {id}: {asked} -> {heard}, took effect as {pair}")
+}
+
+// The calls of unknown outcome that took effect in the order found: how many, and the first of them in words.
+fn completed(
+    alloc: Global,
+    proof: &Proof,
+    lines: &EventLines,
+) -> Result<(u64, Vec<String>), NoMemory> {
+    let mut count = 0u64;
+    let mut told = Vec::new(alloc);
+    for witness in proof.witnesses() {
+        for place in witness.places() {
+            if let (Some(pair), Some(record)) = (place.pair, witness.records().get(place.rec)) {
+                count = count.saturating_add(1);
+                if told.len() < MOST_TOLD {
+                    told.push(completed_words(alloc, witness.id(), *record, pair, lines)?)?;
+                }
+            }
+        }
+    }
+    Ok((count, told))
+}
+
+// What is told of a history that an order explains.
+fn explained_story(alloc: Global, proof: &Proof, lines: &EventLines) -> Result<Story, NoMemory> {
+    let counts = Counts::of(proof);
+    let (count, told) = completed(alloc, proof, lines)?;
+    let Counts {
+        docs,
+        calls,
+        left_out,
+    } = counts;
+    let mut parts = Vec::new(alloc);
+    parts.push(Part::Paragraph(format!(in alloc;
+        "Documents: {docs}. Calls: {calls}. Calls of unknown outcome that took effect in the order that was found: {count}. Calls that stand in no place of it, so that they changed nothing: {left_out}."
+    )?))?;
+    if count > 0 {
+        parts.push(Part::Heading("Calls of unknown outcome that took effect"))?;
+        parts.push(Part::Paragraph(String::from_str(alloc, NOTATION)?))?;
+        let more = count.saturating_sub(told.len() as u64);
+        parts.push(Part::Items(told))?;
+        if more > 0 {
+            parts.push(Part::Paragraph(format!(in alloc; "And {more} more.")?))?;
+        }
+    }
+    Ok(Story {
+        title: String::from_str(alloc, "One order of the calls explains every reply.")?,
+        parts,
+    })
+}
+
+/// What is told of a history.
+pub fn story_of(alloc: Global, finding: &Finding, lines: &EventLines) -> Result<Story, NoMemory> {
+    match finding {
+        Finding::Explained(proof) => explained_story(alloc, proof, lines),
+        Finding::Unexplained(case, failing) => failing_story(alloc, case, failing, lines),
+    }
+}
+
+/// What is told of a text that was refused.
+pub fn refused_story(alloc: Global, refused: &RefusedLine) -> Result<Story, NoMemory> {
+    let line = refused.fault.line;
+    let shown = line_shown(alloc, &refused.line)?;
+    let cause = String::from_str(alloc, cause_words(refused.fault.cause))?;
+    let mut parts = Vec::new(alloc);
+    parts.push(Part::Paragraph(cause))?;
+    parts.push(Part::Heading("How the line begins"))?;
+    parts.push(Part::Items(vec![in alloc; shown]?))?;
+    Ok(Story {
+        title: format!(in alloc; "Line {line} of the text is refused, so nothing was judged.")?,
+        parts,
+    })
+}

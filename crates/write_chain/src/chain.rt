@@ -1,0 +1,96 @@
+ghost use Rattle.std.specs.Prelude.{◌≡◌, ◌∷◌, ◌↔◌, IfOk, IsTrue, map};
+ghost use Rattle.doc_register.specs.declared.state.DocState.TheVariants.{Never};
+ghost use Rattle.write_chain.specs.Chain.{IsChain, Rises, after_link, pair_of, performed_records};
+
+use doc_register::{DocState, Op, Reply};
+use history::Rec;
+use std::alloc::Global;
+use version_pair::{NoMemory, Pair};
+
+/// The pair that an answered write was performed with, as its reply shows.
+pub fn performed_pair(heard: Option<(usize, Reply)>) -> Option<Pair>
+    ensures { result ≡ pair_of heard }
+{
+    match heard {
+        Some((_, Reply::Indexed { pair, .. } | Reply::Deleted { pair, .. })) => Some(pair),
+        _ => None,
+    }
+}
+
+// The performed answered writes by their numbers, each with its pair before it.
+fn performed(alloc: Global, records: &[Rec]) -> Result<Vec<(Pair, usize)>, NoMemory>
+    ensures { IfOk result (λ links. links.items ≡ performed_records 0 records.now) }
+{
+    let mut links = Vec::new(alloc);
+    for k in 0..records.len() {
+        if let Some(pair) = performed_pair(records[k].heard) {
+            links.push((pair, k))?;
+        }
+    }
+    Ok(links)
+}
+
+/// The chain of a document: its performed answered writes by pair.
+pub fn chain_of(alloc: Global, records: &[Rec]) -> Result<Vec<(Pair, usize)>, NoMemory>
+    ensures { IfOk result (λ chain. IsChain records.now chain.items) }
+{
+    let mut links = performed(alloc, records)?;
+    links.sort_unstable();
+    Ok(links)
+}
+
+/// Whether each pair of the chain is below the next.
+pub fn rises(chain: &[(Pair, usize)]) -> bool
+    ensures { IsTrue result ↔ Rises chain.now }
+{
+    for k in 1..chain.len() {
+        if !chain[k - 1].0.is_below(chain[k].0) {
+            return false;
+        }
+    }
+    true
+}
+
+/// The pairs of the chain.
+pub fn pairs_of(alloc: Global, chain: &[(Pair, usize)]) -> Result<Vec<Pair>, NoMemory>
+    ensures { IfOk result (λ pairs. pairs.items ≡ map (λ link. link.0) chain.now) }
+{
+    let mut pairs = Vec::new(alloc);
+    for link in chain {
+        pairs.push(link.0)?;
+    }
+    Ok(pairs)
+}
+
+// The document after a write of the chain.
+fn after(records: &[Rec], link: (Pair, usize)) -> DocState
+    ensures { result ≡ after_link records.now link }
+{
+    let (pair, rec) = link;
+    match records.get(rec) {
+        Some(found) => match found.op {
+            Op::Index { k, .. } | Op::Create { k } => DocState::Here(pair, k),
+            Op::Delete { .. } => DocState::Gone(pair),
+            Op::Get => DocState::Never,
+        },
+        None => DocState::Never,
+    }
+}
+
+/// The document in each stretch of the chain: in stretch 0, before the first write, it was never written; stretch j
+/// lies after the j-th write.
+pub fn states_of(
+    alloc: Global,
+    records: &[Rec],
+    chain: &[(Pair, usize)],
+) -> Result<Vec<DocState>, NoMemory>
+    ensures { IfOk result
+        (λ states. states.items ≡ Never ∷ map (after_link records.now) chain.now) }
+{
+    let mut states = Vec::new(alloc);
+    states.push(DocState::Never)?;
+    for link in chain {
+        states.push(after(records, *link))?;
+    }
+    Ok(states)
+}
