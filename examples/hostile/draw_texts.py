@@ -246,7 +246,7 @@ def main():
     for line in wrong[:20]:
         print(line)
     print(", ".join(f"{count} {kind}" for kind, count in sorted(counts.items())))
-    print(f"{asked.texts} texts, {len(wrong)} wrong")
+    print(f"{asked.texts - len(wrong)} passed, {len(wrong)} failed")
     return 1 if wrong else 0
 
 

@@ -3,15 +3,12 @@
 
     python3 test_record.py [PROGRAM]
 
-PROGRAM is the built casbench; where it is not named, the script `casbench` at the top, which builds it. The commands of
-docs/RECORDING.md are run too, as they stand, and what they print is compared.
+PROGRAM is the built casbench; where it is not named, the script `casbench` at the top. The last line says how many tests
+passed and failed.
 """
 
-import contextlib
 import json
 import os
-import random
-import re
 import resource
 import shutil
 import signal
@@ -379,40 +376,6 @@ class Shards(Test):
             shutil.rmtree(parts)
 
 
-class Document(Test):
-    """The commands of docs/RECORDING.md print what it says."""
-
-    def test_commands(self):
-        with open(os.path.join(TOP, "docs", "RECORDING.md"), encoding="utf-8") as file:
-            blocks = re.findall(r"^```\n(\$ .*?)^```$", file.read(), re.MULTILINE | re.DOTALL)
-        self.assertGreater(len(blocks), 5)
-        # (the folder is one in which the commands find what they name)
-        os.symlink(os.path.join(TOP, "examples"), os.path.join(self.folder, "examples"))
-        os.symlink(PROGRAM, os.path.join(self.folder, "casbench"))
-        port = free_port()
-        for block in blocks:
-            commands, wanted = parted(block.replace("9201", port))
-            how = {"cwd": self.folder, "env": environment(), "text": True, "timeout": 300}
-            ran = subprocess.run(["sh", "-c", commands], stdout=subprocess.PIPE, stderr=subprocess.PIPE, **how)
-            self.assertEqual(ran.stdout, wanted, commands + ran.stderr)
-
-
-def parted(block):
-    """The commands of a block, and what they print. A command goes on to the end of its here-document."""
-    commands, wanted, ends = [], [], None
-    for line in block.splitlines(keepends=True):
-        if ends:
-            commands.append(line)
-            ends = None if line.strip() == ends else ends
-        elif line.startswith("$ "):
-            commands.append(line[2:])
-            found = re.search(r"<<'(\w+)'", line)
-            ends = found and found.group(1)
-        else:
-            wanted.append(line)
-    return "".join(commands), "".join(wanted)
-
-
 def bodies(lines):
     """The bodies of the replies."""
     return [it["body"] for it in lines if it["e"] == "reply"]
@@ -454,14 +417,6 @@ def wait_for_lines(path, count):
     raise AssertionError(f"{path} has not got {count} lines")
 
 
-def free_port():
-    """A port of the loopback that nobody has now, and that is not among those which connections are given."""
-    while True:
-        port = random.randrange(20_000, 30_000)
-        with contextlib.suppress(OSError), socketserver.TCPServer(("127.0.0.1", port), None):
-            return str(port)
-
-
 class answering(socketserver.TCPServer):
     """A server that gives one connection after the other the bodies given, each with status 200, whatever is asked."""
 
@@ -494,4 +449,7 @@ class answering(socketserver.TCPServer):
 if __name__ == "__main__":
     if len(sys.argv) > 1 and not sys.argv[1].startswith("-"):
         PROGRAM = os.path.realpath(sys.argv.pop(1))
-    unittest.main()
+    told = unittest.main(exit=False).result
+    failed = len(told.failures) + len(told.errors) + len(told.unexpectedSuccesses)
+    print(f"{told.testsRun - failed} passed, {failed} failed")
+    sys.exit(0 if told.wasSuccessful() else 1)

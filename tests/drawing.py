@@ -1,0 +1,114 @@
+"""What drawn recordings are made of: drawn numbers, operations, replies, what an index does, and the lines of a history.
+
+It is no test itself; tests/evidence.py and tests/offences.py draw with it.
+"""
+
+from typing import NamedTuple
+
+MOST = 2**64
+
+
+class Draws:
+    """Numbers that look drawn at random: each seed has its own, the same in each run."""
+
+    def __init__(self, seed):
+        self.state = seed * 0x9E37_79B9_7F4A_7C15 % MOST
+
+    def below(self, bound):
+        """A number below the bound."""
+        self.state = (self.state * 6_364_136_223_846_793_005 + 1_442_695_040_888_963_407) % MOST
+        return (self.state >> 33) % bound
+
+    def one_of(self, things):
+        return things[self.below(len(things))]
+
+
+class Op(NamedTuple):
+    """An operation: `get`, `index`, `delete` or `create`, with the number that it writes and the pair that it asks for."""
+
+    name: str
+    k: int = None
+    condition: tuple = None
+
+
+class Reply(NamedTuple):
+    """A reply: `indexed`, `deleted`, `found`, `missing` or `conflict`. Where it was indexed, `more` says whether it was created;
+    where it was deleted, whether it was there; where it was found, its number."""
+
+    kind: str
+    pair: tuple = None
+    more: int = None
+
+
+MISSING, CONFLICT = Reply("missing"), Reply("conflict")
+
+
+class Call(NamedTuple):
+    """The event of a call. Documents are numbered from 0."""
+
+    no: int
+    doc: int
+    op: Op
+
+
+class Ending(NamedTuple):
+    """The event of a reply, or of a lost call, which has none."""
+
+    no: int
+    reply: Reply
+
+
+def performed(state, op, pair):
+    """What an index answers, and the document after it. A document that is there is its last pair and its number, else None; a
+    write that is performed takes the pair."""
+    is_there = state is not None
+    if op.name == "get":
+        return (Reply("found", *state) if is_there else MISSING), state
+    if op.name == "create" and is_there or op.condition and not (is_there and state[0] == op.condition):
+        return CONFLICT, state
+    if op.name == "delete":
+        return Reply("deleted", pair, is_there), None
+    return Reply("indexed", pair, not is_there), (pair, op.k)
+
+
+def pair_taken(reply):
+    """The pair that a reply shows to have been taken; None where it shows none."""
+    return reply.pair if reply and reply.kind in ("indexed", "deleted") else None
+
+
+NAMES = "abcd"
+
+
+def call_line(call, shard):
+    more = "" if call.op.k is None else f',"k":{call.op.k}'
+    if call.op.condition:
+        more += ',"if_primary_term":%d,"if_seq_no":%d' % call.op.condition
+    if shard:
+        more += f',"shard":{shard}'
+    return f'{{"e":"call","n":{call.no},"id":"{NAMES[call.doc]}","op":"{call.op.name}"{more}}}\n'
+
+
+def reply_line(no, doc, reply):
+    def with_pair(more):
+        return '"_id":"%s","_primary_term":%d,"_seq_no":%d,%s' % (NAMES[doc], *reply.pair, more)
+
+    status, body = {
+        "indexed": lambda: (201, with_pair('"result":"created"')) if reply.more else (200, with_pair('"result":"updated"')),
+        "deleted": lambda: (200, with_pair('"result":"deleted"')) if reply.more else (404, with_pair('"result":"not_found"')),
+        "found": lambda: (200, with_pair('"found":true,"_source":{"k":%d}' % reply.more)),
+        "missing": lambda: (404, f'"_id":"{NAMES[doc]}","found":false'),
+        "conflict": lambda: (409, '"error":{"type":"version_conflict_engine_exception"}'),
+    }[reply.kind]()
+    return f'{{"e":"reply","n":{no},"status":{status},"body":{{{body}}}}}\n'
+
+
+def lines(events, shard_of):
+    """The lines of a history of these events: one for each."""
+    doc_of = {it.no: it.doc for it in events if isinstance(it, Call)}
+    for it in events:
+        if isinstance(it, Call):
+            yield call_line(it, shard_of(it.doc))
+        elif it.reply:
+            yield reply_line(it.no, doc_of[it.no], it.reply)
+        else:
+            yield f'{{"e":"lost","n":{it.no}}}\n'

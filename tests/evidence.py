@@ -1,0 +1,306 @@
+#!/usr/bin/env python3
+"""Draws histories of two to four documents on two shards, puts a fault into each, and has the built program judge them.
+
+    python3 tests/evidence.py [PROGRAM]
+
+PROGRAM is the built casbench; where it is not named, the one that ./casbench would run. What the program has to tell is what
+a naive body finds, which tries all evidence in its order by the definitions of docs/MODEL.md. Of a history with evidence
+exactly this has to be told; of one without, there must be none. A history without a fault has to get `yes`.
+"""
+
+import itertools
+import re
+import subprocess
+import sys
+from concurrent.futures import ProcessPoolExecutor
+
+from drawing import CONFLICT, MISSING, Call, Draws, Ending, Op, Reply, lines, pair_taken, performed
+from program import built_program
+
+# How many seeds each kind of fault has, in how many of them a fault is found at least, and how many seeds have no fault.
+SEEDS, FAULTS, HONEST = 300, 150, 300
+
+# How many steps the calls of a history take: each is made, performed and answered.
+STEPS = 60
+
+
+def shard_of(doc):
+    return 0 if doc < 2 else 1
+
+
+class Waiting:
+    """A call without an ending; it has a reply once it is performed."""
+
+    def __init__(self, call):
+        self.call, self.reply = call, None
+
+
+class Clients:
+    """Three clients of two to four documents on two shards, and what was recorded of their calls."""
+
+    def __init__(self, seed):
+        self.draws = Draws(seed)
+        self.docs = self.draws.below(3) + 2
+        # Of each document what it is, and the pair that was shown last.
+        self.states, self.shown = [None] * 4, [None] * 4
+        self.waiting = [None] * 3
+        self.calls, self.performed, self.events = 0, 0, []
+
+    def operation(self, doc):
+        """A drawn operation, with a pair that was shown as its condition, or none. Each writes its own number."""
+        condition = self.shown[doc] if self.draws.below(2) else None
+        name = self.draws.one_of(["get", "get", "get", "delete", "create", "index", "index", "index"])
+        k = None if name in ("get", "delete") else self.calls
+        return Op(name, k, condition if name in ("index", "delete") else None)
+
+    def call(self):
+        """A client makes a call. The numbers of calls neither rise nor fall."""
+        doc = self.draws.below(self.docs)
+        call = Call(self.calls * 37 % 101, doc, self.operation(doc))
+        self.calls += 1
+        self.events.append(call)
+        return Waiting(call)
+
+    def perform(self, waiting):
+        """A call is performed. Each has the next number of the shards, also where it takes none."""
+        doc = waiting.call.doc
+        waiting.reply, self.states[doc] = performed(self.states[doc], waiting.call.op, (1, self.performed))
+        self.performed += 1
+
+    def end(self, waiting):
+        """The ending of a call is recorded: one of eight is lost."""
+        is_lost = self.draws.below(8) == 0
+        self.events.append(Ending(waiting.call.no, None if is_lost else waiting.reply))
+        if not is_lost:
+            self.shown[waiting.call.doc] = waiting.reply.pair
+
+    def step(self):
+        """A drawn client takes its next step."""
+        client = self.draws.below(3)
+        waiting = self.waiting[client]
+        if waiting is None:
+            self.waiting[client] = self.call()
+        elif waiting.reply is None:
+            self.perform(waiting)
+        else:
+            self.end(waiting)
+            self.waiting[client] = None
+
+
+class Known:
+    """A call of a history as all events tell it: its place, and the place of its reply and the reply, where it has one."""
+
+    def __init__(self, called, call):
+        self.called, self.no, self.doc, self.op = called, call.no, call.doc, call.op
+        self.replied, self.reply = None, None
+
+
+def known_calls(events):
+    """All calls of the events, by their numbers."""
+    calls = {}
+    for place, event in enumerate(events):
+        if isinstance(event, Call):
+            calls[event.no] = Known(place, event)
+        elif event.reply:
+            calls[event.no].replied, calls[event.no].reply = place, event.reply
+    return calls
+
+
+def found(call):
+    """Whether it is a get that found its document."""
+    return call.reply is not None and call.reply.kind == "found"
+
+
+def is_pair_twice(one, two):
+    """Two different writes of one shard were performed with the same pair."""
+    pair = pair_taken(one.reply)
+    return one.no != two.no and shard_of(one.doc) == shard_of(two.doc) and pair is not None and pair == pair_taken(two.reply)
+
+
+def may_take(call, pair, reading):
+    """What was heard of a write allows that it took the pair."""
+    if call.reply is None:
+        return True
+    return call.reply.kind == "indexed" and call.reply.pair == pair or call.reply.kind == "conflict" and reading == "maybe"
+
+
+def is_without_writer(get, calls, reading):
+    """A get found a pair with a number, and no call before its reply may have given its document both."""
+
+    def is_writer(call):
+        gives = call.op.name in ("index", "create") and call.doc == get.doc and call.op.k == get.reply.more
+        return gives and call.called < get.replied and may_take(call, get.reply.pair, reading)
+
+    return found(get) and not any(is_writer(call) for call in calls)
+
+
+def is_stale_get(get, write):
+    """A write of the get's document was answered before the get was called, which found a lesser pair."""
+    pair = pair_taken(write.reply)
+    return found(get) and pair is not None and write.doc == get.doc and write.replied < get.called and get.reply.pair < pair
+
+
+def is_stale_swap(one, two):
+    """Two different writes of one document were performed, the second with a condition below the pair of the first, though the
+    first stands before it: it was answered before the second was called, or has the lesser pair."""
+    first, second, asked = pair_taken(one.reply), pair_taken(two.reply), two.op.condition
+    if one.no == two.no or one.doc != two.doc or first is None or second is None or asked is None:
+        return False
+    return asked < first and (one.replied < two.called or first < second)
+
+
+def holds(kind, calls, numbers, reading):
+    """Whether evidence of the kind holds of the calls with these numbers."""
+    named = [calls[no] for no in numbers]
+    if kind == "no-writer":
+        return is_without_writer(*named, calls.values(), reading)
+    return {"pair-twice": is_pair_twice, "stale-get": is_stale_get, "stale-swap": is_stale_swap}[kind](*named)
+
+
+def first_evidence(calls, reading):
+    """The first evidence that holds, by its kind, then the number of its first call, then of its second; None where none does."""
+    for kind, count in (("pair-twice", 2), ("no-writer", 1), ("stale-get", 2), ("stale-swap", 2)):
+        for numbers in itertools.product(sorted(calls), repeat=count):
+            if holds(kind, calls, numbers, reading):
+                return kind, numbers
+    return None
+
+
+# Each of these puts a fault into the events, of drawn answered calls: it gives the place and the other event, and the evidence
+# of it; or None where these calls can't have it.
+
+
+def pair_twice(one, two, _):
+    """The pair of a write is given to another one of its shard too."""
+    pair = pair_taken(one.reply)
+    if pair is None or pair_taken(two.reply) is None or shard_of(one.doc) != shard_of(two.doc) or one.no == two.no:
+        return None
+    return two.replied, Ending(two.no, two.reply._replace(pair=pair)), ("pair-twice", (one.no, two.no))
+
+
+def no_writer(get, *_):
+    """A get finds a number that nobody wrote."""
+    if not found(get):
+        return None
+    return get.replied, Ending(get.no, get.reply._replace(more=1_000_000)), ("no-writer", (get.no,))
+
+
+def refused_writer(write, get, _):
+    """A get finds the number of a write that was answered with a conflict."""
+    if not found(get) or write.reply != CONFLICT or write.op.k is None or write.doc != get.doc or get.replied < write.called:
+        return None
+    return get.replied, Ending(get.no, get.reply._replace(more=write.op.k)), ("no-writer", (get.no,))
+
+
+def stale_get(earlier, write, get):
+    """A get that was called after a write was answered finds what an earlier write gave."""
+    old, new = pair_taken(earlier.reply), pair_taken(write.reply)
+    if old is None or new is None or earlier.op.k is None or get.op.name != "get":
+        return None
+    if not earlier.doc == write.doc == get.doc or new <= old or get.called < write.replied:
+        return None
+    return get.replied, Ending(get.no, Reply("found", old, earlier.op.k)), ("stale-get", (get.no, write.no))
+
+
+def stale_swap(earlier, one, two):
+    """A write was performed although its condition asks for a pair that is gone."""
+    old, gone, new = (pair_taken(it.reply) for it in (earlier, one, two))
+    if None in (old, gone, new) or not earlier.doc == one.doc == two.doc or not old < gone < new:
+        return None
+    if two.op.name not in ("index", "delete"):
+        return None
+    return two.called, Call(two.no, two.doc, two.op._replace(condition=old)), ("stale-swap", (one.no, two.no))
+
+
+def forgotten(get, *_):
+    """A document that was found is missing: no kind of evidence tells of that."""
+    return (get.replied, Ending(get.no, MISSING), None) if found(get) else None
+
+
+FAULT_KINDS = [pair_twice, no_writer, refused_writer, stale_get, stale_swap, forgotten]
+
+
+def drawn_fault(draws, calls, put):
+    """A fault that is put so, where one is found in so many tries."""
+    answered = sorted((it for it in calls.values() if it.reply), key=lambda it: it.replied)
+    for _ in range(4_000):
+        fault = put(*(draws.one_of(answered) for _ in range(3)))
+        if fault:
+            return fault
+    return None
+
+
+REFUTED = re.compile(r"refuted kind=(\S+) calls=(\d+(?:,\d+)?) event=(\d+) call=(\d+) before=(?:shown|unshown)\n")
+NO = re.compile(r"no event=(\d+) call=(\d+) before=(?:shown|unshown)\n")
+
+
+def is_reply(events, place, no):
+    """Whether the event at the place is a reply to the call with the number."""
+    return place < len(events) and isinstance(events[place], Ending) and events[place].reply is not None and events[place].no == no
+
+
+def is_told(events, evidence, status, line):
+    """Whether the program told just this evidence, or none where there is none."""
+    if evidence is None:
+        other = NO.fullmatch(line)
+        if other:
+            return status == 1 and is_reply(events, *map(int, other.groups()))
+        calls = known_calls(events).values()
+        return status == 0 and line.startswith(f"yes docs={len({it.doc for it in calls})} calls={len(calls)} left_out=")
+    told = REFUTED.fullmatch(line)
+    kind, numbers = evidence
+    return (
+        told is not None
+        and status == 1
+        and (told[1], told[2]) == (kind, ",".join(map(str, numbers)))
+        and is_reply(events, int(told[3]), int(told[4]))
+    )
+
+
+def tried(work):
+    """Tries a seed with a fault that is put so, or without one. Tells whether it was right, and what was told; or nothing where the
+    drawn calls could have no such fault."""
+    program, put, seed = work
+    name = f"{put.__name__ if put else 'no fault'}, seed {seed}"
+    clients = Clients(seed)
+    for _ in range(STEPS):
+        clients.step()
+    reading = "maybe" if clients.draws.below(2) else "plain"
+    events, mine = clients.events, None
+    if put:
+        fault = drawn_fault(clients.draws, known_calls(events), put)
+        if fault is None:
+            return None
+        place, event, mine = fault
+        events[place] = event
+    if put is refused_writer and reading == "maybe":
+        # (the conflict may hide the pair that the get found)
+        mine = None
+    calls = known_calls(events)
+    evidence = first_evidence(calls, reading)
+    if (evidence is None) != (mine is None) or mine and not holds(mine[0], calls, mine[1], reading):
+        return False, f"{name}: the naive body tells {evidence}, and {mine} was put in"
+    text = "".join(lines(events, shard_of))
+    ran = subprocess.run([program, "check", "--conflicts", reading], input=text, capture_output=True, text=True, timeout=60)
+    is_right = is_told(events, evidence, ran.returncode, ran.stdout) and (put is not None or ran.stdout.startswith("yes "))
+    return is_right, f"{name}, {reading}: {ran.stdout.strip()}{ran.stderr.strip()}, and the naive body tells {evidence}"
+
+
+def main():
+    program = built_program(sys.argv[1:])
+    work = [(program, put, number * SEEDS + seed) for number, put in enumerate(FAULT_KINDS) for seed in range(SEEDS)]
+    work += [(program, None, seed) for seed in range(HONEST)]
+    with ProcessPoolExecutor() as pool:
+        told = list(pool.map(tried, work, chunksize=20))
+    wrong = [f"FAILED: {it[1]}" for it in told if it and not it[0]]
+    print(*wrong, sep="\n", end="\n" if wrong else "")
+    for number, put in enumerate(FAULT_KINDS):
+        count = sum(it is not None for it in told[number * SEEDS : (number + 1) * SEEDS])
+        print(f"{put.__name__}: {count} faults, of at least {FAULTS}")
+        wrong += [put] if count < FAULTS else []
+    print(f"{sum(it is not None and it[0] for it in told)} passed, {len(wrong)} failed")
+    return 1 if wrong else 0
+
+
+if __name__ == "__main__":
+    sys.exit(main())
