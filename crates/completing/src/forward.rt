@@ -152,7 +152,7 @@ fn found_chain(
     };
     let mut search = Search {
         walk,
-        choices: Vec::new(alloc),
+        choices: Vec::with_capacity(alloc, records.len())?,
         failed: Failed::of(alloc, records.len())?,
     };
     search.arrive()?;

@@ -28,7 +28,7 @@ fn free_between(used: &[Pair], last: Option<Pair>, next: Pair) -> u64 {
 
 /// Before each known pair, and after the last, how many writes may be inserted; the pairs in use rise.
 pub fn rooms(alloc: Global, known: &KnownPairs, used: &[Pair]) -> Result<Vec<u64>, NoMemory> {
-    let mut rooms = Vec::new(alloc);
+    let mut rooms = Vec::with_capacity(alloc, known.len().saturating_add(1))?;
     let mut last = None;
     for at in 0..known.len() {
         if let Some(entry) = known.get(at) {

@@ -119,7 +119,7 @@ pub fn kinds_of(
     known: &KnownPairs,
     numbers: &Numbers,
 ) -> Result<Vec<Option<Kind>>, NoMemory> {
-    let mut kinds = Vec::new(alloc);
+    let mut kinds = Vec::with_capacity(alloc, records.len())?;
     for found in records {
         kinds.push(kind_of(*found, known))?;
     }

@@ -84,7 +84,7 @@ impl KnownPairs {
         pairs: &BTreeSet<Pair>,
     ) -> Result<Option<KnownPairs>, NoMemory> {
         let mut known = KnownPairs {
-            entries: Vec::new(alloc),
+            entries: Vec::with_capacity(alloc, pairs.len())?,
         };
         for pair in pairs {
             known.entries.push(Known {

@@ -39,18 +39,19 @@ impl Lines {
         kinds: &[Option<Kind>],
         known: usize,
     ) -> Result<Lines, NoMemory> {
-        let mut lines = Lines {
-            entries: Vec::new(alloc),
-            starts: Vec::new(alloc),
-            firsts: Vec::new(alloc),
-        };
-        for (line, call_at, rec) in &listed(alloc, records, kinds)? {
-            lines.begin_to(*line)?;
-            lines.entries.push((*call_at, *rec))?;
-        }
         let count = known
             .saturating_mul(Kind::OF_PAIR)
             .saturating_add(Kind::ALONE);
+        let listed = listed(alloc, records, kinds)?;
+        let mut lines = Lines {
+            entries: Vec::with_capacity(alloc, listed.len())?,
+            starts: Vec::with_capacity(alloc, count.saturating_add(1))?,
+            firsts: Vec::with_capacity(alloc, count.saturating_add(1))?,
+        };
+        for (line, call_at, rec) in &listed {
+            lines.begin_to(*line)?;
+            lines.entries.push((*call_at, *rec))?;
+        }
         lines.begin_to(count)?;
         Ok(lines)
     }

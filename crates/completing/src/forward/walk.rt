@@ -63,7 +63,7 @@ pub struct Walk<'a> {
 
 // The answered records by place of reply.
 fn by_reply(alloc: Global, records: &[Rec]) -> Result<Vec<(usize, usize)>, NoMemory> {
-    let mut replies = Vec::new(alloc);
+    let mut replies = Vec::with_capacity(alloc, records.len())?;
     for rec in 0..records.len() {
         if let Some(heard) = records[rec].heard {
             replies.push((heard.0, rec))?;
@@ -121,7 +121,7 @@ impl Walk<'_> {
             conflicts: conflicts_by_call(alloc, records, &kinds)?,
             placed: vec![in alloc; false; records.len()]?,
             turned: vec![in alloc; false; records.len()]?,
-            order: Vec::new(alloc),
+            order: Vec::with_capacity(alloc, records.len())?,
             standing: Standing::start(),
             steps: 0,
             known,
