@@ -2,10 +2,10 @@
 use Rattle.std.specs.Prelude.{ℕ}
 use Rattle.clap.specs.declared.error.kind.ErrorKind.{ErrorKind}
 use Rattle.clap.specs.declared.error.kind.ErrorKind.TheVariants.{DisplayHelp, DisplayVersion, OutOfMemory}
-use Rattle.report.specs.declared.status.Status.{Status}
-use Rattle.report.specs.declared.status.Status.TheVariants.{Yes, No, Refuted, Refused}
-use Rattle.report.specs.declared.stream_fault.StreamFault.{StreamFault}
-use Rattle.report.specs.declared.stream_fault.StreamFault.TheVariants.{Read, Write, NoMemory, Worker, Recording, Setting}
+use Rattle.stream_io.specs.declared.status.Status.{Status}
+use Rattle.stream_io.specs.declared.status.Status.TheVariants.{Yes, No, Refuted, Refused}
+use Rattle.stream_io.specs.declared.stream_fault.StreamFault.{StreamFault}
+use Rattle.stream_io.specs.declared.stream_fault.StreamFault.TheVariants.{Read, Write, NoMemory, Worker, Recording, Setting}
 
 abbrev pub code_of_status : Status → ℕ
 code_of_status Yes = 0

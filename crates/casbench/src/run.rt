@@ -3,9 +3,10 @@ ghost use Rattle.std.proofs.Common.{Bor};
 ghost use Rattle.std.specs.Io.KnownBytes.{Keeps};
 ghost use Rattle.doc_register.specs.declared.state.Conflicts.{Conflicts as Mode};
 ghost use Rattle.report.specs.Explained.{ExplainsInput};
-ghost use Rattle.report.specs.Verdict.{HasAnswer, IsAnswered, WitnessesInput};
-ghost use Rattle.report.specs.Runs.{IsRunText};
-ghost use Rattle.report.specs.declared.run_setting.RunSetting.{RunSetting as Setting};
+ghost use Rattle.report.specs.Verdict.{IsAnswered, WitnessesInput};
+ghost use Rattle.recorded_runs.specs.Runs.{IsRunText};
+ghost use Rattle.recorded_runs.specs.declared.run_setting.RunSetting.{RunSetting as Setting};
+ghost use Rattle.stream_io.specs.Written.{HasAnswer};
 
 use crate::files::{create_or_none, open_both, open_or};
 use crate::words::Words;

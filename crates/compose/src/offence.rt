@@ -5,15 +5,12 @@ ghost use Rattle.compose.specs.aids.Replies.{AreReplies, IsNarrower, IsReplyPlac
 
 use crate::case::Case;
 use crate::checking::is_explained;
-use crate::narrowing::narrowed;
-use crate::offence::suspicion::suspected;
 use doc_register::Conflicts;
 use history::laws::late_calls;
 use history::{Event, History};
+use narrowing::guessed;
 use std::alloc::Global;
 use version_pair::NoMemory;
-
-mod suspicion;
 
 /// The reply at which the search for an order first fails.
 #[derive(Clone, Copy, Debug, PartialEq, Eq)]
@@ -158,13 +155,6 @@ fn offence_if(
     }))
 }
 
-// The place of a reply that is guessed to be the first at which the search fails: one that contradicts an earlier one by the
-// pairs that both show, or one before that to which halving the replies of a document by itself leads.
-fn guessed(alloc: Global, case: &Case) -> Result<Option<usize>, NoMemory> {
-    let suspect = suspected(alloc, case.history())?;
-    narrowed(alloc, case, suspect)
-}
-
 /// The reply at which the search first fails, its call, and whether the events before it have an order.
 ///
 /// It is found by halving the replies: where the events up to the middle one have an order that the search finds, it is after
@@ -175,7 +165,7 @@ pub fn first_offence(alloc: Global, case: &Case) -> Result<Offence, NoMemory>
 {
     let history = case.history();
     let conflicts = case.conflicts();
-    if let Some(place) = guessed(alloc, case)? {
+    if let Some(place) = guessed(alloc, history, conflicts)? {
         if let Some(offence) = offence_if(alloc, history, conflicts, place)? {
             return Ok(offence);
         }

@@ -1,7 +1,5 @@
 mod bulk_writer;
-mod drawn_lines;
 mod front;
-mod history_input;
 mod pushes;
 mod reader;
 mod seen;

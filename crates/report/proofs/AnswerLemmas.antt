@@ -19,9 +19,9 @@ use Rattle.compose.specs.VerifyFaults.{IsFirstVerifyFault}
 use Rattle.compose.specs.declared.verify_fault.VerifyFault.{VerifyFault}
 use Rattle.compose.specs.Offences.{IsOffence}
 use Rattle.compose.specs.declared.offence.Offence.{Offence}
-use Rattle.report.specs.declared.status.Status.{Status}
-use Rattle.report.specs.declared.status.Status.TheVariants.{No, Refuted, Refused}
-use Rattle.report.specs.Lines.{broken_line, refused_file_line, refused_line, refuted_line}
+use Rattle.stream_io.specs.declared.status.Status.{Status}
+use Rattle.stream_io.specs.declared.status.Status.TheVariants.{No, Refuted, Refused}
+use Rattle.result_lines.specs.Lines.{broken_line, refused_file_line, refused_line, refuted_line}
 use Rattle.report.specs.Bulk.{AnswersBulk, IsBulkAnswer}
 use Rattle.report.specs.Verdict.{IsAnswer, IsRefutedBy, IsSomeHistory, IsUnexplained, IsVerifyAnswer, IsWitnessAnswer, IsWitnessed}
 use Rattle.report.proofs.WitnessLimits.{within_limits}

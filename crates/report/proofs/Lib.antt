@@ -1,4 +1,3 @@
-mod StreamLemmas
+mod PageLemmas
 mod WitnessLimits
 mod AnswerLemmas
-mod RunLemmas

@@ -2,9 +2,9 @@
 use Rattle.std.specs.Prelude.{◌≡◌, ℕ, List, Ok, Err, Option, IfSome}
 use Rattle.api_lines.specs.declared.bulk_fault.BulkFault.{BulkFault}
 use Rattle.history.specs.BulkText.{bulk_history}
-use Rattle.report.specs.Lines.{bulk_fault_line}
-use Rattle.report.specs.declared.status.Status.{Status}
-use Rattle.report.specs.declared.status.Status.TheVariants.{Yes, No, Refuted, Refused}
+use Rattle.result_lines.specs.Lines.{bulk_fault_line}
+use Rattle.stream_io.specs.declared.status.Status.{Status}
+use Rattle.stream_io.specs.declared.status.Status.TheVariants.{Yes, No, Refuted, Refused}
 
 -- The lines of the bulk's calls, numbered from first on, and of their endings, where its status is 200; or the line of the
 -- first fault.

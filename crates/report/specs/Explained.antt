@@ -4,7 +4,7 @@ use Rattle.std.specs.Io.KnownBytes.{Appends}
 use Rattle.doc_register.specs.declared.state.Conflicts.{Conflicts}
 use Rattle.page.specs.Pages.{IsPage}
 use Rattle.report.specs.Verdict.{AnswersInput}
-use Rattle.report.specs.declared.status.Status.{Status}
+use Rattle.stream_io.specs.declared.status.Status.{Status}
 
 -- The text begins with the line of a check, which is an answer to the bytes that the reader had; a story follows.
 abbrev pub ExplainsInput : Conflicts → Option (List ℕ) → Status → List ℕ → Type 0

@@ -1,6 +1,5 @@
 -- What a line that is written says of the bytes that were read.
 use Rattle.std.specs.Prelude.{◌≡◌, ℕ, ◌+◌, ◌⊎◌, List, codes, length, Ok, Err, Option, IfSome, take}
-use Rattle.std.specs.Io.KnownBytes.{Appends}
 use Rattle.doc_register.specs.declared.state.Conflicts.{Conflicts}
 use Rattle.history.specs.declared.event.Event.{Event}
 use Rattle.api_lines.specs.declared.text_fault.TextFault.{TextFault}
@@ -18,9 +17,10 @@ use Rattle.compose.specs.declared.verify_fault.VerifyFault.{VerifyFault}
 use Rattle.witness.specs.Text.{DocPlaces, witness_text}
 use Rattle.compose.specs.Offences.{IsOffence}
 use Rattle.compose.specs.declared.offence.Offence.{Offence}
-use Rattle.report.specs.Lines.{broken_line, no_line, refused_file_line, refused_line, refuted_line, verified_line, yes_line}
-use Rattle.report.specs.declared.status.Status.{Status}
-use Rattle.report.specs.declared.status.Status.TheVariants.{Yes, No, Refuted, Refused}
+use Rattle.result_lines.specs.Lines.{broken_line, no_line, refused_file_line, refused_line, refuted_line, verified_line, yes_line}
+use Rattle.stream_io.specs.Written.{HasAnswer, HasFront}
+use Rattle.stream_io.specs.declared.status.Status.{Status}
+use Rattle.stream_io.specs.declared.status.Status.TheVariants.{Yes, No, Refuted, Refused}
 
 -- The input is a text of a history with so many documents and so many calls, and there is an order that explains it, in
 -- which so many of its calls do not stand.
@@ -120,14 +120,6 @@ IsVerifyAnswer mode history witness Refuted line = ⊥
 IsVerifyAnswer mode history witness Refused line = IsRefusedHistory history line ⊎ IsRefusedWitness history witness line
 
 -- ---- what the writer holds
-
--- the writer holds a text beside what it held, of which this is true
-abbrev pub HasAnswer : (List ℕ → Type 0) → Option (List ℕ) → Option (List ℕ) → Type 0
-HasAnswer P old new = (text : List ℕ) × Appends old new text × P text
-
--- the writer holds a front of a text beside what it held; this is true of the text, with some status
-abbrev pub HasFront : (Status → List ℕ → Type 0) → Option (List ℕ) → Option (List ℕ) → Type 0
-HasFront P old new = (status : Status) × (text : List ℕ) × (n : ℕ) × Appends old new (take n text) × P status text
 
 -- an answer to the bytes that the reader had
 abbrev pub AnswersInput : Conflicts → Option (List ℕ) → Status → List ℕ → Type 0

@@ -1,13 +1,12 @@
 ghost use Rattle.std.specs.Prelude.{◌≡◌, IfOk};
 ghost use Rattle.report.specs.Bulk.{IsBulkAnswer};
-ghost use Rattle.report.specs.Lines.{bulk_fault_line};
+ghost use Rattle.result_lines.specs.Lines.{bulk_fault_line as told_line};
 
-use crate::answer::Answer;
-use crate::bulk_line::fault_line;
-use crate::status::Status;
 use api_lines::BulkFault;
 use history::bulk_text;
+use result_lines::bulk_fault_line;
 use std::alloc::{AllocError, Global};
+use stream_io::{Answer, Status};
 use version_pair::NoMemory;
 
 // The status of every bulk whose reply is recorded.
@@ -16,9 +15,9 @@ const STATUS: u16 = 200;
 // The answer to a bulk that is refused.
 fn refusal(alloc: Global, fault: BulkFault) -> Result<Answer, NoMemory>
     ensures status { IfOk result (λ answer. answer.status ≡ Status.Refused) }
-    ensures line { IfOk result (λ answer. answer.text.items ≡ bulk_fault_line fault) }
+    ensures line { IfOk result (λ answer. answer.text.items ≡ told_line fault) }
 {
-    let line = fault_line(alloc, fault)?;
+    let line = bulk_fault_line(alloc, fault)?;
     Ok(Answer::of(Status::Refused, line))
 }
 

@@ -3,15 +3,9 @@ ghost use Rattle.doc_register.specs.declared.state.Conflicts.{Conflicts as Mode}
 ghost use Rattle.history.specs.Reading.{history_text};
 ghost use Rattle.history.specs.Text.{IsHistoryText};
 ghost use Rattle.compose.specs.Checked.{IsVerdictOn};
-ghost use Rattle.report.specs.Lines.{no_line, refused_line, refuted_line as evidence_line, yes_line};
+ghost use Rattle.result_lines.specs.Lines.{no_line as told_no, refused_line as told_refused, refuted_line as told_refuted, yes_line as told_yes};
 ghost use Rattle.report.specs.Verdict.{AnswersInput, IsAnswer, IsWitnessAnswer};
 
-use crate::answer::Answer;
-use crate::before_name::before_name;
-use crate::cause_name::cause_name;
-use crate::input::read_history;
-use crate::refuted_line::refuted_line;
-use crate::status::Status;
 use crate::unanswered::Unanswered;
 use api_lines::TextFault;
 use check_pool::{NoGate, PoolFault};
@@ -22,46 +16,37 @@ use compose::{
 use doc_register::Conflicts;
 use evidence::laws::evidence_refutes;
 use history::{HashKeys, History};
+use result_lines::{no_line, refused_line, refuted_line, yes_line};
 use std::alloc::Global;
 use std::io::Read;
 use std::sync::Wait;
 use std::thread::Threads;
+use stream_io::{Answer, Status, read_history};
 use version_pair::NoMemory;
 
 // The answer that an order explains the history.
 fn yes(alloc: Global, counts: Counts) -> Result<Answer, NoMemory>
     ensures status { IfOk result (λ answer. answer.status ≡ Status.Yes) }
     ensures line { IfOk result (λ answer. answer.text.items
-        ≡ yes_line counts.docs counts.calls counts.left_out) }
+        ≡ told_yes counts.docs counts.calls counts.left_out) }
 {
-    let Counts {
-        docs,
-        calls,
-        left_out,
-    } = counts;
-    let line = format!(in alloc; "yes docs={docs} calls={calls} left_out={left_out}\n")?;
+    let line = yes_line(alloc, counts)?;
     Ok(Answer::of(Status::Yes, line))
 }
 
 // The answer that no order was found, and where the search first failed.
 fn no(alloc: Global, offence: Offence) -> Result<Answer, NoMemory>
     ensures status { IfOk result (λ answer. answer.status ≡ Status.No) }
-    ensures line { IfOk result (λ answer. answer.text.items ≡ no_line offence) }
+    ensures line { IfOk result (λ answer. answer.text.items ≡ told_no offence) }
 {
-    let Offence {
-        event,
-        call,
-        before_shown,
-    } = offence;
-    let before = before_name(before_shown);
-    let line = format!(in alloc; "no event={event} call={call} before={before}\n")?;
+    let line = no_line(alloc, offence)?;
     Ok(Answer::of(Status::No, line))
 }
 
 // The answer that evidence holds in the history, and where the search first failed.
 fn refuted(alloc: Global, evidence: Refuted, offence: Offence) -> Result<Answer, NoMemory>
     ensures status { IfOk result (λ answer. answer.status ≡ Status.Refuted) }
-    ensures line { IfOk result (λ answer. answer.text.items ≡ evidence_line evidence offence) }
+    ensures line { IfOk result (λ answer. answer.text.items ≡ told_refuted evidence offence) }
 {
     let line = refuted_line(alloc, evidence, offence)?;
     Ok(Answer::of(Status::Refuted, line))
@@ -96,16 +81,14 @@ pub fn case_answer(alloc: Global, case: &Case) -> Result<(Answer, Failing), NoMe
 /// The answer to a text that was refused.
 pub fn refusal(alloc: Global, fault: TextFault) -> Result<Answer, NoMemory>
     ensures status { IfOk result (λ answer. answer.status ≡ Status.Refused) }
-    ensures line { IfOk result (λ answer. answer.text.items ≡ refused_line fault.line fault.cause) }
+    ensures line { IfOk result (λ answer. answer.text.items ≡ told_refused fault.line fault.cause) }
     ensures answers { IfOk result (λ answer. (mode : Mode) (input : List ℕ)
         → history_text input ≡ Err fault → IsAnswer mode input answer.status answer.text.items) }
     ensures witness { IfOk result (λ answer. (mode : Mode) (input : List ℕ)
         → history_text input ≡ Err fault
         → IsWitnessAnswer mode input answer.status answer.text.items) }
 {
-    let number = fault.line;
-    let cause = cause_name(fault.cause);
-    let line = format!(in alloc; "refused line={number} cause={cause}\n")?;
+    let line = refused_line(alloc, fault)?;
     Ok(Answer::of(Status::Refused, line))
 }
 

@@ -5,9 +5,8 @@ ghost use Rattle.page.specs.Pages.{IsPage};
 ghost use Rattle.report.specs.Explained.{ExplainsInput};
 ghost use Rattle.report.specs.Verdict.{AnswersInput};
 
-use crate::answer::Answer;
 use crate::check_answer::{history_answer, refusal};
-use crate::input::read_numbered;
+use crate::numbered_input::read_numbered;
 use crate::unanswered::Unanswered;
 use doc_register::Conflicts;
 use history::HashKeys;
@@ -16,6 +15,7 @@ use std::io::Read;
 use std::sync::Wait;
 use std::thread::Threads;
 use story::{Story, page_of, plain_text, refused_story, story_of};
+use stream_io::Answer;
 use version_pair::NoMemory;
 
 // The line of a check of the text of a reader, and what it means.
@@ -61,9 +61,7 @@ fn with_story(alloc: Global, answer: Answer, story: &Story) -> Result<Answer, No
     ensures line { IfOk result (λ told. (rest : List ℕ) × (told.text.items ≡ answer.text.items ++ rest)) }
 {
     let plain = plain_text(alloc, story)?;
-    let Answer { status, mut text } = answer;
-    text.extend_from_slice(plain.as_bytes())?;
-    Ok(Answer { status, text })
+    answer.followed_by(plain.as_bytes())
 }
 
 /// The line of a check of the text of a reader, with a story behind it.

@@ -2,18 +2,16 @@ ghost use Rattle.std.specs.Prelude.{◌≡◌, ◌≤◌, ℕ, IfOk, IsErrOf, On
 ghost use Rattle.std.specs.Io.KnownBytes.{Keeps};
 ghost use Rattle.page.specs.Pages.{IsPage};
 ghost use Rattle.report.specs.Explained.{ExplainsInput, HasPageFront};
-ghost use Rattle.report.specs.Verdict.{HasAnswer, HasFront};
+ghost use Rattle.stream_io.specs.Written.{HasAnswer, HasFront};
 
 use crate::explain::{explained_page, explained_text};
-use crate::output::{write_answer, write_text};
-use crate::status::Status;
-use crate::stream_fault::StreamFault;
 use doc_register::Conflicts;
 use history::HashKeys;
 use std::alloc::Global;
 use std::io::{Read, Write};
 use std::sync::Wait;
 use std::thread::Threads;
+use stream_io::{Status, StreamFault, write_answer, write_text};
 
 /// Reads a history text to its end and writes the line that `check_stream` writes for it, and after it a story of what was
 /// found, for people: where no order was found the calls that matter, why no order explains the reply, and the order before

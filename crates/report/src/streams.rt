@@ -2,14 +2,11 @@ ghost use Rattle.std.specs.Prelude.{◌≡◌, ◌≢◌, ◌≤◌, ℕ, IfOk, 
 ghost use Rattle.std.specs.Io.KnownBytes.{Keeps};
 ghost use Rattle.report.specs.aids.Faults.{stream_fault};
 ghost use Rattle.report.specs.Bulk.{AnswersBulk};
-ghost use Rattle.report.specs.Verdict.{AnswersInput, HasAnswer, HasFront, IsAnswered, IsCutOff, VerifiesInputs, WitnessesInput};
+ghost use Rattle.report.specs.Verdict.{AnswersInput, IsAnswered, IsCutOff, VerifiesInputs, WitnessesInput};
+ghost use Rattle.stream_io.specs.Written.{HasAnswer, HasFront};
 
 use crate::bulk_answer::bulk_answer;
 use crate::check_answer::check_answer;
-use crate::input::read_all;
-use crate::output::write_answer;
-use crate::status::Status;
-use crate::stream_fault::StreamFault;
 use crate::verify_input::verify_input;
 use crate::witness_answer::witness_answer;
 use api_lines::InputFault;
@@ -19,6 +16,7 @@ use std::alloc::Global;
 use std::io::{Read, Write};
 use std::sync::Wait;
 use std::thread::Threads;
+use stream_io::{Status, StreamFault, read_all, write_answer};
 
 // A fault of the input as one of a stream.
 fn fault_of(fault: InputFault) -> StreamFault

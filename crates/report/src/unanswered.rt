@@ -1,6 +1,6 @@
-use crate::stream_fault::StreamFault;
 use api_lines::InputFault;
 use std::alloc::AllocError;
+use stream_io::StreamFault;
 
 /// Why a text has no answer.
 #[derive(Clone, Copy, Debug, PartialEq, Eq)]

@@ -4,18 +4,16 @@ ghost use Rattle.witness.specs.Text.{witness_text};
 ghost use Rattle.doc_register.specs.declared.state.Conflicts.{Conflicts as Mode};
 ghost use Rattle.history.specs.Reading.{history_text};
 ghost use Rattle.history.specs.Text.{IsHistoryText};
-ghost use Rattle.report.specs.Lines.{broken_line as told_line, refused_file_line, verified_line};
+ghost use Rattle.result_lines.specs.Lines.{broken_line as told_broken, refused_file_line, verified_line as told_verified};
 ghost use Rattle.report.specs.Verdict.{IsSomeHistory, IsVerifyAnswer};
 
-use crate::answer::Answer;
-use crate::broken_line::fault_line;
-use crate::cause_name::cause_name;
-use crate::status::Status;
 use api_lines::TextFault;
 use compose::{Counts, VerifyFault, verify};
 use doc_register::Conflicts;
 use history::History;
+use result_lines::{broken_line, refused_history_line, refused_witness_line, verified_line};
 use std::alloc::{AllocError, Global};
+use stream_io::{Answer, Status};
 use version_pair::{DocId, NoMemory};
 use witness::Place;
 
@@ -23,23 +21,18 @@ use witness::Place;
 fn verified(alloc: Global, counts: Counts) -> Result<Answer, NoMemory>
     ensures status { IfOk result (λ answer. answer.status ≡ Status.Yes) }
     ensures line { IfOk result (λ answer. answer.text.items
-        ≡ verified_line counts.docs counts.calls counts.left_out) }
+        ≡ told_verified counts.docs counts.calls counts.left_out) }
 {
-    let Counts {
-        docs,
-        calls,
-        left_out,
-    } = counts;
-    let line = format!(in alloc; "verified docs={docs} calls={calls} left_out={left_out}\n")?;
+    let line = verified_line(alloc, counts)?;
     Ok(Answer::of(Status::Yes, line))
 }
 
 // The answer that a witness does not cover a history.
 fn broken(alloc: Global, fault: VerifyFault) -> Result<Answer, NoMemory>
     ensures status { IfOk result (λ answer. answer.status ≡ Status.No) }
-    ensures line { IfOk result (λ answer. answer.text.items ≡ told_line fault) }
+    ensures line { IfOk result (λ answer. answer.text.items ≡ told_broken fault) }
 {
-    let line = fault_line(alloc, fault)?;
+    let line = broken_line(alloc, fault)?;
     Ok(Answer::of(Status::No, line))
 }
 
@@ -51,9 +44,7 @@ pub fn refused_history(alloc: Global, fault: TextFault) -> Result<Answer, NoMemo
         → history_text history ≡ Err fault
         → IsVerifyAnswer mode history witness answer.status answer.text.items) }
 {
-    let number = fault.line;
-    let cause = cause_name(fault.cause);
-    let line = format!(in alloc; "refused file=history line={number} cause={cause}\n")?;
+    let line = refused_history_line(alloc, fault)?;
     Ok(Answer::of(Status::Refused, line))
 }
 
@@ -65,9 +56,7 @@ pub fn refused_witness(alloc: Global, fault: TextFault) -> Result<Answer, NoMemo
         → IsSomeHistory history → witness_text witness ≡ Err fault
         → IsVerifyAnswer mode history witness answer.status answer.text.items) }
 {
-    let number = fault.line;
-    let cause = cause_name(fault.cause);
-    let line = format!(in alloc; "refused file=witness line={number} cause={cause}\n")?;
+    let line = refused_witness_line(alloc, fault)?;
     Ok(Answer::of(Status::Refused, line))
 }
 

@@ -2,14 +2,13 @@ ghost use Rattle.std.specs.Prelude.{IfOk, IfSome, ℕ, List};
 ghost use Rattle.history.specs.Text.{IsHistoryText};
 ghost use Rattle.report.specs.Verdict.{IsVerifyAnswer, VerifiesInputs};
 
-use crate::answer::Answer;
-use crate::input::{read_entries, read_history};
 use crate::verify_answer::{entries_answer, refused_history, refused_witness};
 use api_lines::InputFault;
 use doc_register::Conflicts;
 use history::{HashKeys, History};
 use std::alloc::Global;
 use std::io::Read;
+use stream_io::{Answer, read_entries, read_history};
 
 // The answer to the witness text of a reader, for this history.
 fn read_witness_answer<Q: Read>(

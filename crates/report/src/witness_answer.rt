@@ -2,16 +2,14 @@ ghost use Rattle.std.specs.Prelude.{◌≡◌, IfOk, ℕ, List};
 ghost use Rattle.history.specs.Text.{IsHistoryText};
 ghost use Rattle.report.specs.Verdict.{IsWitnessAnswer, WitnessesInput};
 
-use crate::answer::Answer;
 use crate::check_answer::{case_answer, refusal};
-use crate::input::read_history;
-use crate::status::Status;
 use api_lines::InputFault;
 use compose::{Verdict, check_alone};
 use doc_register::Conflicts;
 use history::{HashKeys, History};
 use std::alloc::{AllocError, Global};
 use std::io::Read;
+use stream_io::{Answer, Status, read_history};
 use version_pair::NoMemory;
 use witness::write_witness;
 

@@ -1,4 +1,3 @@
-mod explain_streams;
 mod recorded_run;
 mod streams;
 mod texts;

@@ -8,7 +8,7 @@ use std::alloc::Global;
 use version_pair::{DocId, NoMemory, Pair};
 
 /// A call with its document.
-#[derive(Clone, Copy, Debug)]
+#[derive(Clone, Copy)]
 pub struct Call<'h> {
     pub id: &'h DocId,
     pub shard: u32,
@@ -115,7 +115,7 @@ pub fn evidence_calls(alloc: Global, evidence: Option<Refuted>) -> Result<Vec<u6
 }
 
 /// What the calls that matter most name: their numbers, and the versions in their replies and conditions.
-#[derive(Debug, Drop)]
+#[derive(Drop)]
 pub struct Named {
     broken: u64,
     evidence: Vec<u64>,

@@ -8,7 +8,7 @@ use version_pair::{DocId, NoMemory};
 pub const MOST_DRAWN: usize = 200;
 
 /// What is kept of the calls of some documents.
-#[derive(Debug, Drop)]
+#[derive(Drop)]
 pub struct Kept<'h> {
     /// How many calls there are.
     pub count: usize,

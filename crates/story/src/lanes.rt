@@ -2,7 +2,7 @@ use std::alloc::Global;
 use version_pair::NoMemory;
 
 /// Lanes of a drawing, one below the other. What overlaps from left to right stands in different lanes.
-#[derive(Debug, Drop)]
+#[derive(Drop)]
 pub struct Lanes {
     // Where each lane is free from.
     free: Vec<u64>,

@@ -10,7 +10,7 @@ use version_pair::{DocId, NoMemory, Pair};
 use witness::{DocWitness, Place};
 
 /// A place of an order: its call, and what the document is after it.
-#[derive(Clone, Copy, Debug)]
+#[derive(Clone, Copy)]
 pub struct Step {
     pub record: Rec,
     pub state: DocState,
@@ -19,7 +19,7 @@ pub struct Step {
 }
 
 /// An order of the calls of a document, or its end.
-#[derive(Debug, Drop)]
+#[derive(Drop)]
 pub struct OrderBefore {
     /// How many places stand before those that are told.
     pub left_out: usize,

@@ -8,7 +8,7 @@ use std::alloc::Global;
 use version_pair::NoMemory;
 
 // A page that is being made.
-#[derive(Debug, Drop)]
+#[derive(Drop)]
 struct Pieces {
     alloc: Global,
     list: Vec<Piece>,

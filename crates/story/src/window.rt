@@ -7,7 +7,7 @@ use version_pair::{NoMemory, Pair};
 ///
 /// They begin at a moment at which no call of it was open and it was known what it is: so an order of these calls, from there on,
 /// continues each order of the calls before.
-#[derive(Debug, Drop)]
+#[derive(Drop)]
 pub struct Window {
     /// How many answered calls stand before it.
     pub answered_before: usize,

@@ -124,6 +124,3 @@ impl DocWitness {
         self.conflicts
     }
 }
-
-#[cfg(test)]
-mod tests;

@@ -6,8 +6,6 @@ mod check;
 mod doc_witness;
 mod documents;
 pub mod laws;
-#[cfg(test)]
-mod notation;
 mod place;
 mod place_check;
 mod walk;

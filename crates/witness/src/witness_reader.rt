@@ -99,6 +99,3 @@ pub fn read_witness(alloc: Global, text: &[u8]) -> Result<Vec<(DocId, Vec<Place>
     }
     Ok(reader.finish())
 }
-
-#[cfg(test)]
-mod tests;

@@ -109,6 +109,3 @@ pub fn write_witness(alloc: Global, witnesses: &[DocWitness]) -> Result<Vec<u8>,
     }
     Ok(text)
 }
-
-#[cfg(test)]
-mod tests;

@@ -1,6 +1,5 @@
 //! Texts of bulk requests and their replies.
 
-use api_lines::BulkFault;
 use history::bulk_text;
 use std::alloc::Global;
 
@@ -14,9 +13,6 @@ const BODY: &str = r#"{"index":{"_index":"i","_id":"a"}}
 
 const REPLY: &str =
     r#"{"took":1,"errors":true,"items":[{"index":{"_id":"a","status":201,"result":"created","_seq_no":0,"_primary_term":1}},{"delete":{"_id":"b","status":404,"result":"not_found","_seq_no":1,"_primary_term":1}},{"index":{"_id":"a","status":409,"error":{"type":"version_conflict_engine_exception","reason":"x"}}}]}"#;
-
-const ITEM_MISSING: &str =
-    r#"{"took":1,"errors":true,"items":[{"index":{"_id":"a","status":201,"result":"created","_seq_no":0,"_primary_term":1}},{"delete":{"_id":"b","status":404,"result":"not_found","_seq_no":1,"_primary_term":1}}]}"#;
 
 const TEXT: &str = r#"{"e":"call","id":"a","k":1,"n":0,"op":"index"}
 {"e":"call","id":"b","n":1,"op":"delete"}
@@ -36,12 +32,6 @@ const TEXT_FROM_LAST_NUMBERS: &str =
 {"e":"lost","n":18446744073709551615}
 "#;
 
-// The second item's reply is a stranger's.
-const STRANGER: &str = r#"{"items":[{"index":{}},{"delete":{"_id":"x"}},{"index":{"_id":"a"}}]}"#;
-
-// The second item's reply is a stranger's, and the third is none.
-const STRANGER_THEN_KIND: &str = r#"{"items":[{"index":{}},{"delete":{"_id":"x"}},{"delete":{}}]}"#;
-
 // Whether the bulk and this reply to it give the text.
 fn is_text(alloc: Global, first: u64, status: u16, reply: &str, want: &str) -> Option<bool> {
     let text = bulk_text(alloc, first, BODY.as_bytes(), status, reply.as_bytes()).ok()?;
@@ -59,21 +49,5 @@ fn bulks_written(rt: HostRuntime) {
             Some(true),
             "{first}"
         );
-    }
-}
-
-#[test]
-fn bulks_refused(rt: HostRuntime) {
-    for (first, body, reply, fault) in [
-        (0, BODY, ITEM_MISSING, BulkFault::Count),
-        (u64::MAX - 1, BODY, REPLY, BulkFault::Count),
-        // The body's fault, then the reply's, then a stranger's, then the numbers'.
-        (u64::MAX, "{}", "{", BulkFault::Action(1)),
-        (u64::MAX, BODY, "{", BulkFault::Syntax(1)),
-        (u64::MAX, BODY, STRANGER_THEN_KIND, BulkFault::Kind(2)),
-        (u64::MAX, BODY, STRANGER, BulkFault::Kind(1)),
-    ] {
-        let told = bulk_text(rt.alloc(), first, body.as_bytes(), 200, reply.as_bytes()).err();
-        assert_eq!(rt; told, Some(fault), "{reply}");
     }
 }

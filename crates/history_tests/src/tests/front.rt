@@ -1,12 +1,9 @@
 //! Fronts of histories: their first events.
 
 use crate::tests::testing::same;
-use drawn::drawn;
 use history::{Front, History, read};
 use std::alloc::Global;
 use std::test::Fail;
-
-mod drawn;
 
 const INDEX_THEN_GET: &str = r#"{"e":"call","n":0,"id":"d","op":"index","k":1}
 {"e":"reply","n":0,"status":201,"body":{"_index":"i","_id":"d","_version":1,"result":"created","_shards":{"total":2,"successful":1,"failed":0},"_seq_no":0,"_primary_term":1}}
@@ -124,20 +121,6 @@ fn are_as_copied_of(alloc: Global, text: &str) -> Result<(), Fail> {
 fn fronts_of_worked_cases(rt: HostRuntime) -> Result<(), Fail> {
     for text in ["", INDEX_THEN_GET, DOCUMENTS_INTERLEAVED] {
         are_as_copied_of(rt.alloc(), text)?;
-    }
-    Ok(())
-}
-
-// Asserts that each front of a drawn history has what the copy of its first events has.
-fn are_as_copied_of_drawn(alloc: Global, seed: u64) -> Result<(), Fail> {
-    let history = drawn(alloc, seed)?;
-    are_as_copied(alloc, &history)
-}
-
-#[test]
-fn fronts_of_drawn_histories(rt: HostRuntime) -> Result<(), Fail> {
-    for seed in 0..50_u64 {
-        are_as_copied_of_drawn(rt.alloc(), seed)?;
     }
     Ok(())
 }

@@ -1,8 +1,8 @@
 //! Events added to a history: what it answers to them, and what it has then.
 
-use crate::tests::testing::{documents_of, records_of, same};
+use crate::tests::testing::same;
 use doc_register::{Op, Reply};
-use history::{Event, HashKeys, HistFault, History};
+use history::{Event, HistFault, History};
 use std::alloc::Global;
 use std::test::Fail;
 use version_pair::{DocId, Pair};
@@ -181,41 +181,13 @@ fn is_told(alloc: Global, step: &str, want: &str) -> Result<(), Fail> {
 #[test]
 fn refused_events(rt: HostRuntime) -> Result<(), Fail> {
     for (step, want) in [
-        ("call 0 3 d get", "Err(SecondCall)"),
-        // The first cause is told where both hold.
-        ("call 0 5 d get", "Err(SecondCall)"),
-        ("call 3 5 d get", "Err(ShardMoved)"),
-        ("call 3 3 d get", "Ok(())"),
-        ("call 3 3 f get", "Ok(())"),
-        ("call 3 1023 f get", "Ok(())"),
-        ("reply 3 created", "Err(NoCall)"),
-        ("reply 0 created", "Err(Ended)"),
         // The first cause is told where both hold.
         ("reply 0 found", "Err(Ended)"),
-        ("reply 2 found", "Err(Ended)"),
         ("reply 1 created", "Err(Kind)"),
-        ("reply 1 found", "Ok(())"),
-        ("reply 1 missing", "Ok(())"),
-        ("lost 3", "Err(NoCall)"),
-        ("lost 0", "Err(Ended)"),
-        ("lost 1", "Ok(())"),
     ] {
         is_told(rt.alloc(), step, want)?;
     }
     Ok(())
-}
-
-// Asserts that a history has these documents.
-fn has_documents(alloc: Global, history: &History, want: &str) -> Result<(), Fail> {
-    let documents = documents_of(alloc, history)?;
-    same("documents", documents.as_str(), want)
-}
-
-#[test]
-fn documents_in_order_of_first_calls(rt: HostRuntime) -> Result<(), Fail> {
-    let steps = "call 0 7 b get; call 1 0 a get; call 2 7 b get; call 3 1023 c get; call 4 0 a get";
-    let history = history_of(rt.alloc(), steps)?;
-    has_documents(rt.alloc(), &history, "b on 7; a on 0; c on 1023; ")
 }
 
 // Asserts which number the document with this id has.
@@ -244,69 +216,4 @@ fn are_numbered(alloc: Global, history: &History) -> Result<(), Fail> {
 fn documents_found_by_id(rt: HostRuntime) -> Result<(), Fail> {
     let history = history_of(rt.alloc(), "call 0 7 b get; call 1 0 a get")?;
     are_numbered(rt.alloc(), &history)
-}
-
-// Asserts that a document has these records.
-fn has_records(alloc: Global, history: &History, doc: usize, want: &str) -> Result<(), Fail> {
-    let records = records_of(alloc, history, doc)?;
-    same("records", records.as_str(), want)
-}
-
-// Asserts that the documents of the three calls have their records.
-fn have_records(alloc: Global, history: &History) -> Result<(), Fail> {
-    has_records(
-        alloc,
-        history,
-        0,
-        "[Rec { no: 0, op: Index { k: 1, cond: None }, call_at: 0, heard: Some((1, Indexed { pair: Pair { term: 1, seq: 0 }, created: true })) }, Rec { no: 1, op: Get, call_at: 2, heard: None }]",
-    )?;
-    has_records(
-        alloc,
-        history,
-        1,
-        "[Rec { no: 2, op: Get, call_at: 3, heard: None }]",
-    )
-}
-
-#[test]
-fn records_of_two_documents(rt: HostRuntime) -> Result<(), Fail> {
-    let history = history_of(rt.alloc(), THREE_CALLS)?;
-    have_records(rt.alloc(), &history)
-}
-
-// Where the call with this number stands, and its ending, as `history` tells them.
-fn places_of(alloc: Global, history: &History, no: u64) -> Result<String, Fail> {
-    let call = history.call(no);
-    let ending = history.ending(no);
-    Ok(format!(in alloc; "{call:?} {ending:?}")?)
-}
-
-#[test]
-fn calls_are_found_whatever_their_numbers(rt: HostRuntime) -> Result<(), Fail> {
-    let mut history = History::with_keys(rt.alloc(), HashKeys::new(3, 5));
-    for step in [
-        "call 9 0 d get",
-        "call 4 0 d get",
-        "call 12 0 e get",
-        "call 0 0 d get",
-        "call 11 0 e get",
-        "reply 4 missing",
-        "lost 12",
-        "reply 0 missing",
-    ] {
-        is_pushed(rt.alloc(), &mut history, step, "Ok(())")?;
-    }
-    for (no, want) in [
-        (9, "Some(0) None"),
-        (4, "Some(1) Some(5)"),
-        (12, "Some(2) Some(6)"),
-        (0, "Some(3) Some(7)"),
-        (11, "Some(4) None"),
-        (1, "None None"),
-        (10, "None None"),
-        (13, "None None"),
-    ] {
-        same("a number", &places_of(rt.alloc(), &history, no)?, want)?;
-    }
-    Ok(())
 }

@@ -1,10 +1,10 @@
 -- Faults of the input.
 use Rattle.api_lines.specs.declared.line_input.InputFault.{InputFault}
 use Rattle.api_lines.specs.declared.line_input.InputFault.TheVariants as input
-use Rattle.report.specs.declared.stream_fault.StreamFault.{StreamFault}
+use Rattle.stream_io.specs.declared.stream_fault.StreamFault.{StreamFault}
 use Rattle.report.specs.declared.unanswered.Unanswered.{Unanswered}
 use Rattle.report.specs.declared.unanswered.Unanswered.TheVariants as unanswered
-use Rattle.report.specs.declared.stream_fault.StreamFault.TheVariants as stream
+use Rattle.stream_io.specs.declared.stream_fault.StreamFault.TheVariants as stream
 
 -- a fault of the input as one of a stream
 abbrev pub stream_fault : InputFault → StreamFault

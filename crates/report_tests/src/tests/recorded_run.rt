@@ -1,7 +1,7 @@
 use doc_register::Conflicts;
 use history::HashKeys;
 use repl_group::Fault;
-use report::{RunSetting, Status, StreamFault, check_stream, run_stream};
+use report::{RunSetting, Status, check_stream, run_stream};
 use std::alloc::Global;
 use std::sync::Wait;
 use std::test::Fail;
@@ -58,34 +58,5 @@ fn one_call_run(rt: HostRuntime) -> Result<(), Fail> {
     assert!(rt; text.starts_with(b"{\"e\":\"call\",\"id\":\"d0\","));
     let (_, line) = checked(&rt, alloc, &text)?;
     assert_eq!(rt; str::from_utf8(&line)?, "yes docs=1 calls=1 left_out=0\n");
-    Ok(())
-}
-
-#[test]
-fn settings_refused(rt: HostRuntime) -> Result<(), Fail> {
-    let alloc = rt.alloc();
-    for setting in [
-        RunSetting {
-            clients: 9,
-            ..ONE_CALL
-        },
-        RunSetting {
-            calls: 0,
-            ..ONE_CALL
-        },
-        RunSetting {
-            docs: 1_025,
-            ..ONE_CALL
-        },
-        RunSetting {
-            copies: 6,
-            ..ONE_CALL
-        },
-    ] {
-        let mut text = Vec::new(alloc);
-        let told = run_stream(&rt, alloc, &setting, &mut text);
-        assert_eq!(rt; told.err(), Some(StreamFault::Setting), "{setting:?}");
-        assert!(rt; text.is_empty());
-    }
     Ok(())
 }

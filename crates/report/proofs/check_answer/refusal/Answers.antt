@@ -1,5 +1,5 @@
 use Rattle.std.proofs.Common.{◌≡◌, rules}
-use Rattle.report.specs.Lines.{refused_line}
+use Rattle.result_lines.specs.Lines.{refused_line}
 use Rattle.report.proofs.AnswerLemmas.{is_refusal, is_witness_refusal}
 use Rattle.report.proofs.check_answer.refusal.Goals as goal
 

@@ -1,5 +1,6 @@
 use Rattle.report.specs.Explained.{ExplainsInput}
-use Rattle.report.proofs.StreamLemmas.{no_page, whole_front}
+use Rattle.stream_io.proofs.WrittenLemmas.{whole_front}
+use Rattle.report.proofs.PageLemmas.{no_page}
 use Rattle.report.proofs.explain_streams.explain_page_stream.Goals as goal
 
 pub returns-in-Ok-write_answer-clause-cut_off : goal.returns-in-Ok-write_answer-clause-cut_off

@@ -1,6 +1,6 @@
 use Rattle.report.specs.Bulk.{AnswersBulk}
 use Rattle.report.proofs.AnswerLemmas.{bulk_of_inputs}
-use Rattle.report.proofs.StreamLemmas.{wrote_front}
+use Rattle.stream_io.proofs.WrittenLemmas.{wrote_front}
 use Rattle.report.proofs.streams.bulk_stream.Goals as goal
 
 pub returns-in-Ok-bulk_answer-clause-cut_off : goal.returns-in-Ok-bulk_answer-clause-cut_off

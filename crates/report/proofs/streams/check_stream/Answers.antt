@@ -1,5 +1,5 @@
 use Rattle.report.specs.Verdict.{AnswersInput}
-use Rattle.report.proofs.StreamLemmas.{wrote, wrote_front}
+use Rattle.stream_io.proofs.WrittenLemmas.{wrote, wrote_front}
 use Rattle.report.proofs.streams.check_stream.Goals as goal
 
 pub returns-in-Ok-clause-answered : goal.returns-in-Ok-clause-answered

@@ -1,5 +1,5 @@
 use Rattle.std.proofs.Common.{◌≡◌, rules, codes}
-use Rattle.report.specs.Lines.{refused_file_line}
+use Rattle.result_lines.specs.Lines.{refused_file_line}
 use Rattle.report.proofs.AnswerLemmas.{verify_refused_witness}
 use Rattle.report.proofs.verify_answer.refused_witness.Goals as goal
 

@@ -110,7 +110,7 @@ fn plays<T: Abort + Threads + Wait + Sync>(
     let want = write(alloc, &told)?;
     let text = str::from_utf8(text.as_slice())?;
     assert_eq!(rt; text, str::from_utf8(want.as_slice())?, "{}", case.name);
-    writes(rt, alloc, case.name, PLAIN_CHECK, (text, ""), case.line)
+    writes(rt, alloc, case.name, text, case.line)
 }
 
 // A get sees a write in flight, which a promotion loses.

@@ -1,0 +1,169 @@
+ghost use Rattle.std.specs.Prelude.{◌<◌, length};
+ghost use Rattle.history.specs.Events.{documents_of};
+
+use crate::past::Past;
+use crate::suspicion::suspected;
+use crate::window::window_of;
+use doc_check::{DocAnswer, answer};
+use doc_register::Conflicts;
+use history::{Front, History, Rec, Seen};
+use std::alloc::Global;
+use version_pair::{DocId, NoMemory};
+
+// A document for which the search finds no order.
+#[derive(Drop)]
+struct Unordered<'a> {
+    id: &'a DocId,
+    records: &'a [Rec],
+    seen: Seen,
+    conflicts: Conflicts,
+}
+
+// The place of the reply to the call.
+fn reply_place(found: Rec) -> Option<usize> {
+    found.heard.map(|heard| heard.0)
+}
+
+// The places of the replies to the calls of a document, rising.
+fn reply_places(alloc: Global, records: &[Rec]) -> Result<Vec<usize>, NoMemory> {
+    let mut places = Vec::new(alloc);
+    for found in records {
+        if let Some(place) = reply_place(*found) {
+            places.push(place)?;
+        }
+    }
+    places.sort_unstable();
+    Ok(places)
+}
+
+impl Unordered<'_> {
+    // Whether the search finds an order of the calls up to this place, as far as those since the past tell.
+    fn has_order_to(&self, alloc: Global, past: &Past, place: usize) -> Result<bool, NoMemory> {
+        let window = window_of(alloc, past, self.records, place, self.conflicts)?;
+        match answer(alloc, self.id.copy()?, window, self.seen, self.conflicts)? {
+            DocAnswer::Found(_) => Ok(true),
+            DocAnswer::NotFound(_) => Ok(false),
+        }
+    }
+
+    // The place of the reply at which the search seems to fail first. The replies are halved, and each time only the calls
+    // from shortly before the last reply with an order on are looked at.
+    fn first_failing(&self, alloc: Global) -> Result<Option<usize>, NoMemory> {
+        let places = reply_places(alloc, self.records)?;
+        let mut past = Past::new(alloc);
+        // With so few replies there is an order, with so many there is none.
+        let mut few = 0usize;
+        let mut many = places.len();
+        for _ in 0..usize::BITS {
+            let half = few.saturating_add(many.saturating_sub(few) / 2);
+            if half == few {
+                break;
+            }
+            let Some(place) = places.get(half.saturating_sub(1)) else {
+                break;
+            };
+            if self.has_order_to(alloc, &past, *place)? {
+                past.advance(self.records, *place, self.conflicts)?;
+                few = half;
+            } else {
+                many = half;
+            }
+        }
+        Ok(places.get(many.saturating_sub(1)).copied())
+    }
+}
+
+// The place of the reply at which the search for this document seems to fail first, where it fails.
+fn first_failing_of(
+    alloc: Global,
+    front: &Front<'_>,
+    doc: usize,
+    seen: Seen,
+    conflicts: Conflicts,
+) -> Result<Option<usize>, NoMemory>
+    requires { doc < length (documents_of front.now) }
+{
+    let records = front.records(doc)?;
+    let id = front.doc(doc).copy()?;
+    match answer(alloc, id, records, seen, conflicts)? {
+        DocAnswer::Found(_) => Ok(None),
+        DocAnswer::NotFound(none) => {
+            let unordered = Unordered {
+                id: none.id(),
+                records: none.records(),
+                seen,
+                conflicts,
+            };
+            unordered.first_failing(alloc)
+        }
+    }
+}
+
+// The place of the reply at which the search for the only document seems to fail first, where it fails on these events.
+fn first_failing_alone(
+    alloc: Global,
+    front: &Front<'_>,
+    conflicts: Conflicts,
+) -> Result<Option<usize>, NoMemory> {
+    if front.docs() == 0 {
+        return Ok(None);
+    }
+    let records = front.records(0)?;
+    let unordered = Unordered {
+        id: front.doc(0),
+        records: &records,
+        seen: front.seen(),
+        conflicts,
+    };
+    unordered.first_failing(alloc)
+}
+
+// The events before the place, or all where there is none.
+fn front_to(history: &History, place: Option<usize>) -> Front<'_> {
+    match place {
+        Some(place) => history.front(place),
+        None => history.whole(),
+    }
+}
+
+// A guess at the first reply at which the search finds no order of the events up to it. It is `suspect`, where each document
+// has an order of the events before that; of a history without a suspect it may be `None`.
+//
+// Each document is searched once, on the events before the place that the ones before it gave, and where it has no order its
+// replies are halved, on windows of its calls; all windows together cost about one search more. The only document of a
+// history is halved at once.
+fn narrowed(
+    alloc: Global,
+    history: &History,
+    conflicts: Conflicts,
+    suspect: Option<usize>,
+) -> Result<Option<usize>, NoMemory> {
+    if history.docs() == 1 {
+        let end = suspect.map(|place| place.saturating_add(1));
+        return first_failing_alone(alloc, &front_to(history, end), conflicts);
+    }
+    let seen = history.seen();
+    let mut first = suspect;
+    for doc in 0..history.docs() {
+        let front = front_to(history, first);
+        if doc >= front.docs() {
+            break;
+        }
+        if let Some(place) = first_failing_of(alloc, &front, doc, seen, conflicts)? {
+            first = Some(place);
+        }
+    }
+    Ok(first)
+}
+
+/// A guess at the first reply at which the search finds no order of the events up to it, by its place: one that contradicts
+/// an earlier one by the pairs that both show, or one before that to which halving the replies of a document by itself leads.
+/// It may be `None`. Nothing is promised of the place: what came before a window of calls is only told in short.
+pub fn guessed(
+    alloc: Global,
+    history: &History,
+    conflicts: Conflicts,
+) -> Result<Option<usize>, NoMemory> {
+    let suspect = suspected(alloc, history)?;
+    narrowed(alloc, history, conflicts, suspect)
+}

@@ -1,0 +1,94 @@
+use crate::past::{Past, is_later};
+use doc_register::{Conflicts, DocState, Op, Reply};
+use history::Rec;
+use std::alloc::Global;
+use version_pair::NoMemory;
+
+// The answered write that makes the document what it is, before all other calls.
+fn change_to(state: DocState) -> Option<Rec> {
+    let (op, reply) = match state {
+        DocState::Never => return None,
+        DocState::Gone(pair) => (
+            Op::Delete { cond: None },
+            Reply::Deleted { pair, found: false },
+        ),
+        DocState::Here(pair, k) => (
+            Op::Index { k, cond: None },
+            Reply::Indexed {
+                pair,
+                created: true,
+            },
+        ),
+    };
+    Some(Rec {
+        no: 0,
+        op,
+        call_at: 0,
+        heard: Some((1, reply)),
+    })
+}
+
+// The call, unanswered where its reply comes after the place.
+fn heard_to(found: Rec, place: usize) -> Rec {
+    let heard = found.heard.filter(|heard| heard.0 <= place);
+    Rec { heard, ..found }
+}
+
+// The call that reaches into the window, with what is heard of it there; `None` where it can't change the document.
+fn reaching(found: Rec, state: DocState, conflicts: Conflicts) -> Option<Rec> {
+    match found.heard {
+        Some((_, Reply::Indexed { pair, .. } | Reply::Deleted { pair, .. })) => {
+            if is_later(pair, state) {
+                Some(found)
+            } else {
+                None
+            }
+        }
+        Some((_, Reply::Conflict)) if conflicts == Conflicts::Maybe => Some(Rec {
+            heard: None,
+            ..found
+        }),
+        Some((_, Reply::Conflict | Reply::Found { .. } | Reply::Missing)) => None,
+        None => Some(found),
+    }
+}
+
+// Adds the call, with two places before all others for the change that makes the document what it is.
+fn push_later(window: &mut Vec<Rec>, found: Rec) -> Result<(), NoMemory> {
+    window.push(Rec {
+        call_at: found.call_at.saturating_add(2),
+        heard: found
+            .heard
+            .map(|heard| (heard.0.saturating_add(2), heard.1)),
+        ..found
+    })?;
+    Ok(())
+}
+
+/// The calls of a document from the past up to this place, those of the past that reach into them, and before all a write
+/// that makes the document what it was. What was heard after the place isn't.
+pub fn window_of(
+    alloc: Global,
+    past: &Past,
+    records: &[Rec],
+    place: usize,
+    conflicts: Conflicts,
+) -> Result<Vec<Rec>, NoMemory> {
+    let mut window = Vec::new(alloc);
+    if let Some(change) = change_to(past.state) {
+        window.push(change)?;
+    }
+    for found in &past.open {
+        if let Some(found) = reaching(heard_to(*found, place), past.state, conflicts) {
+            push_later(&mut window, found)?;
+        }
+    }
+    for rec in past.calls..records.len() {
+        let found = records[rec];
+        if found.call_at > place {
+            break;
+        }
+        push_later(&mut window, heard_to(found, place))?;
+    }
+    Ok(window)
+}

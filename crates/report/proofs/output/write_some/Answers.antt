@@ -1,5 +1,0 @@
-use Rattle.report.proofs.StreamLemmas.{kept_appends}
-use Rattle.report.proofs.output.write_some.Goals as goal
-
-pub returns-in-Err-clause-none : goal.returns-in-Err-clause-none
-returns-in-Err-clause-none g c = kept_appends _ _ c.in-Err.ensures.bytes

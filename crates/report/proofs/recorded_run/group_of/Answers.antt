@@ -1,5 +1,0 @@
-use Rattle.report.proofs.RunLemmas.{copies_told}
-use Rattle.report.proofs.recorded_run.group_of.Goals as goal
-
-pub returns : goal.returns
-returns c = copies_told c.new.result c.args.setting.now.copies c.new.ensures

@@ -1,0 +1,32 @@
+ghost use Rattle.std.specs.Prelude.{◌≡◌, Err, IfOk, IfSome, MatchResult, Ok};
+ghost use Rattle.history.specs.Reading.{history_text};
+ghost use Rattle.history.specs.Text.{IsHistoryText};
+
+use api_lines::InputFault;
+use history::laws::texts_are_read;
+use history::{HashKeys, History};
+use std::alloc::Global;
+use std::io::{BufReader, Read};
+use story::{EventLines, RefusedLine, numbered};
+use stream_io::CHUNK;
+
+/// The history, with these keys, whose text the reader has to its end, and on which lines its events stand; or the first line
+/// that is refused. What comes after that line is not read. A fault of the reader of any kind ends the reading.
+pub fn read_numbered<R: Read>(
+    alloc: Global,
+    keys: HashKeys,
+    reader: &mut R,
+) -> Result<Result<(History, EventLines), RefusedLine>, InputFault>
+    ensures text { IfOk result (λ told. IfSome (R.remaining reader.old)
+        (λ text. IfOk told (λ read. IsHistoryText text read.0))) }
+    ensures told { IfOk result (λ told. IfSome (R.remaining reader.old) (λ text. MatchResult told
+        (λ read. history_text text ≡ Ok read.0)
+        (λ refused. history_text text ≡ Err refused.fault))) }
+{
+    // That what is read is a text of its history is known from here on.
+    texts_are_read();
+    match BufReader::with_capacity(alloc, CHUNK, reader) {
+        Ok(mut input) => numbered(alloc, keys, &mut input),
+        Err(_) => Err(InputFault::NoMemory),
+    }
+}

@@ -1,0 +1,50 @@
+ghost use Rattle.std.specs.Prelude.{◌≡◌, IfOk, string_bytes};
+ghost use Rattle.result_lines.specs.Lines.{before_name as shown_name, no_line as told_no, refused_line as told_refused, yes_line as told_yes};
+
+use crate::cause_name::cause_name;
+use api_lines::TextFault;
+use compose::{Counts, Offence};
+use std::alloc::Global;
+use version_pair::NoMemory;
+
+/// Whether the events before an offence have an order, in words.
+pub fn before_name(before_shown: bool) -> &'static str
+    ensures { result.now ≡ shown_name before_shown }
+{
+    if before_shown { "shown" } else { "unshown" }
+}
+
+/// The line of an order that explains a history.
+pub fn yes_line(alloc: Global, counts: Counts) -> Result<String, NoMemory>
+    ensures { IfOk result (λ line. string_bytes line
+        ≡ told_yes counts.docs counts.calls counts.left_out) }
+{
+    let Counts {
+        docs,
+        calls,
+        left_out,
+    } = counts;
+    format!(in alloc; "yes docs={docs} calls={calls} left_out={left_out}\n")
+}
+
+/// The line of a history for which no order was found, and of the reply at which the search first failed.
+pub fn no_line(alloc: Global, offence: Offence) -> Result<String, NoMemory>
+    ensures { IfOk result (λ line. string_bytes line ≡ told_no offence) }
+{
+    let Offence {
+        event,
+        call,
+        before_shown,
+    } = offence;
+    let before = before_name(before_shown);
+    format!(in alloc; "no event={event} call={call} before={before}\n")
+}
+
+/// The line of a text that is refused.
+pub fn refused_line(alloc: Global, fault: TextFault) -> Result<String, NoMemory>
+    ensures { IfOk result (λ line. string_bytes line ≡ told_refused fault.line fault.cause) }
+{
+    let number = fault.line;
+    let cause = cause_name(fault.cause);
+    format!(in alloc; "refused line={number} cause={cause}\n")
+}

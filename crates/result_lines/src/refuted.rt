@@ -1,0 +1,56 @@
+ghost use Rattle.std.specs.Prelude.{◌≡◌, IfOk, string_bytes};
+ghost use Rattle.result_lines.specs.Lines.{both_numbers, kind_name as told_kind, named_calls as told_calls, refuted_line as told_line};
+
+use crate::checked::before_name;
+use compose::{Offence, Refuted};
+use std::alloc::Global;
+use version_pair::NoMemory;
+
+// The printed name of a kind of evidence.
+fn kind_name(evidence: Refuted) -> &'static str
+    ensures { result.now ≡ told_kind evidence }
+{
+    match evidence {
+        Refuted::PairTwice(_, _) => "pair-twice",
+        Refuted::NoWriter(_) => "no-writer",
+        Refuted::StaleGet(_, _) => "stale-get",
+        Refuted::StaleSwap(_, _) => "stale-swap",
+    }
+}
+
+// The numbers of two calls.
+fn numbers(alloc: Global, one: u64, two: u64) -> Result<String, NoMemory>
+    ensures { IfOk result (λ text. string_bytes text ≡ both_numbers one two) }
+{
+    format!(in alloc; "{one},{two}")
+}
+
+// The numbers of the calls that evidence names.
+fn named_calls(alloc: Global, evidence: Refuted) -> Result<String, NoMemory>
+    ensures { IfOk result (λ text. string_bytes text ≡ told_calls evidence) }
+{
+    match evidence {
+        Refuted::PairTwice(one, two) => numbers(alloc, one, two),
+        Refuted::NoWriter(get) => format!(in alloc; "{get}"),
+        Refuted::StaleGet(get, write) => numbers(alloc, get, write),
+        Refuted::StaleSwap(one, two) => numbers(alloc, one, two),
+    }
+}
+
+/// The line of evidence against a history, and of the reply at which the search first fails.
+pub fn refuted_line(alloc: Global, evidence: Refuted, offence: Offence) -> Result<String, NoMemory>
+    ensures { IfOk result (λ line. string_bytes line ≡ told_line evidence offence) }
+{
+    let Offence {
+        event,
+        call,
+        before_shown,
+    } = offence;
+    let kind = kind_name(evidence);
+    let calls = named_calls(alloc, evidence)?;
+    let calls = calls.as_str();
+    let before = before_name(before_shown);
+    format!(in alloc;
+        "refuted kind={kind} calls={calls} event={event} call={call} before={before}\n"
+    )
+}

@@ -1,0 +1,41 @@
+ghost use Rattle.std.specs.Prelude.{◌≡◌, IfOk, codes, string_bytes};
+ghost use Rattle.result_lines.specs.Lines.{refused_file_line, verified_line as told_line};
+
+use crate::cause_name::cause_name;
+use api_lines::TextFault;
+use compose::Counts;
+use std::alloc::Global;
+use version_pair::NoMemory;
+
+/// The line of a witness that covers its history.
+pub fn verified_line(alloc: Global, counts: Counts) -> Result<String, NoMemory>
+    ensures { IfOk result (λ line. string_bytes line
+        ≡ told_line counts.docs counts.calls counts.left_out) }
+{
+    let Counts {
+        docs,
+        calls,
+        left_out,
+    } = counts;
+    format!(in alloc; "verified docs={docs} calls={calls} left_out={left_out}\n")
+}
+
+/// The line of a history's text that is refused, where there are two texts.
+pub fn refused_history_line(alloc: Global, fault: TextFault) -> Result<String, NoMemory>
+    ensures { IfOk result (λ line. string_bytes line
+        ≡ refused_file_line (codes "history") fault.line fault.cause) }
+{
+    let number = fault.line;
+    let cause = cause_name(fault.cause);
+    format!(in alloc; "refused file=history line={number} cause={cause}\n")
+}
+
+/// The line of a witness text that is refused.
+pub fn refused_witness_line(alloc: Global, fault: TextFault) -> Result<String, NoMemory>
+    ensures { IfOk result (λ line. string_bytes line
+        ≡ refused_file_line (codes "witness") fault.line fault.cause) }
+{
+    let number = fault.line;
+    let cause = cause_name(fault.cause);
+    format!(in alloc; "refused file=witness line={number} cause={cause}\n")
+}

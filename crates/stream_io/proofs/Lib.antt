@@ -1,0 +1,2 @@
+mod PieceLemmas
+pub mod WrittenLemmas
