@@ -137,7 +137,7 @@ fn walked(alloc: Global, walk: &Walk) -> Result<(Vec<Link>, Vec<Option<usize>>),
 
 // How many steps a search of so many records may take.
 fn most_steps(records: usize) -> usize {
-    records.saturating_mul(4).saturating_add(100_000)
+    records.saturating_mul(2).saturating_add(100_000)
 }
 
 // The chain of an order that the search finds, and of each record that is not in it the stretch.
