@@ -1,9 +1,11 @@
 """What drawn recordings are made of: drawn numbers, operations, replies, what an index does, and the lines of a history.
 
-It is no test itself; tests/evidence.py and tests/offences.py draw with it.
+It is no test itself; tests/agree.py, tests/evidence.py, tests/lines.py, tests/offences.py and tests/orders.py draw with it.
 """
 
 from typing import NamedTuple
+
+import texts
 
 MOST = 2**64
 
@@ -82,24 +84,21 @@ NAMES = "abcd"
 def call_line(call, shard):
     more = "" if call.op.k is None else f',"k":{call.op.k}'
     if call.op.condition:
-        more += ',"if_primary_term":%d,"if_seq_no":%d' % call.op.condition
+        more += texts.condition(*call.op.condition)
     if shard:
         more += f',"shard":{shard}'
-    return f'{{"e":"call","n":{call.no},"id":"{NAMES[call.doc]}","op":"{call.op.name}"{more}}}\n'
+    return texts.call(call.no, call.op.name, more, NAMES[call.doc])
 
 
 def reply_line(no, doc, reply):
-    def with_pair(more):
-        return '"_id":"%s","_primary_term":%d,"_seq_no":%d,%s' % (NAMES[doc], *reply.pair, more)
-
-    status, body = {
-        "indexed": lambda: (201, with_pair('"result":"created"')) if reply.more else (200, with_pair('"result":"updated"')),
-        "deleted": lambda: (200, with_pair('"result":"deleted"')) if reply.more else (404, with_pair('"result":"not_found"')),
-        "found": lambda: (200, with_pair('"found":true,"_source":{"k":%d}' % reply.more)),
-        "missing": lambda: (404, f'"_id":"{NAMES[doc]}","found":false'),
-        "conflict": lambda: (409, '"error":{"type":"version_conflict_engine_exception"}'),
-    }[reply.kind]()
-    return f'{{"e":"reply","n":{no},"status":{status},"body":{{{body}}}}}\n'
+    name = NAMES[doc]
+    if reply.kind == "indexed":
+        return (texts.created if reply.more else texts.updated)(no, *reply.pair, name)
+    if reply.kind == "deleted":
+        return (texts.deleted if reply.more else texts.not_found)(no, *reply.pair, name)
+    if reply.kind == "found":
+        return texts.found(no, *reply.pair, reply.more, name)
+    return texts.missing(no, name) if reply == MISSING else texts.conflict(no)
 
 
 def lines(events, shard_of):
@@ -111,4 +110,4 @@ def lines(events, shard_of):
         elif it.reply:
             yield reply_line(it.no, doc_of[it.no], it.reply)
         else:
-            yield f'{{"e":"lost","n":{it.no}}}\n'
+            yield texts.lost(it.no)

@@ -9,13 +9,15 @@ exactly this has to be told; of one without, there must be none. A history witho
 """
 
 import itertools
-import re
-import subprocess
 import sys
+from collections import Counter
 from concurrent.futures import ProcessPoolExecutor
 
 from drawing import CONFLICT, MISSING, Call, Draws, Ending, Op, Reply, lines, pair_taken, performed
 from program import built_program
+from running import run, said
+from texts import OFFENCE, status_of, yes
+from trials import Trial, Wrong, tell, try_all
 
 # How many seeds each kind of fault has, in how many of them a fault is found at least, and how many seeds have no fault.
 SEEDS, FAULTS, HONEST = 300, 150, 300
@@ -230,38 +232,24 @@ def drawn_fault(draws, calls, put):
     return None
 
 
-REFUTED = re.compile(r"refuted kind=(\S+) calls=(\d+(?:,\d+)?) event=(\d+) call=(\d+) before=(?:shown|unshown)\n")
-NO = re.compile(r"no event=(\d+) call=(\d+) before=(?:shown|unshown)\n")
-
-
 def is_reply(events, place, no):
     """Whether the event at the place is a reply to the call with the number."""
     return place < len(events) and isinstance(events[place], Ending) and events[place].reply is not None and events[place].no == no
 
 
-def is_told(events, evidence, status, line):
+def is_told(events, evidence, line):
     """Whether the program told just this evidence, or none where there is none."""
-    if evidence is None:
-        other = NO.fullmatch(line)
-        if other:
-            return status == 1 and is_reply(events, *map(int, other.groups()))
+    told = OFFENCE.fullmatch(line)
+    if told is None:
         calls = known_calls(events).values()
-        return status == 0 and line.startswith(f"yes docs={len({it.doc for it in calls})} calls={len(calls)} left_out=")
-    told = REFUTED.fullmatch(line)
-    kind, numbers = evidence
-    return (
-        told is not None
-        and status == 1
-        and (told[1], told[2]) == (kind, ",".join(map(str, numbers)))
-        and is_reply(events, int(told[3]), int(told[4]))
-    )
+        return evidence is None and line.startswith(yes(len(calls), left_out="", docs=len({it.doc for it in calls})).rstrip())
+    kind, numbers = evidence or (None, None)
+    is_right = told["kind"] == kind and told["calls"] == (numbers and ",".join(map(str, numbers)))
+    return is_right and is_reply(events, int(told["event"]), int(told["call"]))
 
 
-def tried(work):
-    """Tries a seed with a fault that is put so, or without one. Tells whether it was right, and what was told; or nothing where the
-    drawn calls could have no such fault."""
-    program, put, seed = work
-    name = f"{put.__name__ if put else 'no fault'}, seed {seed}"
+def judged(program, put, seed):
+    """Judges a seed with a fault that is put so, or without one; tells whether the drawn calls could have such a fault."""
     clients = Clients(seed)
     for _ in range(STEPS):
         clients.step()
@@ -270,7 +258,7 @@ def tried(work):
     if put:
         fault = drawn_fault(clients.draws, known_calls(events), put)
         if fault is None:
-            return None
+            return "no fault"
         place, event, mine = fault
         events[place] = event
     if put is refused_writer and reading == "maybe":
@@ -279,27 +267,30 @@ def tried(work):
     calls = known_calls(events)
     evidence = first_evidence(calls, reading)
     if (evidence is None) != (mine is None) or mine and not holds(mine[0], calls, mine[1], reading):
-        return False, f"{name}: the naive body tells {evidence}, and {mine} was put in"
-    text = "".join(lines(events, shard_of))
-    ran = subprocess.run([program, "check", "--conflicts", reading], input=text, capture_output=True, text=True, timeout=60)
-    is_right = is_told(events, evidence, ran.returncode, ran.stdout) and (put is not None or ran.stdout.startswith("yes "))
-    return is_right, f"{name}, {reading}: {ran.stdout.strip()}{ran.stderr.strip()}, and the naive body tells {evidence}"
+        raise Wrong(f"the naive body tells {evidence}, and {mine} was put in")
+    status, line = said(run(program, ["check", "--conflicts", reading], "".join(lines(events, shard_of))))
+    if status != status_of(line) or not is_told(events, evidence, line) or not (put or line.startswith("yes ")):
+        raise Wrong(f"{reading}, {status}: {line}, and the naive body tells {evidence}")
+    return "fault"
 
 
 def main():
     program = built_program(sys.argv[1:])
-    work = [(program, put, number * SEEDS + seed) for number, put in enumerate(FAULT_KINDS) for seed in range(SEEDS)]
-    work += [(program, None, seed) for seed in range(HONEST)]
+    trials = [
+        Trial(f"{put.__name__}, seed {number * SEEDS + at}", judged, (program, put, number * SEEDS + at))
+        for number, put in enumerate(FAULT_KINDS)
+        for at in range(SEEDS)
+    ]
+    trials += [Trial(f"no fault, seed {seed}", judged, (program, None, seed)) for seed in range(HONEST)]
     with ProcessPoolExecutor() as pool:
-        told = list(pool.map(tried, work, chunksize=20))
-    wrong = [f"FAILED: {it[1]}" for it in told if it and not it[0]]
-    print(*wrong, sep="\n", end="\n" if wrong else "")
-    for number, put in enumerate(FAULT_KINDS):
-        count = sum(it is not None for it in told[number * SEEDS : (number + 1) * SEEDS])
-        print(f"{put.__name__}: {count} faults, of at least {FAULTS}")
-        wrong += [put] if count < FAULTS else []
-    print(f"{sum(it is not None and it[0] for it in told)} passed, {len(wrong)} failed")
-    return 1 if wrong else 0
+        told, wrong = try_all(trials, pool, chunksize=20)
+    passed = len(trials) - len(wrong) - told.count("no fault")
+    # (what is wrong had a fault too)
+    faults = Counter(trial.of[1] for trial, it in zip(trials, told) if it != "no fault")
+    for put in FAULT_KINDS:
+        print(f"{put.__name__}: {faults[put]} faults, of at least {FAULTS}")
+        wrong += [f"{put.__name__}: only {faults[put]} faults"] if faults[put] < FAULTS else []
+    return tell(passed, wrong)
 
 
 if __name__ == "__main__":

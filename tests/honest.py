@@ -10,14 +10,14 @@ the same: MOST says how many. Each `yes` is verified by its own witness.
 """
 
 import argparse
-import os
 import random
-import subprocess
 import sys
-import tempfile
 from concurrent.futures import ProcessPoolExecutor
 
+import texts
 from program import built_program
+from running import asked
+from trials import Trial, Wrong, tell, try_all
 
 # Of how many recordings of each kind how many may get `no`: 200 short ones in each reading of a conflict, and 20 long ones.
 SHORT, LONG = 200, 20
@@ -43,28 +43,20 @@ class Index:
         return self.term, self.seq - 1
 
     def perform(self, call):
-        """Performs a call, and gives its reply's status and body."""
-        doc, kind, value, condition = call.doc, call.kind, call.value, call.condition
+        """Performs a call, and gives the line of its reply."""
+        n, doc, kind, name = call.number, call.doc, call.kind, f"d{call.doc}"
         is_there = self.value[doc] is not None
         if kind == "get":
-            if not is_there:
-                return 404, '{"_id":"d%d","found":false}' % doc
-            term, seq = self.last[doc]
-            body = '{"_id":"d%d","_primary_term":%d,"_seq_no":%d,"_source":{"k":%d},"found":true}'
-            return 200, body % (doc, term, seq, self.value[doc])
-        if kind == "create" and is_there or condition and (not is_there or condition != self.last[doc]):
-            return 409, CONFLICT
-        term, seq = self.last[doc] = self.next_pair()
-        self.value[doc] = None if kind == "delete" else value
+            return texts.found(n, *self.last[doc], self.value[doc], name) if is_there else texts.missing(n, name)
+        if kind == "create" and is_there or call.condition and (not is_there or call.condition != self.last[doc]):
+            return texts.conflict(n)
+        self.last[doc] = self.next_pair()
+        self.value[doc] = call.value
         if kind == "delete":
-            status, result = (200, "deleted") if is_there else (404, "not_found")
+            told = texts.deleted if is_there else texts.not_found
         else:
-            status, result = (200, "updated") if is_there else (201, "created")
-        body = '{"_id":"d%d","_primary_term":%d,"_seq_no":%d,"result":"%s"}'
-        return status, body % (doc, term, seq, result)
-
-
-CONFLICT = '{"error":{"type":"version_conflict_engine_exception"}}'
+            told = texts.updated if is_there else texts.created
+        return told(n, *self.last[doc], name)
 
 
 class Call:
@@ -77,8 +69,8 @@ class Call:
     def line(self):
         more = "" if self.value is None else ',"k":%d' % self.value
         if self.condition:
-            more += ',"if_primary_term":%d,"if_seq_no":%d' % self.condition
-        return '{"e":"call","n":%d,"id":"d%d","op":"%s"%s}\n' % (self.number, self.doc, self.kind, more)
+            more += texts.condition(*self.condition)
+        return texts.call(self.number, self.kind, more, f"d{self.doc}")
 
 
 class Recording:
@@ -125,14 +117,13 @@ class Recording:
         if call.is_lost:
             if call.has_effect and call.is_late:
                 self.ghosts.append(call)
-            status = '{"e":"reply","n":%d,"status":503}\n'
-            return self.draw.choice(["", '{"e":"lost","n":%d}\n' % call.number, status % call.number])
-        status, body = call.reply
-        if call.kind != "get" and status != 409 and self.draw.random() < self.maybe:
-            status, body = 409, CONFLICT
-        elif status != 409:
+            return self.draw.choice(["", texts.lost(call.number), f'{{"e":"reply","n":{call.number},"status":503}}\n'])
+        conflict = texts.conflict(call.number)
+        if call.kind != "get" and call.reply != conflict and self.draw.random() < self.maybe:
+            return conflict
+        if call.reply != conflict:
             self.known[client][call.doc] = self.index.last[call.doc]
-        return '{"body":%s,"e":"reply","n":%d,"status":%d}\n' % (body, call.number, status)
+        return call.reply
 
     def lines(self):
         """The lines of the recording."""
@@ -172,24 +163,18 @@ def long_settings(seed):
     return {"docs": draw.choice([1, 4, 16, 64]), "clients": draw.choice([8, 32]), "calls": 50_000, "loss": draw.choice([0.01, 0.05])}
 
 
-def judged(work):
-    """Judges a recording: nothing where it gets `yes` and is verified by its own witness, else what was answered."""
-    program, kind, seed = work
+def judged(program, kind, seed):
+    """Judges a recording: tells `yes` where it is verified by its own witness, and else what is answered."""
     reading = "maybe" if kind == "maybe" else "plain"
     settings = long_settings(seed) if kind == "long" else short_settings(seed, reading)
-    with tempfile.TemporaryDirectory() as folder:
-        history, witness = os.path.join(folder, "history"), os.path.join(folder, "witness")
-        with open(history, "w", encoding="utf-8") as file:
-            file.writelines(Recording(seed, **settings).lines())
-        ask = lambda *words: subprocess.run([program, *words, "--conflicts", reading], capture_output=True, text=True, timeout=300)
-        order = ask("witness", history)
-        if order.returncode != 0:
-            return kind, "no", f"{kind} {seed}: {order.stdout.strip()}{order.stderr.strip()}"
-        with open(witness, "w", encoding="utf-8") as file:
-            file.write(order.stdout)
-        verified = ask("verify", history, witness)
-        is_right = verified.returncode == 0 and verified.stdout.startswith("verified ")
-        return kind, "yes" if is_right else "wrong", f"{kind} {seed}: {verified.stdout.strip()}"
+    history = "".join(Recording(seed, **settings).lines())
+    status, order = asked(program, "witness", history, conflicts=reading)
+    if status != 0:
+        return order
+    status, line = asked(program, "verify", history, order, conflicts=reading)
+    if status != 0 or not line.startswith("verified "):
+        raise Wrong(line)
+    return "yes"
 
 
 def write_one(words):
@@ -206,21 +191,17 @@ def main():
         write_one(words)
         return 0
     program = built_program(words)
-    work = [(program, "long", seed) for seed in range(LONG)]
-    work += [(program, kind, seed) for kind in ("plain", "maybe") for seed in range(SHORT)]
-    counts, said, wrong = dict.fromkeys(MOST, 0), [], 0
+    kinds = ["long"] * LONG + ["plain"] * SHORT + ["maybe"] * SHORT
+    seeds = [*range(LONG), *range(SHORT), *range(SHORT)]
+    trials = [Trial(f"{kind} {seed}", judged, (program, kind, seed)) for kind, seed in zip(kinds, seeds)]
     with ProcessPoolExecutor() as pool:
-        for kind, answer, text in pool.map(judged, work):
-            counts[kind] += answer == "no"
-            wrong += answer == "wrong"
-            said += [text] if answer != "yes" else []
-    for kind, count in counts.items():
-        print(f"{kind}: {count} got no, of at most {MOST[kind]}")
-    failed = wrong + sum(count > MOST[kind] for kind, count in counts.items())
-    if failed:
-        print("\n".join(said))
-    print(f"{len(work) - sum(counts.values()) - wrong} passed, {failed} failed")
-    return 1 if failed else 0
+        told, wrong = try_all(trials, pool)
+    passed = told.count("yes")
+    for kind, most in MOST.items():
+        others = [f"{trial.name}: {answer.strip()}" for trial, answer in zip(trials, told) if trial.of[1] == kind and answer not in ("yes", None)]
+        print(f"{kind}: {len(others)} got no, of at most {most}")
+        wrong += [f"{kind}: {len(others)} got no: {others}"] if len(others) > most else []
+    return tell(passed, wrong)
 
 
 if __name__ == "__main__":

@@ -7,19 +7,32 @@ PROGRAM is the built casbench; where it is not named, the one that ./casbench wo
 names the event of a reply. The text up to that event, itself with it, must then get no `yes`; and the text before it must get
 `yes` where the answer says `shown`, and none where it says `unshown`. The recordings are of one document or four; in half of
 them no call is lost, and there the event must not stand before the changed reply.
+
+Of long recordings the reply is mostly guessed, so that it isn't looked for by some twenty searches more: in nine of ten the check
+takes less than seven times the processor time of the check of the recording before the change.
 """
 
-import re
+import os
 import subprocess
 import sys
+import tempfile
 from concurrent.futures import ProcessPoolExecutor
 
 from drawing import CONFLICT, MISSING, Call, Draws, Ending, Op, Reply, lines, pair_taken, performed
 from program import built_program
+from running import run, said
+from texts import OFFENCE, status_of
+from trials import Trial, Wrong, tell, try_all
 
 # How many recordings there are of each change and number of documents. Some changes leave an order; so that not too much is
 # tried in vain, so many of each must have none, and so many percent of all.
 SEEDS, LEAST, LEAST_PERCENT = 32, 4, 62
+
+# What is told of a recording that keeps an order.
+ORDER = "an order"
+
+# How many calls a long recording has, its seed, and how many times the processor time a check may take where the guess is right.
+LONG_CALLS, LONG_SEED, MOST_TIMES = 20_000, 3, 7
 
 
 class Clients:
@@ -144,63 +157,100 @@ def changed(events, change):
     return None
 
 
-OFFENCE = re.compile(r"(?:no|refuted kind=\S+ calls=\S+) event=(\d+) call=(\d+) before=(shown|unshown)\n")
+def answer(program, rows):
+    """The answer to a history of these lines."""
+    status, line = said(run(program, ["check"], "".join(rows)))
+    if status != status_of(line):
+        raise Wrong(f"{line} with status {status}")
+    return line
 
 
-def judged(work):
-    """Judges a recording: nothing where no reply of it can be changed, or an order is found; else whether what is told is right,
-    and what it is."""
-    program, change, docs, seed = work
+def is_explained(program, rows):
+    return answer(program, rows).startswith("yes ")
+
+
+def judged(program, change, docs, seed):
+    """Judges a recording: tells the line where what is told is right, and `an order` where no reply of it can be changed, or an order
+    is found."""
     events = Clients(seed, docs).recorded()
     place = changed(events, change)
     if place is None:
-        return None
+        return ORDER
     text = list(lines(events, lambda doc: 0))
-
-    def answer(count):
-        """The answer to the first so many lines."""
-        ran = subprocess.run([program, "check"], input="".join(text[:count]), capture_output=True, text=True, timeout=60)
-        return ran.stdout if ran.returncode == int(not ran.stdout.startswith("yes ")) else f"status {ran.returncode}"
-
-    def is_explained(count):
-        return answer(count).startswith("yes ")
-
-    line = answer(len(text))
+    line = answer(program, text)
     if line.startswith("yes "):
-        return None
-    name = f"{change.__name__}, {docs} documents, seed {seed}: {line.strip()}"
+        return ORDER
     told = OFFENCE.fullmatch(line)
     if not told:
-        return False, f"{name}: it names no event"
-    event, call, before = int(told[1]), int(told[2]), told[3]
-    if event >= len(events) or not isinstance(events[event], Ending) or not events[event].reply or events[event].no != call:
-        return False, f"{name}: the event is no reply to the call"
-    if is_explained(event + 1):
-        return False, f"{name}: the events up to it have an order"
-    if is_explained(event) != (before == "shown"):
-        return False, f"{name}: the events before it are {'unshown' if before == 'shown' else 'shown'}"
+        raise Wrong(f"{line} names no event")
+    event = int(told["event"])
+    if event >= len(events) or not isinstance(events[event], Ending) or not events[event].reply or events[event].no != int(told["call"]):
+        raise Wrong(f"{line}: the event is no reply to the call")
+    if is_explained(program, text[: event + 1]):
+        raise Wrong(f"{line}: the events up to it have an order")
+    if is_explained(program, text[:event]) != (told["before"] == "shown"):
+        raise Wrong(f"{line}: it is the other way round with the events before it")
     if seed % 2 == 0 and event < place:
-        return False, f"{name}: the changed reply is later, at {place}"
-    return True, name
+        raise Wrong(f"{line}: the changed reply is later, at {place}")
+    return line
+
+
+def seconds_of(program, events):
+    """The processor time of a check of the events, the lesser one of two, and its answer."""
+    times = []
+    with tempfile.NamedTemporaryFile("w", suffix=".ndjson") as file:
+        file.writelines(lines(events, lambda doc: 0))
+        file.flush()
+        for _ in range(2):
+            ran = subprocess.Popen([program, "check", file.name], stdout=subprocess.PIPE, text=True)
+            line = ran.stdout.read()
+            usage = os.wait4(ran.pid, 0)[2]
+            ran.stdout.close()
+            times.append(usage.ru_utime + usage.ru_stime)
+    return min(times), line
+
+
+def times_longer(work):
+    """How many times as long the check of a long recording takes after a change; None where the change leaves an order."""
+    program, change, docs = work
+    clients = Clients(LONG_SEED, docs)
+    clients.calls = LONG_CALLS
+    events = clients.recorded()
+    before, line = seconds_of(program, events)
+    if not line.startswith("yes ") or changed(events, change) is None:
+        return None
+    after, line = seconds_of(program, events)
+    return None if line.startswith("yes ") else after / before
+
+
+def guessed(program, pool):
+    """What is wrong with the time that looking for the reply takes in long recordings."""
+    work = [(program, change, docs) for change in CHANGES for docs in (1, 4)]
+    times = [it for it in pool.map(times_longer, work) if it is not None]
+    right = sum(it < MOST_TIMES for it in times)
+    print(f"{len(times)} of {len(work)} long recordings have no order; {right} are checked within {MOST_TIMES} times the time")
+    if len(times) * 4 < len(work) * 3:
+        return ["too few long recordings have no order"]
+    return [] if right * 10 >= len(times) * 9 else ["the reply is seldom guessed"]
 
 
 def main():
     program = built_program(sys.argv[1:])
-    work = [(program, change, docs, seed) for change in CHANGES for docs in (1, 4) for seed in range(SEEDS)]
+    kinds = {f"{change.__name__}, {docs} documents": (change, docs) for change in CHANGES for docs in (1, 4)}
+    trials = [Trial(f"{kind}, seed {seed}", judged, (program, *of, seed)) for kind, of in kinds.items() for seed in range(SEEDS)]
     with ProcessPoolExecutor() as pool:
-        told = list(pool.map(judged, work, chunksize=4))
-    wrong = [f"FAILED: {it[1]}" for it in told if it and not it[0]]
-    for at in range(0, len(work), SEEDS):
-        count = sum(it is not None for it in told[at : at + SEEDS])
-        print(f"{work[at][1].__name__}, {work[at][2]} documents: {count} of {SEEDS} have no order")
-        if count < LEAST:
-            wrong.append(f"FAILED: {work[at][1].__name__}, {work[at][2]} documents: fewer than {LEAST} have none")
-    count = sum(it is not None for it in told)
-    if count * 100 < LEAST_PERCENT * len(work):
-        wrong.append(f"FAILED: only {count} of {len(work)} have no order")
-    print("\n".join(wrong + [f"{count} of {len(work)} have no order"]))
-    print(f"{sum(it is not None and it[0] for it in told)} passed, {len(wrong)} failed")
-    return 1 if wrong else 0
+        told, wrong = try_all(trials, pool, chunksize=4)
+        slow = guessed(program, pool)
+    count = len(told) - told.count(ORDER)
+    passed = count - len(wrong) + (not slow)
+    for at, kind in enumerate(kinds):
+        some = SEEDS - told[at * SEEDS : (at + 1) * SEEDS].count(ORDER)
+        print(f"{kind}: {some} of {SEEDS} have no order")
+        wrong += [f"{kind}: fewer than {LEAST} have no order"] if some < LEAST else []
+    if count * 100 < LEAST_PERCENT * len(trials):
+        wrong.append("too few of all have no order")
+    print(f"{count} of {len(trials)} have no order")
+    return tell(passed, wrong + slow)
 
 
 if __name__ == "__main__":

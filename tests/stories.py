@@ -9,46 +9,28 @@ texts below are told too: one with an id that is markup, and two that are too lo
 """
 
 import pathlib
-import subprocess
 import sys
 import tempfile
-from concurrent.futures import ThreadPoolExecutor
 
-from program import TOP, built_program
-
-READINGS = ("plain", "maybe")
+from program import CASES, built_program
+from running import run, said
+from texts import READINGS, created, found, get, index, no_writer, refuted, updated
+from trials import Trial, Wrong, try_and_tell
 
 # A get of what nobody wrote, of a document with markup for its id, after blank lines.
-MARKUP = r"""
-
-{"e":"call","n":0,"id":"<script>alert(\"1\")</script>&","op":"get"}
-
-{"e":"reply","n":0,"status":200,"body":{"_seq_no":0,"_primary_term":1,"found":true,"_source":{"k":2}}}
-"""
-
-
-def a_get(number, k):
-    """The lines of a get that finds the first version with this value."""
-    return (
-        f'{{"e":"call","n":{number},"id":"d","op":"get"}}\n'
-        f'{{"e":"reply","n":{number},"status":200,"body":{{"_seq_no":0,"_primary_term":1,"found":true,"_source":{{"k":{k}}}}}}}\n'
-    )
+MARKUP = "\n\n" + get(0, doc=r"<script>alert(\"1\")</script>&") + "\n" + found(0, 1, 0, k=2)
 
 
 def a_write(number):
     """The lines of a write that is performed after as many."""
-    status, result = (200, "updated") if number else (201, "created")
-    return (
-        f'{{"e":"call","n":{number},"id":"d","op":"index","k":{number}}}\n'
-        f'{{"e":"reply","n":{number},"status":{status},"body":{{"result":"{result}","_seq_no":{number},"_primary_term":1}}}}\n'
-    )
+    return index(number, k=number) + (updated if number else created)(number, 1, number)
 
 
 # A thousand calls that were never answered, and then a get of what nobody wrote.
-OPEN_CALLS = "".join(f'{{"e":"call","n":{number},"id":"d","op":"index","k":1}}\n' for number in range(1_000)) + a_get(1_000, 2)
+OPEN_CALLS = "".join(map(index, range(1_000))) + get(1_000) + found(1_000, 1, 0, k=2)
 
 # A hundred writes, one after the other, and then a get of the first version.
-LONG_ORDER = "".join(a_write(number) for number in range(100)) + a_get(100, 0)
+LONG_ORDER = "".join(map(a_write, range(100))) + get(100) + found(100, 1, 0, k=0)
 
 # Name, text, how the story begins, what it has, and how often the page has what.
 TOLD = [
@@ -62,7 +44,7 @@ TOLD = [
     (
         "a thousand open calls",
         OPEN_CALLS,
-        "refuted kind=no-writer calls=1000 event=1001 call=1000 before=shown\n",
+        no_writer(1_001, 1_000),
         [
             "Earlier calls that are not told: 961.",
             "  line 962, call 961: index k=1 -> no reply (open at the same time: 962, 963, 964, 965, 966, 967, 968, 969 and 31 more)\n",
@@ -73,7 +55,7 @@ TOLD = [
     (
         "the end of a long order",
         LONG_ORDER,
-        "refuted kind=stale-get calls=100,1 event=201 call=100 before=shown\n",
+        refuted("stale-get", "100,1", 201, 100),
         [
             "\n  line 1, call 0: index k=0 -> line 2: created as 1/0\n",
             "\n* line 3, call 1: index k=1 -> line 4: updated as 1/1\n  line 127, call 63: index k=63 -> line 128: updated as 1/63\n",
@@ -86,29 +68,23 @@ TOLD = [
 ]
 
 
-def ran(program, *words):
-    """What the program writes and its status, where it says nothing else."""
-    done = subprocess.run([program, *words], stdin=subprocess.DEVNULL, capture_output=True, timeout=60)
-    if done.stderr:
-        raise OSError(done.stderr[:300])
-    return done.returncode, done.stdout.decode()
-
-
 def story(program, history, *words):
-    """The story of a history and its page, where it is the same without a page and begins as a check answers, else nothing."""
+    """The story of a history and its page, where it is the same without a page and begins as a check answers."""
     with tempfile.TemporaryDirectory() as folder:
         page = pathlib.Path(folder) / "page"
-        with_page = ran(program, "explain", history, "--html", page, *words)
+        with_page = said(run(program, ["explain", history, "--html", page, *words]))
         text = page.read_text()
-    status, line = ran(program, "check", history, *words)
-    is_right = ran(program, "explain", history, *words) == with_page and with_page[0] == status and with_page[1].startswith(f"{line}\n")
-    return (with_page[1], text) if is_right else None
+    without_page = said(run(program, ["explain", history, *words]))
+    status, line = said(run(program, ["check", history, *words]))
+    if without_page != with_page or with_page[0] != status or not with_page[1].startswith(f"{line}\n"):
+        raise Wrong(f"{line}, {with_page}, and without a page {without_page}")
+    return with_page[1], text
 
 
 def case_is_told(program, history, reading):
     """Whether the story of a case's history begins as it should, and there is a page of it."""
-    told = story(program, history, "--conflicts", reading)
-    return told is not None and told[1].startswith("<!doctype html>")
+    _, page = story(program, history, "--conflicts", reading)
+    return page.startswith("<!doctype html>")
 
 
 def text_is_told(program, text, begins, parts, counts):
@@ -120,26 +96,17 @@ def text_is_told(program, text, begins, parts, counts):
     return told.startswith(begins) and all(it in told for it in parts) and all(page.count(it) in often for it, often in counts.items())
 
 
-def tried(work):
-    """Whether one is right."""
-    judge, *rest = work
-    try:
-        return judge(*rest)
-    except (OSError, TypeError, UnicodeDecodeError, subprocess.TimeoutExpired):
-        return False
+def trials(program):
+    """All trials: a name, what is asked, and of what."""
+    for history in sorted(CASES.glob("*.history")):
+        for reading in READINGS:
+            yield Trial(f"{history.stem}, {reading}", case_is_told, (program, history, reading))
+    for name, *row in TOLD:
+        yield Trial(name, text_is_told, (program, *row))
 
 
 def main():
-    program = built_program(sys.argv[1:])
-    histories = sorted((TOP / "tests" / "cases").glob("*.history"))
-    work = {f"{it.stem}, {reading}": (case_is_told, program, it, reading) for it in histories for reading in READINGS}
-    work |= {name: (text_is_told, program, *rest) for name, *rest in TOLD}
-    with ThreadPoolExecutor() as pool:
-        wrong = [name for name, is_right in zip(work, pool.map(tried, work.values())) if not is_right]
-    for name in wrong:
-        print(f"FAILED: {name}")
-    print(f"{len(work) - len(wrong)} passed, {len(wrong)} failed")
-    return 1 if wrong else 0
+    return try_and_tell(trials(built_program(sys.argv[1:])))
 
 
 if __name__ == "__main__":

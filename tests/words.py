@@ -19,11 +19,12 @@ import sys
 import tempfile
 import termios
 import time
-from concurrent.futures import ThreadPoolExecutor
 
-from program import TOP, built_program
+from program import CASES, TOP, built_program, case_text
+from running import ended, run, run_words, started
+from texts import READ_FAULT, SETTING_FAULT, WRITE_FAULT, no, status_of, verified, yes
+from trials import Trial, try_and_tell
 
-CASES = TOP / "tests" / "cases"
 EXAMPLES = TOP / "examples"
 
 # The files of the folder; `broken` is a folder, which opens but can't be read. All of the odd names have one text.
@@ -36,11 +37,8 @@ FILES = {
     **dict.fromkeys(["check", "help", "-", "a b", "--help"], (CASES / "index-then-get.history").read_bytes()),
 }
 
-ANSWER = "yes docs=1 calls=2 left_out=0\n"
-NOTHING = "yes docs=0 calls=0 left_out=0\n"
-STORY_OF_NOTHING = (CASES / "empty-text-explained.stdout").read_text()
-
-READ, WRITE, SETTING = "casbench: read fault\n", "casbench: write fault\n", "casbench: setting\n"
+ANSWER, NOTHING, VERIFIED_NOTHING = yes(2), yes(0, docs=0), verified(0, docs=0)
+STORY_OF_NOTHING = case_text("empty-text-explained", "stdout")
 
 
 def absent(name, fault):
@@ -54,46 +52,48 @@ TAKEN = [
     ("check help", 0, ANSWER, ""),
     ("check -", 0, ANSWER, ""),
     ("check 'a b'", 0, ANSWER, ""),
-    ("check ''", 4, "", absent("", READ)),
-    ("witness -- --help", 0, (CASES / "index-then-get-witness.stdout").read_text(), ""),
-    ("verify verify verify", 0, "verified docs=0 calls=0 left_out=0\n", ""),
+    ("check ''", 4, "", absent("", READ_FAULT)),
+    ("witness -- --help", 0, case_text("index-then-get-witness", "stdout"), ""),
+    ("verify verify verify", 0, VERIFIED_NOTHING, ""),
     ("--version", 0, "casbench 0.1.0\n", ""),
     ("-V", 0, "casbench 0.1.0\n", ""),
     ([b"check", b"\xff"], 64, "", "casbench: a word is not UTF-8\n"),
     # the files of a check
     ("check", 0, NOTHING, ""),
     ("check empty", 0, NOTHING, ""),
-    ("check broken", 4, "", READ),
-    ("check absent", 4, "", absent("absent", READ)),
+    ("check broken", 4, "", READ_FAULT),
+    ("check absent", 4, "", absent("absent", READ_FAULT)),
     # the files of a witness
     ("witness", 0, "", ""),
     ("witness empty", 0, "", ""),
-    ("witness broken", 4, "", READ),
-    ("witness absent", 4, "", absent("absent", READ)),
+    ("witness broken", 4, "", READ_FAULT),
+    ("witness absent", 4, "", absent("absent", READ_FAULT)),
     # the files of a verification, of which both are opened before one is read
-    ("verify empty other", 0, "verified docs=0 calls=0 left_out=0\n", ""),
-    ("verify broken other", 4, "", READ),
-    ("verify empty broken", 4, "", READ),
-    ("verify absent other", 4, "", absent("absent", READ)),
-    ("verify empty absent", 4, "", absent("absent", READ)),
-    ("verify other lost", 4, "", absent("lost", READ)),
-    ("verify absent lost", 4, "", absent("absent", READ)),
-    ("verify broken absent", 4, "", absent("absent", READ)),
+    ("verify empty other", 0, VERIFIED_NOTHING, ""),
+    ("verify broken other", 4, "", READ_FAULT),
+    ("verify empty broken", 4, "", READ_FAULT),
+    ("verify absent other", 4, "", absent("absent", READ_FAULT)),
+    ("verify empty absent", 4, "", absent("absent", READ_FAULT)),
+    ("verify other lost", 4, "", absent("lost", READ_FAULT)),
+    ("verify absent lost", 4, "", absent("absent", READ_FAULT)),
+    ("verify broken absent", 4, "", absent("absent", READ_FAULT)),
     # the files of a bulk, of which both are read before either is judged; an empty reply is no JSON
     ("bulk empty other", 2, "refused line=1 cause=syntax\n", ""),
-    ("bulk empty broken", 4, "", READ),
-    ("bulk hidden broken", 4, "", READ),
-    ("bulk absent other", 4, "", absent("absent", READ)),
+    ("bulk empty broken", 4, "", READ_FAULT),
+    ("bulk hidden broken", 4, "", READ_FAULT),
+    ("bulk absent other", 4, "", absent("absent", READ_FAULT)),
     # the files of a story; a page that can't be written fails behind the story
     ("explain", 0, STORY_OF_NOTHING, ""),
     ("explain empty", 0, STORY_OF_NOTHING, ""),
-    ("explain empty --html /dev/full", 4, STORY_OF_NOTHING, WRITE),
-    ("explain empty --html empty", 4, "", f"casbench: empty: the history would be overwritten\n{WRITE}"),
-    ("explain empty --html absent/page", 4, "", absent("absent/page", WRITE)),
-    ("explain absent --html page", 4, "", absent("absent", READ)),
+    ("explain empty --html /dev/full", 4, STORY_OF_NOTHING, WRITE_FAULT),
+    ("explain empty --html empty", 4, "", f"casbench: empty: the history would be overwritten\n{WRITE_FAULT}"),
+    ("explain empty --html absent/page", 4, "", absent("absent/page", WRITE_FAULT)),
+    ("explain absent --html page", 4, "", absent("absent", READ_FAULT)),
     # runs: these words are taken, but nine clients are too many
-    *((f"run --seed 18446744073709551615 --clients 9 --calls 200 --docs 3 --copies 5 --fault {fault}", 64, "", SETTING)
-      for fault in ("none", "dirty", "early", "same-term", "stale", "blind")),
+    *(
+        (run_words(seed=2**64 - 1, clients=9, calls=200, docs=3, copies=5, fault=fault), 64, "", SETTING_FAULT)
+        for fault in ("none", "dirty", "early", "same-term", "stale", "blind")
+    ),
 ]
 
 UNKNOWN = "unexpected argument '{}' found"
@@ -181,7 +181,7 @@ STORIES = [
     ("explain story --html page", "page", "refuted kind=stale-get ", EXAMPLES / "stale-get.html"),
     ("explain --html=- --workers 3 --conflicts=maybe story", "-", "refuted kind=stale-get ", EXAMPLES / "stale-get.html"),
     ("explain --html=- --workers 3 --conflicts=maybe hidden", "-", ANSWER, None),
-    ("explain --html=- --workers 3 hidden", "-", "no event=3 call=2 before=shown\n", None),
+    ("explain --html=- --workers 3 hidden", "-", no(3, 2), None),
 ]
 
 # The documents and calls of a run, as the answer to it has them.
@@ -199,11 +199,9 @@ FAULTS = [
 ]
 
 
-def ran(program, words, folder, given=b""):
-    """Runs the program with the words in the folder; gives its status and both its outputs."""
-    words = shlex.split(words) if isinstance(words, str) else words
-    done = subprocess.run([program, *words], input=given, cwd=folder, capture_output=True, timeout=60)
-    return done.returncode, done.stdout.decode(), done.stderr.decode()
+def ran(program, words, folder, given=""):
+    """Runs the program with the words in the folder; tells how it ends."""
+    return run(program, shlex.split(words) if isinstance(words, str) else words, given, cwd=folder)
 
 
 def filled(folder):
@@ -236,15 +234,14 @@ def is_told(program, folder, words, page, wanted, known):
     status, told, why = ran(program, words, folder)
     text = (folder / page).read_bytes()
     is_page = text == known.read_bytes() if known else text.startswith(b"<!doctype html>") and wanted.strip().encode() in text
-    return (status, why) == (int(not wanted.startswith("yes")), "") and told.startswith(wanted) and is_page
+    return (status, why) == (status_of(wanted), "") and told.startswith(wanted) and is_page
 
 
 def is_of_fault(program, folder, fault, answer, rises):
     """Whether a run with the fault shows it."""
-    words = f"run --seed 1 --clients 1 --calls 200 --docs 3 --copies 5 --fault {fault}"
-    status, history, why = ran(program, words, folder)
+    status, history, why = ran(program, run_words(calls=200, docs=3, copies=5, fault=fault), folder)
     terms = set(re.findall(r'"_primary_term":(\d+)', history))
-    told = ran(program, "check", folder, history.encode())[1]
+    told = ran(program, "check", folder, history)[1]
     return (status, why) == (0, "") and told.startswith(answer) and (len(terms) > 1) == rises
 
 
@@ -286,40 +283,30 @@ def comes(is_there):
 def are_read_in_turn(program, folder, command, first_text, second_text, wanted):
     """Whether the first file is opened before the second, both before one is read, and the first is read to its end first."""
     first, second = Pipe(folder / "first"), Pipe(folder / "second")
-    words = [program, command, first.path, second.path]
-    with subprocess.Popen(words, stdin=subprocess.DEVNULL, stdout=subprocess.PIPE, stderr=subprocess.PIPE) as child:
-        try:
-            # (a program that opened the second first would wait at it, and never come to the first)
-            if not first.open() or not second.open():
-                return False
-            os.write(second.end, second_text)
-            os.write(first.end, first_text)
-            if not comes(lambda: first.unread() == 0) or second.unread() != len(second_text):
-                return False
-            os.close(first.end)
-            if not comes(lambda: second.unread() == 0):
-                return False
-            os.close(second.end)
-            told, why = child.communicate(timeout=60)
-            return (child.returncode, told, why) == (0, wanted, b"")
-        finally:
-            child.kill()
+    with started([program, command, first.path, second.path], stdin=subprocess.DEVNULL) as child:
+        # (a program that opened the second first would wait at it, and never come to the first)
+        if not first.open() or not second.open():
+            return False
+        os.write(second.end, second_text)
+        os.write(first.end, first_text)
+        if not comes(lambda: first.unread() == 0) or second.unread() != len(second_text):
+            return False
+        os.close(first.end)
+        if not comes(lambda: second.unread() == 0):
+            return False
+        os.close(second.end)
+        return ended(child) == (0, wanted.decode(), "")
 
 
 def is_page_opened_first(program, folder):
     """Whether the page is there before the history is read, and after it was opened."""
     history, page = Pipe(folder / "history"), folder / "page"
-    words = [program, "explain", history.path, "--html", page]
-    with subprocess.Popen(words, stdin=subprocess.DEVNULL, stdout=subprocess.PIPE, stderr=subprocess.PIPE) as child:
-        try:
-            was_there = page.exists()
-            if not history.open() or not comes(page.exists):
-                return False
-            os.close(history.end)
-            told, why = child.communicate(timeout=60)
-            return (was_there, child.returncode, told.decode(), why) == (False, 0, STORY_OF_NOTHING, b"")
-        finally:
-            child.kill()
+    with started([program, "explain", history.path, "--html", page], stdin=subprocess.DEVNULL) as child:
+        was_there = page.exists()
+        if not history.open() or not comes(page.exists):
+            return False
+        os.close(history.end)
+        return (was_there, *ended(child)) == (False, 0, STORY_OF_NOTHING, "")
 
 
 def in_turn(command, first, second, stdout):
@@ -344,26 +331,15 @@ TABLES = [
 ]
 
 
-def tried(work):
-    """Tries a row in a new folder; tells whether it was right."""
-    program, judge, row = work
+def in_folder(program, judge, row):
+    """Judges a row in a new folder."""
     with tempfile.TemporaryDirectory() as folder:
-        try:
-            return judge(program, filled(pathlib.Path(folder)), *row)
-        except (OSError, UnicodeDecodeError, subprocess.TimeoutExpired):
-            return False
+        return judge(program, filled(pathlib.Path(folder)), *row)
 
 
 def main():
     program = built_program(sys.argv[1:])
-    work = [(program, judge, row) for judge, rows in TABLES for row in rows]
-    with ThreadPoolExecutor() as pool:
-        told = list(pool.map(tried, work))
-    wrong_ones = [it for it, is_right in zip(work, told) if not is_right]
-    for _, judge, row in wrong_ones:
-        print(f"FAILED: {judge.__name__}: {row[:1]}")
-    print(f"{len(work) - len(wrong_ones)} passed, {len(wrong_ones)} failed")
-    return 1 if wrong_ones else 0
+    return try_and_tell([Trial(f"{judge.__name__}: {row[:1]}", in_folder, (program, judge, row)) for judge, rows in TABLES for row in rows])
 
 
 if __name__ == "__main__":

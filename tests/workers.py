@@ -9,22 +9,18 @@ C compiler, cc, and says so where there is none.
 """
 
 import os
-import pathlib
-import shutil
-import subprocess
 import sys
 import tempfile
 
-from program import TOP, built_program
+from program import built_program
+from running import has_compiler, library_in, run, said
+from texts import created, index, yes
+from trials import Trial, Wrong, try_and_tell
 
 # How many documents there are, more than workers, and a call and a reply of each.
 DOCUMENTS = 20
-HISTORY = "".join(
-    f'{{"e":"call","n":{n},"id":"d{n}","op":"index","k":1}}\n'
-    f'{{"e":"reply","n":{n},"status":201,"body":{{"_id":"d{n}","_seq_no":{n},"_primary_term":1,"result":"created"}}}}\n'
-    for n in range(DOCUMENTS)
-)
-ANSWER = f"yes docs={DOCUMENTS} calls={DOCUMENTS} left_out=0\n"
+HISTORY = "".join(index(n, doc=f"d{n}") + created(n, 1, n, f"d{n}") for n in range(DOCUMENTS))
+ANSWER = yes(DOCUMENTS, docs=DOCUMENTS)
 
 # Words, and how many workers they ask for.
 WORKERS = [
@@ -39,33 +35,24 @@ WORKERS = [
 ]
 
 
-def begun(program, words, library, told):
+def begun(program, words, library):
     """How many threads the program begins on the words, where its answer is right."""
-    told.write_bytes(b"")
-    where = {**os.environ, "LD_PRELOAD": str(library), "TOLD": str(told)}
-    ran = subprocess.run([program, *words.split()], input=HISTORY, env=where, capture_output=True, text=True, timeout=60)
-    is_right = ran.returncode == 0 and ran.stdout.startswith(ANSWER) and not ran.stderr
-    return told.stat().st_size if is_right else None
+    with tempfile.NamedTemporaryFile() as told:
+        where = {**os.environ, "LD_PRELOAD": str(library), "TOLD": told.name}
+        status, answer = said(run(program, words.split(), HISTORY, env=where))
+        if status != 0 or not answer.startswith(ANSWER):
+            raise Wrong(f"{status}, {answer}")
+        return os.path.getsize(told.name)
 
 
 def main():
-    if not shutil.which("cc"):
-        print("there is no C compiler here, cc, so no threads were counted")
+    if not has_compiler("no threads were counted"):
         print("0 passed, 0 failed")
         return 0
     program = built_program(sys.argv[1:])
-    failed = 0
     with tempfile.TemporaryDirectory() as folder:
-        library, told = pathlib.Path(folder) / "count_threads.so", pathlib.Path(folder) / "told"
-        source = TOP / "tests" / "count_threads.c"
-        subprocess.run(["cc", "-O2", "-shared", "-fPIC", "-o", library, source], check=True)
-        for words, workers in WORKERS:
-            count = begun(program, words, library, told)
-            if count != workers - 1:
-                print(f"FAILED: {words or 'no words'}: {count} threads begun, and not {workers - 1}")
-                failed += 1
-    print(f"{len(WORKERS) - failed} passed, {failed} failed")
-    return 1 if failed else 0
+        library = library_in(folder, "count_threads")
+        return try_and_tell([Trial(words or "no words", begun, (program, words, library), workers - 1) for words, workers in WORKERS])
 
 
 if __name__ == "__main__":

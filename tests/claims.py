@@ -1,0 +1,585 @@
+#!/usr/bin/env python3
+"""Holds the documents to the sources: what they name is there, and what is there they tell.
+
+    python3 tests/claims.py [PROGRAM]
+
+No program is run; one may be named, as for the other tests. What is held:
+
+- docs/MODEL.md has a heading `### CRATE/specs/FILE.antt` for each file of definitions. The tables below it tell the definitions
+  of that file, each of them and no others; names in brackets are parts of a definition. Types are there, with their values.
+- docs/PROVED.md has a section for each crate, and in it a row for each clause of each public call, and no others. Under "Calls
+  of .." each public call has a row. Clauses in brackets are those of a call of their row, refusals are values of some type.
+- docs/ARCHITECTURE.md has a row for each crate in "The rooms", with the libraries that crates.txt gives it; the table of the
+  gate tells how many edits must fail.
+- Files, links, modules of lemmas, `CRATE::NAME` and `Type::name` that a document names are there, and clauses behind these.
+
+Each name that is held counts one.
+"""
+
+import fnmatch
+import re
+import sys
+from typing import NamedTuple
+
+from program import TOP
+
+CRATES = TOP / "crates"
+DOCUMENTS = ["README.md", "examples/README.md", *sorted(f"docs/{it.name}" for it in (TOP / "docs").glob("*.md"))]
+
+# The files of a folder of definitions that only name others.
+LISTS = {"Lib.antt", "aids.antt"}
+
+# Traits whose functions need no row: those of copies, what is shown of a value, and what makes one fault of another.
+UNTOLD_TRAITS = {"Clone", "Copy", "Debug", "From"}
+# The traits that documents tell by an operator, or by a word.
+SPELLED_TRAITS = {"==": "PartialEq", "<": "PartialOrd", "hash": "Hash", "{}": "Display", "reader": "Read"}
+
+# Words that are files: such as begin with a folder of the checkout, and such as end so.
+FOLDERS = ("tests", "crates", "examples", "docs", "dist", ".ci")
+ENDINGS = (".antt", ".c", ".html", ".md", ".ndjson", ".png", ".py", ".rt", ".txt", ".witness")
+
+
+class Tally:
+    """How many names were held, and what is wrong."""
+
+    def __init__(self):
+        self.passed, self.wrong = 0, []
+
+    def hold(self, is_so, page, line, told):
+        """Counts a name, or notes what is wrong with it at a line of a page."""
+        if is_so:
+            self.passed += 1
+        else:
+            self.wrong.append((page, line, told))
+
+
+# ---- documents
+
+
+class Row(NamedTuple):
+    """A row of a table: its line, the heading above it, the names of the columns, and what stands in them."""
+
+    line: int
+    heading: str
+    head: tuple
+    cells: tuple
+
+
+def quoted(text):
+    """What stands in backticks."""
+    return re.findall(r"`([^`]+)`", text)
+
+
+def in_brackets(text):
+    """What stands in brackets where it is names and nothing else, parted at `; `: what stands before `: `, and the names."""
+    for group in re.findall(r"\(([^()]*`[^()]*)\)", text):
+        for piece in group.split("; "):
+            before, _, names = piece.rpartition(": ")
+            if re.fullmatch(r"(`[^`]+`(, | and )?)+(by `\w+`)?", names):
+                yield before, quoted(names.split("by `")[0])
+
+
+def lines_of(page):
+    """The numbered lines of a document, but for its blocks."""
+    is_block = False
+    for number, line in enumerate((TOP / page).read_text(encoding="utf-8").splitlines(), 1):
+        if line.startswith("```"):
+            is_block = not is_block
+        elif not is_block:
+            yield number, line
+
+
+def headings_of(page):
+    """The numbered headings of a document."""
+    return [(number, line) for number, line in lines_of(page) if re.match(r"#+ ", line)]
+
+
+def rows_of(page, tally):
+    """The rows of the tables of a document. Each has as many cells as its head."""
+    heading, head, rows = "", (), []
+    for number, line in lines_of(page):
+        heading = line if line.startswith("#") else heading
+        cells = tuple(it.strip() for it in line.strip()[1:-1].split("|")) if line.startswith("|") else ()
+        if not cells or not head:
+            head = cells
+        elif not all(re.fullmatch(r":?-+:?", it) for it in cells):
+            rows.append(Row(number, heading, head, cells + ("",) * (len(head) - len(cells))))
+            if len(cells) != len(head):
+                tally.hold(False, page, number, f"the row of {cells[0]} has {len(cells)} cells, its head {len(head)}")
+    return rows
+
+
+# ---- sources
+
+
+class Function(NamedTuple):
+    """A function: its module, the impl or the trait that it stands in, its name and its contract. What an impl gives to a trait
+    is one without a name, with the names of what is given as its clauses."""
+
+    module: str
+    owner: str
+    name: str
+    is_public: bool
+    ensures: tuple
+    owes: bool
+    contract: str
+
+    @property
+    def key(self):
+        return f"{self.owner}::{self.name}" if self.owner else self.name
+
+
+def owner_of(line):
+    """`Type`, `Type as Trait` or `Trait` where the line begins an impl or a trait, `tests` where it begins a module."""
+    while re.search(r"<[^<>]*>", line):
+        line = re.sub(r"<[^<>]*>", "", line)
+    found = re.match(r"impl (?:(\S+) for )?(\S+) \{|(?:pub(?:\(\w+\))? )?trait (\w+)", line)
+    if found:
+        return found[3] or (f"{found[2]} as {found[1]}" if found[1] else found[2])
+    return "tests" if re.match(r"mod \w+ \{", line) else ""
+
+
+def header_of(lines, indent):
+    """Of lines that begin with a function those before its body."""
+    header = []
+    for line in lines:
+        is_within = len(line) - len(line.lstrip()) > indent
+        if header and not is_within and not line.lstrip().startswith((")", "where")):
+            break
+        header.append(line)
+        if not is_within and ("{" in line or line.endswith(";")):
+            break
+    return "\n".join(header)
+
+
+def functions_of(module, text):
+    """The functions of a file, but for those of its tests."""
+    functions, owner, lines = [], "", text.splitlines()
+    for place, line in enumerate(lines):
+        if line and line[0].isalpha():
+            owner = owner_of(line)
+        found = re.match(r"( *)(pub )?(?:pub\([^)]*\) )?(?:const |unsafe )*fn (\w+)", line)
+        if found and owner != "tests" and len(found[1]) <= 4:
+            header = header_of(lines[place:], len(found[1]))
+            clauses = re.findall(rf"^{found[1]}    (ensures|requires)(?: (\w+))? \{{", header, re.MULTILINE)
+            ensures = tuple(name for kind, name in clauses if kind == "ensures")
+            owes = any(kind == "requires" for kind, _ in clauses)
+            functions.append(Function(module, owner if found[1] else "", found[3], bool(found[2]), ensures, owes, header))
+    return functions
+
+
+class Crate:
+    """A crate: its functions, its public calls by the names that documents give them, its types with their values, and more."""
+
+    def __init__(self, folder):
+        self.name, self.is_library = folder.name, (folder / "src" / "lib.rt").exists()
+        self.functions, self.impls, self.types, self.traits, self.modules, self.nested = [], {}, {}, set(), set(), set()
+        for file in sorted((folder / "src").rglob("*.rt")):
+            module = str(file.relative_to(folder / "src").with_suffix(""))
+            if not {"tests", "testing"} & set(module.split("/")):
+                self.read(module, file.read_text(encoding="utf-8"))
+        lib = (folder / "src" / "lib.rt").read_text(encoding="utf-8") if self.is_library else ""
+        self.exported = dict(exports(lib))
+        # The public modules, with the names that a caller has for them.
+        self.open = {name: name for name in re.findall(r"^pub mod (\w+);", lib, re.MULTILINE)}
+        self.open.update({f"{path}/{it}": it for it, path in self.exported.items() if f"{path}/{it}" in self.nested})
+        self.calls = {self.public_name(it): it for it in self.functions if self.public_name(it)}
+
+    def read(self, module, text):
+        """Takes what a file has. A trait that is derived is given nothing."""
+        self.modules.add(module)
+        self.nested |= {f"{module}/{name}" for name in re.findall(r"^pub mod (\w+);", text, re.MULTILINE)}
+        self.functions += functions_of(module, text)
+        self.traits |= set(re.findall(r"^pub trait (\w+)", text, re.MULTILINE))
+        block = r"(?:[^{\n]*\{\n((?:[^}\n].*\n|\n)*)\})?"
+        for name, body in re.findall(r"^(?:pub(?:\(\w+\))? )?(?:struct|enum|type) (\w+)" + block, text, re.MULTILINE):
+            self.types[name] = set(re.findall(r"^    ([A-Z]\w*)", body, re.MULTILINE))
+        for traits, name in re.findall(r"^#\[derive\(([^)]*)\)\]\n(?:[#/].*\n)*pub (?:struct|enum) (\w+)", text, re.MULTILINE):
+            for owner in (f"{name} as {trait}" for trait in traits.replace("Error", "Display").split(", ")):
+                self.impls.setdefault(owner, Function(module, owner, "", False, (), False, ""))
+        for line, body in re.findall(r"^(impl\b.* for .*\{)\n((?:[^}\n].*\n|\n)*)\}", text, re.MULTILINE):
+            given = tuple(re.findall(r"^    ghost (\w+) =", body, re.MULTILINE))
+            self.impls[owner_of(line)] = Function(module, owner_of(line), "", False, given, False, body)
+
+    def public_name(self, it):
+        """How documents name the function, where a caller has it; else nothing."""
+        if it.owner:
+            kind = it.owner.split(" as ")[0]
+            is_told = it.is_public or it.owner in self.traits or " as " in it.owner
+            return it.key if is_told and (kind in self.exported or kind.startswith("&")) else ""
+        if it.is_public and self.exported.get(it.name) == it.module:
+            return it.name
+        return f"{self.open[it.module]}::{it.name}" if it.is_public and it.module in self.open else ""
+
+    def found(self, name):
+        """The functions that a document's name stands for: a call, all of a trait, or what an impl gives to its trait."""
+        if name in self.traits:
+            return {key: it for key, it in self.calls.items() if it.owner == name}
+        if name in self.impls:
+            return {name: self.impls[name]}
+        calls = self.calls if self.is_library else {it.key: it for it in self.functions}
+        if name in calls:
+            return {name: calls[name]}
+        kind, _, own = name.partition("::")
+        return {key: it for key, it in calls.items() if it.name == own and it.owner.startswith(f"{kind} as ")}
+
+    def needed(self):
+        """The public calls that need a row: not the laws, nor what is given to a trait that has a row of its own."""
+        for key, it in self.calls.items():
+            if it.module != "laws" and it.owner.partition(" as ")[2] not in UNTOLD_TRAITS | self.traits:
+                yield key, it
+
+
+def exports(lib):
+    """The names that a crate hands on, each with the module or the crate that it comes from."""
+    for path, names in re.findall(r"^pub use (\w+(?:::\w+)*)::(\w+|\{[^}]*\});", lib, re.MULTILINE):
+        for name in re.findall(r"\w+", names):
+            yield name, path.replace("::", "/")
+
+
+class Definitions:
+    """The public definitions of a file, and the fields of its records."""
+
+    def __init__(self, file):
+        text = file.read_text(encoding="utf-8")
+        self.names = set(re.findall(r"^ *(?:\w+ pub|pub \w+) ([^\s:]\S*)", text, re.MULTILINE))
+        records = re.findall(r"^( *)pub record (\S+).*\n((?:\1 .*\n|\n)*)", text, re.MULTILINE)
+        self.fields = {name: set(re.findall(r"^ +pub (\w+) :", body, re.MULTILINE)) for _, name, body in records}
+
+
+class Sources:
+    """The crates, the libraries that crates.txt gives each, and the files of definitions."""
+
+    def __init__(self):
+        listed = re.findall(r"^(\w+)[^:\n]*:(.*)$", (TOP / "crates.txt").read_text(encoding="utf-8"), re.MULTILINE)
+        self.uses = {name: libraries.split() for name, libraries in listed}
+        folders = sorted(it.parent.name for it in CRATES.glob("*/src"))
+        self.crates = {name: Crate(CRATES / name) for name in dict.fromkeys([*self.uses, *folders])}
+        # Those that documents tell: a crate of tests has nothing but tests.
+        self.told = {name: it for name, it in self.crates.items() if not name.endswith("_tests")}
+        files = [it for it in CRATES.glob("*/specs/*.antt") if it.name not in LISTS]
+        self.specs = {str(it.relative_to(CRATES)): Definitions(it) for it in sorted(files)}
+        self.definitions = {name for it in self.specs.values() for name in it.names}
+        self.values = {value for crate in self.crates.values() for values in crate.types.values() for value in values} | {"None"}
+
+    def fields_cited(self, functions):
+        """The fields of the records that the contracts of functions cite."""
+        names = {name for it in functions for name in re.findall(r"\b[A-Z]\w+", it.contract)}
+        return {field for it in self.specs.values() for name in names & set(it.fields) for field in it.fields[name]}
+
+
+# ---- MODEL.md
+
+
+class Model:
+    """The page of definitions."""
+
+    page = "docs/MODEL.md"
+
+    def __init__(self, sources, tally):
+        self.sources, self.tally = sources, tally
+
+    def hold(self, is_so, line, told):
+        self.tally.hold(is_so, self.page, line, told)
+
+    def hold_types(self, row):
+        """Holds a row of types. Where values of one type are told, all of them are."""
+        found = re.search(r"\(crate (\w+)\)", row.cells[0]) or re.match(r"### (\w+)/", row.heading)
+        types = self.sources.crates[found[1]].types if found and found[1] in self.sources.crates else {}
+        names = [it.split()[0] for it in quoted(row.cells[0])]
+        told = {it for text in quoted(row.cells[1]) for it in re.findall(r"^\w+", text)}
+        for name in names:
+            self.hold(name in types, row.line, f"the type {name} is not declared in {found[1] if found else 'a crate'}")
+        for value in sorted(types.get(names[0], ())) if len(names) == 1 and told & types.get(names[0], set()) else []:
+            self.hold(value in told, row.line, f"the value {value} of {names[0]} is not told")
+
+    def hold_names(self, row, file):
+        """Holds a row about a file: its names, those in brackets, the laws that it cites. Gives its names."""
+        names, there = [it.split()[0] for it in quoted(row.cells[0])], self.sources.specs[file]
+        parts = self.sources.definitions | {field for name in names for field in there.fields.get(name, ())}
+        crate = self.sources.crates[file.split("/")[0]]
+        for name in names:
+            self.hold(name in there.names, row.line, f"{file} has no definition {name}")
+        for part in (it for _, some in in_brackets(row.cells[1]) for it in some if re.fullmatch(r"[a-z]\w*", it)):
+            self.hold(part in parts, row.line, f"in brackets: {row.cells[0]} has no part {part}")
+        for law in re.findall(r"`(laws::\w+)`", " ".join(row.cells)):
+            is_so = law in crate.calls and any(name in crate.calls[law].contract for name in names[:1])
+            self.hold(is_so, row.line, f"{crate.name} has no {law} whose contract is {row.cells[0]}")
+        return names
+
+    def hold_all(self):
+        """Holds the headings, their tables, and that each definition is told."""
+        specs = self.sources.specs
+        headings = {line[4:]: number for number, line in headings_of(self.page) if line.startswith("### ")}
+        told = {name: set() for name in headings}
+        for name, number in headings.items():
+            self.hold(name in specs, number, f"there is no file crates/{name}")
+        for row in rows_of(self.page, self.tally):
+            if row.head[0] == "type":
+                self.hold_types(row)
+            elif row.head[0] == "name" and row.heading[4:] in specs:
+                told[row.heading[4:]].update(self.hold_names(row, row.heading[4:]))
+        for name in specs:
+            self.hold(name in headings, 1, f"the file crates/{name} has no heading")
+            for definition in sorted(specs[name].names) if name in headings else []:
+                self.hold(definition in told[name], headings[name], f"the definition {definition} of {name} has no row")
+        for number, line in lines_of(self.page):
+            for name, crate in re.findall(r"`(\w+)` \(crate (\w+)\)", line) if not line.startswith("|") else []:
+                there = crate in self.sources.crates and name in self.sources.crates[crate].types
+                self.hold(there, number, f"the type {name} is not declared in {crate}")
+
+
+# ---- PROVED.md
+
+
+def names_of_part(part, has):
+    """The names that a part of a cell stands for, each with the crate that is named behind it. In a list the first name says of
+    which type the next ones are, where it has them."""
+    found = re.fullmatch(r"the trait `(\w+)`(?:[,:] (.+))?", part)
+    if found:
+        return [(f"{found[1]}::{it}", "") for it in quoted(found[2] or "")] or [(found[1], "")]
+    found = re.fullmatch(r"`([&\w]+)`(?: as a `(\w+)`|, as a (reader))(?:: (.+)|, .+)?", part)
+    if found:
+        owner = f"{found[1]} as {found[2] or SPELLED_TRAITS[found[3]]}"
+        return [(f"{owner}::{it}", "") for it in quoted(found[4] or "")] or [(owner, "")]
+    found = re.fullmatch(r"(.+) of (?:a )?`(\w+)`", part)
+    if found:
+        return [(f"{found[2]} as {SPELLED_TRAITS[it]}", "") for it in re.findall(r"==|<|\{\}|hash", found[1])]
+    owner, names = "", []
+    for name, crate in re.findall(r"`([^`]+)`(?: \(crate (\w+)\))?", part):
+        if owner and "::" not in name and has(f"{owner}::{name}"):
+            name = f"{owner}::{name}"
+        owner = name.rpartition("::")[0] if "::" in name else owner
+        names.append((name, crate))
+    return names
+
+
+class Proved:
+    """The page of contracts and refusals."""
+
+    page = "docs/PROVED.md"
+
+    def __init__(self, sources, tally):
+        self.sources, self.crates, self.tally = sources, sources.crates, tally
+        self.rows, self.headings = rows_of(self.page, tally), headings_of(self.page)
+
+    def hold(self, is_so, line, told):
+        self.tally.hold(is_so, self.page, line, told)
+
+    def calls_told(self, cell, crates):
+        """For each name of a cell the first of these crates that has it, the name, and the functions that it stands for."""
+        if cell == "all":
+            return [(crate, key, {key: it}) for crate in crates for key, it in crate.calls.items()]
+        told = []
+        for part in cell.split("; "):
+            for name, other in names_of_part(part, lambda it: any(crate.found(it) for crate in crates)):
+                among = [self.crates[other]] if other in self.crates else crates
+                crate = next((it for it in among if it.found(name)), among[0])
+                told.append((crate, name, crate.found(name)))
+        return told
+
+    def same_clauses(self, other, key):
+        """The clauses that a function's are said to be as: those of this name in its type, or of its name in this type."""
+        owner, _, own = key.rpartition("::")
+        name = f"{other}::{own}" if other[0].isupper() else f"{owner}::{other}"
+        return [it.ensures for crate in self.crates.values() for it in crate.found(name).values()]
+
+    def clauses_told(self, cell, key, it):
+        """The clauses that a cell tells of a function, and whether it has them."""
+        if cell in ("", "none"):
+            return (), not it.ensures
+        if cell == "owed by the caller":
+            return (), it.owes
+        if re.match(r"as those of `\w+`", cell):
+            return it.ensures, it.ensures in self.same_clauses(quoted(cell)[0], key)
+        if cell.startswith("the only one"):
+            return ("",), it.ensures == ("",) and all(name in it.contract for name in quoted(cell))
+        return quoted(cell), bool(quoted(cell)) and set(quoted(cell)) <= set(it.ensures)
+
+    def hold_clauses(self, row, crate):
+        """Holds a row of clauses; gives those that it tells, each with the name of its function."""
+        told, named = set(), self.calls_told(row.cells[0], [crate])
+        cells = row.cells[1].split("; ")
+        cells = cells if len(cells) == len(named) else [row.cells[1]] * len(named)
+        if not named:
+            self.hold(False, row.line, f"no call is named in {row.cells[0]}")
+        for (_, name, functions), cell in zip(named, cells):
+            self.hold(functions, row.line, f"{crate.name} has no public call {name}")
+            for key, it in functions.items():
+                names, is_so = self.clauses_told(cell, key, it)
+                has = ", ".join(clause or "one without a name" for clause in it.ensures) or "none"
+                self.hold(is_so, row.line, f"{key} hasn't the clauses that are told, {cell or 'none'}; it has {has}")
+                told |= {(key, clause) for clause in names}
+        return told
+
+    def hold_sections(self):
+        """Holds that each crate has its section, and each clause of its public calls a row there; in a program, which has no
+        callers, each clause of the functions that are told."""
+        sections = {line[3:].split(":")[0]: number for number, line in self.headings if re.match(r"## \w+:", line)}
+        told = {name: set() for name in self.crates}
+        for name, number in sections.items():
+            self.hold(name in self.sources.told, number, f"there is no crate {name}")
+        for row in self.rows:
+            name = row.heading[3:].split(":")[0]
+            if row.head[0] == "function" and name in self.crates:
+                told[name] |= self.hold_clauses(row, self.crates[name])
+        for name, crate in self.sources.told.items():
+            self.hold(name in sections, 1, f"the crate {name} has no section")
+            own = {key: it for key, _ in told[name] for it in crate.found(key).values()}
+            calls = crate.calls if crate.is_library else own
+            for key, clause in ((key, clause) for key, it in calls.items() for clause in it.ensures):
+                is_so = (key, clause) in told[name]
+                self.hold(is_so, sections.get(name, 1), f"{key} of {name}: its clause {clause or 'without a name'} has no row")
+
+    def hold_headline(self):
+        """Holds the points that begin with calls and their clauses."""
+        for number, line in lines_of(self.page):
+            found = re.match(r"- (`\w+`(?: and `\w+`)*), (`\w+`(?:(?:, | and )`\w+`)*):", line)
+            for name, clause in ((name, it) for name in quoted(found[1]) for it in quoted(found[2])) if found else ():
+                functions = [it for crate in self.sources.told.values() for it in crate.found(name).values()]
+                self.hold(any(clause in it.ensures for it in functions), number, f"{name} has no clause {clause}")
+
+    def hold_refusals(self, row, crates, own):
+        """Holds what a row of refusals names: the refusals, and in brackets clauses of a call of the row, of a record that its
+        contract cites, or of the function before them. A function may stand there alone."""
+        functions = [it for crate in crates for it in crate.functions]
+        alone = {clause for it in own for clause in it.ensures} | {it.key for it in functions} | self.sources.fields_cited(own)
+        for before, names in in_brackets(" ".join(row.cells[1:])):
+            there = {clause for it in functions if it.key in quoted(before) for clause in it.ensures} if before else alone
+            for name in (it for it in names if re.match(r"[a-z]|\w+::", it)):
+                self.hold(name in there, row.line, f"in brackets: {before or row.cells[0]} has no clause {name}")
+        types = {name for crate in self.crates.values() for name in crate.types}
+        for name in re.findall(r"`([A-Z]\w+)`", row.cells[1]):
+            self.hold(name in self.sources.values | types, row.line, f"there is no refusal {name}")
+
+    def hold_calls(self):
+        """Holds that each public call has its row of refusals, and each row its calls."""
+        told = set()
+        for row in (it for it in self.rows if it.head[0] in ("call", "words")):
+            crates = [self.crates[it] for it in re.findall(r"\w+", row.heading) if it in self.crates]
+            named = self.calls_told(row.cells[0], crates) if row.head[0] == "call" else []
+            if row.head[0] == "call" and not named:
+                self.hold(False, row.line, f"no call is named in {row.cells[0]}")
+            for crate, name, functions in named:
+                self.hold(functions, row.line, f"{crate.name} has no public call {name}")
+                told |= {(crate.name, it) for it in (name, *functions)}
+            self.hold_refusals(row, crates, [it for _, _, functions in named for it in functions.values()])
+        lines = {name: number for number, line in self.headings if "Calls of" in line for name in re.findall(r"\w+", line)}
+        for name, crate in self.sources.told.items():
+            for key, it in crate.needed():
+                is_so = {(name, key), (name, it.owner)} & told
+                self.hold(is_so, lines.get(name, 1), f"the call {key} of {name} has no row")
+
+
+# ---- ARCHITECTURE.md
+
+
+def hold_rooms(page, rows, sources, tally):
+    """Holds the table of crates with what they stand on."""
+    rows = [it for it in rows if it.head[0] == "crate" and it.head[-1] == "stands on"]
+    for row in rows:
+        name, cell = row.cells[0], row.cells[-1]
+        tally.hold(name in sources.uses, page, row.line, f"crates.txt has no crate {name}")
+        wanted = [it if it in sources.crates else f"`{it}`" for it in sources.uses.get(name, [])]
+        is_so = sorted(filter(None, cell.split(", "))) == sorted(wanted)
+        told = f"{name} stands on {cell or 'nothing'}, by crates.txt on {', '.join(wanted) or 'nothing'}"
+        tally.hold(is_so, page, row.line, told)
+    for name in sources.told:
+        is_so = name in {row.cells[0] for row in rows}
+        tally.hold(is_so, page, rows[0].line if rows else 1, f"the crate {name} has no row in the rooms")
+
+
+def hold_gate(page, rows, sources, tally):
+    """Holds the table of what the gate takes: its crates, the crates of tests, and how many edits must fail."""
+    for row in (it for it in rows if it.head[0] == "crate" and it.head[-1] == "edits"):
+        for name in (row.cells[0], *re.findall(r"\w+_tests", " ".join(row.cells))):
+            tally.hold(name in sources.crates, page, row.line, f"there is no crate {name}")
+        edits = len(list((CRATES / row.cells[0]).glob("must-fail/*.edit")))
+        tally.hold(row.cells[-1] == (str(edits) if edits else ""), page, row.line, f"{row.cells[0]} has {edits or 'no'} edits")
+
+
+# ---- what is cited
+
+
+def anchors_of(page):
+    """The anchors of a document's headings."""
+    return {re.sub(r"[^\w\- ]", "", line.lstrip("# ").lower()).replace(" ", "-") for _, line in headings_of(page)}
+
+
+class Citations:
+    """What documents cite."""
+
+    def __init__(self, sources, tally):
+        self.crates, self.tally = sources.crates, tally
+        self.functions = {key for it in self.crates.values() for key in (*it.calls, *(own.key for own in it.functions))}
+        files = [it.relative_to(TOP) for name in FOLDERS for it in (TOP / name).rglob("*.*")]
+        self.files = [f"/{it}" for it in files if "out" not in it.parts]
+
+    def is_file(self, word):
+        """Whether there is the file: at this place, or one whose path ends so. What the toolchain makes need not be there."""
+        path = word[2:] if word.startswith("./") else word
+        if "out" in path.split("/"):
+            return True
+        if word.startswith("./") or path.split("/")[0] in FOLDERS:
+            return any(TOP.glob(path.rstrip("/"))) if "*" in path else (TOP / path).exists()
+        return any(fnmatch.fnmatch(it, f"*/{path}") for it in self.files)
+
+    def is_linked(self, page, link):
+        """Whether there is what a document links to."""
+        path, _, anchor = link.partition("#")
+        other = ((TOP / page).parent / path).resolve() if path else TOP / page
+        return other.exists() and (not anchor or anchor in anchors_of(other.relative_to(TOP)))
+
+    def is_named(self, path):
+        """Whether a crate has what is named behind it, or else a type or a module what is named behind that."""
+        crate = self.crates.get(path.split("::")[0])
+        if crate is None:
+            return path in self.functions or any(it.found(path) for it in self.crates.values())
+        own = {it.key for it in crate.functions} | {*crate.calls, *crate.types, *crate.traits, *crate.modules, *crate.exported}
+        return path.partition("::")[2] in own
+
+    def is_behind(self, path, name):
+        """Whether a call has the clause that is named behind it; or else there is such a function beside it."""
+        functions = [it for crate in self.crates.values() for it in crate.found(path.partition("::")[2]).values()]
+        return any(name in it.ensures for it in functions) or self.is_named(f"{path.rpartition('::')[0]}::{name}")
+
+    def hold_document(self, page):
+        """Holds what a document cites."""
+        for number, line in lines_of(page):
+            for word in (it.rstrip(":,") for text in quoted(line) for it in text.split()):
+                is_path = word.startswith(tuple(f"{it}/" for it in (".", *FOLDERS))) or word.endswith(ENDINGS)
+                if is_path and re.fullmatch(r"(\./)?(\w|\*|\.ci)[\w.*-]*(/[\w.*-]+)*/?", word):
+                    self.tally.hold(self.is_file(word), page, number, f"there is no file {word}")
+                if re.fullmatch(r"\w+Lemmas", word):
+                    self.tally.hold(self.is_file(f"{word}.antt"), page, number, f"there is no module of lemmas {word}")
+                if re.fullmatch(r"\w+(::\w+)+", word):
+                    self.tally.hold(self.is_named(word), page, number, f"there is no {word}")
+            for path, name in re.findall(r"`(\w+(?:::\w+)+)`, (?:clause )?`(\w+)`", line):
+                if path.split("::")[0] in self.crates:
+                    self.tally.hold(self.is_behind(path, name), page, number, f"{path} has no clause {name}")
+            for link in re.findall(r"\]\(([^):]+)\)", line):
+                self.tally.hold(self.is_linked(page, link), page, number, f"there is nothing behind the link {link}")
+
+
+def main():
+    tally, sources = Tally(), Sources()
+    Model(sources, tally).hold_all()
+    proved = Proved(sources, tally)
+    proved.hold_headline()
+    proved.hold_sections()
+    proved.hold_calls()
+    page = "docs/ARCHITECTURE.md"
+    rows = rows_of(page, tally)
+    hold_rooms(page, rows, sources, tally)
+    hold_gate(page, rows, sources, tally)
+    citations = Citations(sources, tally)
+    for page in DOCUMENTS:
+        citations.hold_document(page)
+    for page, line, told in sorted(tally.wrong):
+        print(f"FAILED: {page}:{line}: {told}")
+    print(f"{tally.passed} passed, {len(tally.wrong)} failed")
+    return 1 if tally.wrong or not tally.passed else 0
+
+
+if __name__ == "__main__":
+    sys.exit(main())

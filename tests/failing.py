@@ -1,0 +1,264 @@
+#!/usr/bin/env python3
+"""Runs the built program with reads and writes that fail, and with such as move a few bytes each time.
+
+    python3 tests/failing.py [PROGRAM]
+
+PROGRAM is the built casbench; where it is not named, the one that ./casbench would run. It asks for a C compiler, cc, and says
+so where there is none.
+
+Each row below is a command with its texts: all six commands, with a history that is named and one that is standard input. Of each
+file of a row, a text that is read or an output that is written, each call fails in a run of its own: the first, the second and so
+on to the last, and then one that is never made. Calls move 1 to 9 bytes at most, or some more, or as many as they can. A file that
+takes 150 calls or more, which is a page or a story, has only the first two fail, the middle one and the last two. A read fails with
+EIO or, in turn, as one that is interrupted; a write fails so too, and in another run takes no byte. These are some 2,700 reads and
+5,800 writes that fail, and 500 calls that are never made.
+
+After a read fault nothing has been written; after a write fault a front of what is written else, just up to that write; where
+no call fails the answer is what it is else. Each time just those calls are made that are wanted, file by file, and none after the
+one that fails.
+"""
+
+import errno
+import os
+import pathlib
+import subprocess
+import sys
+import tempfile
+from concurrent.futures import ThreadPoolExecutor
+from typing import NamedTuple, Optional
+
+from program import built_program
+from running import has_compiler, library_in, run_words
+from texts import READ_FAULT, WRITE_FAULT, broken, found, get, lost, missing, no_writer, places_of, refused, verified, witness_of, yes
+from trials import tell
+
+# How many bytes a call moves at most: a few, more, and as many as it can.
+SIZES = [*range(1, 10), 20, 40, 100, 1_000, 2**20]
+
+# The errors that calls fail with, in turn.
+ERRORS = (errno.EIO, errno.EINTR)
+
+# The names of the outputs, and of the file in which the calls are told.
+OUT, PAGE, TOLD = "out", "page", "told"
+
+# A file of so many calls has only some of them fail.
+MANY = 150
+
+# What a row without words is called.
+NO_WORDS = "no words"
+
+
+class Text(NamedTuple):
+    """A text that is read: its file's name, and how many bytes have to be read of it; None where it is read to its end."""
+
+    name: str
+    text: str
+    needed: Optional[int] = None
+
+    def calls(self, size):
+        """How many reads there are that give so many bytes at most. The end of a text is a read too."""
+        return -(-len(self.text) // size) + 1 if self.needed is None else -(-self.needed // size)
+
+
+class Output(NamedTuple):
+    """An output that is written, and what is written to it."""
+
+    name: str
+    text: bytes
+
+    def calls(self, size):
+        """How many writes there are that take so many bytes at most."""
+        return -(-len(self.text) // size)
+
+
+class Row(NamedTuple):
+    """A command, the exit status and the beginning of its answer, and the texts that it reads, in their order."""
+
+    words: str
+    status: int
+    begins: str
+    texts: tuple
+
+
+class Failing(NamedTuple):
+    """The call of a file that fails, by its number from 1, with an error, or with 0 by moving no byte; the most bytes of a call."""
+
+    name: str
+    number: int
+    error: int
+    size: int
+
+
+class Ended(NamedTuple):
+    """How a run ended: its status, both outputs, the page if there is one, and the calls that were made."""
+
+    status: int
+    out: bytes
+    why: str
+    page: Optional[bytes]
+    calls: str
+
+
+# A get that was not answered, and the same cut short; one that finds nothing, with its witness; one that finds what nobody wrote;
+# and one that ends twice, the second time on line 3.
+OPEN = get(0)
+CUT = OPEN[:20]
+MISSED = OPEN + missing(0)
+WITNESS = witness_of("d", places_of("0"))
+STRAY = OPEN + found(0, 1, 0, k=2)
+ENDED = OPEN + lost(0) * 2
+
+# A bulk of two items of which nothing is known.
+BODY = '{"index":{"_id":"a"}}\n{"k":1}\n{"delete":{"_id":"b"}}\n'
+REPLY = '{"items":[{"index":{"status":503}},{"delete":{"status":503}}]}'
+
+
+def history(text, needed=None):
+    return Text("history", text, needed)
+
+
+# What comes after a line that is refused is not read, and a witness not at all where the history is refused; both texts of a bulk
+# are read before either is judged. A text that ends within a line is read to its end. A run with one client writes the same text
+# each time.
+ROWS = [
+    Row("", 0, yes(1), (history(MISSED),)),
+    Row("check history --workers 2 --conflicts maybe", 1, no_writer(1, 0), (history(STRAY),)),
+    Row("check", 2, refused(1, "json"), (history(CUT),)),
+    Row("check history", 2, refused(3, "ended"), (history(ENDED + OPEN, len(ENDED)),)),
+    Row("witness", 0, WITNESS, (history(MISSED),)),
+    Row("witness history", 2, refused(2, "shape"), (history("\n{}\n" + OPEN, 4),)),
+    Row("verify history witness --conflicts maybe", 0, verified(1), (history(MISSED), Text("witness", WITNESS))),
+    Row("verify history witness", 1, broken("doc-stranger"), (history(""), Text("witness", WITNESS))),
+    Row("verify history witness", 2, refused(2, "shape", "history"), (history("\n{}\n", 4), Text("witness", WITNESS, 0))),
+    Row("verify history witness", 2, refused(1, "shape", "witness"), (history(OPEN), Text("witness", "{}\n" + WITNESS, 3))),
+    Row("bulk body reply", 0, '{"e":"call","id":"a",', (Text("body", BODY), Text("reply", REPLY))),
+    Row("bulk body reply", 2, refused(1, "syntax"), (Text("body", CUT), Text("reply", ""))),
+    Row("explain", 2, f'{refused(1, "json")}\n', (history(CUT),)),
+    Row("explain history --html page", 0, f"{yes(1, left_out=1)}\n", (history(OPEN),)),
+    Row(run_words(), 0, '{"e":"call","id":"d0",', ()),
+]
+
+
+def filled(name, row):
+    """The folder of this name, with the texts of the row in it."""
+    folder = pathlib.Path(name)
+    for text in row.texts:
+        (folder / text.name).write_text(text.text)
+    return folder
+
+
+def ended(program, row, folder, more):
+    """How a run of the row ends in the folder, with more in its environment; None where it doesn't end."""
+    words = row.words.split()
+    out, told, page = (folder / name for name in (OUT, TOLD, PAGE))
+    told.write_bytes(b"")
+    page.unlink(missing_ok=True)
+    takes_input = row.texts and row.texts[0].name not in words
+    with open(folder / row.texts[0].name if takes_input else os.devnull, "rb") as given, open(out, "wb") as taken:
+        where = {**os.environ, **more}
+        try:
+            ran = subprocess.run([program, *words], cwd=folder, env=where, stdin=given, stdout=taken, stderr=subprocess.PIPE, timeout=60)
+        except subprocess.TimeoutExpired:
+            return None
+    return Ended(ran.returncode, out.read_bytes(), ran.stderr.decode(), page.read_bytes() if page.exists() else None, told.read_text())
+
+
+def plain_end(program, row):
+    """How a run of the row ends where all calls are left alone."""
+    with tempfile.TemporaryDirectory() as name:
+        return ended(program, row, filled(name, row), {})
+
+
+def files_of(row, plain):
+    """The texts and the outputs of the row, in the order of their calls."""
+    outputs = [Output(OUT, plain.out)] + ([] if plain.page is None else [Output(PAGE, plain.page)])
+    return [*row.texts, *outputs]
+
+
+def wanted(row, plain, failing):
+    """How the run has to end, and its calls, where that call fails; as else where it is never made."""
+    name, number, _, size = failing
+    files = files_of(row, plain)
+    at = [it.name for it in files].index(name)
+    counts = [it.calls(size) for it in files]
+    before, after = "." * sum(counts[:at]), "." * sum(counts[at + 1 :])
+    if number > counts[at]:
+        return plain._replace(calls=before + "n" * counts[at] + after)
+    left = (number - 1) * size
+    out = plain.out if name == PAGE else plain.out[:left] if name == OUT else b""
+    page = None if plain.page is None else plain.page[:left] if name == PAGE else b""
+    return Ended(4, out, WRITE_FAULT if name in (OUT, PAGE) else READ_FAULT, page, before + "n" * (number - 1) + "!")
+
+
+def numbers(count):
+    """The numbers of the calls that fail, and that of one which is not made."""
+    return range(1, count + 2) if count < MANY else [1, 2, count // 2, count - 1, count, count + 1]
+
+
+def errors(file, number, size):
+    """What a call fails with, one after the other: with an error and, where it is a write that is made, by moving no byte."""
+    error = ERRORS[(number + size) % 2]
+    return [error] if isinstance(file, Text) or number > file.calls(size) else [error, 0]
+
+
+def failures(row, plain, size):
+    """All ways in which a call of the row fails, where calls move so many bytes at most."""
+    for file in files_of(row, plain):
+        for number in numbers(file.calls(size)):
+            for error in errors(file, number, size):
+                yield Failing(file.name, number, error, size)
+
+
+def is_right(program, library, row, plain, folder, failing):
+    """Whether a run in which that call fails ends as it has to."""
+    name, number, error, size = failing
+    more = {"FILE": name, "NUMBER": str(number), "ERROR": str(error), "MOST": str(size), "TOLD": TOLD, "LD_PRELOAD": str(library)}
+    return ended(program, row, folder, more) == wanted(row, plain, failing)
+
+
+def tried(work):
+    """Tries those failures of a row, one after the other in one folder; tells of each whether it was right."""
+    program, library, row, plain, failing_ones = work
+    with tempfile.TemporaryDirectory() as name:
+        folder = filled(name, row)
+        return [is_right(program, library, row, plain, folder, it) for it in failing_ones]
+
+
+def is_plain(row, plain):
+    """Whether the row's answer is the one that is wanted where all calls are left alone."""
+    if plain is None or (plain.page is not None) != (PAGE in row.words):
+        return False
+    is_page = plain.page is None or plain.page.startswith(b"<!doctype html>")
+    return (plain.status, plain.why) == (row.status, "") and plain.out.startswith(row.begins.encode()) and is_page
+
+
+def kind(row, plain, failing):
+    """What a failing call is counted as."""
+    file = next(it for it in files_of(row, plain) if it.name == failing.name)
+    if failing.number > file.calls(failing.size):
+        return "calls that are not made"
+    return "reads" if isinstance(file, Text) else "writes"
+
+
+def main():
+    if not has_compiler("no call failed"):
+        print("0 passed, 0 failed")
+        return 0
+    program = built_program(sys.argv[1:])
+    with tempfile.TemporaryDirectory() as folder, ThreadPoolExecutor() as pool:
+        library = library_in(folder, "fail_calls")
+        plains = [plain_end(program, row) for row in ROWS]
+        wrong = [f"{row.words or NO_WORDS}: {plain}" for row, plain in zip(ROWS, plains) if not is_plain(row, plain)]
+        pairs = [(row, plain) for row, plain in zip(ROWS, plains) if is_plain(row, plain)]
+        work = [(program, library, *it, list(failures(*it, size))) for it in pairs for size in SIZES]
+        told = list(pool.map(tried, work))
+    kinds = []
+    for (_, _, row, plain, failing_ones), rights in zip(work, told):
+        kinds += [kind(row, plain, it) for it in failing_ones]
+        wrong += [f"{row.words or NO_WORDS}: {it}" for it, right in zip(failing_ones, rights) if not right]
+    print(", ".join(f"{kinds.count(it)} {it}" for it in sorted(set(kinds))))
+    return tell(len(ROWS) + len(kinds) - len(wrong), wrong)
+
+
+if __name__ == "__main__":
+    sys.exit(main())

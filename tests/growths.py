@@ -1,0 +1,40 @@
+"""The growths that checks of texts ask for, which are counted and refused by a small library.
+
+It is no test itself. The quick way to the fields of a line asks for no growth, which shows the lines that it takes.
+"""
+
+import sys
+import tempfile
+
+from program import TOP
+
+# (nothing is left beside the examples)
+sys.dont_write_bytecode = True
+sys.path.append(str(TOP / "examples" / "hostile"))
+from refuse_growths import NO_MEMORY, Refusing
+
+# More growths than any of these checks asks for.
+MANY = 512
+
+
+class Growths:
+    """Checks texts with a growth refused. The library is compiled into the folder, and the texts are put there."""
+
+    def __init__(self, program, folder):
+        self.program, self.folder, self.refusing = program, folder, Refusing(folder)
+
+    def check(self, text, number):
+        """How a check of the text ends where the growth of this number is refused, and whether it asked for that one."""
+        with tempfile.NamedTemporaryFile(dir=self.folder) as file:
+            file.write(text.encode())
+            file.flush()
+            return self.refusing.run([self.program, "check", file.name], number)
+
+    def count(self, text):
+        """How many growths a check of the text asks for."""
+        least, most = 0, MANY
+        while least < most:
+            middle = (least + most) // 2
+            _, was_asked = self.check(text, middle + 1)
+            least, most = (middle + 1, most) if was_asked else (least, middle)
+        return least

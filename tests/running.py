@@ -1,0 +1,122 @@
+"""Runs of the program: on words, on texts in files, and on texts that come a few bytes at a time.
+
+It is no test itself. A run ends with its status and what was written on standard output and on standard error.
+"""
+
+import contextlib
+import os
+import pathlib
+import shutil
+import socket
+import subprocess
+import tempfile
+
+from program import TOP
+
+# A run that takes longer has failed.
+SECONDS = 300
+
+
+def run_words(seed=1, clients=1, calls=1, docs=1, copies=1, fault="none"):
+    """The words of a run of a group."""
+    return f"run --seed {seed} --clients {clients} --calls {calls} --docs {docs} --copies {copies} --fault {fault}"
+
+
+def bytes_of(text):
+    """The bytes of a text, which may be bytes already."""
+    return text.encode() if isinstance(text, str) else text
+
+
+def run(program, words, given="", **how):
+    """Runs the program with this text on standard input; tells how it ends."""
+    done = subprocess.run([program, *words], input=bytes_of(given), capture_output=True, timeout=SECONDS, **how)
+    return done.returncode, done.stdout.decode(), done.stderr.decode()
+
+
+def run_on_files(program, command, texts, words=()):
+    """The same of a command on files with these texts, and with more words behind them."""
+    with tempfile.TemporaryDirectory() as folder:
+        files = [pathlib.Path(folder) / str(at) for at, _ in enumerate(texts)]
+        for file, text in zip(files, texts):
+            file.write_bytes(bytes_of(text))
+        return run(program, [command, *files, *words])
+
+
+def said(end):
+    """The status and the answer of a run that has nothing to say on standard error."""
+    status, out, err = end
+    if err:
+        raise OSError(err[:300])
+    return status, out
+
+
+def asked(program, command, *texts, conflicts="plain"):
+    """The status and the answer of a command on files with these texts, in this reading of a conflict."""
+    return said(run_on_files(program, command, texts, ["--conflicts", conflicts]))
+
+
+def text_of_run(program, **how):
+    """The text that a run of a group writes; how it is run is as for the words of a run."""
+    status, text = said(run(program, run_words(**how).split()))
+    if status:
+        raise OSError(f"a run ended with status {status}")
+    return text
+
+
+@contextlib.contextmanager
+def started(words, **how):
+    """The words as they run, with both outputs at hand; they are ended at last, if they haven't by themselves."""
+    with subprocess.Popen(words, stdout=subprocess.PIPE, stderr=subprocess.PIPE, **how) as child:
+        try:
+            yield child
+        finally:
+            child.kill()
+
+
+def ended(child):
+    """Waits for the end; tells how it ends."""
+    out, err = child.communicate(timeout=SECONDS)
+    return child.returncode, out.decode(), err.decode()
+
+
+def fed(words, its, ours, text, size, is_ended, **how):
+    """How the words end that read the one end of a channel, where so many bytes of the text at a time are sent from the other end."""
+    given = bytes_of(text)
+    with ours, its, started(words, **how) as child:
+        its.close()
+        with contextlib.suppress(BrokenPipeError, ConnectionResetError):  # (behind a line that is refused nothing is read)
+            for at in range(0, len(given), size):
+                os.write(ours.fileno(), given[at : at + size])
+        if is_ended:
+            ours.close()
+        return ended(child)
+
+
+def run_by_parts(program, command, text, size, is_ended=True):
+    """How a command ends where each read of standard input gives so many bytes of the text, and no more: a socket keeps the bounds of
+    what is sent. Where the text is not ended, the answer has to come all the same."""
+    its, ours = socket.socketpair(socket.AF_UNIX, socket.SOCK_SEQPACKET)
+    return fed([program, command], its, ours, text, size, is_ended, stdin=its)
+
+
+def run_on_parts(program, words, text, size):
+    """The same of a file that is named behind the words: a pipe, which can be opened by a name, and keeps the bounds of 4096 bytes or
+    fewer."""
+    its, ours = os.pipe2(os.O_DIRECT | os.O_CLOEXEC)
+    words = [program, *words, f"/dev/fd/{its}"]
+    return fed(words, open(its, "rb", 0), open(ours, "wb", 0), text, size, True, stdin=subprocess.DEVNULL, pass_fds=[its])
+
+
+def has_compiler(undone):
+    """Whether there is a C compiler here, cc; where there is none, it is told what is not done."""
+    if shutil.which("cc"):
+        return True
+    print(f"there is no C compiler here, cc, so {undone}")
+    return False
+
+
+def library_in(folder, name):
+    """The library of this name, compiled into the folder from its source beside the tests."""
+    library = pathlib.Path(folder) / f"{name}.so"
+    subprocess.run(["cc", "-O2", "-shared", "-fPIC", "-o", library, TOP / "tests" / f"{name}.c"], check=True)
+    return library
