@@ -20,6 +20,8 @@ import tempfile
 from concurrent.futures import ThreadPoolExecutor
 
 from program import TOP, built_program
+from running import run
+from trials import tell
 
 DOCUMENTS = ["README.md", "examples/README.md", "docs/RECORDING.md"]
 
@@ -95,7 +97,7 @@ def run_page(program, page):
     history = page.with_suffix(".ndjson")
     with tempfile.TemporaryDirectory() as folder:
         made = pathlib.Path(folder) / page.name
-        subprocess.run([program, "explain", history, "--html", made], capture_output=True, timeout=60)
+        run(program, ["explain", history, "--html", made])
         if not made.exists() or made.read_bytes() != page.read_bytes():
             name = page.relative_to(TOP)
             return f"{name} is not what ./casbench explain {name.with_suffix('.ndjson')} --html {name} makes"
@@ -108,12 +110,11 @@ def main():
     with ThreadPoolExecutor() as pool:
         told = list(pool.map(lambda it: run_document(program, *it), zip(DOCUMENTS, free_ports(len(DOCUMENTS)))))
         wrong = [it for it in pool.map(lambda page: run_page(program, page), pages) if it]
-    count = sum(it for it, _ in told) + len(pages)
     wrong += [it for _, some in told for it in some]
-    for it in wrong:
-        print(f"FAILED: {it}")
-    print(f"{count - len(wrong)} passed, {len(wrong)} failed")
-    return 1 if wrong or not all(it for it, _ in told) or not pages else 0
+    passed = sum(it for it, _ in told) + len(pages) - len(wrong)
+    wrong += [f"{document} has no sessions" for document, (count, _) in zip(DOCUMENTS, told) if not count]
+    wrong += [] if pages else ["there are no pages"]
+    return tell(passed, wrong)
 
 
 if __name__ == "__main__":

@@ -14,105 +14,37 @@ library that cc, a C compiler, makes; where there is none, that is said, and the
 Drawn histories without an order are cut behind the event that is named: the first events alone are judged as within the whole.
 """
 
-import pathlib
 import re
-import shutil
-import socket
-import subprocess
 import sys
 import tempfile
+from collections import Counter
 from concurrent.futures import ThreadPoolExecutor
 
 from drawing import CONFLICT, MISSING, Call, Draws, Ending, Op, Reply, lines
+from growths import NO_MEMORY, Growths
 from offences import CHANGES, Clients, changed
-from program import TOP, built_program
-
-# (nothing is left beside the examples)
-sys.dont_write_bytecode = True
-sys.path.append(str(TOP / "examples" / "hostile"))
-from refuse_growths import Refusing
-
-CASES = TOP / "tests" / "cases"
-
-# The most bytes of a line, the most lines of a text, and the greatest number of a call.
-LINE_BYTES, LINES, GREATEST = 65_536, 4_194_304, 2**64 - 1
-
-
-def call(number, name, op, more=""):
-    """The line of a call."""
-    return f'{{"e":"call","n":{number},"id":"{name}","op":"{op}"{more}}}\n'
-
-
-def reply(number, status, body):
-    """The line of a reply."""
-    return f'{{"e":"reply","n":{number},"status":{status},"body":{{{body}}}}}\n'
-
-
-def lost(number):
-    """The line of a call that is lost."""
-    return f'{{"e":"lost","n":{number}}}\n'
-
-
-CREATED = '"result":"created","_seq_no":0,"_primary_term":1'
-NOT_FOUND = '"result":"not_found","_seq_no":0,"_primary_term":1'
-FOUND = '"_seq_no":0,"_primary_term":1,"found":true,"_source":{"k":1}'
-ABSENT = '"found":false'
-
-
-def found(number):
-    """A get finds the number 1 at the version 1/0, which nobody wrote in a history without writes."""
-    return reply(number, 200, FOUND)
-
-
-def yes(docs, calls, left_out):
-    return f"yes docs={docs} calls={calls} left_out={left_out}\n"
-
-
-def refused(line, cause):
-    return f"refused line={line} cause={cause}\n"
-
-
-def no_writer(number, event):
-    """The answer where the get was answered with what nobody wrote, in this event."""
-    return f"refuted kind=no-writer calls={number} event={event} call={number} before=shown\n"
-
+from program import built_program, case_text
+from running import has_compiler, run, run_by_parts, run_on_files, said
+from texts import LINE_BYTES, LINES, MOST_NUMBER, MOST_OF_PAIR, OFFENCE, REFUSED_COUNT
+from texts import answer_of, call, condition, created, delete, doc_missing, found, get, index, lost, missing, nested, no, no_writer
+from texts import not_found, refused, refused_item, status_of, updated, witness_of, written_call, yes
+from trials import Trial, Wrong, tell, try_all
 
 # An index of "d" on shard 3 that was answered, a get of "d" that is open, and a get of "e" on shard 4 that is lost.
-THREE_CALLS = (
-    call(0, "d", "index", ',"k":1,"shard":3')
-    + reply(0, 201, CREATED)
-    + call(1, "d", "get", ',"shard":3')
-    + call(2, "e", "get", ',"shard":4')
-    + lost(2)
-)
+THREE_CALLS = index(0, ',"shard":3') + created(0, 1, 0) + get(1, ',"shard":3') + get(2, ',"shard":4', "e") + lost(2)
 
 # Calls whose numbers neither rise nor fall: 4 and 0 are answered, 12 is lost, 9 and 11 are open.
-ODD_NUMBERS = (
-    call(9, "d", "get")
-    + call(4, "d", "get")
-    + call(12, "e", "get")
-    + call(0, "d", "get")
-    + call(11, "e", "get")
-    + reply(4, 404, ABSENT)
-    + lost(12)
-    + reply(0, 404, ABSENT)
-)
+ODD_NUMBERS = get(9) + get(4) + get(12, doc="e") + get(0) + get(11, doc="e") + missing(4) + lost(12) + missing(0)
 
 # Three documents on three shards, two of which are called again.
-THREE_DOCUMENTS = (
-    call(0, "b", "get", ',"shard":7')
-    + call(1, "a", "get")
-    + call(2, "b", "get", ',"shard":7')
-    + call(3, "c", "get", ',"shard":1023')
-    + call(4, "a", "get")
-)
+THREE_DOCUMENTS = get(0, ',"shard":7', "b") + get(1, doc="a") + get(2, ',"shard":7', "b") + get(3, ',"shard":1023', "c") + get(4, doc="a")
 
-INDEX_THEN_GET = (CASES / "index-then-get.history").read_text()
+INDEX_THEN_GET = case_text("index-then-get")
 
 # Lines with the greatest numbers that there may be.
-LAST_SHARD = call(0, "d", "get", ',"shard":1023')
-LAST_NUMBER = call(GREATEST, "d", "get", ',"at":[1,{}]')
-LAST_PAIR = call(0, "d", "index", ',"k":1,"if_seq_no":9223372036854775807,"if_primary_term":1')
+LAST_SHARD = get(0, ',"shard":1023')
+LAST_NUMBER = get(MOST_NUMBER, ',"at":[1,{}]')
+LAST_PAIR = index(0, condition(1, MOST_OF_PAIR))
 
 # Name, text, and the answer of a check.
 TEXTS = [
@@ -131,41 +63,41 @@ TEXTS = [
     ("a status past its range before a call that isn't there", '{"e":"reply","n":9,"status":70000}', refused(1, "range")),
     ("a reply without a body, and without its call", '{"e":"reply","n":9,"status":200}', refused(1, "no-call")),
     # limits behind the first line, and the limit of lines before what the line is
-    ("the longest line behind a blank one", "\n" + " " * LINE_BYTES, yes(0, 0, 0)),
+    ("the longest line behind a blank one", "\n" + " " * LINE_BYTES, yes(0, docs=0)),
     ("a line one byte longer behind a blank one", "\n" + " " * (LINE_BYTES + 1), refused(2, "long")),
     ("an open bracket past the last line", "\n" * LINES + "[", refused(LINES + 1, "lines")),
     # shard 1023, which the next call has to name too: on another shard, or on none, the document has moved
-    ("the last shard again", LAST_SHARD + call(1, "d", "get", ',"shard":1023'), yes(1, 2, 2)),
-    ("the last shard, then the one before", LAST_SHARD + call(1, "d", "get", ',"shard":1022'), refused(2, "shard-moved")),
-    ("the last shard, then none", LAST_SHARD + call(1, "d", "get"), refused(2, "shard-moved")),
+    ("the last shard again", LAST_SHARD + get(1, ',"shard":1023'), yes(2, left_out=2)),
+    ("the last shard, then the one before", LAST_SHARD + get(1, ',"shard":1022'), refused(2, "shard-moved")),
+    ("the last shard, then none", LAST_SHARD + get(1), refused(2, "shard-moved")),
     # a delete without a condition: another operation can't be answered so, which would leave it out, and with a condition no
     # order would have a document deleted that isn't there
-    ("a delete", call(0, "d", "delete") + reply(0, 404, NOT_FOUND), yes(1, 1, 0)),
+    ("a delete", delete(0) + not_found(0, 1, 0), yes(1)),
     # the greatest number, which the answer names, of a get
-    ("the greatest number of a call", LAST_NUMBER + found(GREATEST), no_writer(GREATEST, 1)),
+    ("the greatest number of a call", LAST_NUMBER + found(MOST_NUMBER, 1, 0), no_writer(1, MOST_NUMBER)),
     # one more event behind the three calls, of which 0 and 2 are ended and 1 is open. A call that is taken is counted, and so is
     # a new document; its shard is told in a story below
-    ("three calls", THREE_CALLS, yes(2, 3, 2)),
-    ("a second call", THREE_CALLS + call(0, "d", "get", ',"shard":3'), refused(6, "second-call")),
-    ("a second call before a shard that moved", THREE_CALLS + call(0, "d", "get", ',"shard":5'), refused(6, "second-call")),
-    ("a shard that moved", THREE_CALLS + call(3, "d", "get", ',"shard":5'), refused(6, "shard-moved")),
-    ("a shard that is kept", THREE_CALLS + call(3, "d", "get", ',"shard":3'), yes(2, 4, 3)),
-    *((f"another document on shard {shard}", THREE_CALLS + call(3, "f", "get", f',"shard":{shard}'), yes(3, 4, 3)) for shard in (3, 1023)),
-    ("a reply without its call", THREE_CALLS + reply(3, 201, CREATED), refused(6, "no-call")),
-    ("a second reply", THREE_CALLS + reply(0, 201, CREATED), refused(6, "ended")),
-    ("a second reply that is of another operation", THREE_CALLS + found(0), refused(6, "ended")),
-    ("a reply to a lost call", THREE_CALLS + found(2), refused(6, "ended")),
+    ("three calls", THREE_CALLS, yes(3, left_out=2, docs=2)),
+    ("a second call", THREE_CALLS + get(0, ',"shard":3'), refused(6, "second-call")),
+    ("a second call before a shard that moved", THREE_CALLS + get(0, ',"shard":5'), refused(6, "second-call")),
+    ("a shard that moved", THREE_CALLS + get(3, ',"shard":5'), refused(6, "shard-moved")),
+    ("a shard that is kept", THREE_CALLS + get(3, ',"shard":3'), yes(4, left_out=3, docs=2)),
+    *((f"another document on shard {shard}", THREE_CALLS + get(3, f',"shard":{shard}', "f"), yes(4, left_out=3, docs=3)) for shard in (3, 1023)),
+    ("a reply without its call", THREE_CALLS + created(3, 1, 0), refused(6, "no-call")),
+    ("a second reply", THREE_CALLS + created(0, 1, 0), refused(6, "ended")),
+    ("a second reply that is of another operation", THREE_CALLS + found(0, 1, 0), refused(6, "ended")),
+    ("a reply to a lost call", THREE_CALLS + found(2, 1, 0), refused(6, "ended")),
     # (a reply that is of another operation is of unknown outcome, so the get stays in no place; a get that found what was written
     # has one, and one that missed it can't have any)
-    ("a reply that is of another operation", THREE_CALLS + reply(1, 201, CREATED), yes(2, 3, 2)),
-    ("a get that finds what was written", THREE_CALLS + found(1), yes(2, 3, 1)),
-    ("a get that misses what was written", THREE_CALLS + reply(1, 404, ABSENT), "no event=5 call=1 before=shown\n"),
+    ("a reply that is of another operation", THREE_CALLS + created(1, 1, 0), yes(3, left_out=2, docs=2)),
+    ("a get that finds what was written", THREE_CALLS + found(1, 1, 0), yes(3, left_out=1, docs=2)),
+    ("a get that misses what was written", THREE_CALLS + missing(1), no(5, 1)),
     ("a loss of no call", THREE_CALLS + lost(3), refused(6, "no-call")),
     ("a loss of an answered call", THREE_CALLS + lost(0), refused(6, "ended")),
-    ("a loss of an open call", THREE_CALLS + lost(1), yes(2, 3, 2)),
+    ("a loss of an open call", THREE_CALLS + lost(1), yes(3, left_out=2, docs=2)),
     ("a loss of an open call, which ends it", THREE_CALLS + lost(1) * 2, refused(7, "ended")),
     # losses behind calls whose numbers neither rise nor fall: the first ends an open call, and the next one is refused
-    ("odd numbers", ODD_NUMBERS, yes(2, 5, 3)),
+    ("odd numbers", ODD_NUMBERS, yes(5, left_out=3, docs=2)),
     *((f"odd numbers, {number} lost", ODD_NUMBERS + lost(number) * 2, refused(10, "ended")) for number in (9, 11)),
     *((f"odd numbers, {number} lost", ODD_NUMBERS + lost(number), refused(9, "ended")) for number in (4, 12, 0)),
     *((f"odd numbers, {number} lost", ODD_NUMBERS + lost(number), refused(9, "no-call")) for number in (1, 10, 13)),
@@ -174,74 +106,68 @@ TEXTS = [
 # Name, text, the answer with which its story begins, and what the story has. Each text ends with a reply that no order
 # explains; so its story tells the document with its shard, and each call of it with all that was read.
 STORIES = [
-    ("a get on the last shard", LAST_SHARD + found(0), no_writer(0, 1), ['"d" on shard 1023.\n', "line 1, call 0: get -> line 2: k=1 at 1/0\n"]),
+    ("a get on the last shard", LAST_SHARD + found(0, 1, 0), no_writer(1, 0), ['"d" on shard 1023.\n', "line 1, call 0: get -> line 2: k=1 at 1/0\n"]),
     (
         "a condition with the greatest sequence number",
-        LAST_PAIR + reply(0, 200, '"result":"updated","_seq_no":0,"_primary_term":2'),
-        "no event=1 call=0 before=shown\n",
+        LAST_PAIR + updated(0, 2, 0),
+        no(1, 0),
         ["line 1, call 0: index k=1 if at 1/9223372036854775807 -> line 2: updated as 2/0\n"],
     ),
     (
         "an index and a get",
-        INDEX_THEN_GET + call(2, "d", "get") + reply(2, 404, ABSENT),
-        "no event=5 call=2 before=shown\n",
+        INDEX_THEN_GET + get(2) + missing(2),
+        no(5, 2),
         ['"d" on shard 0.\n', "line 1, call 0: index k=1 -> line 2: created as 1/0\n", "line 3, call 1: get -> line 4: k=1 at 1/0\n"],
     ),
     (
         "the first of two documents",
-        THREE_CALLS + reply(1, 404, ABSENT),
-        "no event=5 call=1 before=shown\n",
+        THREE_CALLS + missing(1),
+        no(5, 1),
         ['"d" on shard 3.\n', "line 1, call 0: index k=1 -> line 2: created as 1/0\n", "line 3, call 1: get -> line 6: not found\n"],
     ),
     (
         "the second of two documents",
-        THREE_CALLS + call(3, "e", "get", ',"shard":4') + found(3),
-        no_writer(3, 6),
+        THREE_CALLS + get(3, ',"shard":4', "e") + found(3, 1, 0),
+        no_writer(6, 3),
         ['"e" on shard 4.\n', "line 4, call 2: get -> no reply (", "line 6, call 3: get -> line 7: k=1 at 1/0 ("],
     ),
     *(
-        (f"a third document on shard {shard}", THREE_CALLS + call(3, "f", "get", f',"shard":{shard}') + found(3), no_writer(3, 6), [part])
+        (f"a third document on shard {shard}", THREE_CALLS + get(3, f',"shard":{shard}', "f") + found(3, 1, 0), no_writer(6, 3), [part])
         for shard, part in ((3, '"f" on shard 3.\n'), (1023, '"f" on shard 1023.\n'))
     ),
     (
         "odd numbers, the first document",
-        ODD_NUMBERS + call(20, "d", "get") + found(20),
-        no_writer(20, 9),
+        ODD_NUMBERS + get(20) + found(20, 1, 0),
+        no_writer(9, 20),
         ["line 1, call 9: get -> no reply (", "line 2, call 4: get -> line 6: not found (", "line 4, call 0: get -> line 8: not found ("],
     ),
     (
         "odd numbers, the second document",
-        ODD_NUMBERS + call(20, "e", "get") + found(20),
-        no_writer(20, 9),
+        ODD_NUMBERS + get(20, doc="e") + found(20, 1, 0),
+        no_writer(9, 20),
         ["line 3, call 12: get -> no reply (", "line 5, call 11: get -> no reply ("],
     ),
     *(
-        (f"three documents, the one of call {number}", THREE_DOCUMENTS + found(number), no_writer(number, 5), [f"{document}.\n"])
+        (f"three documents, the one of call {number}", THREE_DOCUMENTS + found(number, 1, 0), no_writer(5, number), [f"{document}.\n"])
         for number, document in ((0, '"b" on shard 7'), (1, '"a" on shard 0'), (3, '"c" on shard 1023'))
     ),
 ]
-
-
-def entries(names):
-    """The witness text in which these documents have no places."""
-    return "".join(f'{{"doc":"{name}"}}\n' for name in names)
-
 
 # Two of the three documents, which a witness names, and the number of the third: they are numbered in the order of their first
 # calls.
 LEFT_OUT = [("ac", 0), ("bc", 1), ("ba", 2)]
 
 # An index of "a", a delete of "b" and another index of "a".
-BULK = (CASES / "bulk.body").read_text()
+BULK = case_text("bulk", "body")
 
 # The lines of the bulk, of which nothing is known, when its calls have the last three numbers.
-BULK_OF_LAST_NUMBERS = """{"e":"call","id":"a","k":1,"n":18446744073709551613,"op":"index"}
-{"e":"call","id":"b","n":18446744073709551614,"op":"delete"}
-{"e":"call","id":"a","if_primary_term":1,"if_seq_no":0,"k":2,"n":18446744073709551615,"op":"index"}
-{"e":"lost","n":18446744073709551613}
-{"e":"lost","n":18446744073709551614}
-{"e":"lost","n":18446744073709551615}
-"""
+FIRST = MOST_NUMBER - 2
+BULK_OF_LAST_NUMBERS = (
+    written_call(FIRST, "index", "a", ',"k":1')
+    + written_call(FIRST + 1, "delete", "b")
+    + written_call(FIRST + 2, "index", "a", condition(1, 0) + ',"k":2')
+    + "".join(map(lost, range(FIRST, FIRST + 3)))
+)
 
 UNKNOWN_ITEMS = '{"items":[{"index":{"status":503}},{"delete":{"status":503}},{"index":{"status":503}}]}'
 
@@ -251,27 +177,27 @@ STRANGER_THEN_KIND = '{"items":[{"index":{}},{"delete":{"_id":"x"}},{"delete":{}
 
 # Name, number of the first call, body and reply of a bulk, and what is written.
 BULKS = [
-    ("the last numbers", GREATEST - 2, BULK, UNKNOWN_ITEMS, BULK_OF_LAST_NUMBERS),
+    ("the last numbers", FIRST, BULK, UNKNOWN_ITEMS, BULK_OF_LAST_NUMBERS),
     # the body's fault is told first, then the reply's, then a stranger, then that the numbers are past the greatest, as in each
     # of these rows
-    ("a body's fault before the reply's", GREATEST, "{}", "{", "refused line=1 cause=action\n"),
-    ("a reply's fault before the numbers", GREATEST, BULK, "{", "refused line=1 cause=syntax\n"),
-    ("an item that is none before a stranger", GREATEST, BULK, STRANGER_THEN_KIND, "refused item=2 cause=kind\n"),
-    ("a stranger before the numbers", GREATEST, BULK, STRANGER, "refused item=1 cause=kind\n"),
-    ("the numbers alone", GREATEST, BULK, UNKNOWN_ITEMS, "refused cause=count\n"),
+    ("a body's fault before the reply's", MOST_NUMBER, "{}", "{", refused(1, "action")),
+    ("a reply's fault before the numbers", MOST_NUMBER, BULK, "{", refused(1, "syntax")),
+    ("an item that is none before a stranger", MOST_NUMBER, BULK, STRANGER_THEN_KIND, refused_item(2)),
+    ("a stranger before the numbers", MOST_NUMBER, BULK, STRANGER, refused_item(1)),
+    ("the numbers alone", MOST_NUMBER, BULK, UNKNOWN_ITEMS, REFUSED_COUNT),
 ]
 
 # An index that was answered, a blank line and a get that is lost, without a line feed at the end.
-INDEX_THEN_LOST_GET = (call(0, "d", "index", ',"k":1') + reply(0, 201, CREATED) + "\n" + call(1, "d", "get") + lost(1)).rstrip("\n")
-SECOND_CALL = call(0, "d", "get") * 2 + lost(0)
+INDEX_THEN_LOST_GET = (index(0) + created(0, 1, 0) + "\n" + get(1) + lost(1)).rstrip("\n")
+SECOND_CALL = get(0) * 2 + lost(0)
 CUT_SHORT = '{"e":"call","n":0,"i'
 
 # A command, a text, and what is written, whatever number of bytes is at hand at each read.
 AT_HAND = [
-    ("check", "", yes(0, 0, 0)),
-    ("check", "\n \t\r\n", yes(0, 0, 0)),
-    ("check", INDEX_THEN_LOST_GET, yes(1, 2, 1)),
-    ("witness", INDEX_THEN_LOST_GET, '{"doc":"d"}\n{"rec":0}\n'),
+    ("check", "", yes(0, docs=0)),
+    ("check", "\n \t\r\n", yes(0, docs=0)),
+    ("check", INDEX_THEN_LOST_GET, yes(2, left_out=1)),
+    ("witness", INDEX_THEN_LOST_GET, witness_of("d", [(0, None)])),
     ("check", SECOND_CALL, refused(2, "second-call")),
     ("check", CUT_SHORT, refused(1, "json")),
 ]
@@ -334,8 +260,8 @@ DAMAGE = [b"\xff", b"\x80", b"\x1f", b'"', b"\\", b" ", b",", b"}", b":"]
 DRAWN_LINES, NUMBERS, LEAST_TAKEN = 600, 24, 100
 
 # The calls before a drawn line: the replies that are drawn fit some of them. The last four are lost.
-BEFORE = "".join(call(n, *[("d", "get"), ("d", "index"), ("e", "index"), ("d", "delete")][n % 4], f',"k":{n}') for n in range(16))
-BEFORE += "".join(lost(n) for n in range(12, 16))
+BEFORE = "".join(call(n, ["get", "index", "index", "delete"][n % 4], f',"k":{n}', "dded"[n % 4]) for n in range(16))
+BEFORE += "".join(map(lost, range(12, 16)))
 
 # The line of a text that is the drawn one, and the causes that drawn lines have to be refused for.
 DRAWN_AT = BEFORE.count("\n") + 1
@@ -347,27 +273,13 @@ WILD, RECORDED, CALLS, SHARDS = 50, 48, 10, (5, 0, 1023)
 # How many of them must at least be cut with the same order told before the event.
 LEAST_ORDERS = 40
 
-OFFENCE = re.compile(r"(?:no|refuted kind=\S+ calls=\S+) event=(\d+) call=(\d+) before=(shown|unshown)\n")
-
 # What the story of a history without an order tells of the events before the one that is named.
 ORDER_BEFORE = re.compile(r"\nAn order of the document's calls before that reply:\n(?:.+\n)*")
 
 
 def answer(program, command, text):
-    """The exit status and the text that the program writes, where it says nothing on standard error."""
-    ran = subprocess.run([program, command], input=text if isinstance(text, bytes) else text.encode(), capture_output=True, timeout=60)
-    if ran.stderr:
-        raise OSError(ran.stderr[:300])
-    return ran.returncode, ran.stdout.decode()
-
-
-def status_of(line):
-    """The exit status that comes with the line."""
-    return {"refused": 2, "no": 1, "refuted": 1, "broken": 1}.get(line.partition(" ")[0], 0)
-
-
-def is_answered(program, text, wanted):
-    return answer(program, "check", text) == (status_of(wanted), wanted)
+    """The exit status and the answer of a command to the text."""
+    return said(run(program, [command], text))
 
 
 def is_told(program, text, line, parts):
@@ -376,40 +288,11 @@ def is_told(program, text, line, parts):
     return status == status_of(line) and told.startswith(line) and all(it in told for it in parts)
 
 
-def is_answered_of_files(program, command, texts, words, wanted):
-    """Whether the command answers so to files with these texts."""
-    with tempfile.TemporaryDirectory() as folder:
-        files = [pathlib.Path(folder) / str(at) for at, _ in enumerate(texts)]
-        for file, text in zip(files, texts):
-            file.write_text(text)
-        ran = subprocess.run([program, command, *files, *words], stdin=subprocess.DEVNULL, capture_output=True, timeout=60)
-    return (ran.returncode, ran.stdout.decode(), ran.stderr) == (status_of(wanted), wanted, b"")
-
-
-def is_answered_by_parts(program, command, text, count, wanted):
-    """Whether the command answers so where each read of standard input gives so many bytes, and no more: a socket that keeps
-    the bounds of what was sent."""
-    ours, theirs = socket.socketpair(socket.AF_UNIX, socket.SOCK_SEQPACKET)
-    with theirs:
-        child = subprocess.Popen([program, command], stdin=theirs, stdout=subprocess.PIPE, stderr=subprocess.PIPE)
-    with child, ours:
-        try:
-            for at in range(0, len(text), count):
-                ours.send(text.encode()[at : at + count])
-        except (BrokenPipeError, ConnectionResetError):
-            # (behind the refused line nothing is read)
-            pass
-        ours.close()
-        told, why = child.communicate(timeout=60)
-    return (child.returncode, told.decode(), why) == (status_of(wanted), wanted, b"")
-
-
 def drawn_line(draws):
     """The bytes of a drawn line: some nest deep, some are damaged, and some are cut short."""
     text = f'{{"n":{draws.below(NUMBERS)},'
     if draws.below(10) == 0:
-        depth = draws.below(4) + 124
-        text += '"at":' + "[" * depth + "]" * depth + ","
+        text += f'"at":{nested(draws.below(4) + 124)},'
     line = (text + draws.one_of(ODD if draws.below(3) == 0 else PLAIN)).encode()
     place = draws.below(len(line))
     if draws.below(20) == 0:
@@ -434,40 +317,27 @@ def document_of(line):
 def story_around(program, line, document):
     """The story of the line behind some calls and before a get that finds what nobody wrote, which has all calls of the document
     told. Of a refused line its own bytes are left out."""
-    after = b'{"e":"call","n":99,"id":%s,"op":"get"}\n' % document
-    after += b'{"e":"reply","n":99,"status":200,"body":{"_seq_no":9,"_primary_term":9,"found":true,"_source":{"k":99}}}\n'
+    after = get(99, doc="@").encode().replace(b'"@"', document) + found(99, 9, 9, k=99).encode()
     status, told = answer(program, "explain", BEFORE.encode() + line + b"\n" + after)
     return status, told.partition("\nHow the line begins:\n")[0]
 
 
 def told_alike(program, line):
-    """The cause for which a drawn line is refused, or `taken`, where it is told the same with an escape; else nothing."""
+    """The cause for which a drawn line is refused, or `taken`, where it is told the same with an escape."""
     document = document_of(line)
-    status, told = story_around(program, line, document)
-    if (status, told) != story_around(program, with_escape(line), document) or status not in (1, 2):
-        return ""
+    status, told = story = story_around(program, line, document)
+    other = story_around(program, with_escape(line), document)
+    if story != other or status not in (1, 2):
+        raise Wrong(f"{story}, and with an escape {other}")
     cause = re.match(rf"refused line={DRAWN_AT} cause=([a-z-]+)\n", told)
     return cause[1] if cause else "taken"
 
 
-def growths(refusing, program, file):
-    """How many growths a check of the file asks for."""
-    least, most = 0, 512
-    while least < most:
-        middle = (least + most) // 2
-        _, was_asked = refusing.run([program, "check", str(file)], middle + 1)
-        least, most = (middle + 1, most) if was_asked else (least, middle)
-    return least
-
-
-def is_read_quickly(program, refusing, rest):
-    """Whether the quick way tells the fields of a plain line: it asks for fewer growths than the same line with a space before a
-    colon, which is left to the other way."""
-    with tempfile.TemporaryDirectory() as folder:
-        plain, spaced = pathlib.Path(folder) / "plain", pathlib.Path(folder) / "spaced"
-        plain.write_text('{"at":0,"n":3,' + rest)
-        spaced.write_text('{"at" :0,"n":3,' + rest)
-        return growths(refusing, program, plain) < growths(refusing, program, spaced)
+def check_spaced(growths, rest):
+    """How a check of a plain line with a space before a colon ends, which is left to the other way, where it has no more growths than
+    the line without the space asks for; and whether it asked for another one."""
+    plain, spaced = (f'{{"at"{space}:0,"n":3,{rest}' for space in ("", " "))
+    return growths.check(spaced, growths.count(plain) + 1)
 
 
 def wild_reply(draws, number):
@@ -512,72 +382,66 @@ def told_when_cut(program, events):
     offence = OFFENCE.match(story)
     if not offence:
         return "yes" if story.startswith("yes ") else ""
-    event = int(offence[1])
+    event = int(offence["event"])
     _, through = answer(program, "explain", "".join(text[: event + 1]))
     _, before = answer(program, "check", "".join(text[:event]))
-    if through.startswith("yes ") or before.startswith("yes ") != (offence[3] == "shown"):
-        return ""
-    if OFFENCE.match(through).groups() != offence.groups():
+    if through.startswith("yes ") or before.startswith("yes ") != (offence["before"] == "shown"):
+        raise Wrong(f"{story}, through the event {through}, and before it {before}")
+    named = ("event", "call", "before")
+    if OFFENCE.match(through).group(*named) != offence.group(*named):
         return "another event"
     told, wanted = ORDER_BEFORE.findall(through), ORDER_BEFORE.findall(story)
-    return "" if told != wanted else "order" if told else "no order"
+    if told != wanted:
+        raise Wrong(f"{story}, and through the event {through}")
+    return "order" if told else "no order"
 
 
-def rows(program, refusing):
-    """Each row by its name, how it is judged, and of what."""
-    yield from ((name, is_answered, (program, *rest)) for name, *rest in TEXTS)
-    yield from ((name, is_told, (program, *rest)) for name, *rest in STORIES)
+def row_trials(program):
+    """The rows above."""
+    for name, text, wanted in TEXTS:
+        yield Trial(name, run, (program, ["check"], text), answer_of(wanted))
+    for name, *row in STORIES:
+        yield Trial(name, is_told, (program, *row))
     for names, number in LEFT_OUT:
-        texts = (THREE_DOCUMENTS, entries(names))
-        yield f"a witness of {names}", is_answered_of_files, (program, "verify", texts, [], f"broken doc={number} cause=doc-missing\n")
+        texts = THREE_DOCUMENTS, "".join(witness_of(name, []) for name in names)
+        yield Trial(f"a witness of {names}", run_on_files, (program, "verify", texts), answer_of(doc_missing(number)))
     for name, first, body, given, wanted in BULKS:
-        yield f"a bulk: {name}", is_answered_of_files, (program, "bulk", (body, given), ["--first", str(first)], wanted)
+        of = program, "bulk", (body, given), ["--first", str(first)]
+        yield Trial(f"a bulk: {name}", run_on_files, of, answer_of(wanted))
     for command, text, wanted in AT_HAND:
         for count in BYTES_AT_HAND:
-            yield f"{command} {text[:40]!r} by {count} bytes", is_answered_by_parts, (program, command, text, count, wanted)
-    if refusing:
-        yield from ((f"quickly: {rest}", is_read_quickly, (program, refusing, rest)) for rest in PLAIN)
+            yield Trial(f"{command} {text[:40]!r} by {count} bytes", run_by_parts, (program, command, text, count), answer_of(wanted))
 
 
-def drawn_rows(program):
-    """The same of drawn lines, and of drawn histories."""
+def quick_trials(program, folder):
+    """Which lines are read by the quick way, where growths can be counted."""
+    if has_compiler("no growth was counted"):
+        growths = Growths(program, folder)
+        yield from (Trial(f"quickly: {rest}", check_spaced, (growths, rest), (NO_MEMORY, True)) for rest in PLAIN)
+
+
+def drawn_trials(program):
+    """The drawn lines, and the drawn histories."""
     draws = Draws(7)
     drawn = [drawn_line(draws) for _ in range(DRAWN_LINES)]
-    wild = [(f"wild history {seed}", told_when_cut, (program, wild_events(seed))) for seed in range(WILD)]
-    recorded = [(f"recording {seed}", told_when_cut, (program, recorded_events(seed))) for seed in range(RECORDED)]
-    return [(f"drawn line {line[:200]!r}", told_alike, (program, line)) for line in drawn], wild + recorded
-
-
-def tried(row):
-    """What is told of a row, a word or a truth value; nothing where it fails."""
-    _, judge, of = row
-    try:
-        return judge(*of)
-    except (OSError, AttributeError, UnicodeDecodeError, subprocess.TimeoutExpired):
-        return ""
+    wild = [Trial(f"wild history {seed}", told_when_cut, (program, wild_events(seed))) for seed in range(WILD)]
+    recorded = [Trial(f"recording {seed}", told_when_cut, (program, recorded_events(seed))) for seed in range(RECORDED)]
+    return [Trial(f"drawn line {line[:200]!r}", told_alike, (program, line)) for line in drawn], wild + recorded
 
 
 def main():
     program = built_program(sys.argv[1:])
     with tempfile.TemporaryDirectory() as folder, ThreadPoolExecutor() as pool:
-        refusing = Refusing(folder) if shutil.which("cc") else None
-        if not refusing:
-            print("there is no C compiler here, cc, so no growth was counted")
-        parts = [list(rows(program, refusing)), *drawn_rows(program)]
-        told = [list(pool.map(tried, part)) for part in parts]
-    wrong = [name for part, words in zip(parts, told) for (name, *_), word in zip(part, words) if not word]
-    _, causes, cuts = told
+        parts = [[*row_trials(program), *quick_trials(program, folder)], *drawn_trials(program)]
+        told, wrong = zip(*(try_all(part, pool) for part in parts))
+    _, causes, cuts = map(Counter, told)
     rules = [
         (CAUSES <= set(causes), f"no drawn line is refused for {CAUSES - set(causes)}"),
-        (causes.count("taken") >= LEAST_TAKEN, f"only {causes.count('taken')} drawn lines are taken"),
-        (cuts.count("order") >= LEAST_ORDERS, f"only {cuts.count('order')} drawn histories are cut with an order before the event"),
+        (causes["taken"] >= LEAST_TAKEN, f"only {causes['taken']} drawn lines are taken"),
+        (cuts["order"] >= LEAST_ORDERS, f"only {cuts['order']} drawn histories are cut with an order before the event"),
     ]
-    wrong += [why for is_right, why in rules if not is_right]
-    for it in wrong:
-        print(f"FAILED: {it}")
-    passed = sum(map(len, parts)) + len(rules) - len(wrong)
-    print(f"{passed} passed, {len(wrong)} failed")
-    return 1 if wrong or not passed else 0
+    failed = sum(wrong, []) + [why for is_right, why in rules if not is_right]
+    return tell(sum(map(len, parts)) + len(rules) - len(failed), failed)
 
 
 if __name__ == "__main__":
