@@ -7,8 +7,10 @@ No program is run; one may be named, as for the other tests. What is held:
 
 - docs/MODEL.md has a heading `### CRATE/specs/FILE.antt` for each file of definitions. The tables below it tell the definitions
   of that file, each of them and no others; names in brackets are parts of a definition. Types are there, with their values.
-- docs/PROVED.md has a section for each crate, and in it a row for each clause of each public call, and no others. Under "Calls
-  of .." each public call has a row. Clauses in brackets are those of a call of their row, refusals are values of some type.
+- docs/PROVED.md has a section for each crate. Each public call stands there in one row, which tells each of its clauses and no
+  others, and that something is owed where the call has a `requires`, and only there. Each law stands in a row with its
+  definition. Clauses in brackets are those of a call of their row, refusals are values of some type, and what stands in brackets
+  in a promise is a definition.
 - docs/ARCHITECTURE.md has a row for each crate in "The rooms", with the libraries that crates.txt gives it; the table of the
   gate tells how many edits must fail.
 - Files, links, modules of lemmas, `CRATE::NAME` and `Type::name` that a document names are there, and clauses behind these.
@@ -19,6 +21,7 @@ Each name that is held counts one.
 import fnmatch
 import re
 import sys
+from collections import Counter
 from typing import NamedTuple
 
 from program import TOP
@@ -32,7 +35,7 @@ LISTS = {"Lib.antt", "aids.antt"}
 # Traits whose functions need no row: those of copies, what is shown of a value, and what makes one fault of another.
 UNTOLD_TRAITS = {"Clone", "Copy", "Debug", "From"}
 # The traits that documents tell by an operator, or by a word.
-SPELLED_TRAITS = {"==": "PartialEq", "<": "PartialOrd", "hash": "Hash", "{}": "Display", "reader": "Read"}
+SPELLED_TRAITS = {"==": "PartialEq", "hash": "Hash", "reader": "Read"}
 
 # Words that are files: such as begin with a folder of the checkout, and such as end so.
 FOLDERS = ("tests", "crates", "examples", "docs", "dist", ".ci")
@@ -332,25 +335,27 @@ class Model:
 # ---- PROVED.md
 
 
+# Some names of clauses.
+NAMES = r"`\w+`(?:(?:, | and )`\w+`)*"
+
+
 def names_of_part(part, has):
-    """The names that a part of a cell stands for, each with the crate that is named behind it. In a list the first name says of
-    which type the next ones are, where it has them."""
-    found = re.fullmatch(r"the trait `(\w+)`(?:[,:] (.+))?", part)
+    """The names that a cell stands for. In a list the first name says of which type the next ones are, where it has them."""
+    found = re.fullmatch(r"the trait `(\w+)`(?:: (.+))?", part)
     if found:
-        return [(f"{found[1]}::{it}", "") for it in quoted(found[2] or "")] or [(found[1], "")]
-    found = re.fullmatch(r"`([&\w]+)`(?: as a `(\w+)`|, as a (reader))(?:: (.+)|, .+)?", part)
+        return [f"{found[1]}::{it}" for it in quoted(found[2] or "")] or [found[1]]
+    found = re.fullmatch(r"`(\w+)`(?: as a `(\w+)`|, as a (reader))", part)
     if found:
-        owner = f"{found[1]} as {found[2] or SPELLED_TRAITS[found[3]]}"
-        return [(f"{owner}::{it}", "") for it in quoted(found[4] or "")] or [(owner, "")]
-    found = re.fullmatch(r"(.+) of (?:a )?`(\w+)`", part)
+        return [f"{found[1]} as {found[2] or SPELLED_TRAITS[found[3]]}"]
+    found = re.fullmatch(r"`(==|hash)` of `(\w+)`", part)
     if found:
-        return [(f"{found[2]} as {SPELLED_TRAITS[it]}", "") for it in re.findall(r"==|<|\{\}|hash", found[1])]
+        return [f"{found[2]} as {SPELLED_TRAITS[found[1]]}"]
     owner, names = "", []
-    for name, crate in re.findall(r"`([^`]+)`(?: \(crate (\w+)\))?", part):
+    for name in quoted(part):
         if owner and "::" not in name and has(f"{owner}::{name}"):
             name = f"{owner}::{name}"
         owner = name.rpartition("::")[0] if "::" in name else owner
-        names.append((name, crate))
+        names.append(name)
     return names
 
 
@@ -361,114 +366,120 @@ class Proved:
 
     def __init__(self, sources, tally):
         self.sources, self.crates, self.tally = sources, sources.crates, tally
-        self.rows, self.headings = rows_of(self.page, tally), headings_of(self.page)
+        self.headings = headings_of(self.page)
+        # The rows of the sections of crates, each with its crate.
+        named = ((re.match(r"## (\w+):", it.heading), it) for it in rows_of(self.page, tally))
+        self.rows = [(sources.told[found[1]], it) for found, it in named if found and found[1] in sources.told]
+        # In how many rows the calls stand, and which clauses are told, by the name of the crate and the call.
+        self.stands, self.told = Counter(), set()
 
     def hold(self, is_so, line, told):
         self.tally.hold(is_so, self.page, line, told)
 
-    def calls_told(self, cell, crates):
-        """For each name of a cell the first of these crates that has it, the name, and the functions that it stands for."""
-        if cell == "all":
-            return [(crate, key, {key: it}) for crate in crates for key, it in crate.calls.items()]
-        told = []
-        for part in cell.split("; "):
-            for name, other in names_of_part(part, lambda it: any(crate.found(it) for crate in crates)):
-                among = [self.crates[other]] if other in self.crates else crates
-                crate = next((it for it in among if it.found(name)), among[0])
-                told.append((crate, name, crate.found(name)))
-        return told
+    def calls_told(self, row, crate):
+        """For each name of a row's first cell the functions that it stands for."""
+        named = names_of_part(row.cells[0], crate.found)
+        if not named:
+            self.hold(False, row.line, f"no call is named in {row.cells[0]}")
+        for name in named:
+            self.hold(crate.found(name), row.line, f"{crate.name} has no public call {name}")
+        return {name: crate.found(name) for name in named}
 
     def same_clauses(self, other, key):
         """The clauses that a function's are said to be as: those of this name in its type, or of its name in this type."""
         owner, _, own = key.rpartition("::")
-        name = f"{other}::{own}" if other[0].isupper() else f"{owner}::{other}"
+        name = f"{owner}::{other}" if owner and other[0].islower() else other
         return [it.ensures for crate in self.crates.values() for it in crate.found(name).values()]
 
     def clauses_told(self, cell, key, it):
-        """The clauses that a cell tells of a function, and whether it has them."""
-        if cell in ("", "none"):
+        """The clauses that a promise tells of a function, and whether it has them. Names with a colon behind them begin what is
+        said of these clauses; words without a name are those of a clause without one."""
+        promise = re.sub(r"^Owed: .*?\. ", "", cell)
+        if promise.startswith("promises nothing"):
             return (), not it.ensures
-        if cell == "owed by the caller":
-            return (), it.owes
-        if re.match(r"as those of `\w+`", cell):
-            return it.ensures, it.ensures in self.same_clauses(quoted(cell)[0], key)
-        if cell.startswith("the only one"):
-            return ("",), it.ensures == ("",) and all(name in it.contract for name in quoted(cell))
-        return quoted(cell), bool(quoted(cell)) and set(quoted(cell)) <= set(it.ensures)
+        alike = re.match(r"as those of `([\w:]+)`", promise)
+        if alike:
+            return it.ensures, it.ensures in self.same_clauses(alike[1], key)
+        names = [name for group in re.findall(rf"(?:^|[.;] )({NAMES}): ", promise) for name in quoted(group)]
+        return names or ("",), bool(promise) and set(names or ("",)) <= set(it.ensures)
 
-    def hold_clauses(self, row, crate):
-        """Holds a row of clauses; gives those that it tells, each with the name of its function."""
-        told, named = set(), self.calls_told(row.cells[0], [crate])
-        cells = row.cells[1].split("; ")
-        cells = cells if len(cells) == len(named) else [row.cells[1]] * len(named)
-        if not named:
-            self.hold(False, row.line, f"no call is named in {row.cells[0]}")
-        for (_, name, functions), cell in zip(named, cells):
-            self.hold(functions, row.line, f"{crate.name} has no public call {name}")
+    def hold_promise(self, row, crate):
+        """Holds what a row promises of its calls, and what in brackets it says that with."""
+        named = self.calls_told(row, crate)
+        for key in {key for name, functions in named.items() for key in (name, *functions)}:
+            self.stands[crate.name, key] += 1
+        for key, it in ((key, it) for functions in named.values() for key, it in functions.items()):
+            names, is_so = self.clauses_told(row.cells[1], key, it)
+            has = ", ".join(clause or "one without a name" for clause in it.ensures) or "none"
+            self.hold(is_so, row.line, f"{key} hasn't the clauses that are told, {', '.join(names) or 'none'}; it has {has}")
+            self.told |= {(crate.name, key, clause) for clause in names}
+            is_owed = bool(re.search(r"\b[Oo]we[ds]\b", " ".join(row.cells)))
+            owed = "something is owed" if it.owes else "nothing is owed"
+            self.hold(is_owed == it.owes, row.line, f"{key} is told wrong: {owed} by its caller")
+        for name in (name for _, names in in_brackets(row.cells[1]) for name in names):
+            self.hold(name in self.sources.definitions, row.line, f"in brackets: there is no definition {name}")
+        return [it for functions in named.values() for it in functions.values()]
+
+    def hold_law(self, row, crate):
+        """Holds a row of a law: its definition is the contract."""
+        for functions in self.calls_told(row, crate).values():
             for key, it in functions.items():
-                names, is_so = self.clauses_told(cell, key, it)
-                has = ", ".join(clause or "one without a name" for clause in it.ensures) or "none"
-                self.hold(is_so, row.line, f"{key} hasn't the clauses that are told, {cell or 'none'}; it has {has}")
-                told |= {(key, clause) for clause in names}
-        return told
+                self.stands[crate.name, key] += 1
+                is_so = it.module == "laws" and all(name in it.contract for name in quoted(row.cells[1])) and quoted(row.cells[1])
+                self.hold(is_so and it.ensures == ("",), row.line, f"{key} is no law {row.cells[1]}")
+                self.told.add((crate.name, key, ""))
 
-    def hold_sections(self):
-        """Holds that each crate has its section, and each clause of its public calls a row there; in a program, which has no
-        callers, each clause of the functions that are told."""
-        sections = {line[3:].split(":")[0]: number for number, line in self.headings if re.match(r"## \w+:", line)}
-        told = {name: set() for name in self.crates}
-        for name, number in sections.items():
-            self.hold(name in self.sources.told, number, f"there is no crate {name}")
-        for row in self.rows:
-            name = row.heading[3:].split(":")[0]
-            if row.head[0] == "function" and name in self.crates:
-                told[name] |= self.hold_clauses(row, self.crates[name])
-        for name, crate in self.sources.told.items():
-            self.hold(name in sections, 1, f"the crate {name} has no section")
-            own = {key: it for key, _ in told[name] for it in crate.found(key).values()}
-            calls = crate.calls if crate.is_library else own
-            for key, clause in ((key, clause) for key, it in calls.items() for clause in it.ensures):
-                is_so = (key, clause) in told[name]
-                self.hold(is_so, sections.get(name, 1), f"{key} of {name}: its clause {clause or 'without a name'} has no row")
-
-    def hold_headline(self):
-        """Holds the points that begin with calls and their clauses."""
-        for number, line in lines_of(self.page):
-            found = re.match(r"- (`\w+`(?: and `\w+`)*), (`\w+`(?:(?:, | and )`\w+`)*):", line)
-            for name, clause in ((name, it) for name in quoted(found[1]) for it in quoted(found[2])) if found else ():
-                functions = [it for crate in self.sources.told.values() for it in crate.found(name).values()]
-                self.hold(any(clause in it.ensures for it in functions), number, f"{name} has no clause {clause}")
-
-    def hold_refusals(self, row, crates, own):
-        """Holds what a row of refusals names: the refusals, and in brackets clauses of a call of the row, of a record that its
-        contract cites, or of the function before them. A function may stand there alone."""
-        functions = [it for crate in crates for it in crate.functions]
+    def hold_refusals(self, row, cells, crate, own):
+        """Holds what cells name: the refusals, and in brackets clauses of a call of the row, of a record that its contract cites,
+        or of the function before them. A function may stand there alone."""
+        functions = crate.functions
         alone = {clause for it in own for clause in it.ensures} | {it.key for it in functions} | self.sources.fields_cited(own)
-        for before, names in in_brackets(" ".join(row.cells[1:])):
+        for before, names in in_brackets(" ".join(cells)):
             there = {clause for it in functions if it.key in quoted(before) for clause in it.ensures} if before else alone
             for name in (it for it in names if re.match(r"[a-z]|\w+::", it)):
                 self.hold(name in there, row.line, f"in brackets: {before or row.cells[0]} has no clause {name}")
         types = {name for crate in self.crates.values() for name in crate.types}
-        for name in re.findall(r"`([A-Z]\w+)`", row.cells[1]):
+        for name in re.findall(r"`([A-Z]\w+)`", cells[0]):
             self.hold(name in self.sources.values | types, row.line, f"there is no refusal {name}")
 
-    def hold_calls(self):
-        """Holds that each public call has its row of refusals, and each row its calls."""
-        told = set()
-        for row in (it for it in self.rows if it.head[0] in ("call", "words")):
-            crates = [self.crates[it] for it in re.findall(r"\w+", row.heading) if it in self.crates]
-            named = self.calls_told(row.cells[0], crates) if row.head[0] == "call" else []
-            if row.head[0] == "call" and not named:
-                self.hold(False, row.line, f"no call is named in {row.cells[0]}")
-            for crate, name, functions in named:
-                self.hold(functions, row.line, f"{crate.name} has no public call {name}")
-                told |= {(crate.name, it) for it in (name, *functions)}
-            self.hold_refusals(row, crates, [it for _, _, functions in named for it in functions.values()])
-        lines = {name: number for number, line in self.headings if "Calls of" in line for name in re.findall(r"\w+", line)}
+    def hold_rows(self):
+        """Holds the rows: of calls, of laws, of the parts of a program, and of its words."""
+        for crate, row in self.rows:
+            if row.head[0] == "law":
+                self.hold_law(row, crate)
+            elif row.head[0] == "words":
+                self.hold_refusals(row, row.cells[1:], crate, [])
+            else:
+                own = self.hold_promise(row, crate)
+                self.hold_refusals(row, row.cells[2:] or ("",), crate, own)
+
+    def hold_all(self):
+        """Holds that each crate has its section, in which each public call stands in one row, with all its clauses; and so does
+        each function of a program that stands there."""
+        sections = {line[3:].split(":")[0]: number for number, line in self.headings if re.match(r"## \w+:", line)}
+        for name, number in sections.items():
+            self.hold(name in self.sources.told, number, f"there is no crate {name}")
+        self.hold_rows()
         for name, crate in self.sources.told.items():
-            for key, it in crate.needed():
-                is_so = {(name, key), (name, it.owner)} & told
-                self.hold(is_so, lines.get(name, 1), f"the call {key} of {name} has no row")
+            self.hold(name in sections, 1, f"the crate {name} has no section")
+            line = sections.get(name, 1)
+            laws = [(key, it) for key, it in crate.calls.items() if it.module == "laws"]
+            for key, it in (*crate.needed(), *laws):
+                rows = sum(self.stands[name, told] for told in {key, it.owner})
+                self.hold(rows == 1, line, f"the call {key} of {name} stands in {rows or 'no'} rows")
+            own = {key for other, key in self.stands if other == name}
+            calls = crate.calls if crate.is_library else {it.key: it for it in crate.functions if it.key in own}
+            for key, clause in ((key, clause) for key, it in calls.items() for clause in it.ensures):
+                is_so = (name, key, clause) in self.told
+                self.hold(is_so, line, f"{key} of {name}: its clause {clause or 'without a name'} has no row")
+
+    def hold_headline(self):
+        """Holds the points that begin with calls and their clauses."""
+        for number, line in lines_of(self.page):
+            found = re.match(rf"- (`\w+`(?: and `\w+`)*), ({NAMES}):", line)
+            for name, clause in ((name, it) for name in quoted(found[1]) for it in quoted(found[2])) if found else ():
+                functions = [it for crate in self.sources.told.values() for it in crate.found(name).values()]
+                self.hold(any(clause in it.ensures for it in functions), number, f"{name} has no clause {clause}")
 
 
 # ---- ARCHITECTURE.md
@@ -566,8 +577,7 @@ def main():
     Model(sources, tally).hold_all()
     proved = Proved(sources, tally)
     proved.hold_headline()
-    proved.hold_sections()
-    proved.hold_calls()
+    proved.hold_all()
     page = "docs/ARCHITECTURE.md"
     rows = rows_of(page, tally)
     hold_rooms(page, rows, sources, tally)

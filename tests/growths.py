@@ -18,23 +18,23 @@ MANY = 512
 
 
 class Growths:
-    """Checks texts with a growth refused. The library is compiled into the folder, and the texts are put there."""
+    """Checks texts with few growths. The library is compiled into the folder, and the texts are put there."""
 
     def __init__(self, program, folder):
         self.program, self.folder, self.refusing = program, folder, Refusing(folder)
 
-    def check(self, text, number):
-        """How a check of the text ends where the growth of this number is refused, and whether it asked for that one."""
+    def check(self, text, few):
+        """How a check of the text ends that gets so many growths and not the next one, and whether it asked for that."""
         with tempfile.NamedTemporaryFile(dir=self.folder) as file:
             file.write(text.encode())
             file.flush()
-            return self.refusing.run([self.program, "check", file.name], number)
+            return self.refusing.run([self.program, "check", file.name], few + 1)
 
     def count(self, text):
         """How many growths a check of the text asks for."""
         least, most = 0, MANY
         while least < most:
-            middle = (least + most) // 2
-            _, was_asked = self.check(text, middle + 1)
-            least, most = (middle + 1, most) if was_asked else (least, middle)
+            few = (least + most) // 2
+            _, asks_for_more = self.check(text, few)
+            least, most = (few + 1, most) if asks_for_more else (least, few)
         return least

@@ -106,7 +106,12 @@ TEXTS = [
 # Name, text, the answer with which its story begins, and what the story has. Each text ends with a reply that no order
 # explains; so its story tells the document with its shard, and each call of it with all that was read.
 STORIES = [
-    ("a get on the last shard", LAST_SHARD + found(0, 1, 0), no_writer(1, 0), ['"d" on shard 1023.\n', "line 1, call 0: get -> line 2: k=1 at 1/0\n"]),
+    (
+        "a get on the last shard",
+        LAST_SHARD + found(0, 1, 0),
+        no_writer(1, 0),
+        ['"d" on shard 1023.\n', "line 1, call 0: get -> line 2: k=1 at 1/0\n"],
+    ),
     (
         "a condition with the greatest sequence number",
         LAST_PAIR + updated(0, 2, 0),
@@ -334,10 +339,10 @@ def told_alike(program, line):
 
 
 def check_spaced(growths, rest):
-    """How a check of a plain line with a space before a colon ends, which is left to the other way, where it has no more growths than
-    the line without the space asks for; and whether it asked for another one."""
+    """How a check of a plain line with a space before a colon ends, which leaves it to the other way, where it gets no more growths
+    than without the space; and whether it asked for another one."""
     plain, spaced = (f'{{"at"{space}:0,"n":3,{rest}' for space in ("", " "))
-    return growths.check(spaced, growths.count(plain) + 1)
+    return growths.check(spaced, growths.count(plain))
 
 
 def wild_reply(draws, number):

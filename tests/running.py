@@ -14,7 +14,7 @@ import tempfile
 from program import TOP
 
 # A run that takes longer has failed.
-SECONDS = 300
+SECONDS = 120
 
 
 def run_words(seed=1, clients=1, calls=1, docs=1, copies=1, fault="none"):

@@ -100,7 +100,8 @@ UNKNOWN = "unexpected argument '{}' found"
 COMMAND = "unrecognized subcommand '{}'"
 TWICE = "the argument '{}' cannot be used multiple times"
 NO_VALUE = "a value is required for '{}' but none was supplied"
-READING = "a conflict is read as plain or as maybe; a fault is none, dirty, early, same-term, stale or blind"
+READING = "the value of --conflicts is plain or maybe"
+FAULT = "the value of --fault is none, dirty, early, same-term, stale or blind"
 RUN = "run --seed {} --clients {} --calls 200 --docs 3 --copies 5"
 
 
@@ -161,7 +162,7 @@ REFUSED = [
     # runs
     (RUN.format("18446744073709551616", "1") + " --fault none", wrong("18446744073709551616", "--seed <S>")),
     (RUN.format("1", "4294967296") + " --fault none", wrong("4294967296", "--clients <A>")),
-    (RUN.format("1", "1") + " --fault cut", READING),
+    (RUN.format("1", "1") + " --fault cut", FAULT),
     (RUN.format("1", "1"), missing("--fault <F>")),
 ]
 

@@ -14,7 +14,7 @@ use std::alloc::Global;
 use version_pair::{DocId, Pair};
 
 /// An action of a bulk request, by its name.
-#[derive(Clone, Copy, Debug, PartialEq, Eq)]
+#[derive(Clone, Copy, PartialEq, Eq)]
 pub enum ActionName {
     Index,
     Delete,
@@ -22,7 +22,7 @@ pub enum ActionName {
 }
 
 /// The fields of an action's line.
-#[derive(Clone, Copy, Debug)]
+#[derive(Clone, Copy)]
 pub struct ActionFields<'v> {
     pub action: ActionName,
     /// `_id`.
@@ -34,14 +34,14 @@ pub struct ActionFields<'v> {
 }
 
 /// An action whose source line is to come.
-#[derive(Debug, Drop)]
+#[derive(Drop)]
 pub enum Awaited {
     Index { id: DocId, cond: Option<Pair> },
     Create { id: DocId },
 }
 
 /// What an action's line says.
-#[derive(Debug, Drop)]
+#[derive(Drop)]
 pub enum ActionSaid {
     /// The document is deleted.
     Deletes { id: DocId, cond: Option<Pair> },

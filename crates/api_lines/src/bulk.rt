@@ -16,7 +16,7 @@ use std::alloc::Global;
 use version_pair::DocId;
 
 // The items of the lines so far, and the action whose source line is to come.
-#[derive(Debug, Drop)]
+#[derive(Drop)]
 struct Bulk {
     items: Vec<(DocId, Op)>,
     awaited: Option<Awaited>,

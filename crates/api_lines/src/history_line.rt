@@ -15,7 +15,7 @@ use version_pair::DocId;
 pub const SHARDS: u64 = 1024;
 
 /// The numbers of a call's operation, before their ranges are looked at.
-#[derive(Clone, Copy, Debug, PartialEq, Eq)]
+#[derive(Clone, Copy, PartialEq, Eq)]
 pub enum OpNumbers {
     Get,
     Index {

@@ -1,4 +1,10 @@
-//! Lines of JSON that speak of a cluster: their fields, why they are refused, the reply table and bulk bodies.
+//! Lines of JSON that speak of a cluster: their fields, why a line is refused, the reply table, and bulk bodies. A text is
+//! read by one loop over its lines, which takes any `LineReader`.
+//!
+//! ```text
+//! let items = read_bulk(alloc, body)?; // Vec<(DocId, Op)>, or the first BulkFault
+//! let heard = read_reply(&op, &id, 409, &body); // Heard::Reply(..), Heard::Unknown or Heard::Stranger
+//! ```
 #![tactic(auto)]
 
 mod action;
@@ -12,6 +18,7 @@ mod history_line;
 mod ids;
 pub mod laws;
 mod line_input;
+mod line_reader;
 pub mod lines;
 mod number;
 mod reply_table;
@@ -30,6 +37,7 @@ pub use given::{given_fields, given_line};
 pub use history_line::{LineSaid, SHARDS, call_of, line_said, lost_of, reply_of};
 pub use ids::document_id;
 pub use line_input::{InputFault, next_line};
+pub use line_reader::{LineReader, RefusedLine, take_lines, take_text};
 pub use lines::{LONGEST_LINE, MOST_LINES};
 pub use number::{Number, pair_of, pair_of_numbers};
 pub use reply_table::{Heard, heard_of, read_reply};

@@ -6,13 +6,16 @@ use crate::lines::LONGEST_LINE;
 use memchr::memchr;
 use std::alloc::AllocError;
 use std::io::BufRead;
+use thiserror::Error;
 
 /// Why the bytes of a reader are not had.
-#[derive(Clone, Copy, Debug, PartialEq, Eq)]
+#[derive(Clone, Copy, Debug, PartialEq, Eq, Error)]
 pub enum InputFault {
     /// The reader failed.
+    #[error("the input failed")]
     Read,
     /// A growth was refused memory.
+    #[error("no memory")]
     NoMemory,
 }
 

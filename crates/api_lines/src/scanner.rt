@@ -117,7 +117,7 @@ fn digits(bytes: &[u8]) -> Option<(u64, &[u8])>
 }
 
 /// Where the bytes that are left stand, as commas go.
-#[derive(Clone, Copy, Debug)]
+#[derive(Clone, Copy)]
 pub enum Place {
     Fresh,
     AfterComma,

@@ -3,60 +3,79 @@ ghost use Rattle.api_lines.specs.declared.text_fault.LineFault.TheVariants.{NoMe
 ghost use Rattle.api_lines.specs.Faults.{text_fault};
 
 use std::alloc::AllocError;
+use thiserror::Error;
 
 /// Why a line was refused.
-#[derive(Clone, Copy, Debug, PartialEq, Eq)]
+#[derive(Clone, Copy, Debug, PartialEq, Eq, Error)]
 pub enum TextCause {
     /// It has more than 65,536 bytes.
+    #[error("the line has more than 65,536 bytes")]
     Long,
     /// It is past the 4,194,304th line.
+    #[error("the text has more than 4,194,304 lines")]
     Lines,
     /// It is no JSON.
+    #[error("the line is no JSON")]
     Json,
     /// It is no object, a required field is missing, a field is of another kind, or its `e` or `op` is unknown.
+    #[error("the line is JSON and no event")]
     Shape,
     /// The document's id is empty or has more than 512 bytes.
+    #[error("the document's id is empty or has more than 512 bytes")]
     Id,
     /// A number is not whole or outside its range.
+    #[error("a number is not whole or outside its range")]
     Range,
     /// One of the two conditions is there without the other.
+    #[error("one of the two conditions is there without the other")]
     Half,
     /// The body of a reply names another document.
+    #[error("the reply names another document than its call")]
     Stranger,
     /// A call has this number already.
+    #[error("an earlier call has this number")]
     SecondCall,
     /// No call has this number.
+    #[error("no call has this number")]
     NoCall,
     /// The call of this number has an ending already.
+    #[error("the call of this number has ended already")]
     Ended,
     /// The history has its most events, or the witness its most documents and places.
+    #[error("the text has its most events")]
     Full,
     /// The document was called before on another shard.
+    #[error("the document was called before on another shard")]
     ShardMoved,
 }
 
 /// The first line that was refused, counted from 1, and why.
-#[derive(Clone, Copy, Debug, PartialEq, Eq)]
+#[derive(Clone, Copy, Debug, PartialEq, Eq, Error)]
+#[error("line {line}: {cause}")]
 pub struct TextFault {
     pub line: u64,
     pub cause: TextCause,
 }
 
 /// Why a text was not read.
-#[derive(Clone, Copy, Debug, PartialEq, Eq)]
+#[derive(Clone, Copy, Debug, PartialEq, Eq, Error)]
 pub enum ReadFault {
     /// A line was refused.
+    #[error("{0}")]
     Text(TextFault),
     /// A growth was refused memory.
+    #[error("no memory")]
     NoMemory,
 }
 
 /// Why a line was not read.
-#[derive(Clone, Copy, Debug, PartialEq, Eq)]
+#[derive(Clone, Copy, Debug, PartialEq, Eq, Error)]
 pub enum LineFault {
     /// It was refused.
+    #[error("{0}")]
     Told(TextCause),
     /// A growth was refused memory.
+    #[error("no memory")]
     NoMemory,
 }
 

@@ -163,16 +163,16 @@ seed_rule = record (needed_rule (codes "seed")) { long = Some (codes "seed"); pa
 abbrev pub fault_rule : Rule
 fault_rule = record (needed_rule (codes "fault")) { long = Some (codes "fault") }
 
+-- a command of this name that takes what a check takes
+abbrev pub searched_line : Text → App
+searched_line name = with_rule (with_rule (with_rule (new_app name) (file_rule (codes "history"))) conflicts_rule) workers_rule
+
 abbrev pub check_line : App
-check_line = with_rule (with_rule (with_rule (new_app (codes "check")) (file_rule (codes "history"))) conflicts_rule) workers_rule
+check_line = searched_line (codes "check")
 
--- `explain` with what a check takes
-abbrev pub searched_line : App
-searched_line = with_rule (with_rule (with_rule (new_app (codes "explain")) (file_rule (codes "history"))) conflicts_rule) workers_rule
-
--- and with the page
+-- with the page too
 abbrev pub explain_line : App
-explain_line = with_rule searched_line html_rule
+explain_line = with_rule (searched_line (codes "explain")) html_rule
 
 abbrev pub witness_line : App
 witness_line = with_rule (with_rule (new_app (codes "witness")) (file_rule (codes "history"))) conflicts_rule

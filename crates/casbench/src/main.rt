@@ -1,6 +1,14 @@
-//! casbench: tells whether a recorded history of an OpenSearch index keeps the compare-and-set promise.
+//! casbench: tells whether a recorded history of an OpenSearch index keeps the compare-and-set promise. The words of the
+//! process become a value `Words`, which `run` does; then an exit status.
+//!
+//! ```text
+//! $ casbench check history.ndjson
+//! yes docs=1 calls=5 left_out=0
+//! ```
 #![tactic(auto)]
 
+mod arguments;
+mod commands;
 mod exit;
 mod files;
 mod run;

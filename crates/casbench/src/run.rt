@@ -1,4 +1,4 @@
-ghost use Rattle.std.specs.Prelude.{◌≡◌, ◌≤◌, ℕ, List, Option, None, IfOk, IsErrOf};
+ghost use Rattle.std.specs.Prelude.{◌≡◌, ◌≢◌, ◌≤◌, ℕ, List, Option, None, IfErr, IfOk};
 ghost use Rattle.std.proofs.Common.{Bor};
 ghost use Rattle.std.specs.Io.KnownBytes.{Keeps};
 ghost use Rattle.doc_register.specs.declared.state.Conflicts.{Conflicts as Mode};
@@ -53,10 +53,8 @@ fn explain<T: Threads + Wait + Sync, R: Read, W: Write, P: Write>(
     requires few { workers ≤ 16 }
     ensures explained { IfOk result (λ status. HasAnswer (ExplainsInput conflicts (R.remaining history.old) status)
         (W.contents writer.old) (W.contents writer.new)) }
-    ensures unread { IsErrOf result StreamFault.Read → Keeps (W.contents writer.old)
-        (W.contents writer.new) }
-    ensures no_memory { IsErrOf result StreamFault.NoMemory → Keeps (W.contents writer.old)
-        (W.contents writer.new) }
+    ensures kept { IfErr result (λ fault. fault ≢ StreamFault.Write
+        → Keeps (W.contents writer.old) (W.contents writer.new)) }
 {
     match page {
         None => explain_stream(threads, alloc, keys, history, writer, workers, conflicts),
@@ -97,10 +95,8 @@ pub fn run<R: Files + Eprint, T: Threads + Wait + Sync, I: Read + Drop, W: Write
     ensures recorded { (setting : Setting) → words.entry ≡ Words.Run setting
         → IfOk result (λ _. HasAnswer (IsRunText ⟦<Group as Target>⟧.issued ⟦<Group as Target>⟧.gave setting)
         (W.contents writer.old) (W.contents writer.new)) }
-    ensures unread { IsErrOf result StreamFault.Read → Keeps (W.contents writer.old)
-        (W.contents writer.new) }
-    ensures no_memory { IsErrOf result StreamFault.NoMemory → Keeps (W.contents writer.old)
-        (W.contents writer.new) }
+    ensures kept { IfErr result (λ fault. fault ≢ StreamFault.Write
+        → Keeps (W.contents writer.old) (W.contents writer.new)) }
 {
     match words {
         Words::Check {

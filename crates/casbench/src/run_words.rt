@@ -1,104 +1,12 @@
-ghost use Rattle.std.specs.Prelude.{◌≡◌, Some, false, IfOk, codes, option_map};
-ghost use Rattle.clap.specs.Words.{app_of, found_of, new_app, rows_of, rule_of};
-ghost use Rattle.clap.specs.declared.builder.command.Command.TheViews.{out-Command as fields_of};
-ghost use Rattle.casbench.specs.Asked.{asked_by, fault_named as fault_by, fault_rule, number_given as number_by, plan_line, run_line, run_of, seed_rule, setting_given as given_by, setting_of, small_given as small_by, small_rule};
+ghost use Rattle.std.specs.Prelude.{◌≡◌, option_map};
+ghost use Rattle.clap.specs.Words.{found_of, rows_of};
+ghost use Rattle.casbench.specs.Asked.{asked_by, fault_named as fault_by, number_given as number_by, run_of, setting_given as given_by, setting_of, small_given as small_by};
 
+use crate::arguments::{CALLS, CLIENTS, COPIES, DOCS, FAULT, SEED};
 use crate::words::{Words, number_or};
-use clap::builder::ValueParser;
-use clap::{Arg, ArgMatches, Command};
+use clap::ArgMatches;
 use repl_group::Fault;
 use report::RunSetting;
-use std::alloc::{AllocError, Global};
-
-// The arguments by their ids.
-const SEED: &str = "seed";
-
-const CLIENTS: &str = "clients";
-
-const CALLS: &str = "calls";
-
-const DOCS: &str = "docs";
-
-const COPIES: &str = "copies";
-
-const FAULT: &str = "fault";
-
-// The seed of a run.
-fn seed<'a>(alloc: Global) -> Arg<'a>
-    ensures rule { rule_of result ≡ seed_rule }
-    ensures local { result.global ≡ false }
-{
-    Arg::new(alloc, SEED)
-        .long(SEED)
-        .value_name("S")
-        .value_parser(ValueParser::Unsigned(0, u64::MAX))
-        .help("The seed from which the plan of the clients and the steps of the group are drawn")
-        .required(true)
-}
-
-// A number below 2^32 that may not be left out.
-fn small<'a>(alloc: Global, id: &'a str, shown: &'a str, help: &'a str) -> Arg<'a>
-    ensures rule { rule_of result ≡ small_rule id.entry.now }
-    ensures local { result.global ≡ false }
-{
-    Arg::new(alloc, id)
-        .long(id)
-        .value_name(shown)
-        .value_parser(ValueParser::Unsigned(0, 4_294_967_295))
-        .help(help)
-        .required(true)
-}
-
-// What the group does wrong.
-fn fault<'a>(alloc: Global) -> Arg<'a>
-    ensures rule { rule_of result ≡ fault_rule }
-    ensures local { result.global ≡ false }
-{
-    Arg::new(alloc, FAULT)
-        .long(FAULT)
-        .value_name("F")
-        .help("What the group does wrong: none, dirty, early, same-term, stale or blind")
-        .required(true)
-}
-
-// The command without its arguments.
-fn bare_command<'a>(alloc: Global) -> Command<'a>
-    ensures line { app_of result ≡ new_app (codes "run") }
-    ensures local { (fields_of result).has_globals ≡ false }
-{
-    Command::new(alloc, "run")
-        .about("Run clients against a replication group, and write the history that they record")
-        .after_help(
-            "Example:\n  casbench run --seed 1 --clients 4 --calls 200 --docs 3 --copies 3 --fault none > history.ndjson",
-        )
-}
-
-// The command with those arguments that say what the clients do.
-fn plan_command<'a>(alloc: Global) -> Result<Command<'a>, AllocError>
-    ensures line { IfOk result (λ command. app_of command ≡ plan_line) }
-    ensures local { IfOk result (λ command. (fields_of command).has_globals ≡ false) }
-{
-    bare_command(alloc)
-        .arg(seed(alloc))?
-        .arg(small(alloc, CLIENTS, "A", "How many clients there are, 1 to 8"))?
-        .arg(small(
-            alloc,
-            CALLS,
-            "B",
-            "How many calls each client makes; 524,288 at most in all",
-        ))
-}
-
-/// The command that runs clients against a replication group.
-pub fn run_command<'a>(alloc: Global) -> Result<Command<'a>, AllocError>
-    ensures line { IfOk result (λ command. app_of command ≡ run_line) }
-    ensures local { IfOk result (λ command. (fields_of command).has_globals ≡ false) }
-{
-    plan_command(alloc)?
-        .arg(small(alloc, DOCS, "D", "How many documents there are, 1 to 1,024"))?
-        .arg(small(alloc, COPIES, "E", "How many copies the group has, 1 to 5"))?
-        .arg(fault(alloc))
-}
 
 // The number that is given, if one is.
 fn number_given(text: Option<&str>) -> Option<u64>

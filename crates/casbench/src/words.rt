@@ -1,20 +1,20 @@
-ghost use Rattle.std.specs.Prelude.{◌≡◌, ◌⊎◌, [], Some, None, false, IfOk, IfErr, OnOk, codes, map, option_map};
-ghost use Rattle.clap.specs.Words.{FailsBy, HasKind, app_of, found_of, rows_of, rule_of, subcommand_rows_of};
-ghost use Rattle.clap.specs.declared.builder.command.Command.TheViews.{out-Command as fields_of};
+ghost use Rattle.std.specs.Prelude.{◌≡◌, ◌⊎◌, [], Some, None, IfOk, IfErr, OnOk, map, option_map};
+ghost use Rattle.clap.specs.Words.{FailsBy, HasKind, found_of, rows_of, subcommand_rows_of};
 ghost use Rattle.casbench.specs.Asked.{asked_by, asked_of, asked_of_command, asked_on, bulk_of, check_of, explain_of, faults_on, number_or as number_told, reading_of, verify_of, witness_of};
-ghost use Rattle.casbench.specs.Asked.{bulk_line, check_line, command_line, named_line, conflicts_rule, explain_line, file_rule, first_rule, html_rule, needed_rule, searched_line, verify_line, witness_line, workers_rule};
 
-use crate::run_words::{asked_run, run_command};
-use clap::builder::ValueParser;
+use crate::arguments;
+use crate::arguments::{BODY, CONFLICTS, FIRST, HISTORY, HTML, REPLY, WORKERS};
+use crate::commands::{BULK, CHECK, EXPLAIN, RUN, VERIFY, WITNESS, program};
+use crate::run_words::asked_run;
 use clap::error::ErrorKind;
-use clap::{Arg, ArgMatches, Command, Error};
+use clap::{ArgMatches, Error};
 use doc_register::Conflicts;
 use report::RunSetting;
 use std::alloc::{AllocError, Global};
 use std::convert::AsStr;
 
 /// What the program is asked for.
-#[derive(Clone, Copy, Debug, PartialEq, Eq)]
+#[derive(Clone, Copy, PartialEq, Eq)]
 pub enum Words<'a> {
     /// To check a history text: that of the file, or of standard input where none is named; by so many workers, 1 to 16.
     Check {
@@ -52,208 +52,10 @@ pub enum Words<'a> {
     },
 }
 
-// The commands by their names.
-const CHECK: &str = "check";
-
-const WITNESS: &str = "witness";
-
-const VERIFY: &str = "verify";
-
-const BULK: &str = "bulk";
-
-const RUN: &str = "run";
-
-const EXPLAIN: &str = "explain";
-
-// The arguments by their ids.
-const HISTORY: &str = "history";
-
-const BODY: &str = "body";
-
-const REPLY: &str = "reply";
-
-const FIRST: &str = "first";
-
-const CONFLICTS: &str = "conflicts";
-
-const WORKERS: &str = "workers";
-
-const HTML: &str = "html";
-
 // The readings of a conflict by their names.
 const PLAIN: &str = "plain";
 
 const MAYBE: &str = "maybe";
-
-// The file of the history text, which may be left out.
-fn history<'a>(alloc: Global) -> Arg<'a>
-    ensures rule { rule_of result ≡ file_rule (codes "history") }
-    ensures local { result.global ≡ false }
-{
-    Arg::new(alloc, HISTORY)
-        .value_name("FILE")
-        .help("The history text; standard input where it is left out")
-}
-
-// A file that may not be left out.
-fn needed<'a>(alloc: Global, id: &'a str, shown: &'a str, help: &'a str) -> Arg<'a>
-    ensures rule { rule_of result ≡ needed_rule id.entry.now }
-    ensures local { result.global ≡ false }
-{
-    Arg::new(alloc, id)
-        .value_name(shown)
-        .help(help)
-        .required(true)
-}
-
-// The number of the first call, which may be left out.
-fn first<'a>(alloc: Global) -> Arg<'a>
-    ensures rule { rule_of result ≡ first_rule }
-    ensures local { result.global ≡ false }
-{
-    Arg::new(alloc, FIRST)
-        .long(FIRST)
-        .value_name("N")
-        .value_parser(ValueParser::Unsigned(0, u64::MAX))
-        .help("The number of the first call; 0 where it is left out")
-}
-
-// How a conflict is read, which may be left out.
-fn conflicts<'a>(alloc: Global) -> Arg<'a>
-    ensures rule { rule_of result ≡ conflicts_rule }
-    ensures local { result.global ≡ false }
-{
-    Arg::new(alloc, CONFLICTS)
-        .long(CONFLICTS)
-        .value_name("READING")
-        .help(
-            "How a conflict is read: plain, as not performed, or maybe; plain where it is left out",
-        )
-}
-
-// How many workers there are, which may be left out.
-fn workers<'a>(alloc: Global) -> Arg<'a>
-    ensures rule { rule_of result ≡ workers_rule }
-    ensures local { result.global ≡ false }
-{
-    Arg::new(alloc, WORKERS)
-        .long(WORKERS)
-        .value_name("N")
-        .value_parser(ValueParser::Unsigned(1, 16))
-        .help("How many workers search the documents, 1 to 16; 1 where it is left out")
-}
-
-// The file of the page, which may be left out.
-fn html<'a>(alloc: Global) -> Arg<'a>
-    ensures rule { rule_of result ≡ html_rule }
-    ensures local { result.global ≡ false }
-{
-    Arg::new(alloc, HTML)
-        .long(HTML)
-        .value_name("OUT")
-        .help("Write the story as a page of HTML too, to this file")
-}
-
-fn check_command<'a>(alloc: Global) -> Result<Command<'a>, AllocError>
-    ensures line { IfOk result (λ command. app_of command ≡ check_line) }
-    ensures local { IfOk result (λ command. (fields_of command).has_globals ≡ false) }
-{
-    Command::new(alloc, CHECK)
-        .about("Check a history; no command at all does so too")
-        .after_help("Example:\n  casbench check history.ndjson")
-        .arg(history(alloc))?
-        .arg(conflicts(alloc))?
-        .arg(workers(alloc))
-}
-
-fn witness_command<'a>(alloc: Global) -> Result<Command<'a>, AllocError>
-    ensures line { IfOk result (λ command. app_of command ≡ witness_line) }
-    ensures local { IfOk result (λ command. (fields_of command).has_globals ≡ false) }
-{
-    Command::new(alloc, WITNESS)
-        .about("Write the witness of a history")
-        .after_help("Example:\n  casbench witness history.ndjson > history.witness")
-        .arg(history(alloc))?
-        .arg(conflicts(alloc))
-}
-
-fn verify_command<'a>(alloc: Global) -> Result<Command<'a>, AllocError>
-    ensures line { IfOk result (λ command. app_of command ≡ verify_line) }
-    ensures local { IfOk result (λ command. (fields_of command).has_globals ≡ false) }
-{
-    Command::new(alloc, VERIFY)
-        .about("Check a witness against a history")
-        .after_help("Example:\n  casbench verify history.ndjson history.witness")
-        .arg(needed(alloc, HISTORY, "FILE", "The history text"))?
-        .arg(needed(alloc, WITNESS, "WITNESS", "The witness text"))?
-        .arg(conflicts(alloc))
-}
-
-fn bulk_command<'a>(alloc: Global) -> Result<Command<'a>, AllocError>
-    ensures line { IfOk result (λ command. app_of command ≡ bulk_line) }
-    ensures local { IfOk result (λ command. (fields_of command).has_globals ≡ false) }
-{
-    Command::new(alloc, BULK)
-        .about("Write a bulk request and its reply as lines of a history")
-        .after_help("Example:\n  casbench bulk bulk.body bulk.reply --first 100 >> history.ndjson")
-        .arg(needed(alloc, BODY, "BODY", "The body of the bulk request"))?
-        .arg(needed(
-            alloc,
-            REPLY,
-            "REPLY",
-            "The body of its reply, the status being 200",
-        ))?
-        .arg(first(alloc))
-}
-
-// The command with the text and the arguments of a check.
-fn searched_command<'a>(alloc: Global) -> Result<Command<'a>, AllocError>
-    ensures line { IfOk result (λ command. app_of command ≡ searched_line) }
-    ensures local { IfOk result (λ command. (fields_of command).has_globals ≡ false) }
-{
-    Command::new(alloc, EXPLAIN)
-        .about("Check a history and tell what was found, for people")
-        .after_help("Example:\n  casbench explain history.ndjson --html story.html")
-        .arg(history(alloc))?
-        .arg(conflicts(alloc))?
-        .arg(workers(alloc))
-}
-
-fn explain_command<'a>(alloc: Global) -> Result<Command<'a>, AllocError>
-    ensures line { IfOk result (λ command. app_of command ≡ explain_line) }
-    ensures local { IfOk result (λ command. (fields_of command).has_globals ≡ false) }
-{
-    searched_command(alloc)?.arg(html(alloc))
-}
-
-// The program without its commands.
-fn named_program<'a>(alloc: Global) -> Result<Command<'a>, AllocError>
-    ensures { IfOk result (λ program. app_of program ≡ named_line) }
-{
-    Ok(
-        Command::new(alloc, "casbench")
-            .bin_name("casbench")?
-            .version("0.1.0")
-            .about(
-                "Tells whether a recorded history of an OpenSearch index keeps the compare-and-set promise",
-            )
-            .after_help(
-                "Examples:\n  casbench check history.ndjson\n  casbench witness history.ndjson > history.witness\n  casbench verify history.ndjson history.witness\n  casbench bulk bulk.body bulk.reply --first 100 >> history.ndjson\n  casbench run --seed 1 --clients 4 --calls 200 --docs 3 --copies 3 --fault none\n  casbench explain history.ndjson --html story.html",
-            ),
-    )
-}
-
-fn program<'a>(alloc: Global) -> Result<Command<'a>, AllocError>
-    ensures { IfOk result (λ program. app_of program ≡ command_line) }
-{
-    named_program(alloc)?
-        .subcommand(check_command(alloc)?)?
-        .subcommand(witness_command(alloc)?)?
-        .subcommand(verify_command(alloc)?)?
-        .subcommand(bulk_command(alloc)?)?
-        .subcommand(run_command(alloc)?)?
-        .subcommand(explain_command(alloc)?)
-}
 
 // The reading of a conflict that is named: plain where none is, and none where the name is of no reading.
 fn reading(name: Option<&str>) -> Option<Conflicts>
@@ -375,7 +177,11 @@ fn asked_of_command<'a>(name: &str, given: &ArgMatches<'a>) -> Option<Words<'a>>
     match name {
         CHECK => check_words(file, given.get_str(CONFLICTS), given.get_str(WORKERS)),
         WITNESS => witness_words(file, given.get_str(CONFLICTS)),
-        VERIFY => verify_words(file, given.get_str(WITNESS), given.get_str(CONFLICTS)),
+        VERIFY => verify_words(
+            file,
+            given.get_str(arguments::WITNESS),
+            given.get_str(CONFLICTS),
+        ),
         BULK => bulk_words(
             given.get_str(BODY),
             given.get_str(REPLY),
@@ -415,13 +221,14 @@ fn parse<'a, S: AsStr>(alloc: Global, words: &'a [S]) -> Result<ArgMatches<'a>, 
     program(alloc)?.try_get_matches_from(words)
 }
 
-// The error of words that name a reading of a conflict that is none, or a fault that is none. That no command is named, or not all its files, the
-// parse refuses before.
-fn no_reading(alloc: Global) -> Result<Error, AllocError> {
-    program(alloc)?.error(
-        ErrorKind::InvalidValue,
-        "a conflict is read as plain or as maybe; a fault is none, dirty, early, same-term, stale or blind",
-    )
+// The error of words that name no reading of a conflict or, for a run, no fault, with what they may name. That no command is
+// named, or not all its files and numbers, the parse refuses before.
+fn unnamed(alloc: Global, matches: &ArgMatches<'_>) -> Result<Error, AllocError> {
+    let told = match matches.subcommand() {
+        Some((RUN, _)) => "the value of --fault is none, dirty, early, same-term, stale or blind",
+        _ => "the value of --conflicts is plain or maybe",
+    };
+    program(alloc)?.error(ErrorKind::InvalidValue, told)
 }
 
 /// What the words ask for. The first is the program's name.
@@ -439,6 +246,6 @@ pub fn read_words<'a, S: AsStr>(alloc: Global, words: &'a [S]) -> Result<Words<'
     let matches = parse(alloc, words)?;
     match asked(&matches) {
         Some(words) => Ok(words),
-        None => Err(no_reading(alloc)?),
+        None => Err(unnamed(alloc, &matches)?),
     }
 }

@@ -1,4 +1,9 @@
-//! The search of each document on threads of its own, with one answer for each document.
+//! The search of each document on threads of its own. Where it ends well there is one answer for each job, in the order of the
+//! jobs, whichever worker made it.
+//!
+//! ```text
+//! let answers = answers(rt, alloc, jobs, 4, &NoGate)?; // jobs: Vec<DocJob>, answers: Vec<DocAnswer>
+//! ```
 #![tactic(auto)]
 
 mod collector;

@@ -14,7 +14,7 @@ use version_pair::{DocId, NoMemory};
 ///
 /// Its type keeps that the answer is what the search promises for the id, the records and the reading of conflicts that
 /// the answer itself is about.
-#[derive(Debug, Drop)]
+#[derive(Drop)]
 pub struct Message {
     doc: usize,
     answer: DocAnswer,

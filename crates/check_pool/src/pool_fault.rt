@@ -1,22 +1,29 @@
 ghost use Rattle.std.specs.Prelude.{◌≡◌};
 
 use std::alloc::AllocError;
+use thiserror::Error;
 
 /// Why the jobs have no answers. Jobs are numbered from 0.
-#[derive(Clone, Copy, Debug, PartialEq, Eq)]
+#[derive(Clone, Copy, Debug, PartialEq, Eq, Error)]
 pub enum PoolFault {
     /// There are no workers.
+    #[error("there are no workers")]
     NoWorkers,
     /// There are more than 16 workers.
+    #[error("there are more than 16 workers")]
     TooMany,
     /// No message came of this job, the first of those without one.
+    #[error("job {0} has no answer")]
     Lost(usize),
     /// A second message came of this job.
+    #[error("job {0} was answered twice")]
     Double(usize),
     /// A message came whose number is no job's, or whose answer is about another id, other records or another reading
     /// of conflicts than the job of this number.
+    #[error("an answer came that is not to job {0}")]
     Stranger(usize),
     /// A growth was refused memory.
+    #[error("no memory")]
     NoMemory,
 }
 

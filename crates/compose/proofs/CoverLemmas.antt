@@ -19,7 +19,7 @@ use Rattle.witness.specs.Laws.{ArePlacedBy, IsPlacedBy, TellsOf}
 use Rattle.witness.specs.Text.{DocPlaces}
 use Rattle.witness.proofs.DocumentLaws.{places_are_orders}
 use Rattle.compose.specs.Covers.{AreCover, ArePairsDistinct, IsEntered, IsTakenAt}
-use Rattle.evidence.specs.Taking.{taken_by}
+use Rattle.history.specs.Heard.{taken_by}
 use Rattle.compose.specs.Laws.{restricted}
 use Rattle.evidence.proofs.FilterLemmas.{mapped_at, mapped_from}
 use Rattle.compose.proofs.CalledDocuments.{shard_of_call}

@@ -14,7 +14,7 @@ use Rattle.witness.specs.Text.{DocPlaces}
 use Rattle.witness.specs.Witness.{Witness}
 use Rattle.doc_check.specs.NoOrders.{AreUnpaired, HasNoOrder}
 use Rattle.compose.specs.Covers.{AreAllUnpaired, AreCover, HasNoUnpairedCover, IsOfShard, IsTakenAt}
-use Rattle.evidence.specs.Taking.{taken_by}
+use Rattle.history.specs.Heard.{taken_by}
 use Rattle.compose.specs.VerifyFaults.{IsTakenTwice}
 use Rattle.compose.specs.Verdicts.{AreWitnesses}
 use Rattle.compose.specs.aids.Searched.{AreSearched, IsSearched}

@@ -16,7 +16,7 @@ use Rattle.witness.specs.Documents.{witness_places}
 use Rattle.witness.specs.Text.{DocPlaces}
 use Rattle.witness.specs.Witness.{Witness}
 use Rattle.compose.specs.Covers.{IsOfShard, IsTakenAt}
-use Rattle.evidence.specs.Taking.{taken_by}
+use Rattle.history.specs.Heard.{taken_by}
 use Rattle.compose.specs.VerifyFaults.{IsTakenTwice}
 use Rattle.compose.specs.aids.Taken.{IsTwice, pair_at, pairs_of_document, pairs_taken, shard_in}
 use Rattle.evidence.proofs.FilterLemmas.{mapped_at, mapped_from}

@@ -20,7 +20,8 @@ use Rattle.history.proofs.RecordLaws.{split_by_document}
 use Rattle.witness.specs.declared.place.Place.{Place}
 use Rattle.witness.specs.Places.{AreValid, GivesAsMay}
 use Rattle.witness.specs.Laws.{ArePlacedBy, TellsOf}
-use Rattle.doc_check.specs.NoOrders.{AreUnpaired, IsTold}
+use Rattle.doc_check.specs.NoOrders.{AreUnpaired}
+use Rattle.history.specs.Heard.{IsTold}
 use Rattle.compose.specs.Laws.{IsSettled, restricted}
 use Rattle.compose.proofs.CoverLemmas.{tells_of}
 use Rattle.evidence.proofs.HeardLemmas.{record_heard, reply_is_heard}

@@ -1,5 +1,5 @@
 -- Entries that are verified one after another.
-use Rattle.std.proofs.Common.{ℕ, zero, suc, ◌≡◌, ◌<◌, ◌++◌, ◌⊎◌, inl, inr, None, List, [], ◌∷◌, refl, sym, ap, subst, ◌∙◌, arith, Bool, true, false, Some, slice_get, slice_set, map, length, take}
+use Rattle.std.proofs.Common.{ℕ, ◌≡◌, ◌<◌, ◌++◌, ◌⊎◌, inl, inr, None, List, [], ◌∷◌, refl, sym, ap, subst, ◌∙◌, arith, Bool, true, false, Some, slice_get, slice_set, map, length, take}
 use Rattle.std.specs.Prelude.{position}
 use Rattle.std.specs.Cmp.Lexicographic.{bytes_decides}
 use Rattle.std.proofs.lemmas.Bool.{cases_eq, false≢true, true≢false}
@@ -22,23 +22,10 @@ use Rattle.compose.specs.aids.Taken.{IsLeastTwice, pairs_taken}
 use Rattle.compose.specs.aids.Verified.{AreVerified, IsFaultOfDocument, IsFaultOfEntry, IsFaultOfPlaces, IsOpen, IsWitnessAt}
 use Rattle.compose.specs.declared.verify_fault.VerifyFault.{VerifyFault}
 use Rattle.compose.specs.declared.verify_fault.VerifyFault.TheVariants as fault
+use Rattle.history.proofs.SetLemmas.{slice_get-set_other, slice_get-set_same}
 use Rattle.compose.proofs.ListedDocuments.{documents_apart}
 use Rattle.compose.proofs.TakenPlaces.{AreOwn, taken_twice, twice_taken}
 use Rattle.compose.proofs.PositionLemmas.{element_at, position_found, position_none}
-
--- ---- a list with one element set
-
-set_here : {X : Type 0} (xs : List X) (i : ℕ) (v : X) → i < length xs → slice_get (slice_set xs i v) i ≡ Some v
-set_here [] i v within = absurd (omega arith)
-set_here (x ∷ xs) zero v within = refl
-set_here (x ∷ xs) (suc i) v within = set_here xs i v (omega arith)
-
-set_apart : {X : Type 0} (xs : List X) (i j : ℕ) (v : X) → (j ≡ i → ⊥) → slice_get (slice_set xs i v) j ≡ slice_get xs j
-set_apart [] i j v apart = refl
-set_apart (x ∷ xs) zero zero v apart = absurd (apart refl)
-set_apart (x ∷ xs) zero (suc j) v apart = refl
-set_apart (x ∷ xs) (suc i) zero v apart = refl
-set_apart (x ∷ xs) (suc i) (suc j) v apart = set_apart xs i j v (λ same. apart (ap suc same))
 
 -- ---- the document of an id
 
@@ -125,13 +112,13 @@ entered_next mode events before e marks ws k w are free witnessed =
       by_marked j d at (inl same) set =
           let one : (e.doc, free.0) ≡ d = same_some (e.doc, free.0) d (sym free.1 ∙ (ap (slice_get (documents_of events)) (sym same) ∙ at)) in
           subst (IsEntered (before ++ e ∷ [])) (ap (λ c. c.0) one) (entered_here before e)
-      by_marked j d at (inr other) set = entered_more before e d.0 ((are.marked j d at).0 (sym (set_apart marks k j true other) ∙ set))
+      by_marked j d at (inr other) set = entered_more before e d.0 ((are.marked j d at).0 (sym (slice_get-set_other marks k j true other) ∙ set))
 
       by_entered : (j : ℕ) (d : List ℕ × ℕ) → slice_get (documents_of events) j ≡ Some d → k < length marks → (j ≡ k) ⊎ (j ≡ k → ⊥) → IsEntered (before ++ e ∷ []) d.0
           → slice_get (slice_set marks k true) j ≡ Some true
-      by_entered j d at within (inl same) entered = subst (λ i. slice_get (slice_set marks k true) i ≡ Some true) (sym same) (set_here marks k true within)
+      by_entered j d at within (inl same) entered = subst (λ i. slice_get (slice_set marks k true) i ≡ Some true) (sym same) (slice_get-set_same marks k true within)
       by_entered j d at within (inr other) entered =
-          set_apart marks k j true other
+          slice_get-set_other marks k j true other
           ∙ (are.marked j d at).1 (entered_before before e d.0 entered (λ same. other (documents_apart events j k d (e.doc, free.0) at free.1 (sym same))))
 
 -- ---- the fault of one more entry

@@ -10,15 +10,14 @@ use Rattle.doc_register.specs.declared.state.DocState.TheVariants.{Never}
 use Rattle.doc_register.specs.Run.{Entry, IsDocRun, PairsDistinct, pair_taken, part_of, taken, taken_at}
 use Rattle.doc_register.proofs.RunLaws.{locality}
 use Rattle.history.specs.declared.event.Event.{Event}
-use Rattle.history.specs.declared.record.Rec.{Rec}
 use Rattle.history.specs.Events.{IsCallAt, IsHistory, records_of}
 use Rattle.history.specs.Order.{IsOfCall, Placed, run_of}
 use Rattle.history.proofs.ListLemmas.{none_is_not_some, same_some}
-use Rattle.witness.specs.declared.place.Place.{Place}
-use Rattle.witness.specs.Laws.{ArePlacedBy, IsPlacedBy, TellsOf}
+use Rattle.witness.specs.Laws.{TellsOf}
 use Rattle.witness.specs.Text.{DocPlaces}
+use Rattle.witness.proofs.DocumentLaws.{told_by}
 use Rattle.compose.specs.Covers.{AreCover, IsOfShard, IsTakenAt}
-use Rattle.evidence.specs.Taking.{taken_by}
+use Rattle.history.specs.Heard.{taken_by}
 use Rattle.compose.proofs.CalledDocuments.{document_called}
 use Rattle.compose.proofs.Filtering.{filter_all, part_from, rank, rank_once}
 use Rattle.compose.proofs.Gathering.{AreGathered, IsPartOf}
@@ -58,16 +57,7 @@ taken_parts shard (Some p) q takes =
     let same : (shard, p) ≡ q = same_some (shard, p) q takes in
     (ap (λ (x : ℕ × Pair). x.0) same, ap (λ (x : ℕ × Pair). Some x.1) same)
 
--- a place tells of what stands in the order
-told_by : (records : List Rec) (ps : List Place) (qs : List Placed) (i : ℕ) (q : Placed) → ArePlacedBy records ps qs → slice_get qs i ≡ Some q
-    → (p : Place) × (slice_get ps i ≡ Some p) × IsPlacedBy records p q
-told_by records [] [] i q all at = absurd (none_is_not_some q at)
-told_by records [] (u ∷ qs) i q all at = absurd all
-told_by records (p ∷ ps) [] i q all at = absurd all
-told_by records (p ∷ ps) (u ∷ qs) zero q all at = (p, refl, subst (λ k. IsPlacedBy records p k) (same_some u q at) all.0)
-told_by records (p ∷ ps) (u ∷ qs) (suc i) q all at = told_by records ps qs i q all.1 at
-
--- and of the pair that it takes
+-- a place tells of the pair that what stands there takes
 told_pair : (heard : Option (ℕ × Answer)) (given : Option Pair) (e : Entry) (q : Pair) → TellsOf heard given e → pair_taken e.reply e.hidden ≡ Some q → taken_by heard given ≡ Some q
 told_pair None given e q tells takes = sym tells.1 ∙ takes
 told_pair (Some heard) given e q tells takes = ap (λ h. pair_taken heard.1 h) (sym tells.1) ∙ (ap (λ r. pair_taken r e.hidden) (sym tells.0) ∙ takes)

@@ -9,7 +9,7 @@ use Rattle.witness.specs.declared.place.Place.{Place}
 use Rattle.witness.specs.Places.{AreValid, IsPlaceOf}
 use Rattle.witness.specs.Text.{DocPlaces}
 use Rattle.doc_check.specs.NoOrders.{AreUnpaired}
-use Rattle.evidence.specs.Taking.{taken_by}
+use Rattle.history.specs.Heard.{taken_by}
 
 -- the document is one of the history, and of this shard
 abbrev pub IsOfShard : List Event → List ℕ → ℕ → Type 0

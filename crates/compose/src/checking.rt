@@ -1,9 +1,8 @@
 ghost use Rattle.std.specs.Prelude.{◌≡◌, ◌<◌, ◌↔◌, IfErr, IfOk, IsErrOf, false, true};
-ghost use Rattle.history.specs.Events.{IsHistory, documents_of};
+ghost use Rattle.history.specs.Events.{documents_of};
 ghost use Rattle.history.specs.Order.{IsLinearizable, IsPlainlyRight};
 ghost use Rattle.compose.specs.Checked.{HandsBack, IsVerdictOn, IsYes, NamesDocument};
 ghost use Rattle.compose.specs.declared.checking.CheckFault.TheVariants.{NoMemory as Unchecked, Pool as Unpooled};
-ghost use Rattle.compose.specs.Covers.{HasNoUnpairedCover};
 ghost use Rattle.compose.specs.Verdicts.{HasNoOrderFound};
 ghost use Rattle.compose.specs.aids.Searched.{AreAnswersFor, IsCovering};
 
@@ -20,6 +19,7 @@ use history::{Front, History};
 use std::alloc::Global;
 use std::sync::Wait;
 use std::thread::Threads;
+use thiserror::Error;
 use version_pair::NoMemory;
 use witness::DocWitness;
 
@@ -33,12 +33,14 @@ pub enum Verdict {
 }
 
 /// Why a history was not checked.
-#[derive(Debug, Drop)]
+#[derive(Debug, Drop, Error)]
 pub enum CheckFault {
     /// The workers gave no answers, for another reason than want of memory; the history. Jobs are numbered as the documents
     /// are.
+    #[error("{0}")]
     Pool(PoolFault, History),
     /// A growth was refused memory; the history.
+    #[error("no memory")]
     NoMemory(History),
 }
 

@@ -1,6 +1,5 @@
-ghost use Rattle.std.specs.Prelude.{◌≡◌, ◌<◌, IfOk, List, length, slice_get, Some, true};
-ghost use Rattle.doc_register.specs.declared.state.Conflicts.{Conflicts as Mode};
-ghost use Rattle.history.specs.Events.{IsHistory, documents_of};
+ghost use Rattle.std.specs.Prelude.{◌<◌, IfOk, length, true};
+ghost use Rattle.history.specs.Events.{documents_of};
 ghost use Rattle.compose.specs.aids.Searched.{AnswersDocument, AreAnswersFor};
 
 use doc_check::{DocAnswer, answer};

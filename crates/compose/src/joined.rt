@@ -15,7 +15,7 @@ use version_pair::NoMemory;
 use witness::DocWitness;
 
 /// What the answers for the documents are together.
-#[derive(Debug, Drop)]
+#[derive(Drop)]
 pub enum Joined {
     /// Witnesses that cover the history.
     Cover(Vec<DocWitness>),

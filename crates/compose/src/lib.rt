@@ -1,5 +1,12 @@
 //! All documents of a history together: whether one order of all its calls explains it, the reply at which the search for
 //! one first fails, and whether the entries of a witness text cover it.
+//!
+//! ```text
+//! match check_alone(alloc, history, Conflicts::Plain)? {
+//!     Verdict::Yes(proof) => {} // proof.witnesses(): an order of each document's calls
+//!     Verdict::No(case) => {} // first_offence(alloc, &case)?: the reply at which the search fails
+//! }
+//! ```
 #![tactic(auto)]
 
 mod case;

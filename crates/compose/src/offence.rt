@@ -1,5 +1,4 @@
 ghost use Rattle.std.specs.Prelude.{◌≡◌, ◌<◌, ◌-◌, IfOk, IfSome, OnOk, false, length};
-ghost use Rattle.history.specs.Events.{IsHistory};
 ghost use Rattle.compose.specs.Offences.{IsOffence};
 ghost use Rattle.compose.specs.aids.Replies.{AreReplies, IsNarrower, IsReplyPlace, IsWrongAt, IsWrongFrom, places_with};
 

@@ -1,4 +1,4 @@
-ghost use Rattle.std.specs.Prelude.{◌≡◌, IfOk, IfSome};
+ghost use Rattle.std.specs.Prelude.{IfOk, IfSome};
 ghost use Rattle.compose.specs.aids.Searched.{AreKept, Keeps};
 
 use crate::renumbered::free_numbers::FreeNumbers;

@@ -1,7 +1,7 @@
 ghost use Rattle.std.specs.Prelude.{◌≡◌, ◌<◌, ◌++◌, ◌∷◌, ◌⊎◌, ◌↔◌, ℕ, List, [], IfOk, IsTrue, OnOk};
 ghost use Rattle.version_pair.specs.declared.pair.Pair.{Pair as Version};
 ghost use Rattle.version_pair.specs.PairOrder.{IsBelow};
-ghost use Rattle.evidence.specs.Taking.{taken_by};
+ghost use Rattle.history.specs.Heard.{taken_by};
 ghost use Rattle.compose.specs.aids.Taken.{AreNoted, IsLeastTwice, IsLesser, pair_at, pairs_at, pairs_of_document, pairs_taken, shard_in};
 
 use doc_register::Reply;
@@ -12,7 +12,7 @@ use version_pair::{DocId, NoMemory, Pair};
 use witness::{DocWitness, Place};
 
 // The pairs that calls take, each with its shard, and the least that is taken twice.
-#[derive(Debug, Drop)]
+#[derive(Drop)]
 pub struct Taken {
     seen: IndexSet<(u32, Pair), HashKeys>,
     twice: Option<(u32, Pair)>,
@@ -40,9 +40,8 @@ fn pair_taken(heard: Option<(usize, Reply)>, given: Option<Pair>) -> Option<Pair
     ensures { result ≡ taken_by heard given }
 {
     match heard {
-        Some((_, Reply::Indexed { pair, .. } | Reply::Deleted { pair, .. })) => Some(pair),
-        Some((_, Reply::Found { .. } | Reply::Missing)) => None,
         Some((_, Reply::Conflict)) | None => given,
+        Some((_, reply)) => reply.pair_taken(),
     }
 }
 

@@ -1,6 +1,6 @@
 ghost use Rattle.std.specs.Prelude.{◌≡◌, ◌≢◌, ◌<◌, ◌++◌, ◌∷◌, [], IfErr, IfOk, IsOk, List, MatchOption, MatchResult, OnOk, Some, false, true, ℕ, length, map, slice_get};
 ghost use Rattle.doc_register.specs.declared.state.Conflicts.{Conflicts as Mode};
-ghost use Rattle.history.specs.Events.{IsHistory, documents_of};
+ghost use Rattle.history.specs.Events.{documents_of};
 ghost use Rattle.witness.specs.Documents.{doc_places, witness_places};
 ghost use Rattle.witness.specs.Text.{DocPlaces};
 ghost use Rattle.compose.specs.VerifyFaults.{IsFirstVerifyFault};
@@ -19,7 +19,7 @@ use version_pair::{DocId, NoMemory};
 use witness::{Broken, DocWitness, Place};
 
 // The entries that were verified: their witnesses, and of each document of the history whether it is entered.
-#[derive(Debug, Drop)]
+#[derive(Drop)]
 struct Verification {
     entered: Vec<bool>,
     witnesses: Vec<DocWitness>,

@@ -10,7 +10,8 @@ use Rattle.std.specs.declared.cmp.Ordering.TheVariants.{Less, Equal, Greater}
 use Rattle.std.proofs.lemmas.Bool.{cases_lt, true≢false}
 use Rattle.std.proofs.lemmas.Option.{slice_get_read, slice_get_within}
 use Rattle.history.proofs.ListLemmas.{compare, none_is_not_some, same_some}
-use Rattle.write_chain.specs.Chain.{IsChain, Rises, by_pair, link_at, pair_cmp, pair_of, performed_records}
+use Rattle.write_chain.specs.Chain.{IsChain, Rises, by_pair, link_at, pair_cmp, performed_records}
+use Rattle.history.specs.Heard.{pair_of}
 use Rattle.doc_check.proofs.Lists.{Has, KeyOnce, KeyRises, not_below_then, once_moved, same_rising, sorted_at}
 
 abbrev Link : Type 0

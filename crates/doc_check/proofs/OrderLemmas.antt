@@ -18,7 +18,8 @@ use Rattle.history.proofs.ListLemmas.{none_is_not_some, same_some}
 use Rattle.witness.specs.declared.place.Place.{Place}
 use Rattle.witness.specs.Places.{AreRight, AreValid, GivesAsMay, IsHeardBefore, IsPlaceOf, IsPlaceRun, StepsAt}
 use Rattle.doc_check.specs.NoOrders.{AreUnpaired}
-use Rattle.write_chain.specs.Chain.{IsChain, Rises, pair_of, performed_records}
+use Rattle.write_chain.specs.Chain.{IsChain, Rises, performed_records}
+use Rattle.history.specs.Heard.{pair_of}
 use Rattle.doc_check.specs.aids.Order.{IsStretchOrder, Standing, by_standing, place_of, standing_made, standings_from, turn, with_standing}
 use Rattle.doc_check.specs.aids.Stretches.{FitsAs, ReadFits, WriteFits, cap, state_in, states_of}
 use Rattle.doc_check.specs.aids.Sweep.{AreGiven, AreSpread, IsGiven}

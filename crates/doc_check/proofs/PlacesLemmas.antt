@@ -18,7 +18,8 @@ use Rattle.history.proofs.ListLemmas.{none_is_not_some, same_some}
 use Rattle.witness.specs.declared.place.Place.{Place}
 use Rattle.witness.specs.Places.{AreValid, IsHeardBefore, IsPlaceOf, IsPlaceRun, StepsAt}
 use Rattle.doc_check.specs.NoOrders.{AreUnpaired}
-use Rattle.write_chain.specs.Chain.{IsChain, after_link, link_at, pair_of, performed_records, written}
+use Rattle.write_chain.specs.Chain.{IsChain, after_link, link_at, performed_records, written}
+use Rattle.history.specs.Heard.{pair_of}
 use Rattle.doc_check.specs.aids.Stretches.{Fits, FitsAs, ReadFits, cap, state_in, states_of}
 use Rattle.doc_check.specs.aids.Sweep.{AreSpread, StandsIn, level, link_count, pair_at}
 use Rattle.doc_check.proofs.Lists.{Has, has_back, has_moved}

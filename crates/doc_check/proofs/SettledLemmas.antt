@@ -12,7 +12,8 @@ use Rattle.history.specs.declared.record.Rec.{Rec}
 use Rattle.history.proofs.ListLemmas.{none_is_not_some, same_some}
 use Rattle.witness.specs.declared.place.Place.{Place}
 use Rattle.witness.specs.Places.{GivesAsMay, IsPlaceOf, IsPlaceRun, IsUnansweredGet, StepsAt}
-use Rattle.doc_check.specs.NoOrders.{IsTold, SettledHaveNone}
+use Rattle.doc_check.specs.NoOrders.{SettledHaveNone}
+use Rattle.history.specs.Heard.{IsTold}
 
 -- the step at a place
 step_of : (records : List Rec) (s t : DocState) (ps : List Place) (i : ℕ) (p : Place) → IsPlaceRun records s ps t → slice_get ps i ≡ Some p

@@ -7,25 +7,14 @@ use Rattle.std.proofs.lemmas.Option.{slice_get_within}
 use Rattle.version_pair.specs.declared.pair.Pair.{Pair}
 use Rattle.doc_register.specs.declared.reply.Reply.{Reply}
 use Rattle.history.specs.declared.record.Rec.{Rec}
+use Rattle.history.proofs.SetLemmas.{slice_get-set_other, slice_get-set_same}
 use Rattle.history.proofs.ListLemmas.{none_is_not_some, same_some}
 use Rattle.witness.specs.declared.place.Place.{Place}
-use Rattle.write_chain.specs.Chain.{pair_of}
+use Rattle.history.specs.Heard.{pair_of}
 use Rattle.doc_check.specs.aids.Stretches.{Fits, cap}
 use Rattle.doc_check.specs.aids.Sweep.{AreGiven, AreMoments, AreSpread, IsGiven, IsMet, IsMoment, IsStuck, IsUpTo, Moment, StandsIn}
 
 -- ---- lists
-
-set_here : {X : Type 0} (xs : List X) (k : ℕ) (x : X) → k < length xs → slice_get (set xs k x) k ≡ Some x
-set_here [] k x within = absurd (omega arith)
-set_here (y ∷ xs) zero x within = refl
-set_here (y ∷ xs) (suc k) x within = set_here xs k x (omega arith)
-
-set_there : {X : Type 0} (xs : List X) (k j : ℕ) (x : X) → (j ≡ k → ⊥) → slice_get (set xs k x) j ≡ slice_get xs j
-set_there [] k j x other = refl
-set_there (y ∷ xs) zero zero x other = absurd (other refl)
-set_there (y ∷ xs) zero (suc j) x other = refl
-set_there (y ∷ xs) (suc k) zero x other = refl
-set_there (y ∷ xs) (suc k) (suc j) x other = set_there xs k j x (λ same. other (ap suc same))
 
 set_same : {X : Type 0} (xs : List X) (k : ℕ) (x : X) → slice_get xs k ≡ Some x → set xs k x ≡ xs
 set_same [] k x at = absurd (none_is_not_some x at)
@@ -283,7 +272,7 @@ replied_first records chain moments i given bound t y stretch r are swept at nam
         | inl early ↦ let old = swept.all_met k u z early met in (old.0, still_given z old.0 old.1)
         | inr here ↦
             let rec_is : y ≡ z = ap (λ (m : Moment). m.2) (same_moment (t, true, y) (u, true, z) (sym at ∙ (ap (slice_get moments) (sym here) ∙ met))) in
-            (stretch, subst (λ n. IsGiven (set given y (Some stretch)) n stretch) rec_is (set_here given y (Some stretch) (slice_get_within given y None none)))
+            (stretch, subst (λ n. IsGiven (set given y (Some stretch)) n stretch) rec_is (slice_get-set_same given y (Some stretch) (slice_get_within given y None none)))
       ];
       latest = λ places spread z j m is stands. elim (now_given z j is) as (λ _. m ≤ j) [
         | inl new ↦
@@ -305,19 +294,19 @@ replied_first records chain moments i given bound t y stretch r are swept at nam
       is_other z l is same = none_is_not_some l (same_some None (Some l) (sym none ∙ (ap (slice_get given) (sym same) ∙ is)))
 
       still_given : (z l : ℕ) → IsGiven given z l → IsGiven (set given y (Some stretch)) z l
-      still_given z l is = set_there given y z (Some stretch) (is_other z l is) ∙ is
+      still_given z l is = slice_get-set_other given y z (Some stretch) (is_other z l is) ∙ is
 
       still_there : (z l : ℕ) → (z ≡ y → ⊥) → IsGiven (set given y (Some stretch)) z l → IsGiven given z l
-      still_there z l other is = sym (set_there given y z (Some stretch) other) ∙ is
+      still_there z l other is = sym (slice_get-set_other given y z (Some stretch) other) ∙ is
 
       now_given : (z j : ℕ) → IsGiven (set given y (Some stretch)) z j → ((z ≡ y) × (j ≡ stretch)) ⊎ ((z ≡ y → ⊥) × IsGiven given z j)
       now_given z j is = elim (cases_eq z y) as (λ _. ((z ≡ y) × (j ≡ stretch)) ⊎ ((z ≡ y → ⊥) × IsGiven given z j)) [
         | inl same ↦ inl (
           same,
           same_some j stretch (same_some (Some j) (Some stretch) (sym is ∙ (ap (slice_get (set given y (Some stretch))) same
-              ∙ set_here given y (Some stretch) (slice_get_within given y None none)))),
+              ∙ slice_get-set_same given y (Some stretch) (slice_get_within given y None none)))),
         )
-        | inr other ↦ inr (other, sym (set_there given y z (Some stretch) other) ∙ is)
+        | inr other ↦ inr (other, sym (slice_get-set_other given y z (Some stretch) other) ∙ is)
       ]
 
       call_early : (k u z : ℕ) → k < suc i → slice_get moments k ≡ Some (u, false, z) → k < i

@@ -1,11 +1,8 @@
 -- Records without an order of the answered calls alone.
-use Rattle.std.specs.Prelude.{◌≡◌, ◌≢◌, ℕ, List, Option, None, Some, slice_get}
-use Rattle.doc_register.specs.declared.op.Op.TheVariants.{Get}
-use Rattle.doc_register.specs.declared.reply.Reply.{Reply}
-use Rattle.doc_register.specs.declared.reply.Reply.TheVariants.{Conflict}
+use Rattle.std.specs.Prelude.{◌≡◌, ℕ, List, None, Some, slice_get}
 use Rattle.doc_register.specs.declared.state.Conflicts.{Conflicts}
-use Rattle.doc_register.specs.declared.state.Conflicts.TheVariants.{Maybe}
 use Rattle.history.specs.declared.record.Rec.{Rec}
+use Rattle.history.specs.Heard.{IsSettled}
 use Rattle.witness.specs.declared.place.Place.{Place}
 use Rattle.witness.specs.Places.{AreValid}
 
@@ -25,14 +22,9 @@ pub record Unordered : Type 0 where
 
 -- ---- settled records
 
--- a reply was heard, and it tells whether the write was performed: under Maybe a conflict doesn't
-abbrev pub IsTold : Conflicts → Option (ℕ × Reply) → Type 0
-IsTold mode None = ⊥
-IsTold mode (Some heard) = mode ≡ Maybe → heard.1 ≢ Conflict
-
--- each write has such a reply
+-- each write has a reply that tells whether it was performed
 abbrev pub AreSettled : Conflicts → List Rec → Type 0
-AreSettled mode records = (k : ℕ) (r : Rec) → slice_get records k ≡ Some r → r.op ≢ Get → IsTold mode r.heard
+AreSettled mode records = (k : ℕ) (r : Rec) → slice_get records k ≡ Some r → IsSettled mode r
 
 -- settled records for which no places without a given pair are valid have no valid places
 abbrev pub SettledHaveNone : Type 0

@@ -1,4 +1,11 @@
-//! The search for one document: an order of its calls that explains them, or that it has none of its answered calls.
+//! The search for one document: an order of its calls that explains them, or that its answered calls alone have none.
+//!
+//! ```text
+//! match answer(alloc, id, records, history.seen(), Conflicts::Plain)? {
+//!     DocAnswer::Found(witness) => {} // witness.places(): the order
+//!     DocAnswer::NotFound(no_order) => {} // no order of the answered calls is valid
+//! }
+//! ```
 #![tactic(auto)]
 
 mod latest;

@@ -5,7 +5,6 @@ use history::Rec;
 use std::alloc::Global;
 use version_pair::NoMemory;
 use witness::Place;
-use write_chain::performed_pair;
 
 // Where a record stands: its stretch, its turn there, the place of its reply, its number.
 type Standing = (usize, usize, usize, usize);
@@ -20,7 +19,7 @@ fn standing_of(k: usize, found: Rec, given: Option<usize>) -> Option<Standing>
     let Some(stretch) = given else {
         return None;
     };
-    match performed_pair(found.heard) {
+    match found.pair_taken() {
         Some(_) => Some((stretch, 0, heard.0, k)),
         None => Some((stretch, 1, heard.0, k)),
     }

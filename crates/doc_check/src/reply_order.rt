@@ -1,5 +1,5 @@
-ghost use Rattle.std.specs.Prelude.{◌≡◌, ◌++◌, IfOk, map, take, length};
-ghost use Rattle.doc_check.specs.ReplyOrder.{IsReplyOrder, answered_records, unpaired_place};
+ghost use Rattle.std.specs.Prelude.{◌≡◌, IfOk};
+ghost use Rattle.doc_check.specs.ReplyOrder.{IsReplyOrder, answered_records};
 
 use history::Rec;
 use std::alloc::Global;

@@ -2,7 +2,8 @@ ghost use Rattle.std.specs.Prelude.{◌≡◌, ◌≤◌, ◌<◌, ◌↔◌, �
 ghost use Rattle.doc_register.specs.declared.reply.Reply.TheVariants.{Conflict};
 ghost use Rattle.doc_register.specs.Register.{HasPair};
 ghost use Rattle.doc_register.specs.Run.{pair_taken};
-ghost use Rattle.write_chain.specs.Chain.{IsChain, Rises, pair_of};
+ghost use Rattle.write_chain.specs.Chain.{IsChain, Rises};
+ghost use Rattle.history.specs.Heard.{pair_of};
 ghost use Rattle.doc_check.specs.aids.Stretches.{AreLaidOut, AreStretches, FitsAs, HoldsNowhere, IsGuess, IsLatest, IsReadIn, ReadFits, WriteFits, state_in};
 
 use crate::latest::latest_stretches;
@@ -10,11 +11,11 @@ use doc_register::{DocState, Op, Reply, step};
 use history::Rec;
 use std::alloc::Global;
 use version_pair::{NoMemory, Pair};
-use write_chain::{pairs_of, performed_pair, states_of};
+use write_chain::{pairs_of, states_of};
 
 /// The chain of a document, and what each stretch of it allows. Stretch 0 lies before the first write of the chain,
 /// stretch j after the j-th.
-#[derive(Debug, Drop)]
+#[derive(Drop)]
 pub struct Stretches {
     // The writes of the chain, each the pair and the record.
     chain: Vec<(Pair, usize)>,
@@ -212,7 +213,7 @@ impl Stretches {
         ensures none { IfNone result (HoldsNowhere (FitsAs (pair_of found.heard)
             self.now.chain.items self.now.states.items rec found) bound) }
     {
-        match performed_pair(found.heard) {
+        match found.pair_taken() {
             Some(pair) => self.of_write(rec, pair, bound),
             None => self.of_read(found, bound),
         }

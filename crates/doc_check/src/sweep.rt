@@ -1,7 +1,7 @@
 ghost use Rattle.std.specs.Prelude.{◌≡◌, ◌<◌, ◌≤◌, Some, IfOk, IfSome, IfNone, MatchOption, List, length, slice_get};
 ghost use Rattle.history.specs.declared.record.Rec.{Rec as Call};
 ghost use Rattle.witness.specs.declared.place.Place.{Place};
-ghost use Rattle.write_chain.specs.Chain.{pair_of};
+ghost use Rattle.history.specs.Heard.{pair_of};
 ghost use Rattle.doc_check.specs.aids.Stretches.{AreStretches, cap};
 ghost use Rattle.doc_check.specs.aids.Sweep.{AreGiven, AreSpread, IsMet, IsStuck};
 
@@ -10,13 +10,12 @@ use crate::stretches::Stretches;
 use history::Rec;
 use std::alloc::Global;
 use version_pair::NoMemory;
-use write_chain::performed_pair;
 
 // The last stretch for what stands before a record in this stretch: a write is the first of its own.
 fn last_before(found: Rec, stretch: usize) -> usize
     ensures { result ≡ cap (pair_of found.heard) stretch }
 {
-    match performed_pair(found.heard) {
+    match found.pair_taken() {
         Some(_) => stretch.saturating_sub(1),
         None => stretch,
     }

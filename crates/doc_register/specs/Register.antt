@@ -1,5 +1,5 @@
 -- One document as a register of versions: what it shows, when a write is performed, and its step.
-use Rattle.std.specs.Prelude.{◌≡◌, Bool, true, false, not, Option, Some, None}
+use Rattle.std.specs.Prelude.{◌≡◌, ℕ, Bool, true, false, not, Option, Some, None}
 use Rattle.version_pair.specs.declared.pair.Pair.{Pair}
 use Rattle.version_pair.specs.PairOrder.{IsBelow}
 use Rattle.doc_register.specs.declared.op.Op.{Op}
@@ -32,6 +32,28 @@ fits (Create k) (Found p j) = false
 fits (Create k) Missing = false
 fits (Create k) Conflict = true
 
+-- the pair that an index or a delete asks its document to have, where it has a condition
+abbrev pub condition_of : Op → Option Pair
+condition_of Get = None
+condition_of (Index k c) = c
+condition_of (Delete c) = c
+condition_of (Create k) = None
+
+-- the number that an index or a create gives its document
+abbrev pub value_of : Op → Option ℕ
+value_of Get = None
+value_of (Index k c) = Some k
+value_of (Delete c) = None
+value_of (Create k) = Some k
+
+-- the pair in a reply: that of a change, or of the document that was found
+abbrev pub pair_of_reply : Reply → Option Pair
+pair_of_reply (Indexed q created) = Some q
+pair_of_reply (Deleted q found) = Some q
+pair_of_reply (Found p k) = Some p
+pair_of_reply Missing = None
+pair_of_reply Conflict = None
+
 -- what a get shows
 abbrev pub shown : DocState → Reply
 shown Never = Missing
@@ -48,6 +70,12 @@ abbrev pub HasPair : DocState → Pair → Type 0
 HasPair Never c = ⊥
 HasPair (Gone p) c = ⊥
 HasPair (Here p k) c = p ≡ c
+
+-- the pair of the document's last change, if it has one
+abbrev pub last_pair : DocState → Option Pair
+last_pair Never = None
+last_pair (Gone p) = Some p
+last_pair (Here p k) = Some p
 
 -- the pair is greater than the pair of the document's last change, if it has one
 abbrev pub Exceeds : Pair → DocState → Type 0

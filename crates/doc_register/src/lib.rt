@@ -1,4 +1,9 @@
-//! The register of versions that a document is: operations, replies, and the step of one document.
+//! The register of versions that a document is: operations, replies, and the step of one document. All that is judged
+//! elsewhere is judged by this step.
+//!
+//! ```text
+//! let after = step(DocState::Never, &Op::Get, &Reply::Missing, None); // Some(DocState::Never)
+//! ```
 #![tactic(auto)]
 
 mod doc_map;
@@ -14,4 +19,4 @@ pub use map_fault::MapFault;
 pub use op::Op;
 pub use reply::Reply;
 pub use state::{Conflicts, DocState};
-pub use transition::{is_performed, performed_reply, step};
+pub use transition::{exceeds, is_performed, performed_reply, step};

@@ -1,3 +1,5 @@
+ghost use Rattle.std.specs.Prelude.{◌≡◌};
+
 use version_pair::Pair;
 
 /// An operation on one document.
@@ -13,4 +15,71 @@ pub enum Op {
     Delete { cond: Option<Pair> },
     /// Writes the document with the number `k` where it is missing or deleted.
     Create { k: u64 },
+}
+
+impl Op {
+    ghost use Rattle.doc_register.specs.Register.{condition_of, value_of};
+
+    /// The pair that an index or a delete asks its document to have, where it has a condition.
+    pub fn condition(&self) -> Option<Pair>
+        ensures { result ≡ condition_of self.now }
+    {
+        match self {
+            Op::Index { cond, .. } | Op::Delete { cond } => *cond,
+            Op::Get | Op::Create { .. } => None,
+        }
+    }
+
+    /// The number that an index or a create gives its document.
+    pub fn value(&self) -> Option<u64>
+        ensures { result ≡ value_of self.now }
+    {
+        match self {
+            Op::Index { k, .. } | Op::Create { k } => Some(*k),
+            Op::Get | Op::Delete { .. } => None,
+        }
+    }
+}
+
+#[cfg(test)]
+mod tests {
+    use super::*;
+    use crate::reply::Reply;
+    use crate::state::DocState;
+    use crate::transition::{exceeds, step};
+    use std::test::Fail;
+
+    #[test]
+    fn facts_of_calls(rt: HostRuntime) -> Result<(), Fail> {
+        let pair = Pair::new(1, 7).ok_or("a pair")?;
+        let cond = Some(pair);
+        for (op, condition, value) in [
+            (Op::Get, None, None),
+            (Op::Index { k: 4, cond }, cond, Some(4)),
+            (Op::Delete { cond }, cond, None),
+            (Op::Create { k: 4 }, None, Some(4)),
+        ] {
+            assert_eq!(rt; op.condition(), condition, "{op:?}");
+            assert_eq!(rt; op.value(), value, "{op:?}");
+        }
+        for (reply, named, taken) in [
+            (Reply::Found { pair, k: 4 }, cond, None),
+            (Reply::Deleted { pair, found: false }, cond, cond),
+            (Reply::Conflict, None, None),
+        ] {
+            assert_eq!(rt; reply.pair(), named, "{reply:?}");
+            assert_eq!(rt; reply.pair_taken(), taken, "{reply:?}");
+        }
+        for state in [DocState::Gone(pair), DocState::Here(pair, 4)] {
+            let (op, reply) = state.making().ok_or("a write")?;
+            assert_eq!(rt;
+                step(DocState::Never, &op, &reply, None),
+                Some(state),
+                "{state:?}"
+            );
+            assert_eq!(rt; state.pair(), cond, "{state:?}");
+            assert!(rt; !exceeds(pair, state), "{state:?}");
+        }
+        Ok(())
+    }
 }

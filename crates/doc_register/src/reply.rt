@@ -1,4 +1,4 @@
-ghost use Rattle.std.specs.Prelude.{◌≡◌};
+ghost use Rattle.std.specs.Prelude.{◌≡◌, None as Nothing};
 
 use crate::Op;
 use version_pair::Pair;
@@ -19,7 +19,8 @@ pub enum Reply {
 }
 
 impl Reply {
-    ghost use Rattle.doc_register.specs.Register.{fits};
+    ghost use Rattle.doc_register.specs.Register.{fits, pair_of_reply};
+    ghost use Rattle.doc_register.specs.Run.{pair_taken};
 
     /// Whether the operation can have a reply of this kind: a get finds or misses, an index or a create is
     /// indexed, a delete is deleted, and any write may conflict. A create never replaces.
@@ -33,6 +34,27 @@ impl Reply {
             (Op::Create { .. }, Reply::Indexed { created, .. }) => *created,
             (Op::Create { .. }, Reply::Conflict) => true,
             _ => false,
+        }
+    }
+
+    /// The pair in the reply: that of a change, or of the document that was found.
+    pub fn pair(&self) -> Option<Pair>
+        ensures { result ≡ pair_of_reply self.now }
+    {
+        match self {
+            Reply::Indexed { pair, .. } | Reply::Deleted { pair, .. } | Reply::Found { pair, .. } =>
+                Some(*pair),
+            Reply::Missing | Reply::Conflict => None,
+        }
+    }
+
+    /// The pair with which a write was performed, where the reply shows it.
+    pub fn pair_taken(&self) -> Option<Pair>
+        ensures { result ≡ pair_taken self.now Nothing }
+    {
+        match self {
+            Reply::Indexed { pair, .. } | Reply::Deleted { pair, .. } => Some(*pair),
+            Reply::Found { .. } | Reply::Missing | Reply::Conflict => None,
         }
     }
 }

@@ -1,3 +1,7 @@
+ghost use Rattle.std.specs.Prelude.{◌≡◌, IfNone, IfSome, None as Nothing};
+
+use crate::op::Op;
+use crate::reply::Reply;
 use version_pair::Pair;
 
 /// What one document is.
@@ -9,6 +13,42 @@ pub enum DocState {
     Gone(Pair),
     /// Its last change, with this pair, wrote it with this number.
     Here(Pair, u64),
+}
+
+impl DocState {
+    ghost use Rattle.doc_register.specs.Register.{DocStep, last_pair};
+
+    /// The pair of the document's last change, if it has one.
+    pub fn pair(&self) -> Option<Pair>
+        ensures { result ≡ last_pair self.now }
+    {
+        match self {
+            DocState::Never => None,
+            DocState::Gone(pair) | DocState::Here(pair, _) => Some(*pair),
+        }
+    }
+
+    /// A write without a condition, and its reply, that make a document that was never written what it is; `None` for one that
+    /// was never written.
+    pub fn making(&self) -> Option<(Op, Reply)>
+        ensures some { IfSome result (λ made. DocStep DocState.Never made.0 made.1 Nothing self.now) }
+        ensures none { IfNone result (self.now ≡ DocState.Never) }
+    {
+        match *self {
+            DocState::Never => None,
+            DocState::Gone(pair) => Some((
+                Op::Delete { cond: None },
+                Reply::Deleted { pair, found: false },
+            )),
+            DocState::Here(pair, k) => Some((
+                Op::Index { k, cond: None },
+                Reply::Indexed {
+                    pair,
+                    created: true,
+                },
+            )),
+        }
+    }
 }
 
 /// How a conflict is read.

@@ -14,7 +14,7 @@ use Rattle.doc_register.proofs.RunLemmas.{AtMost, IsKind, below_new, leaves_pair
 use Rattle.doc_register.proofs.RunLaws.{pair_performs}
 use Rattle.history.specs.Events.{is_same}
 use Rattle.history.proofs.ListLemmas.{none_is_not_some, same_some}
-use Rattle.evidence.specs.Evidence.{number_given}
+use Rattle.doc_register.specs.Register.{value_of}
 
 -- the step of the document before which it has the pair or one above it
 pub record StepsAbove (q : Pair) (e : Entry) : Type 0 where
@@ -74,11 +74,11 @@ above_taken (x ∷ es) s t (m, step, rest) (suc i) (suc j) e f q below at bt sam
 
 -- what gives the document the number with the pair: a reply that shows the pair, or a conflict that hides it
 pub record GivesNumber (p : Pair) (k : ℕ) (e : Entry) : Type 0 where
-  pub number : number_given e.op ≡ Some k
+  pub number : value_of e.op ≡ Some k
   pub takes : ((created : Bool) × (e.reply ≡ Indexed p created)) ⊎ ((e.reply ≡ Conflict) × (e.hidden ≡ Some p))
 
 -- a write that gives a number takes its pair so
-takes_so : (s : DocState) (op : Op) (r : Answer) (h : Option Pair) (t : DocState) (p : Pair) (k : ℕ) → number_given op ≡ Some k → WriteStep s op r h t → pair_taken r h ≡ Some p
+takes_so : (s : DocState) (op : Op) (r : Answer) (h : Option Pair) (t : DocState) (p : Pair) (k : ℕ) → value_of op ≡ Some k → WriteStep s op r h t → pair_taken r h ≡ Some p
     → ((created : Bool) × (r ≡ Indexed p created)) ⊎ ((r ≡ Conflict) × (h ≡ Some p))
 takes_so s op (Indexed q created) h t p k gives step is = inl (created, ap (λ x. Indexed x created) (same_some q p is))
 takes_so s Get (Deleted q found) h t p k gives step is = absurd (none_is_not_some k gives)
@@ -97,7 +97,7 @@ same_here p q k n same = (cc, cc)
 
 -- a write after which the document is there with a pair and a number gave it both, or found it so
 write_gives : (s : DocState) (op : Op) (r : Answer) (h : Option Pair) (t : DocState) (p : Pair) (k : ℕ) → WriteStep s op r h t → IsKind s op r h t → t ≡ Here p k
-    → (s ≡ Here p k) ⊎ ((number_given op ≡ Some k) × (((created : Bool) × (r ≡ Indexed p created)) ⊎ ((r ≡ Conflict) × (h ≡ Some p))))
+    → (s ≡ Here p k) ⊎ ((value_of op ≡ Some k) × (((created : Bool) × (r ≡ Indexed p created)) ⊎ ((r ≡ Conflict) × (h ≡ Some p))))
 write_gives s op r h t p k step (inl none) here = inl (sym none.1 ∙ here)
 write_gives s Get r h t p k step (inr (q, is, w)) here = absurd w.allowed
 write_gives s (Index n c) r h t p k step (inr (q, is, w)) here =
@@ -110,7 +110,7 @@ write_gives s (Create n) r h t p k step (inr (q, is, w)) here =
 
 -- the same of any call
 step_gives : (s : DocState) (op : Op) (r : Answer) (h : Option Pair) (t : DocState) (p : Pair) (k : ℕ) → DocStep s op r h t → t ≡ Here p k
-    → (s ≡ Here p k) ⊎ ((number_given op ≡ Some k) × (((created : Bool) × (r ≡ Indexed p created)) ⊎ ((r ≡ Conflict) × (h ≡ Some p))))
+    → (s ≡ Here p k) ⊎ ((value_of op ≡ Some k) × (((created : Bool) × (r ≡ Indexed p created)) ⊎ ((r ≡ Conflict) × (h ≡ Some p))))
 step_gives s Get r h t p k step here = inl (sym step.2 ∙ here)
 step_gives s (Index n c) r h t p k step here = write_gives s (Index n c) r h t p k step (step_kind s (Index n c) r h t step) here
 step_gives s (Delete c) r h t p k step here = write_gives s (Delete c) r h t p k step (step_kind s (Delete c) r h t step) here
@@ -136,7 +136,7 @@ pub record StepsFrom (start : DocState) (es : List Entry) (j : ℕ) (f : Entry) 
 came_in_step : (s : State) (e : Entry) (m : State) (d : List ℕ) (p : Pair) (k : ℕ) → Step s e m → m.document d ≡ Here p k
     → (s.document d ≡ Here p k) ⊎ ((e.doc ≡ d) × GivesNumber p k e)
 came_in_step s e m d p k step here = by_test (is_same e.doc d) refl where
-  own : e.doc ≡ d → (s.document e.doc ≡ Here p k) ⊎ ((number_given e.op ≡ Some k) × (((created : Bool) × (e.reply ≡ Indexed p created)) ⊎ ((e.reply ≡ Conflict) × (e.hidden ≡ Some p))))
+  own : e.doc ≡ d → (s.document e.doc ≡ Here p k) ⊎ ((value_of e.op ≡ Some k) × (((created : Bool) × (e.reply ≡ Indexed p created)) ⊎ ((e.reply ≡ Conflict) × (e.hidden ≡ Some p))))
       → (s.document d ≡ Here p k) ⊎ ((e.doc ≡ d) × GivesNumber p k e)
   own same (inl was) = inl (subst (λ x. s.document x ≡ Here p k) same was)
   own same (inr given) = inr (same, record { number = given.0; takes = given.1 })

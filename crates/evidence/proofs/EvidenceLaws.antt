@@ -21,8 +21,9 @@ use Rattle.history.specs.Events.{IsCallAt, IsHistory, PassesAt, Precedes, heard_
 use Rattle.history.specs.Order.{Explains, IsLinearizable, IsOfCall, Placed, run_of}
 use Rattle.history.proofs.HistoryLemmas.{call_passes}
 use Rattle.history.proofs.ListLemmas.{none_is_not_some, same_some}
-use Rattle.evidence.specs.Taking.{taken_by}
-use Rattle.evidence.specs.Evidence.{EvidenceRefutes, HasNoWriter, IsPairTwice, IsPerformed, IsStaleGet, IsStaleSwap, MayTake, condition_of, number_given}
+use Rattle.history.specs.Heard.{taken_by}
+use Rattle.doc_register.specs.Register.{condition_of, value_of}
+use Rattle.evidence.specs.Evidence.{EvidenceRefutes, HasNoWriter, IsPairTwice, IsPerformed, IsStaleGet, IsStaleSwap, MayTake}
 use Rattle.evidence.specs.declared.refuted.Refuted.TheVariants as evidence
 use Rattle.evidence.proofs.EarlierSteps.{GivesNumber, IsGivenBefore, StepsAbove, above_taken, steps_from}
 use Rattle.evidence.proofs.FilterLemmas.{mapped_at, mapped_from}
@@ -273,7 +274,7 @@ no_writer mode events g history evidence (order, explains) =
             shard = x.0.entry.shard;
             op = x.0.entry.op;
             call = subst (λ d. IsCallAt events of.0 x.0.no x.0.entry.shard d x.0.entry.op) doc of.1;
-            gives = ap (λ (e : Entry). number_given e.op) x.2 ∙ given.gives.number;
+            gives = ap (λ (e : Entry). value_of e.op) x.2 ∙ given.gives.number;
             takes = may_take mode (heard_of events x.0.no) given.entry evidence.pair evidence.number given.gives
                 (λ is. ap (λ (e : Entry). e.hidden) (sym x.2) ∙ explains.is_order.plain is given.place x.0 x.1)
                 (λ y r heard. ap (λ (e : Entry). e.reply) (sym x.2) ∙ told given.place x.0 x.1 of y r heard);

@@ -14,8 +14,9 @@ use Rattle.history.specs.declared.event.Event.TheVariants.{Call, Reply}
 use Rattle.history.specs.Events.{IsCallAt, IsHistory, IsReplyAt, PassesAt, Precedes, heard_of, is_call_of}
 use Rattle.history.proofs.HistoryLemmas.{call_passes, reply_passes}
 use Rattle.history.proofs.ListLemmas.{same_some}
-use Rattle.evidence.specs.Taking.{taken_by}
-use Rattle.evidence.specs.Evidence.{HasNoWriter, IsFound, IsPairTwice, IsPerformed, IsStaleGet, IsStaleSwap, IsWriter, MayTake, condition_of, number_given}
+use Rattle.history.specs.Heard.{taken_by}
+use Rattle.doc_register.specs.Register.{condition_of, value_of}
+use Rattle.evidence.specs.Evidence.{HasNoWriter, IsFound, IsPairTwice, IsPerformed, IsStaleGet, IsStaleSwap, IsWriter, MayTake}
 use Rattle.evidence.specs.aids.AnsweredCalls.{AsksTooLittle, IsFoundGet, IsPerformedWrite}
 use Rattle.evidence.specs.declared.answered_call.FoundGet.{FoundGet}
 use Rattle.evidence.specs.declared.answered_call.PerformedWrite.{PerformedWrite}
@@ -228,7 +229,7 @@ no_writer_told mode events g get history x = (
 
 -- the call at the place is a writer, if it may give the number with the pair and is of the document
 pub writer_told : (mode : Conflicts) (events : List Event) (d e : List ℕ) (get : FoundGet) (j n h : ℕ) (op : Op) → j < get.replied → IsCallAt events j n h e op
-    → ((number_given op ≡ Some get.k) × MayTake mode (heard_of events n) get.pair × PassesAt (is_call_of d) events j) ↔ IsWriter mode events d get.replied get.pair get.k j
+    → ((value_of op ≡ Some get.k) × MayTake mode (heard_of events n) get.pair × PassesAt (is_call_of d) events j) ↔ IsWriter mode events d get.replied get.pair get.k j
 writer_told mode events d e get j n h op before call = (
   λ (gives, takes, own). record {
     before = before;
@@ -241,7 +242,7 @@ writer_told mode events d e get j n h op before call = (
   },
   λ writer.
       let same = same_call events j writer.number n writer.shard h d e writer.op op writer.call call in (
-        ap number_given (sym same.2) ∙ writer.gives,
+        ap value_of (sym same.2) ∙ writer.gives,
         subst (λ m. MayTake mode (heard_of events m) get.pair) same.0 writer.takes,
         of_document events j n h d op (subst (λ f. IsCallAt events j n h f op) (sym same.1) call),
       ),

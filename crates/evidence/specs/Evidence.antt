@@ -3,7 +3,7 @@ use Rattle.std.specs.Prelude.{◌≡◌, ◌≢◌, ◌<◌, ◌⊎◌, ℕ, Lis
 use Rattle.version_pair.specs.declared.pair.Pair.{Pair}
 use Rattle.version_pair.specs.PairOrder.{IsBelow}
 use Rattle.doc_register.specs.declared.op.Op.{Op}
-use Rattle.doc_register.specs.declared.op.Op.TheVariants.{Get, Index, Delete, Create}
+use Rattle.doc_register.specs.Register.{condition_of, value_of}
 use Rattle.doc_register.specs.declared.reply.Reply.{Reply as Answer}
 use Rattle.doc_register.specs.declared.reply.Reply.TheVariants.{Indexed, Deleted, Found, Missing, Conflict}
 use Rattle.doc_register.specs.declared.state.Conflicts.{Conflicts}
@@ -11,7 +11,7 @@ use Rattle.doc_register.specs.declared.state.Conflicts.TheVariants.{Maybe}
 use Rattle.history.specs.declared.event.Event.{Event}
 use Rattle.history.specs.Events.{IsCallAt, IsHistory, Precedes, heard_of}
 use Rattle.history.specs.Order.{IsLinearizable}
-use Rattle.evidence.specs.Taking.{taken_by}
+use Rattle.history.specs.Heard.{taken_by}
 use Rattle.evidence.specs.declared.refuted.Refuted.{Refuted}
 use Rattle.evidence.specs.declared.refuted.Refuted.TheVariants as evidence
 
@@ -20,20 +20,6 @@ use Rattle.evidence.specs.declared.refuted.Refuted.TheVariants as evidence
 -- the pair that the reply to the call numbered n shows, where it has one that was performed
 abbrev pub pair_shown : List Event → ℕ → Option Pair
 pair_shown events n = taken_by (heard_of events n) None
-
--- the number that a write gives its document
-abbrev pub number_given : Op → Option ℕ
-number_given Get = None
-number_given (Index k c) = Some k
-number_given (Delete c) = None
-number_given (Create k) = Some k
-
--- the pair that a write asks its document to have
-abbrev pub condition_of : Op → Option Pair
-condition_of Get = None
-condition_of (Index k c) = c
-condition_of (Delete c) = c
-condition_of (Create k) = None
 
 -- The call numbered n is a write of the document d, and its reply shows that it was performed with the pair q.
 pub record IsPerformed (events : List Event) (n : ℕ) (d : List ℕ) (q : Pair) : Type 0 where
@@ -70,7 +56,7 @@ pub record IsWriter (mode : Conflicts) (events : List Event) (d : List ℕ) (i :
   pub shard : ℕ
   pub op : Op
   pub call : IsCallAt events j number shard d op
-  pub gives : number_given op ≡ Some k
+  pub gives : value_of op ≡ Some k
   pub takes : MayTake mode (heard_of events number) p
 
 -- ---- the kinds of evidence

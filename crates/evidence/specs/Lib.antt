@@ -1,3 +1,2 @@
-pub mod Taking
 pub mod Evidence
 pub mod aids

@@ -1,6 +1,6 @@
-ghost use Rattle.std.specs.Prelude.{◌≡◌, ◌<◌, ◌↔◌, IsTrue, List, None, ℕ, length};
+ghost use Rattle.std.specs.Prelude.{◌<◌, ◌↔◌, IsTrue, List, None, ℕ, length};
 ghost use Rattle.doc_register.specs.Run.{pair_taken};
-ghost use Rattle.history.specs.Events.{IsHistory, PassesAt, heard_of, is_call_of};
+ghost use Rattle.history.specs.Events.{IsHistory, PassesAt, is_call_of};
 ghost use Rattle.evidence.specs.aids.AnsweredCalls.{IsFoundAs, IsPerformedAs};
 
 use doc_register::{Op, Reply};
@@ -8,7 +8,7 @@ use history::{Event, History};
 use version_pair::Pair;
 
 /// A get that found its document. Places are numbers of events, from 0.
-#[derive(Clone, Copy, Debug, PartialEq, Eq)]
+#[derive(Clone, Copy, PartialEq, Eq)]
 pub struct FoundGet {
     /// The place of the call.
     pub called: usize,
@@ -19,7 +19,7 @@ pub struct FoundGet {
 }
 
 /// A write whose reply shows the pair with which it was performed. Places are numbers of events, from 0.
-#[derive(Clone, Copy, Debug, PartialEq, Eq)]
+#[derive(Clone, Copy, PartialEq, Eq)]
 pub struct PerformedWrite {
     /// The place of the call.
     pub called: usize,
@@ -30,19 +30,6 @@ pub struct PerformedWrite {
     pub pair: Pair,
 }
 
-/// What was heard of the call with this number: the place of its reply, and the reply.
-pub fn heard(history: &History, no: u64) -> Option<(usize, Reply)>
-    ensures { result ≡ heard_of history.now no }
-{
-    let Some(place) = history.ending(no) else {
-        return None;
-    };
-    match history.event(place) {
-        Event::Reply { reply, .. } => Some((place, *reply)),
-        Event::Call { .. } | Event::Lost { .. } => None,
-    }
-}
-
 /// The get with this number, where it found its document.
 pub fn found_get(history: &History, no: u64) -> Option<FoundGet>
     requires { IsHistory history.now }
@@ -51,7 +38,7 @@ pub fn found_get(history: &History, no: u64) -> Option<FoundGet>
     let Some(called) = history.call(no) else {
         return None;
     };
-    match heard(history, no) {
+    match history.heard(no) {
         Some((replied, Reply::Found { pair, k })) => Some(FoundGet {
             called,
             replied,
@@ -59,16 +46,6 @@ pub fn found_get(history: &History, no: u64) -> Option<FoundGet>
             k,
         }),
         _ => None,
-    }
-}
-
-/// The pair that a reply shows to have been taken.
-pub fn pair_shown(reply: Reply) -> Option<Pair>
-    ensures { result ≡ pair_taken reply None }
-{
-    match reply {
-        Reply::Indexed { pair, .. } | Reply::Deleted { pair, .. } => Some(pair),
-        Reply::Found { .. } | Reply::Missing | Reply::Conflict => None,
     }
 }
 
@@ -83,8 +60,8 @@ pub fn performed_write(history: &History, no: u64) -> Option<PerformedWrite>
     let Event::Call { shard, op, .. } = history.event(called) else {
         return None;
     };
-    match heard(history, no) {
-        Some(answer) => match pair_shown(answer.1) {
+    match history.heard(no) {
+        Some(answer) => match answer.1.pair_taken() {
             Some(pair) => Some(PerformedWrite {
                 called,
                 replied: answer.0,

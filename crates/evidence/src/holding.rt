@@ -1,11 +1,12 @@
 ghost use Rattle.std.specs.Prelude.{◌≡◌, ◌<◌, ◌≤◌, ◌↔◌, ◌⊎◌, IsTrue, List, Some, ℕ, length};
 ghost use Rattle.version_pair.specs.PairOrder.{IsBelow};
 ghost use Rattle.history.specs.Events.{IsHistory, PassesAt, is_call_of};
-ghost use Rattle.evidence.specs.Evidence.{HasNoWriter, Holds, IsPairTwice, IsStaleGet, IsStaleSwap, IsWriter, MayTake, condition_of, number_given};
+ghost use Rattle.doc_register.specs.Register.{value_of};
+ghost use Rattle.evidence.specs.Evidence.{HasNoWriter, Holds, IsPairTwice, IsStaleGet, IsStaleSwap, IsWriter, MayTake};
 ghost use Rattle.evidence.specs.aids.AnsweredCalls.{AsksTooLittle};
 
 use crate::answered_call::{
-    FoundGet, PerformedWrite, are_of_one_document, found_get, heard, performed_write,
+    FoundGet, PerformedWrite, are_of_one_document, found_get, performed_write,
 };
 use crate::refuted::Refuted;
 use doc_register::{Conflicts, Op, Reply};
@@ -36,16 +37,6 @@ fn is_pair_twice(history: &History, one: u64, two: u64) -> bool
     take_one_pair(first, second)
 }
 
-/// The number that a write gives its document.
-pub fn number_written(op: Op) -> Option<u64>
-    ensures { result ≡ number_given op }
-{
-    match op {
-        Op::Index { k, .. } | Op::Create { k } => Some(k),
-        Op::Get | Op::Delete { .. } => None,
-    }
-}
-
 // Whether what was heard of a write allows that it took the pair.
 fn may_take(conflicts: Conflicts, heard: Option<(usize, Reply)>, pair: Pair) -> bool
     ensures { IsTrue result ↔ MayTake conflicts heard pair }
@@ -60,9 +51,9 @@ fn may_take(conflicts: Conflicts, heard: Option<(usize, Reply)>, pair: Pair) -> 
 
 // Whether a write of which this was heard may have given its document the number with the pair that the get found.
 fn may_give(op: Op, heard: Option<(usize, Reply)>, get: FoundGet, conflicts: Conflicts) -> bool
-    ensures { IsTrue result ↔ ((number_given op ≡ Some get.k) × MayTake conflicts heard get.pair) }
+    ensures { IsTrue result ↔ ((value_of op ≡ Some get.k) × MayTake conflicts heard get.pair) }
 {
-    number_written(op) == Some(get.k) && may_take(conflicts, heard, get.pair)
+    op.value() == Some(get.k) && may_take(conflicts, heard, get.pair)
 }
 
 // Whether the call at the place may have given the get's document the number with the pair that the get found.
@@ -75,7 +66,7 @@ fn is_writer(history: &History, get: FoundGet, place: usize, conflicts: Conflict
 {
     match history.event(place) {
         Event::Call { no, op, .. } => {
-            may_give(*op, heard(history, *no), get, conflicts)
+            may_give(*op, history.heard(*no), get, conflicts)
                 && are_of_one_document(history, get.called, place)
         }
         Event::Reply { .. } | Event::Lost { .. } => false,
@@ -129,16 +120,6 @@ fn is_stale_get(history: &History, get: u64, write: u64) -> bool
     is_overtaken(found, newer) && are_of_one_document(history, found.called, newer.called)
 }
 
-/// The pair that a write asks its document to have.
-pub fn condition(op: Op) -> Option<Pair>
-    ensures { result ≡ condition_of op }
-{
-    match op {
-        Op::Index { cond, .. } | Op::Delete { cond } => cond,
-        Op::Get | Op::Create { .. } => None,
-    }
-}
-
 // Whether the first write stands before the second: it precedes it, or has the lesser pair.
 fn stands_first(first: PerformedWrite, second: PerformedWrite) -> bool
     ensures { IsTrue result ↔ ((first.replied < second.called) ⊎ IsBelow first.pair second.pair) }
@@ -150,7 +131,7 @@ fn stands_first(first: PerformedWrite, second: PerformedWrite) -> bool
 pub fn asks_too_little(first: PerformedWrite, second: PerformedWrite) -> bool
     ensures { IsTrue result ↔ AsksTooLittle first second }
 {
-    match condition(second.op) {
+    match second.op.condition() {
         Some(asked) => asked.is_below(first.pair) && stands_first(first, second),
         None => false,
     }

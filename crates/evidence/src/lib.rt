@@ -1,4 +1,9 @@
 //! Evidence in a history that no order of its calls explains it: what each kind says, whether it holds, and the search for it.
+//!
+//! ```text
+//! let found = find_evidence(alloc, &history, Conflicts::Plain)?; // Option<Refuted>
+//! let holds = refutes(&history, &Refuted::StaleGet(3, 1), Conflicts::Plain);
+//! ```
 #![tactic(auto)]
 
 mod answered_call;
@@ -7,6 +12,6 @@ pub mod laws;
 mod refuted;
 mod search;
 
-pub use holding::{condition, refutes};
+pub use holding::refutes;
 pub use refuted::Refuted;
 pub use search::find_evidence;

@@ -1,4 +1,5 @@
 pub mod ListLemmas
+pub mod SetLemmas
 mod EventLemmas
 pub mod HistoryLemmas
 mod IndexLemmas

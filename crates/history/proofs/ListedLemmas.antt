@@ -11,6 +11,7 @@ use Rattle.history.specs.declared.event.Event.{Event}
 use Rattle.history.specs.declared.event.Event.TheVariants.{Call, Reply, Lost}
 use Rattle.history.specs.Events.{IsHistory, PassesAt, documents_of, is_call, is_call_of, is_ending, is_same, place_of, with_document, with_event}
 use Rattle.history.specs.aids.Indexes.{calls_at, lists_in, with_listed}
+use Rattle.history.proofs.SetLemmas.{slice_get-set_other, slice_get-set_same}
 use Rattle.history.proofs.DocumentLemmas.{lookup_with}
 use Rattle.history.proofs.EventLemmas.{passes_element, passes_snoc, passes_within, place_of-front, place_of-last, place_of-none, place_of-passes}
 use Rattle.history.proofs.ListLemmas.{get_front, get_last, none_is_not_some, same_some}
@@ -141,18 +142,6 @@ lists_after H n h d op (f ∷ fs) (l ∷ ls) size distinct none lists =
 
 -- ---- the endings of calls
 
-set_same : {X : Type 0} (xs : List X) (i : ℕ) (v : X) → i < length xs → slice_get (slice_set xs i v) i ≡ Some v
-set_same [] i v within = absurd (omega arith)
-set_same (x ∷ xs) zero v within = refl
-set_same (x ∷ xs) (suc i) v within = set_same xs i v (omega arith)
-
-set_other : {X : Type 0} (xs : List X) (i j : ℕ) (v : X) → (j ≡ i → ⊥) → slice_get (slice_set xs i v) j ≡ slice_get xs j
-set_other [] i j v apart = refl
-set_other (x ∷ xs) zero zero v apart = absurd (apart refl)
-set_other (x ∷ xs) zero (suc j) v apart = refl
-set_other (x ∷ xs) (suc i) zero v apart = refl
-set_other (x ∷ xs) (suc i) (suc j) v apart = set_other xs i j v (λ same. apart (ap suc same))
-
 pub endings_after_call : (H : List Event) (n h : ℕ) (d : List ℕ) (op : Op) (es : List (Option ℕ)) → IsHistory H → place_of (is_call n) H ≡ None → length es ≡ length H
     → ((i m : ℕ) → PassesAt (is_call m) H i → slice_get es i ≡ Some (place_of (is_ending m) H))
     → (i m : ℕ) → PassesAt (is_call m) (H ++ Call n h d op ∷ []) i → slice_get (es ++ None ∷ []) i ≡ Some (place_of (is_ending m) (H ++ Call n h d op ∷ []))
@@ -201,13 +190,13 @@ endings_after_ending H x n c es history call fresh no_call ends size found i m p
           let number : n ≡ m = eqb-true n m same in
           let place : i ≡ c = history.called_once m i c old (subst (λ k. PassesAt (is_call k) H c) number call) in
           let within : c < length es = subst (λ k. c < k) (sym size) (passes_within (is_call n) H c call) in
-          get_front (slice_set es c (Some (length H))) (None ∷ []) i (Some (length H)) (ap (slice_get (slice_set es c (Some (length H)))) place ∙ set_same es c (Some (length H)) within)
+          get_front (slice_set es c (Some (length H))) (None ∷ []) i (Some (length H)) (ap (slice_get (slice_set es c (Some (length H)))) place ∙ slice_get-set_same es c (Some (length H)) within)
           ∙ ap (λ o. Some o) (sym (place_of-last (is_ending m) H x (subst (λ k. place_of (is_ending k) H ≡ None) number fresh) ∙ ap (λ b. if b then Some (length H) else None) (ends m ∙ same)))
       by_number false other old =
           let apart : i ≡ c → ⊥ = λ place. (let number : n ≡ m = same_call H n m c call (subst (λ k. PassesAt (is_call m) H k) place old) in
           let equal : (n == m) ≡ true = eq-eqb n m number in let impossible : true ≡ false = sym equal ∙ other in cc) in
           get_front (slice_set es c (Some (length H))) (None ∷ []) i (place_of (is_ending m) H)
-          (set_other es c i (Some (length H)) apart ∙ found i m old)
+          (slice_get-set_other es c i (Some (length H)) apart ∙ found i m old)
           ∙ ap (λ o. Some o) (sym (after (place_of (is_ending m) H) refl other))
 
 -- ---- the lists as the code changes them

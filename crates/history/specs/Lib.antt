@@ -1,4 +1,5 @@
 pub mod Events
+pub mod Heard
 pub mod Refusal
 pub mod Order
 pub mod Text

@@ -1,28 +1,10 @@
 -- The greatest term and the greatest sequence number that a history names.
 use Rattle.std.specs.Prelude.{List, Option, Some, None, fold, max}
 use Rattle.version_pair.specs.declared.pair.Pair.{Pair}
-use Rattle.doc_register.specs.declared.op.Op.{Op}
-use Rattle.doc_register.specs.declared.op.Op.TheVariants.{Get, Index, Delete, Create}
-use Rattle.doc_register.specs.declared.reply.Reply.{Reply as Answer}
-use Rattle.doc_register.specs.declared.reply.Reply.TheVariants.{Indexed, Deleted, Found, Missing, Conflict}
+use Rattle.doc_register.specs.Register.{condition_of, pair_of_reply}
 use Rattle.history.specs.declared.event.Event.{Event}
 use Rattle.history.specs.declared.event.Event.TheVariants.{Call, Reply, Lost}
 use Rattle.history.specs.declared.seen.Seen.{Seen}
-
--- the condition of an operation
-abbrev pub condition_of : Op → Option Pair
-condition_of Get = None
-condition_of (Index k cond) = cond
-condition_of (Delete cond) = cond
-condition_of (Create k) = None
-
--- the pair of a reply
-abbrev pub pair_of_reply : Answer → Option Pair
-pair_of_reply (Indexed p created) = Some p
-pair_of_reply (Deleted p found) = Some p
-pair_of_reply (Found p k) = Some p
-pair_of_reply Missing = None
-pair_of_reply Conflict = None
 
 -- the pair that an event names: the condition of a call, or the pair of a reply
 abbrev pub pair_named : Event → Option Pair

@@ -5,7 +5,7 @@ ghost use Rattle.history.specs.Text.{IsHistoryText};
 use crate::hash_keys::HashKeys;
 use crate::history::History;
 use crate::reader::HistoryReader;
-use api_lines::{InputFault, ReadFault, TextFault, next_line};
+use api_lines::{InputFault, TextFault, take_lines};
 use std::alloc::Global;
 use std::io::BufRead;
 
@@ -26,13 +26,8 @@ pub fn read_from<B: BufRead>(
         (λ text. IfOk told (IsHistoryText text))) }
 {
     let mut reader = HistoryReader::with_keys(alloc, keys);
-    let mut line = Vec::new(alloc);
-    while next_line(input, &mut line)? {
-        match reader.line(&line) {
-            Ok(()) => {}
-            Err(ReadFault::Text(fault)) => return Ok(Err(fault)),
-            Err(ReadFault::NoMemory) => return Err(InputFault::NoMemory),
-        }
+    match take_lines(alloc, &mut reader, input)? {
+        Ok(()) => Ok(Ok(reader.finish())),
+        Err(refused) => Ok(Err(refused.fault)),
     }
-    Ok(Ok(reader.finish()))
 }

@@ -1,4 +1,10 @@
-//! Histories of calls and replies: events, well-formed histories, and the text that they are read from.
+//! Histories of calls and replies: events, well-formed histories, the records of a document, and the text that histories are
+//! read from and written as.
+//!
+//! ```text
+//! let history = read(alloc, text)?; // or the first line that is refused, with its cause
+//! let records = history.records(0)?; // the calls of the first document, each with what was heard of it
+//! ```
 #![tactic(auto)]
 
 mod bulk_writer;

@@ -9,9 +9,9 @@ ghost use Rattle.history.specs.Text.{IsHistoryText};
 use crate::hash_keys::HashKeys;
 use crate::history::History;
 use crate::line_event::take_said;
-use api_lines::lines::first_line;
 use api_lines::{
-    LineFault, LineFields, ReadFault, given_fields, given_line, line_fields, line_said,
+    LineFault, LineFields, LineReader, ReadFault, given_fields, given_line, line_fields, line_said,
+    take_text,
 };
 use std::alloc::Global;
 use std::marker::Model;
@@ -138,6 +138,21 @@ impl HistoryReader {
     }
 }
 
+impl LineReader for HistoryReader {
+    ghost use Rattle.std.specs.Prelude.{List};
+    ghost use Rattle.history.specs.declared.event.Event.{Event};
+
+    ghost State = { List Event };
+
+    ghost takes = { takes_value };
+
+    ghost reached = { λ reader. reader };
+
+    fn line(&mut self, line: &[u8]) -> Result<(), ReadFault> {
+        HistoryReader::line(self, line)
+    }
+}
+
 /// The history that a text spells, or the first line that is refused with its first cause.
 ///
 /// Causes are told in this order: `Lines` and `Long`; a blank line is then passed over; `Json`, `Shape`, `Id`,
@@ -149,11 +164,6 @@ pub fn read(alloc: Global, text: &[u8]) -> Result<History, ReadFault>
     ensures fault { IfErr result (λ fault. IfTextTold fault (λ told. history_text text.now ≡ Err told)) }
 {
     let mut reader = HistoryReader::new(alloc);
-    let mut rest = text;
-    while !rest.is_empty() {
-        let (line, after) = first_line(rest);
-        reader.line(line)?;
-        rest = after;
-    }
+    take_text(&mut reader, text)?;
     Ok(reader.finish())
 }

@@ -1,6 +1,6 @@
-ghost use Rattle.std.specs.Prelude.{◌≡◌, ◌<◌, ◌++◌, ℕ, IfOk, OnOk, Some, length, option_map, slice_get};
+ghost use Rattle.std.specs.Prelude.{◌≡◌, ◌<◌, ◌++◌, ℕ, IfOk, OnOk, Some, length, option_and_then, option_map, slice_get};
 ghost use Rattle.std.specs.Option.{option_to_list};
-ghost use Rattle.history.specs.Events.{PassesAt, documents_of, heard_of, is_call, record_at, records_of};
+ghost use Rattle.history.specs.Events.{PassesAt, documents_of, heard_of, is_call, place_of, record_at, records_of};
 
 use crate::event::Event;
 use crate::front::Front;
@@ -57,6 +57,29 @@ impl Front<'_> {
 }
 
 impl History {
+    /// What was heard of the call with this number: the place of its reply, and the reply.
+    pub fn heard(&self, no: u64) -> Option<(usize, Reply)>
+        ensures { result ≡ heard_of self.now no }
+    {
+        let Some(place) = self.ending(no) else {
+            return None;
+        };
+        match self.event(place) {
+            Event::Reply { reply, .. } => Some((place, *reply)),
+            Event::Call { .. } | Event::Lost { .. } => None,
+        }
+    }
+
+    /// The call with this number as a record.
+    pub fn record(&self, no: u64) -> Option<Rec>
+        ensures { result ≡ option_and_then (record_at self.now) (place_of (is_call no) self.now) }
+    {
+        match self.call(no) {
+            Some(place) => self.whole().record(place),
+            None => None,
+        }
+    }
+
     /// The calls of a document in their order, each with what was heard of it.
     pub fn records(&self, doc: usize) -> Result<Vec<Rec>, NoMemory>
         requires { doc < length (documents_of self.now) }

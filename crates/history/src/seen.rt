@@ -1,10 +1,9 @@
 ghost use Rattle.std.specs.Prelude.{◌≡◌};
-ghost use Rattle.history.specs.Seen.{condition_of, pair_named, pair_of_reply, seen_in, seen_with};
+ghost use Rattle.history.specs.Seen.{pair_named, seen_in, seen_with};
 
 use crate::event::Event;
 use crate::front::Front;
 use crate::history::History;
-use doc_register::{Op, Reply};
 use version_pair::Pair;
 
 /// The greatest primary term and the greatest sequence number in any reply or condition of a history; they need not
@@ -32,35 +31,13 @@ impl Seen {
     }
 }
 
-// The condition of an operation.
-fn condition(op: &Op) -> Option<Pair>
-    ensures { result ≡ condition_of op.now }
-{
-    match op {
-        Op::Get | Op::Create { .. } => None,
-        Op::Index { cond, .. } | Op::Delete { cond } => *cond,
-    }
-}
-
-// The pair of a reply.
-fn reply_pair(reply: &Reply) -> Option<Pair>
-    ensures { result ≡ pair_of_reply reply.now }
-{
-    match reply {
-        Reply::Indexed { pair, .. } | Reply::Deleted { pair, .. } | Reply::Found { pair, .. } => {
-            Some(*pair)
-        }
-        Reply::Missing | Reply::Conflict => None,
-    }
-}
-
 // The pair that an event names.
 fn event_pair(event: &Event) -> Option<Pair>
     ensures { result ≡ pair_named event.now }
 {
     match event {
-        Event::Call { op, .. } => condition(op),
-        Event::Reply { reply, .. } => reply_pair(reply),
+        Event::Call { op, .. } => op.condition(),
+        Event::Reply { reply, .. } => reply.pair(),
         Event::Lost { .. } => None,
     }
 }

@@ -1,4 +1,9 @@
-//! A guess at the reply at which the search for an order first fails. Nothing is promised of it.
+//! A guess at the reply at which the search for an order first fails. Nothing is promised of it: two searches confirm it, or
+//! all replies are halved.
+//!
+//! ```text
+//! let place = guessed(alloc, &history, Conflicts::Plain)?; // Option<usize>
+//! ```
 #![tactic(auto)]
 
 mod past;

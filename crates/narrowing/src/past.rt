@@ -1,8 +1,7 @@
-use doc_register::{Conflicts, DocState, Op, Reply, is_performed, state_after};
-use evidence::condition;
+use doc_register::{Conflicts, DocState, Op, Reply, exceeds, is_performed, state_after};
 use history::Rec;
 use std::alloc::Global;
-use version_pair::{NoMemory, Pair};
+use version_pair::NoMemory;
 
 // So many calls before the first one that a window has to hold it holds too: what a reply shows against another one mostly
 // stands near.
@@ -48,26 +47,13 @@ fn state_shown_before(found: Rec, place: usize) -> DocState {
     }
 }
 
-// The pair of the document's last change.
-fn last_pair(state: DocState) -> Option<Pair> {
-    match state {
-        DocState::Never => None,
-        DocState::Gone(pair) | DocState::Here(pair, _) => Some(pair),
-    }
-}
-
-/// Whether the pair is greater than that of the document's last change.
-pub fn is_later(pair: Pair, state: DocState) -> bool {
-    last_pair(state).is_none_or(|last| last.is_below(pair))
-}
-
 // Whether the write may be performed on the document, or after later changes of it.
 fn may_be_performed(op: Op, state: DocState) -> bool {
     match op {
         Op::Get => false,
         Op::Create { .. } => true,
         Op::Index { .. } | Op::Delete { .. } => {
-            is_performed(state, op) || condition(op).is_some_and(|pair| is_later(pair, state))
+            is_performed(state, op) || op.condition().is_some_and(|pair| exceeds(pair, state))
         }
     }
 }
@@ -117,7 +103,7 @@ impl Past {
     fn note_replies(&mut self, place: usize) {
         for found in &self.open {
             let shown = state_shown_before(*found, place);
-            if last_pair(shown).is_some_and(|pair| is_later(pair, self.state)) {
+            if shown.pair().is_some_and(|pair| exceeds(pair, self.state)) {
                 self.state = shown;
             }
         }

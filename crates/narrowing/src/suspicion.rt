@@ -1,24 +1,17 @@
-use doc_register::Reply;
 use history::{History, Rec};
 use std::alloc::Global;
 use version_pair::{NoMemory, Pair};
 
 // The pair that is given to the call, with the place of its reply.
 fn given_to(found: Rec) -> Option<(usize, Pair)> {
-    match found.heard {
-        Some((place, Reply::Indexed { pair, .. } | Reply::Deleted { pair, .. })) => {
-            Some((place, pair))
-        }
-        Some((_, Reply::Found { .. } | Reply::Missing | Reply::Conflict)) | None => None,
-    }
+    let (place, reply) = found.heard?;
+    Some((place, reply.pair_taken()?))
 }
 
 // The pair that the reply to the call shows, with the place of the reply.
 fn shown_to(found: Rec) -> Option<(usize, Pair)> {
-    match found.heard {
-        Some((place, Reply::Found { pair, .. })) => Some((place, pair)),
-        _ => given_to(found),
-    }
+    let (place, reply) = found.heard?;
+    Some((place, reply.pair()?))
 }
 
 // The lesser of two places, of which one may be none.

@@ -1,25 +1,12 @@
-use crate::past::{Past, is_later};
-use doc_register::{Conflicts, DocState, Op, Reply};
+use crate::past::Past;
+use doc_register::{Conflicts, DocState, Reply, exceeds};
 use history::Rec;
 use std::alloc::Global;
 use version_pair::NoMemory;
 
 // The answered write that makes the document what it is, before all other calls.
 fn change_to(state: DocState) -> Option<Rec> {
-    let (op, reply) = match state {
-        DocState::Never => return None,
-        DocState::Gone(pair) => (
-            Op::Delete { cond: None },
-            Reply::Deleted { pair, found: false },
-        ),
-        DocState::Here(pair, k) => (
-            Op::Index { k, cond: None },
-            Reply::Indexed {
-                pair,
-                created: true,
-            },
-        ),
-    };
+    let (op, reply) = state.making()?;
     Some(Rec {
         no: 0,
         op,
@@ -28,17 +15,11 @@ fn change_to(state: DocState) -> Option<Rec> {
     })
 }
 
-// The call, unanswered where its reply comes after the place.
-fn heard_to(found: Rec, place: usize) -> Rec {
-    let heard = found.heard.filter(|heard| heard.0 <= place);
-    Rec { heard, ..found }
-}
-
 // The call that reaches into the window, with what is heard of it there; `None` where it can't change the document.
 fn reaching(found: Rec, state: DocState, conflicts: Conflicts) -> Option<Rec> {
     match found.heard {
         Some((_, Reply::Indexed { pair, .. } | Reply::Deleted { pair, .. })) => {
-            if is_later(pair, state) {
+            if exceeds(pair, state) {
                 Some(found)
             } else {
                 None
@@ -74,12 +55,13 @@ pub fn window_of(
     place: usize,
     conflicts: Conflicts,
 ) -> Result<Vec<Rec>, NoMemory> {
+    let after = place.saturating_add(1);
     let mut window = Vec::new(alloc);
     if let Some(change) = change_to(past.state) {
         window.push(change)?;
     }
     for found in &past.open {
-        if let Some(found) = reaching(heard_to(*found, place), past.state, conflicts) {
+        if let Some(found) = reaching(found.known_before(after), past.state, conflicts) {
             push_later(&mut window, found)?;
         }
     }
@@ -88,7 +70,7 @@ pub fn window_of(
         if found.call_at > place {
             break;
         }
-        push_later(&mut window, heard_to(found, place))?;
+        push_later(&mut window, found.known_before(after))?;
     }
     Ok(window)
 }

@@ -137,10 +137,6 @@ const VERSION_START: &str = r#"<g class="version">"#;
 
 const GROUP_END: &str = "</g>\n";
 
-const HINT_START: &str = "<title>";
-
-const HINT_END: &str = "</title>";
-
 const BOX_X: &str = r#"<rect rx="3" x=""#;
 
 const BOX_Y: &str = r#"" y=""#;
@@ -148,8 +144,6 @@ const BOX_Y: &str = r#"" y=""#;
 const BOX_WIDTH: &str = r#"" width=""#;
 
 const BOX_HEIGHT: &str = r#"" height=""#;
-
-const LINE_X: &str = r#"<line x1=""#;
 
 const HERE_X: &str = r#"<line class="here" x1=""#;
 
@@ -176,8 +170,6 @@ const WORDS_X: &str = r#"<text x=""#;
 const WORDS_AT: &str = r#"">"#;
 
 const WORDS_END: &str = "</text>";
-
-const SPACE: &str = " ";
 
 /// What may stand in a page beside numbers and texts. It is written as it stands.
 #[derive(Clone, Copy, Debug, PartialEq, Eq)]
@@ -229,13 +221,10 @@ pub enum Markup {
     /// A version of the document.
     VersionStart,
     GroupEnd,
-    HintStart,
-    HintEnd,
     BoxX,
     BoxY,
     BoxWidth,
     BoxHeight,
-    LineX,
     /// The line at the broken reply.
     HereX,
     LineY,
@@ -253,7 +242,6 @@ pub enum Markup {
     WordsX,
     WordsAt,
     WordsEnd,
-    Space,
 }
 
 /// The bytes of the markup.
@@ -297,13 +285,10 @@ pub fn markup_text(markup: Markup) -> &'static str
         Markup::BrokenStart => BROKEN_START,
         Markup::VersionStart => VERSION_START,
         Markup::GroupEnd => GROUP_END,
-        Markup::HintStart => HINT_START,
-        Markup::HintEnd => HINT_END,
         Markup::BoxX => BOX_X,
         Markup::BoxY => BOX_Y,
         Markup::BoxWidth => BOX_WIDTH,
         Markup::BoxHeight => BOX_HEIGHT,
-        Markup::LineX => LINE_X,
         Markup::HereX => HERE_X,
         Markup::LineY => LINE_Y,
         Markup::LineToX => LINE_TO_X,
@@ -317,6 +302,5 @@ pub fn markup_text(markup: Markup) -> &'static str
         Markup::WordsX => WORDS_X,
         Markup::WordsAt => WORDS_AT,
         Markup::WordsEnd => WORDS_END,
-        Markup::Space => SPACE,
     }
 }

@@ -2,11 +2,11 @@ ghost use Rattle.std.specs.Prelude.{◌≡◌, ◌≢◌, ◌↔◌, IfErr, IfOk
 ghost use Rattle.std.specs.Io.KnownBytes.{Keeps};
 ghost use Rattle.recorded_runs.specs.Runs.{IsRunFault, IsRunOf, IsRunText, are_refused, is_refused, plan_of};
 ghost use Rattle.stream_io.specs.Written.{HasAnswer, HasFront};
-ghost use Rattle.recorded_runs.specs.aids.Recorded.{IsOfRecording, stream_fault_of, tells_copies};
+ghost use Rattle.recorded_runs.specs.aids.Recorded.{IsOfRecording, IsOfRun, tells_copies};
 ghost use Rattle.workload.specs.Plans.{refusal_told};
 
+use crate::run_fault::stream_fault;
 use crate::run_setting::RunSetting;
-use crate::unrecorded::{Unrecorded, cause_of};
 use history::{History, write};
 use recorder::{ClockRecorder, CloseFault, StartFault};
 use repl_group::{CoreFault, Group};
@@ -42,9 +42,10 @@ fn group_of(alloc: Global, setting: &RunSetting) -> Result<Group, CoreFault>
 }
 
 // The plan and the group of the setting. That a number is refused is told before want of memory.
-fn plan_and_group(alloc: Global, setting: &RunSetting) -> Result<(Plan, Group), Unrecorded>
+fn plan_and_group(alloc: Global, setting: &RunSetting) -> Result<(Plan, Group), StreamFault>
     ensures plan { IfOk result (λ made. made.0 ≡ plan_of setting.now) }
-    ensures setting { IsErrOf result Unrecorded.Setting ↔ IsTrue (is_refused setting.now) }
+    ensures setting { IsErrOf result StreamFault.Setting ↔ IsTrue (is_refused setting.now) }
+    ensures told { IfErr result IsOfRun }
 {
     let RunSetting {
         seed,
@@ -56,11 +57,11 @@ fn plan_and_group(alloc: Global, setting: &RunSetting) -> Result<(Plan, Group), 
     let plan = Plan::draw(alloc, seed, clients, calls, docs);
     let group = group_of(alloc, setting);
     if is_plan_refused(&plan) || is_group_refused(&group) {
-        return Err(Unrecorded::Setting);
+        return Err(StreamFault::Setting);
     }
     match (plan, group) {
         (Ok(plan), Ok(group)) => Ok((plan, group)),
-        _ => Err(Unrecorded::NoMemory),
+        _ => Err(StreamFault::NoMemory),
     }
 }
 
@@ -70,23 +71,23 @@ fn recorded<T: Threads + Wait + Sync>(
     alloc: Global,
     plan: &Plan,
     group: &Group,
-) -> Result<History, Unrecorded>
+) -> Result<History, StreamFault>
     ensures run { IfOk result (IsRunOf ⟦<Group as Target>⟧.issued ⟦<Group as Target>⟧.gave plan.now) }
     ensures told { IfErr result IsOfRecording }
 {
     let (recorder, pens) = match ClockRecorder::start(alloc, plan.clients()) {
         Ok(started) => started,
-        Err(StartFault::NoMemory) => return Err(Unrecorded::NoMemory),
+        Err(StartFault::NoMemory) => return Err(StreamFault::NoMemory),
         Err(StartFault::Count) => unreachable!(),
     };
     let pens = match run_clients(rt, alloc, plan, group, &recorder, pens, RUN_POLLS) {
         Ok(pens) => pens,
-        Err(fault) => return Err(cause_of(fault)),
+        Err(fault) => return Err(stream_fault(fault)),
     };
     match recorder.close(pens) {
         Ok(history) => Ok(history),
-        Err(CloseFault::NoMemory) => Err(Unrecorded::NoMemory),
-        Err(CloseFault::PenMissing(_, _) | CloseFault::Mismatch) => Err(Unrecorded::Recording),
+        Err(CloseFault::NoMemory) => Err(StreamFault::NoMemory),
+        Err(CloseFault::PenMissing(_, _) | CloseFault::Mismatch) => Err(StreamFault::Recording),
     }
 }
 
@@ -95,26 +96,16 @@ fn run_text<T: Threads + Wait + Sync>(
     rt: &T,
     alloc: Global,
     setting: &RunSetting,
-) -> Result<Vec<u8>, Unrecorded>
+) -> Result<Vec<u8>, StreamFault>
     ensures text { IfOk result (λ text. IsRunText ⟦<Group as Target>⟧.issued
         ⟦<Group as Target>⟧.gave setting.now text.items) }
-    ensures setting { IsErrOf result Unrecorded.Setting ↔ IsTrue (is_refused setting.now) }
+    ensures setting { IsErrOf result StreamFault.Setting ↔ IsTrue (is_refused setting.now) }
+    ensures told { IfErr result IsOfRun }
 {
     let (plan, group) = plan_and_group(alloc, setting)?;
     let history = recorded(rt, alloc, &plan, &group)?;
     let text = write(alloc, &history)?;
     Ok(text)
-}
-
-// Why there is no recording, as a fault of a stream.
-fn fault_of(cause: Unrecorded) -> StreamFault
-    ensures { result ≡ stream_fault_of cause }
-{
-    match cause {
-        Unrecorded::Setting => StreamFault::Setting,
-        Unrecorded::NoMemory => StreamFault::NoMemory,
-        Unrecorded::Recording => StreamFault::Recording,
-    }
 }
 
 /// Runs clients against a replication group, and writes the text of the history that they recorded.
@@ -146,10 +137,10 @@ pub fn run_stream<T: Threads + Wait + Sync, W: Write>(
     ensures told { IfErr result IsRunFault }
 {
     match run_text(rt, alloc, setting) {
-        Ok(text) => match write_text(writer, &text) {
-            Ok(()) => Ok(Status::Yes),
-            Err(_) => Err(StreamFault::Write),
-        },
-        Err(cause) => Err(fault_of(cause)),
+        Ok(text) => {
+            write_text(writer, &text)?;
+            Ok(Status::Yes)
+        }
+        Err(fault) => Err(fault),
     }
 }

@@ -1,5 +1,12 @@
 //! A recorder of histories: client threads record calls, replies and lost calls through pens, and what all pens recorded
-//! becomes one history.
+//! becomes one history. `Recorder` has one lock, `ClockRecorder` one atomic number.
+//!
+//! ```text
+//! let (recorder, mut pens) = ClockRecorder::start(alloc, 4)?;
+//! let no = recorder.call(&mut pens[0], id, Op::Get)?; // before the request leaves
+//! recorder.reply(&mut pens[0], no, Reply::Missing)?; // after the reply was received
+//! let history = recorder.close(pens)?;
+//! ```
 #![tactic(auto)]
 
 mod clock;

@@ -10,7 +10,7 @@ use std::alloc::Global;
 use std::marker::Model;
 
 /// The recording under the lock: the events of all pens, at most 1,048,576, in the order of their numbers from 0.
-#[derive(Debug, Drop)]
+#[derive(Drop)]
 pub struct Recorded {
     events: Vec<Event>,
 }

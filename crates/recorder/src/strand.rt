@@ -10,7 +10,7 @@ use std::collections::VecDeque;
 use std::marker::Model;
 
 /// The entries of a pen's list that were not met yet, while pens are closed.
-#[derive(Debug, Drop)]
+#[derive(Drop)]
 pub struct Strand {
     entries: VecDeque<(u64, Event)>,
 }

@@ -6,7 +6,7 @@ use history::Event;
 use version_pair::{DocId, NoMemory};
 
 /// An event that has no number yet.
-#[derive(Debug, Drop)]
+#[derive(Drop)]
 pub enum Unnumbered {
     Call { id: DocId, op: Op },
     Reply { no: u64, reply: Reply },

@@ -1,5 +1,7 @@
 ghost use Rattle.std.specs.Prelude.{◌≡◌};
 
+use thiserror::Error;
+
 /// What a replication group does wrong.
 #[derive(Clone, Copy, Debug, PartialEq, Eq)]
 pub enum Fault {
@@ -52,10 +54,12 @@ impl Fault {
 }
 
 /// Why a group was not made.
-#[derive(Clone, Copy, Debug, PartialEq, Eq)]
+#[derive(Clone, Copy, Debug, PartialEq, Eq, Error)]
 pub enum CoreFault {
     /// The number of copies is not 1 to 5.
+    #[error("a group has 1 to 5 copies")]
     Copies,
     /// A growth was refused memory.
+    #[error("no memory")]
     NoMemory,
 }

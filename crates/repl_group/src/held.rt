@@ -1,9 +1,9 @@
 ghost use Rattle.std.specs.Prelude.{◌≡◌, ℕ, ◌+◌, ◌==◌, [], IfOk, OnErr, OnOk, max, unwrap_or};
 ghost use Rattle.std.specs.Map.{lookup};
-ghost use Rattle.repl_group.specs.Copies.{document_after, is_above as above, is_below as below, made_by};
+ghost use Rattle.repl_group.specs.Copies.{document_after, is_above as above, made_by};
 
 use crate::held_write::HeldWrite;
-use doc_register::{DocState, state_after};
+use doc_register::{DocState, exceeds, state_after};
 use indexmap::IndexMap;
 use std::alloc::Global;
 use std::marker::Model;
@@ -31,17 +31,7 @@ impl Model for Held {
 fn is_above(pair: Pair, state: DocState) -> bool
     ensures { result ≡ above pair state }
 {
-    match state {
-        DocState::Never => true,
-        DocState::Gone(last) | DocState::Here(last, _) => is_below(last, pair),
-    }
-}
-
-// Whether the first pair is the smaller one.
-fn is_below(first: Pair, second: Pair) -> bool
-    ensures { result ≡ below first second }
-{
-    first.term() < second.term() || (first.term() == second.term() && first.seq() < second.seq())
+    exceeds(pair, state)
 }
 
 // What the write makes of its document.

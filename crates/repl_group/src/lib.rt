@@ -1,4 +1,12 @@
-//! A replication group: copies of a shard that serve submitted operations step by step, honestly or with a fault.
+//! A replication group: copies of a shard that serve submitted operations step by step, honestly or with a fault. A `Core`
+//! takes its steps by name, a `Group` draws them from a seed and is a target of clients.
+//!
+//! ```text
+//! let mut core = Core::new(alloc, 3, Fault::None)?;
+//! let answer = core.step(Step::Submit(id, Op::Get))?; // Answer::Ticket(0)
+//! core.step(Step::Serve(0))?;
+//! let reply = core.result(0); // Some(Reply::Missing)
+//! ```
 #![tactic(auto)]
 
 mod copies;

@@ -1,4 +1,4 @@
-ghost use Rattle.std.specs.Prelude.{◌≡◌, ℕ, ◌+◌, cond, ◌<◌, List, count_by, Some, [], false, length, slice_get, replicate, slice_set, vec_len, IfOk, OnErr, OnOk, map, true};
+ghost use Rattle.std.specs.Prelude.{◌≡◌, ℕ, ◌+◌, cond, ◌<◌, count_by, Some, false, slice_get, replicate, slice_set, vec_len, IfOk, OnErr, OnOk, map, true};
 ghost use Rattle.std.specs.Option.{option_copied};
 ghost use Rattle.repl_group.specs.declared.replica.Replica.{Replica as Kept};
 ghost use Rattle.repl_group.specs.aids.Following.{follows};

@@ -1,4 +1,4 @@
-ghost use Rattle.std.specs.Prelude.{◌≡◌, ◌<◌, ◌≤◌, ◌++◌, ◌∷◌, ◌==◌, [], Some, false, filter, length, nat_lt, not, slice_get, true, vec_capacity, vec_len, OnErr, OnOk};
+ghost use Rattle.std.specs.Prelude.{◌≡◌, ◌<◌, ◌++◌, ◌∷◌, ◌==◌, [], Some, false, filter, length, nat_lt, not, slice_get, true, vec_capacity, vec_len, OnErr, OnOk};
 ghost use Rattle.std.specs.List.{position};
 ghost use Rattle.repl_group.specs.Requests.{in_flight_from, is_busy as busy, is_in_flight, is_queued as queued, lost_request, with_flights_lost, with_stage};
 ghost use Rattle.repl_group.specs.aids.Tracking.{queued_request, put_in_order as put};

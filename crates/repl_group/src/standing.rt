@@ -1,5 +1,5 @@
 /// How a copy stands to the group.
-#[derive(Clone, Copy, Debug, PartialEq, Eq)]
+#[derive(Clone, Copy, PartialEq, Eq)]
 pub struct Standing {
     /// Whether it is cut off from the others.
     pub is_cut: bool,

@@ -1,4 +1,4 @@
-ghost use Rattle.std.specs.Prelude.{◌≡◌, ℕ, ◌<◌, ◌++◌, ◌∷◌, ◌==◌, [], IfOk, OnErr, OnOk, Some, None, if◌then◌else◌, is_some, length};
+ghost use Rattle.std.specs.Prelude.{◌≡◌, ℕ, ◌<◌, ◌++◌, ◌∷◌, ◌==◌, [], IfOk, OnErr, OnOk, Some, if◌then◌else◌, is_some, length};
 ghost use Rattle.std.specs.Map.{lookup};
 ghost use Rattle.repl_group.specs.Copies.{holds as is_held};
 ghost use Rattle.repl_group.specs.aids.Logging.{held_at};

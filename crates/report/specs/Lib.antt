@@ -1,4 +1,3 @@
 pub mod Bulk
 pub mod Verdict
 pub mod Explained
-pub mod aids

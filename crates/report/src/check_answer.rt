@@ -1,12 +1,12 @@
-ghost use Rattle.std.specs.Prelude.{◌≡◌, ◌≤◌, IfOk, ℕ, List, Err};
+ghost use Rattle.std.specs.Prelude.{◌≡◌, ◌≤◌, IfErr, IfOk, ℕ, List, Err};
 ghost use Rattle.doc_register.specs.declared.state.Conflicts.{Conflicts as Mode};
 ghost use Rattle.history.specs.Reading.{history_text};
 ghost use Rattle.history.specs.Text.{IsHistoryText};
 ghost use Rattle.compose.specs.Checked.{IsVerdictOn};
 ghost use Rattle.result_lines.specs.Lines.{no_line as told_no, refused_line as told_refused, refuted_line as told_refuted, yes_line as told_yes};
+ghost use Rattle.stream_io.specs.Faults.{IsCheckFault};
 ghost use Rattle.report.specs.Verdict.{AnswersInput, IsAnswer, IsWitnessAnswer};
 
-use crate::unanswered::Unanswered;
 use api_lines::TextFault;
 use check_pool::{NoGate, PoolFault};
 use compose::{
@@ -21,7 +21,7 @@ use std::alloc::Global;
 use std::io::Read;
 use std::sync::Wait;
 use std::thread::Threads;
-use stream_io::{Answer, Status, read_history};
+use stream_io::{Answer, Status, StreamFault, read_history};
 use version_pair::NoMemory;
 
 // The answer that an order explains the history.
@@ -99,23 +99,24 @@ fn verdict_by<R: Threads + Wait + Sync>(
     history: History,
     workers: usize,
     conflicts: Conflicts,
-) -> Result<Verdict, Unanswered>
+) -> Result<Verdict, StreamFault>
     requires some { 1 ≤ workers }
     requires few { workers ≤ 16 }
-    ensures { IfOk result (IsVerdictOn conflicts history) }
+    ensures verdict { IfOk result (IsVerdictOn conflicts history) }
+    ensures told { IfErr result IsCheckFault }
 {
     if workers == 1 {
         return match check_alone(alloc, history, conflicts) {
             Ok(verdict) => Ok(verdict),
-            Err(_) => Err(Unanswered::NoMemory),
+            Err(_) => Err(StreamFault::NoMemory),
         };
     }
     match check(rt, alloc, history, workers, conflicts, &NoGate) {
         Ok(verdict) => Ok(verdict),
-        Err(CheckFault::NoMemory(_)) => Err(Unanswered::NoMemory),
+        Err(CheckFault::NoMemory(_)) => Err(StreamFault::NoMemory),
         Err(CheckFault::Pool(fault, _)) => match fault {
             PoolFault::Lost(doc) | PoolFault::Double(doc) | PoolFault::Stranger(doc) => {
-                Err(Unanswered::Worker(doc))
+                Err(StreamFault::Worker(doc))
             }
             PoolFault::NoMemory | PoolFault::NoWorkers | PoolFault::TooMany => unreachable!(),
         },
@@ -129,11 +130,12 @@ pub fn history_answer<R: Threads + Wait + Sync>(
     history: History,
     workers: usize,
     conflicts: Conflicts,
-) -> Result<(Answer, Finding), Unanswered>
+) -> Result<(Answer, Finding), StreamFault>
     requires some { 1 ≤ workers }
     requires few { workers ≤ 16 }
-    ensures { IfOk result (λ told. (input : List ℕ) → IsHistoryText input history
+    ensures answer { IfOk result (λ told. (input : List ℕ) → IsHistoryText input history
         → IsAnswer conflicts input told.0.status told.0.text.items) }
+    ensures told { IfErr result IsCheckFault }
 {
     match verdict_by(rt, alloc, history, workers, conflicts) {
         Ok(Verdict::Yes(proof)) => {
@@ -156,11 +158,12 @@ pub fn check_answer<T: Threads + Wait + Sync, R: Read>(
     reader: &mut R,
     workers: usize,
     conflicts: Conflicts,
-) -> Result<Answer, Unanswered>
+) -> Result<Answer, StreamFault>
     requires some { 1 ≤ workers }
     requires few { workers ≤ 16 }
-    ensures { IfOk result (λ answer. AnswersInput conflicts (R.remaining reader.old) answer.status
+    ensures answer { IfOk result (λ answer. AnswersInput conflicts (R.remaining reader.old) answer.status
         answer.text.items) }
+    ensures told { IfErr result IsCheckFault }
 {
     match read_history(alloc, keys, reader) {
         Ok(Ok(history)) => {
@@ -171,6 +174,6 @@ pub fn check_answer<T: Threads + Wait + Sync, R: Read>(
             let answer = refusal(alloc, fault)?;
             Ok(answer)
         }
-        Err(fault) => Err(Unanswered::from(fault)),
+        Err(fault) => Err(StreamFault::from(fault)),
     }
 }

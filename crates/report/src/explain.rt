@@ -1,22 +1,53 @@
 //! Stories: what an answer means, for people.
 
-ghost use Rattle.std.specs.Prelude.{◌≡◌, ◌≤◌, ◌++◌, ℕ, List, IfOk};
+ghost use Rattle.std.specs.Prelude.{◌≡◌, ◌≤◌, ◌++◌, ℕ, List, IfErr, IfOk};
 ghost use Rattle.page.specs.Pages.{IsPage};
+ghost use Rattle.stream_io.specs.Faults.{IsCheckFault};
 ghost use Rattle.report.specs.Explained.{ExplainsInput};
 ghost use Rattle.report.specs.Verdict.{AnswersInput};
 
 use crate::check_answer::{history_answer, refusal};
 use crate::numbered_input::read_numbered;
-use crate::unanswered::Unanswered;
+use compose::{Counts, Finding};
 use doc_register::Conflicts;
 use history::HashKeys;
 use std::alloc::Global;
 use std::io::Read;
 use std::sync::Wait;
 use std::thread::Threads;
-use story::{Story, page_of, plain_text, refused_story, story_of};
-use stream_io::Answer;
+use story::{
+    EventLines, Explained, Story, Unexplained, explained_story, failing_story, page_of, plain_text,
+    refused_story,
+};
+use stream_io::{Answer, StreamFault};
 use version_pair::NoMemory;
+
+// What is told of a history.
+fn story_of(alloc: Global, finding: &Finding, lines: &EventLines) -> Result<Story, NoMemory> {
+    match finding {
+        Finding::Explained(proof) => {
+            let counts = Counts::of(proof);
+            let explained = Explained {
+                docs: counts.docs,
+                calls: counts.calls,
+                left_out: counts.left_out,
+                witnesses: proof.witnesses(),
+            };
+            explained_story(alloc, &explained, lines)
+        }
+        Finding::Unexplained(case, failing) => {
+            let unexplained = Unexplained {
+                history: case.history(),
+                conflicts: case.conflicts(),
+                evidence: failing.evidence,
+                event: failing.offence.event,
+                call: failing.offence.call,
+                before_shown: failing.offence.before_shown,
+            };
+            failing_story(alloc, &unexplained, lines)
+        }
+    }
+}
 
 // The line of a check of the text of a reader, and what it means.
 fn explained<T: Threads + Wait + Sync, R: Read>(
@@ -26,11 +57,12 @@ fn explained<T: Threads + Wait + Sync, R: Read>(
     reader: &mut R,
     workers: usize,
     conflicts: Conflicts,
-) -> Result<(Answer, Story), Unanswered>
+) -> Result<(Answer, Story), StreamFault>
     requires some { 1 ≤ workers }
     requires few { workers ≤ 16 }
-    ensures { IfOk result (λ told. AnswersInput conflicts (R.remaining reader.old) told.0.status
+    ensures answer { IfOk result (λ told. AnswersInput conflicts (R.remaining reader.old) told.0.status
         told.0.text.items) }
+    ensures told { IfErr result IsCheckFault }
 {
     match read_numbered(alloc, keys, reader) {
         Ok(Ok((history, lines))) => {
@@ -43,7 +75,7 @@ fn explained<T: Threads + Wait + Sync, R: Read>(
             let story = refused_story(alloc, &refused)?;
             Ok((answer, story))
         }
-        Err(fault) => Err(Unanswered::from(fault)),
+        Err(fault) => Err(StreamFault::from(fault)),
     }
 }
 
@@ -72,11 +104,12 @@ pub fn explained_text<T: Threads + Wait + Sync, R: Read>(
     reader: &mut R,
     workers: usize,
     conflicts: Conflicts,
-) -> Result<Answer, Unanswered>
+) -> Result<Answer, StreamFault>
     requires some { 1 ≤ workers }
     requires few { workers ≤ 16 }
-    ensures { IfOk result (λ told. ExplainsInput conflicts (R.remaining reader.old) told.status
+    ensures answer { IfOk result (λ told. ExplainsInput conflicts (R.remaining reader.old) told.status
         told.text.items) }
+    ensures told { IfErr result IsCheckFault }
 {
     let (answer, story) = explained(rt, alloc, keys, reader, workers, conflicts)?;
     let told = with_story(alloc, answer, &story)?;
@@ -91,12 +124,13 @@ pub fn explained_page<T: Threads + Wait + Sync, R: Read>(
     reader: &mut R,
     workers: usize,
     conflicts: Conflicts,
-) -> Result<(Answer, Vec<u8>), Unanswered>
+) -> Result<(Answer, Vec<u8>), StreamFault>
     requires some { 1 ≤ workers }
     requires few { workers ≤ 16 }
     ensures text { IfOk result (λ told. ExplainsInput conflicts (R.remaining reader.old) told.0.status
         told.0.text.items) }
     ensures page { IfOk result (λ told. IsPage told.1.items) }
+    ensures told { IfErr result IsCheckFault }
 {
     let (answer, story) = explained(rt, alloc, keys, reader, workers, conflicts)?;
     let page = page_of(alloc, line_of(&answer), &story)?;

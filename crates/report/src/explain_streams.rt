@@ -1,7 +1,8 @@
-ghost use Rattle.std.specs.Prelude.{◌≡◌, ◌≤◌, ℕ, IfOk, IsErrOf, OnOk};
+ghost use Rattle.std.specs.Prelude.{◌≢◌, ◌≤◌, IfErr, IfOk, IsErrOf, OnOk};
 ghost use Rattle.std.specs.Io.KnownBytes.{Keeps};
 ghost use Rattle.page.specs.Pages.{IsPage};
 ghost use Rattle.report.specs.Explained.{ExplainsInput, HasPageFront};
+ghost use Rattle.stream_io.specs.Faults.{IsWorkedFault};
 ghost use Rattle.stream_io.specs.Written.{HasAnswer, HasFront};
 
 use crate::explain::{explained_page, explained_text};
@@ -34,16 +35,13 @@ pub fn explain_stream<T: Threads + Wait + Sync, R: Read, W: Write>(
     ensures cut_off { IsErrOf result StreamFault.Write
         → HasFront (ExplainsInput conflicts (R.remaining reader.old)) (W.contents writer.old)
         (W.contents writer.new) }
-    ensures unread { IsErrOf result StreamFault.Read → Keeps (W.contents writer.old)
-        (W.contents writer.new) }
-    ensures no_memory { IsErrOf result StreamFault.NoMemory → Keeps (W.contents writer.old)
-        (W.contents writer.new) }
-    ensures worker_lost { (doc : ℕ) → IsErrOf result (StreamFault.Worker doc)
-        → Keeps (W.contents writer.old) (W.contents writer.new) }
+    ensures kept { IfErr result (λ fault. fault ≢ StreamFault.Write
+        → Keeps (W.contents writer.old) (W.contents writer.new)) }
+    ensures told { IfErr result IsWorkedFault }
 {
     match explained_text(rt, alloc, keys, reader, workers, conflicts) {
         Ok(answer) => write_answer(writer, &answer),
-        Err(fault) => Err(StreamFault::from(fault)),
+        Err(fault) => Err(fault),
     }
 }
 
@@ -70,24 +68,19 @@ pub fn explain_page_stream<T: Threads + Wait + Sync, R: Read, W: Write, P: Write
         (W.contents writer.new) }
     ensures page_cut_off { IsErrOf result StreamFault.Write
         → HasPageFront (P.contents page.old) (P.contents page.new) }
-    ensures unread { IsErrOf result StreamFault.Read
+    ensures kept { IfErr result (λ fault. fault ≢ StreamFault.Write
         → Keeps (W.contents writer.old) (W.contents writer.new)
-        × Keeps (P.contents page.old) (P.contents page.new) }
-    ensures no_memory { IsErrOf result StreamFault.NoMemory
-        → Keeps (W.contents writer.old) (W.contents writer.new)
-        × Keeps (P.contents page.old) (P.contents page.new) }
-    ensures worker_lost { (doc : ℕ) → IsErrOf result (StreamFault.Worker doc)
-        → Keeps (W.contents writer.old) (W.contents writer.new)
-        × Keeps (P.contents page.old) (P.contents page.new) }
+        × Keeps (P.contents page.old) (P.contents page.new)) }
+    ensures told { IfErr result IsWorkedFault }
 {
     let (answer, bytes) = match explained_page(rt, alloc, keys, reader, workers, conflicts) {
         Ok(told) => told,
-        Err(fault) => return Err(StreamFault::from(fault)),
+        Err(fault) => return Err(fault),
     };
     match write_answer(writer, &answer) {
         Ok(status) => match write_text(page, &bytes) {
             Ok(()) => Ok(status),
-            Err(_) => Err(StreamFault::Write),
+            Err(fault) => Err(fault),
         },
         Err(fault) => Err(fault),
     }

@@ -1,5 +1,10 @@
-//! Bytes in, a line or a text out: a history checked, and what was found told; its witness written, a witness verified, a bulk as
-//! history lines.
+//! Bytes in, a line or a text out: a history checked, and what was found told; its witness written, a witness verified, a bulk
+//! as history lines. Whoever wants the checker as a library takes this crate.
+//!
+//! ```text
+//! let status = check_stream(rt, alloc, keys, &mut reader, &mut writer, 1, Conflicts::Plain)?;
+//! let passed = status == Status::Yes;
+//! ```
 #![tactic(auto)]
 
 mod bulk_answer;
@@ -8,7 +13,6 @@ mod explain;
 mod explain_streams;
 mod numbered_input;
 mod streams;
-mod unanswered;
 mod verify_answer;
 mod verify_input;
 mod witness_answer;

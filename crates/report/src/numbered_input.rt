@@ -2,12 +2,12 @@ ghost use Rattle.std.specs.Prelude.{◌≡◌, Err, IfOk, IfSome, MatchResult, O
 ghost use Rattle.history.specs.Reading.{history_text};
 ghost use Rattle.history.specs.Text.{IsHistoryText};
 
-use api_lines::InputFault;
+use api_lines::{InputFault, RefusedLine};
 use history::laws::texts_are_read;
 use history::{HashKeys, History};
 use std::alloc::Global;
 use std::io::{BufReader, Read};
-use story::{EventLines, RefusedLine, numbered};
+use story::{EventLines, numbered};
 use stream_io::CHUNK;
 
 /// The history, with these keys, whose text the reader has to its end, and on which lines its events stand; or the first line

@@ -1,15 +1,14 @@
-ghost use Rattle.std.specs.Prelude.{◌≡◌, ◌≢◌, ◌≤◌, ℕ, IfOk, IsErrOf};
+ghost use Rattle.std.specs.Prelude.{◌≢◌, ◌≤◌, IfErr, IfOk, IsErrOf};
 ghost use Rattle.std.specs.Io.KnownBytes.{Keeps};
-ghost use Rattle.report.specs.aids.Faults.{stream_fault};
 ghost use Rattle.report.specs.Bulk.{AnswersBulk};
-ghost use Rattle.report.specs.Verdict.{AnswersInput, IsAnswered, IsCutOff, VerifiesInputs, WitnessesInput};
+ghost use Rattle.report.specs.Verdict.{IsAnswered, IsCutOff, VerifiesInputs, WitnessesInput};
+ghost use Rattle.stream_io.specs.Faults.{IsStreamFault, IsWorkedFault};
 ghost use Rattle.stream_io.specs.Written.{HasAnswer, HasFront};
 
 use crate::bulk_answer::bulk_answer;
 use crate::check_answer::check_answer;
 use crate::verify_input::verify_input;
 use crate::witness_answer::witness_answer;
-use api_lines::InputFault;
 use doc_register::Conflicts;
 use history::HashKeys;
 use std::alloc::Global;
@@ -17,16 +16,6 @@ use std::io::{Read, Write};
 use std::sync::Wait;
 use std::thread::Threads;
 use stream_io::{Status, StreamFault, read_all, write_answer};
-
-// A fault of the input as one of a stream.
-fn fault_of(fault: InputFault) -> StreamFault
-    ensures { result ≡ stream_fault fault }
-{
-    match fault {
-        InputFault::Read => StreamFault::Read,
-        InputFault::NoMemory => StreamFault::NoMemory,
-    }
-}
 
 /// Reads a history text to its end and writes one line: `yes docs=D calls=C left_out=L` where one order of its
 /// calls, over all documents, explains it; `no event=E call=N before=shown` (or `unshown`) where none was found;
@@ -65,16 +54,13 @@ pub fn check_stream<T: Threads + Wait + Sync, R: Read, W: Write>(
         → IsCutOff conflicts (R.remaining reader.old) (W.contents writer.old)
         (W.contents writer.new) }
     // After any other fault nothing is.
-    ensures unread { IsErrOf result StreamFault.Read → Keeps (W.contents writer.old)
-        (W.contents writer.new) }
-    ensures no_memory { IsErrOf result StreamFault.NoMemory → Keeps (W.contents writer.old)
-        (W.contents writer.new) }
-    ensures worker_lost { (doc : ℕ) → IsErrOf result (StreamFault.Worker doc)
-        → Keeps (W.contents writer.old) (W.contents writer.new) }
+    ensures kept { IfErr result (λ fault. fault ≢ StreamFault.Write
+        → Keeps (W.contents writer.old) (W.contents writer.new)) }
+    ensures told { IfErr result IsWorkedFault }
 {
     match check_answer(rt, alloc, keys, reader, workers, conflicts) {
         Ok(answer) => write_answer(writer, &answer),
-        Err(fault) => Err(StreamFault::from(fault)),
+        Err(fault) => Err(fault),
     }
 }
 
@@ -96,14 +82,13 @@ pub fn witness_stream<R: Read, W: Write>(
     ensures cut_off { IsErrOf result StreamFault.Write
         → HasFront (WitnessesInput conflicts (R.remaining reader.old)) (W.contents writer.old)
         (W.contents writer.new) }
-    ensures unread { IsErrOf result StreamFault.Read → Keeps (W.contents writer.old)
-        (W.contents writer.new) }
-    ensures no_memory { IsErrOf result StreamFault.NoMemory → Keeps (W.contents writer.old)
-        (W.contents writer.new) }
+    ensures kept { IfErr result (λ fault. fault ≢ StreamFault.Write
+        → Keeps (W.contents writer.old) (W.contents writer.new)) }
+    ensures told { IfErr result IsStreamFault }
 {
     match witness_answer(alloc, keys, reader, conflicts) {
         Ok(answer) => write_answer(writer, &answer),
-        Err(fault) => Err(fault_of(fault)),
+        Err(fault) => Err(fault),
     }
 }
 
@@ -129,14 +114,13 @@ pub fn verify_stream<R: Read, Q: Read, W: Write>(
     ensures cut_off { IsErrOf result StreamFault.Write
         → HasFront (VerifiesInputs conflicts (R.remaining history.old) (Q.remaining witness.old))
         (W.contents writer.old) (W.contents writer.new) }
-    ensures unread { IsErrOf result StreamFault.Read → Keeps (W.contents writer.old)
-        (W.contents writer.new) }
-    ensures no_memory { IsErrOf result StreamFault.NoMemory → Keeps (W.contents writer.old)
-        (W.contents writer.new) }
+    ensures kept { IfErr result (λ fault. fault ≢ StreamFault.Write
+        → Keeps (W.contents writer.old) (W.contents writer.new)) }
+    ensures told { IfErr result IsStreamFault }
 {
     match verify_input(alloc, keys, history, witness, conflicts) {
         Ok(answer) => write_answer(writer, &answer),
-        Err(fault) => Err(fault_of(fault)),
+        Err(fault) => Err(fault),
     }
 }
 
@@ -160,18 +144,17 @@ pub fn bulk_stream<R: Read, Q: Read, W: Write>(
     ensures cut_off { IsErrOf result StreamFault.Write
         → HasFront (AnswersBulk first (R.remaining body.old) (Q.remaining reply.old))
         (W.contents writer.old) (W.contents writer.new) }
-    ensures unread { IsErrOf result StreamFault.Read → Keeps (W.contents writer.old)
-        (W.contents writer.new) }
-    ensures no_memory { IsErrOf result StreamFault.NoMemory → Keeps (W.contents writer.old)
-        (W.contents writer.new) }
+    ensures kept { IfErr result (λ fault. fault ≢ StreamFault.Write
+        → Keeps (W.contents writer.old) (W.contents writer.new)) }
+    ensures told { IfErr result IsStreamFault }
 {
     let body = match read_all(alloc, body) {
         Ok(bytes) => bytes,
-        Err(fault) => return Err(fault_of(fault)),
+        Err(fault) => return Err(StreamFault::from(fault)),
     };
     let reply = match read_all(alloc, reply) {
         Ok(bytes) => bytes,
-        Err(fault) => return Err(fault_of(fault)),
+        Err(fault) => return Err(StreamFault::from(fault)),
     };
     match bulk_answer(alloc, first, &body, &reply) {
         Ok(answer) => write_answer(writer, &answer),

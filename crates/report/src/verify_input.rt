@@ -1,14 +1,14 @@
-ghost use Rattle.std.specs.Prelude.{IfOk, IfSome, ℕ, List};
+ghost use Rattle.std.specs.Prelude.{IfErr, IfOk, IfSome, ℕ, List};
 ghost use Rattle.history.specs.Text.{IsHistoryText};
+ghost use Rattle.stream_io.specs.Faults.{IsReadingFault};
 ghost use Rattle.report.specs.Verdict.{IsVerifyAnswer, VerifiesInputs};
 
 use crate::verify_answer::{entries_answer, refused_history, refused_witness};
-use api_lines::InputFault;
 use doc_register::Conflicts;
 use history::{HashKeys, History};
 use std::alloc::Global;
 use std::io::Read;
-use stream_io::{Answer, read_entries, read_history};
+use stream_io::{Answer, StreamFault, read_entries, read_history};
 
 // The answer to the witness text of a reader, for this history.
 fn read_witness_answer<Q: Read>(
@@ -16,10 +16,11 @@ fn read_witness_answer<Q: Read>(
     history: History,
     witness: &mut Q,
     conflicts: Conflicts,
-) -> Result<Answer, InputFault>
-    ensures { IfOk result (λ answer. (input : List ℕ) → IsHistoryText input history
+) -> Result<Answer, StreamFault>
+    ensures answer { IfOk result (λ answer. (input : List ℕ) → IsHistoryText input history
         → IfSome (Q.remaining witness.old) (λ w. IsVerifyAnswer conflicts input w answer.status
         answer.text.items)) }
+    ensures told { IfErr result IsReadingFault }
 {
     match read_entries(alloc, witness) {
         Ok(Ok(entries)) => {
@@ -30,7 +31,7 @@ fn read_witness_answer<Q: Read>(
             let answer = refused_witness(alloc, fault)?;
             Ok(answer)
         }
-        Err(fault) => Err(fault),
+        Err(fault) => Err(StreamFault::from(fault)),
     }
 }
 
@@ -42,9 +43,10 @@ pub fn verify_input<R: Read, Q: Read>(
     history: &mut R,
     witness: &mut Q,
     conflicts: Conflicts,
-) -> Result<Answer, InputFault>
-    ensures { IfOk result (λ answer. VerifiesInputs conflicts (R.remaining history.old)
+) -> Result<Answer, StreamFault>
+    ensures answer { IfOk result (λ answer. VerifiesInputs conflicts (R.remaining history.old)
         (Q.remaining witness.old) answer.status answer.text.items) }
+    ensures told { IfErr result IsReadingFault }
 {
     match read_history(alloc, keys, history) {
         Ok(Ok(found)) => read_witness_answer(alloc, found, witness, conflicts),
@@ -52,6 +54,6 @@ pub fn verify_input<R: Read, Q: Read>(
             let answer = refused_history(alloc, fault)?;
             Ok(answer)
         }
-        Err(fault) => Err(fault),
+        Err(fault) => Err(StreamFault::from(fault)),
     }
 }

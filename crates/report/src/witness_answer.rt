@@ -1,15 +1,15 @@
-ghost use Rattle.std.specs.Prelude.{◌≡◌, IfOk, ℕ, List};
+ghost use Rattle.std.specs.Prelude.{IfErr, IfOk, ℕ, List};
 ghost use Rattle.history.specs.Text.{IsHistoryText};
+ghost use Rattle.stream_io.specs.Faults.{IsReadingFault};
 ghost use Rattle.report.specs.Verdict.{IsWitnessAnswer, WitnessesInput};
 
 use crate::check_answer::{case_answer, refusal};
-use api_lines::InputFault;
 use compose::{Verdict, check_alone};
 use doc_register::Conflicts;
 use history::{HashKeys, History};
 use std::alloc::{AllocError, Global};
 use std::io::Read;
-use stream_io::{Answer, Status, read_history};
+use stream_io::{Answer, Status, StreamFault, read_history};
 use version_pair::NoMemory;
 use witness::write_witness;
 
@@ -44,9 +44,10 @@ pub fn witness_answer<R: Read>(
     keys: HashKeys,
     reader: &mut R,
     conflicts: Conflicts,
-) -> Result<Answer, InputFault>
-    ensures { IfOk result (λ answer. WitnessesInput conflicts (R.remaining reader.old) answer.status
+) -> Result<Answer, StreamFault>
+    ensures answer { IfOk result (λ answer. WitnessesInput conflicts (R.remaining reader.old) answer.status
         answer.text.items) }
+    ensures told { IfErr result IsReadingFault }
 {
     match read_history(alloc, keys, reader) {
         Ok(Ok(history)) => {
@@ -57,6 +58,6 @@ pub fn witness_answer<R: Read>(
             let answer = refusal(alloc, fault)?;
             Ok(answer)
         }
-        Err(fault) => Err(fault),
+        Err(fault) => Err(StreamFault::from(fault)),
     }
 }

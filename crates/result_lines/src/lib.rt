@@ -1,4 +1,8 @@
 //! The lines that are written: each answer in the words that its definition gives.
+//!
+//! ```text
+//! let line = no_line(alloc, offence)?; // no event=6 call=3 before=shown
+//! ```
 #![tactic(auto)]
 
 mod broken;

@@ -1,8 +1,9 @@
 use crate::event_lines::EventLines;
 use crate::parts::{CallTold, Mark};
+use crate::subject::Unexplained;
 use crate::words::{heard_words, listed, op_words, shown};
-use compose::{Failing, Refuted};
-use doc_register::{Conflicts, Op, Reply};
+use doc_register::{Op, Reply};
+use evidence::Refuted;
 use history::{Event, History, Rec};
 use std::alloc::Global;
 use version_pair::{DocId, NoMemory, Pair};
@@ -15,34 +16,15 @@ pub struct Call<'h> {
     pub record: Rec,
 }
 
-// The reply at a place.
-fn reply_at(history: &History, place: usize) -> Option<(usize, Reply)> {
-    if place >= history.len() {
-        return None;
-    }
-    match history.event(place) {
-        Event::Reply { reply, .. } => Some((place, *reply)),
-        Event::Call { .. } | Event::Lost { .. } => None,
-    }
-}
-
 /// The call with this number.
 pub fn call_of(history: &History, no: u64) -> Option<Call<'_>> {
     let place = history.call(no)?;
-    let heard = match history.ending(no) {
-        Some(ending) => reply_at(history, ending),
-        None => None,
-    };
+    let record = history.record(no)?;
     match history.event(place) {
-        Event::Call { id, shard, op, .. } => Some(Call {
+        Event::Call { id, shard, .. } => Some(Call {
             id,
             shard: *shard,
-            record: Rec {
-                no,
-                op: *op,
-                call_at: place,
-                heard,
-            },
+            record,
         }),
         Event::Reply { .. } | Event::Lost { .. } => None,
     }
@@ -54,14 +36,6 @@ impl Call<'_> {
         self.record.heard.map(|heard| heard.0)
     }
 
-    /// The pair with which it was performed, as its reply shows it.
-    pub fn pair_taken(&self) -> Option<Pair> {
-        match self.record.heard {
-            Some((_, Reply::Indexed { pair, .. } | Reply::Deleted { pair, .. })) => Some(pair),
-            _ => None,
-        }
-    }
-
     /// The version that it found, and its number.
     pub fn found(&self) -> Option<(Pair, u64)> {
         match self.record.heard {
@@ -70,27 +44,9 @@ impl Call<'_> {
         }
     }
 
-    /// The version that it asks for.
-    pub fn condition(&self) -> Option<Pair> {
-        match self.record.op {
-            Op::Index { cond, .. } | Op::Delete { cond } => cond,
-            Op::Get | Op::Create { .. } => None,
-        }
-    }
-
     /// Whether it is a write without a reply.
     pub fn may_have_happened(&self) -> bool {
         self.record.heard.is_none() && self.record.op != Op::Get
-    }
-
-    /// Whether it is a write of which no reply tells whether it was performed.
-    pub fn is_unsettled(&self, conflicts: Conflicts) -> bool {
-        if conflicts == Conflicts::Maybe {
-            if let Some((_, Reply::Conflict)) = self.record.heard {
-                return true;
-            }
-        }
-        self.may_have_happened()
     }
 
     // Whether the two were open at the same time.
@@ -124,15 +80,15 @@ pub struct Named {
 
 impl Named {
     /// What the calls of an offence and of evidence name.
-    pub fn of(alloc: Global, history: &History, failing: &Failing) -> Result<Named, NoMemory> {
+    pub fn of(alloc: Global, unexplained: &Unexplained<'_>) -> Result<Named, NoMemory> {
         let mut named = Named {
-            broken: failing.offence.call,
-            evidence: evidence_calls(alloc, failing.evidence)?,
+            broken: unexplained.call,
+            evidence: evidence_calls(alloc, unexplained.evidence)?,
             pairs: Vec::new(alloc),
         };
-        named.note_pairs(history, failing.offence.call)?;
-        for no in evidence_calls(alloc, failing.evidence)?.iter() {
-            named.note_pairs(history, *no)?;
+        named.note_pairs(unexplained.history, unexplained.call)?;
+        for no in evidence_calls(alloc, unexplained.evidence)?.iter() {
+            named.note_pairs(unexplained.history, *no)?;
         }
         Ok(named)
     }
@@ -140,13 +96,13 @@ impl Named {
     // Notes the versions that the call names.
     fn note_pairs(&mut self, history: &History, no: u64) -> Result<(), NoMemory> {
         if let Some(call) = call_of(history, no) {
-            if let Some(pair) = call.pair_taken() {
+            if let Some(pair) = call.record.pair_taken() {
                 self.pairs.push(pair)?;
             }
             if let Some((pair, _)) = call.found() {
                 self.pairs.push(pair)?;
             }
-            if let Some(pair) = call.condition() {
+            if let Some(pair) = call.record.op.condition() {
                 self.pairs.push(pair)?;
             }
         }
@@ -169,7 +125,7 @@ impl Named {
         if self.mark(call.record.no) != Mark::Plain {
             return true;
         }
-        match call.pair_taken() {
+        match call.record.pair_taken() {
             Some(taken) => self.pairs.iter().any(|pair| *pair == taken),
             None => false,
         }

@@ -1,8 +1,8 @@
 use crate::calls::{Call, call_of, id_words};
 use crate::event_lines::EventLines;
 use crate::words::{op_words, pair_words};
-use compose::Refuted;
 use doc_register::Conflicts;
+use evidence::Refuted;
 use history::History;
 use std::alloc::Global;
 use version_pair::{NoMemory, Pair};
@@ -132,18 +132,18 @@ pub fn evidence_words(
     let (Some(first), Some(second)) = (call_of(history, one), call_of(history, two)) else {
         return Ok(None);
     };
-    let words = match (evidence, first.pair_taken(), first.found()) {
+    let words = match (evidence, first.record.pair_taken(), first.found()) {
         (Refuted::PairTwice(..), Some(pair), _) => {
             pair_twice(alloc, lines, &first, &second, pair)?
         }
         (Refuted::NoWriter(_), _, Some(found)) => {
             no_writer(alloc, lines, &first, found, conflicts)?
         }
-        (Refuted::StaleGet(..), _, Some((found, _))) => match second.pair_taken() {
+        (Refuted::StaleGet(..), _, Some((found, _))) => match second.record.pair_taken() {
             Some(taken) => stale_get(alloc, lines, &first, &second, found, taken)?,
             None => return Ok(None),
         },
-        (Refuted::StaleSwap(..), Some(taken), _) => match second.condition() {
+        (Refuted::StaleSwap(..), Some(taken), _) => match second.record.op.condition() {
             Some(asked) => stale_swap(alloc, lines, &first, &second, taken, asked)?,
             None => return Ok(None),
         },

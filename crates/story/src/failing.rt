@@ -5,19 +5,20 @@ use crate::evidence_words::evidence_words;
 use crate::kept::{Kept, MOST_DRAWN};
 use crate::order_before::{OrderBefore, order_before, places_told};
 use crate::parts::{Part, Story};
+use crate::subject::Unexplained;
 use crate::telling::MOST_TOLD;
 use crate::words::{NOTATION, heard_words, op_words};
-use compose::{Case, Failing};
 use doc_register::Conflicts;
 use history::{Event, History};
 use std::alloc::Global;
 use version_pair::NoMemory;
 
 // The documents of the offence and of the evidence, the offence's first, by their numbers.
-fn subjects(alloc: Global, history: &History, failing: &Failing) -> Result<Vec<usize>, NoMemory> {
+fn subjects(alloc: Global, unexplained: &Unexplained<'_>) -> Result<Vec<usize>, NoMemory> {
+    let history = unexplained.history;
     let mut docs = Vec::new(alloc);
-    let mut numbers = vec![in alloc; failing.offence.call]?;
-    numbers.extend_from_slice(evidence_calls(alloc, failing.evidence)?.as_slice())?;
+    let mut numbers = vec![in alloc; unexplained.call]?;
+    numbers.extend_from_slice(evidence_calls(alloc, unexplained.evidence)?.as_slice())?;
     for no in numbers.iter() {
         if let Some(call) = call_of(history, *no) {
             if let Some(doc) = history.doc_of(call.id) {
@@ -31,9 +32,10 @@ fn subjects(alloc: Global, history: &History, failing: &Failing) -> Result<Vec<u
 }
 
 // The last event that matters: the broken reply, or a later event of the evidence.
-fn last_event(alloc: Global, history: &History, failing: &Failing) -> Result<usize, NoMemory> {
-    let mut last = failing.offence.event;
-    for no in evidence_calls(alloc, failing.evidence)?.iter() {
+fn last_event(alloc: Global, unexplained: &Unexplained<'_>) -> Result<usize, NoMemory> {
+    let history = unexplained.history;
+    let mut last = unexplained.event;
+    for no in evidence_calls(alloc, unexplained.evidence)?.iter() {
         if let Some(call) = call_of(history, *no) {
             last = last.max(call.replied().unwrap_or(call.record.call_at));
         }
@@ -42,9 +44,9 @@ fn last_event(alloc: Global, history: &History, failing: &Failing) -> Result<usi
 }
 
 // What is told first of a failing history.
-fn title_of(alloc: Global, failing: &Failing) -> Result<String, NoMemory> {
-    let call = failing.offence.call;
-    match failing.evidence {
+fn title_of(alloc: Global, unexplained: &Unexplained<'_>) -> Result<String, NoMemory> {
+    let call = unexplained.call;
+    match unexplained.evidence {
         Some(_) => String::from_str(
             alloc,
             "The replies contradict one another: no order of the calls explains them.",
@@ -60,7 +62,7 @@ fn is_settled(history: &History, conflicts: Conflicts) -> bool {
     for place in 0..history.len() {
         if let Event::Call { no, .. } = history.event(place) {
             if let Some(call) = call_of(history, *no) {
-                if call.is_unsettled(conflicts) {
+                if !call.record.is_settled(conflicts) {
                     return false;
                 }
             }
@@ -70,11 +72,11 @@ fn is_settled(history: &History, conflicts: Conflicts) -> bool {
 }
 
 // How much the answer says.
-fn weight_words(case: &Case, failing: &Failing) -> &'static str {
-    if failing.evidence.is_some() {
+fn weight_words(unexplained: &Unexplained<'_>) -> &'static str {
+    if unexplained.evidence.is_some() {
         return "This is proved: it holds whatever became of the calls without a reply.";
     }
-    if is_settled(case.history(), case.conflicts()) {
+    if is_settled(unexplained.history, unexplained.conflicts) {
         return "Every write was answered, so this is proved: there is no such order.";
     }
     "Some writes were never answered, so this accuses nobody: the search for places of such writes is bounded and misses some orders."
@@ -90,16 +92,16 @@ fn document_words(alloc: Global, call: &Call<'_>) -> Result<String, NoMemory> {
 // The reply at which the search first fails, in words.
 fn offence_words(
     alloc: Global,
-    failing: &Failing,
+    unexplained: &Unexplained<'_>,
     call: &Call<'_>,
     lines: &EventLines,
 ) -> Result<String, NoMemory> {
     let no = call.record.no;
-    let line = lines.line(failing.offence.event);
+    let line = lines.line(unexplained.event);
     let called = lines.line(call.record.call_at);
     let asked = op_words(alloc, call.record.op)?;
     let heard = heard_words(alloc, call.record.heard)?;
-    let before = if failing.offence.before_shown {
+    let before = if unexplained.before_shown {
         "The events before this reply have an order; with it none was found."
     } else {
         "No order was found for the events before this reply either."
@@ -112,18 +114,23 @@ fn offence_words(
 // Adds what is told in sentences.
 fn add_sentences(
     alloc: Global,
-    case: &Case,
-    failing: &Failing,
+    unexplained: &Unexplained<'_>,
     lines: &EventLines,
     parts: &mut Vec<Part>,
 ) -> Result<(), NoMemory> {
-    parts.push(Part::Paragraph(String::from_str(alloc, weight_words(case, failing))?))?;
-    if let Some(call) = call_of(case.history(), failing.offence.call) {
+    parts.push(Part::Paragraph(String::from_str(alloc, weight_words(unexplained))?))?;
+    if let Some(call) = call_of(unexplained.history, unexplained.call) {
         parts.push(Part::Paragraph(document_words(alloc, &call)?))?;
-        parts.push(Part::Paragraph(offence_words(alloc, failing, &call, lines)?))?;
+        parts.push(Part::Paragraph(offence_words(alloc, unexplained, &call, lines)?))?;
     }
-    if let Some(evidence) = failing.evidence {
-        let words = evidence_words(alloc, case.history(), lines, evidence, case.conflicts())?;
+    if let Some(evidence) = unexplained.evidence {
+        let words = evidence_words(
+            alloc,
+            unexplained.history,
+            lines,
+            evidence,
+            unexplained.conflicts,
+        )?;
         if let Some(words) = words {
             parts.push(Part::Heading("Why no order can have these replies"))?;
             parts.push(Part::Paragraph(words))?;
@@ -204,14 +211,12 @@ fn add_unanswered(
 // What is kept of the calls of the documents, and an order of those of the first one before the broken reply.
 fn gathered<'h>(
     alloc: Global,
-    case: &'h Case,
-    failing: &Failing,
+    unexplained: &Unexplained<'h>,
     named: &Named,
     docs: &[usize],
 ) -> Result<(Kept<'h>, Option<OrderBefore>), NoMemory> {
-    let history = case.history();
-    let event = failing.offence.event;
-    let last = last_event(alloc, history, failing)?;
+    let history = unexplained.history;
+    let last = last_event(alloc, unexplained)?;
     let mut kept = Kept::new(alloc);
     let mut order = None;
     for (i, doc) in docs.iter().enumerate() {
@@ -219,8 +224,8 @@ fn gathered<'h>(
             let id = history.doc(*doc);
             let records = history.records(*doc)?;
             kept.keep(named, (id, history.shard(*doc)), &records, last)?;
-            if i == 0 && failing.offence.before_shown {
-                order = order_before(alloc, case, event, id, &records, MOST_TOLD)?;
+            if i == 0 && unexplained.before_shown {
+                order = order_before(alloc, unexplained, id, &records, MOST_TOLD)?;
             }
         }
     }
@@ -231,16 +236,15 @@ fn gathered<'h>(
 /// What is told of a history for which no order was found.
 pub fn failing_story(
     alloc: Global,
-    case: &Case,
-    failing: &Failing,
+    unexplained: &Unexplained<'_>,
     lines: &EventLines,
 ) -> Result<Story, NoMemory> {
-    let docs = subjects(alloc, case.history(), failing)?;
-    let named = Named::of(alloc, case.history(), failing)?;
+    let docs = subjects(alloc, unexplained)?;
+    let named = Named::of(alloc, unexplained)?;
     let several = docs.len() > 1;
-    let (kept, order) = gathered(alloc, case, failing, &named, &docs)?;
+    let (kept, order) = gathered(alloc, unexplained, &named, &docs)?;
     let mut parts = Vec::new(alloc);
-    add_sentences(alloc, case, failing, lines, &mut parts)?;
+    add_sentences(alloc, unexplained, lines, &mut parts)?;
     add_told(alloc, &kept, &named, lines, several, &mut parts)?;
     let drawn = named.chosen(alloc, &kept.calls, MOST_DRAWN)?;
     let drawing = drawing_of(
@@ -248,7 +252,7 @@ pub fn failing_story(
         &drawn,
         &named,
         lines,
-        failing.offence.event,
+        unexplained.event,
         &order,
         several,
     )?;
@@ -256,7 +260,7 @@ pub fn failing_story(
     add_order(alloc, &order, &mut parts)?;
     add_unanswered(alloc, &kept, lines, &mut parts)?;
     Ok(Story {
-        title: title_of(alloc, failing)?,
+        title: title_of(alloc, unexplained)?,
         parts,
     })
 }

@@ -1,4 +1,11 @@
-//! Stories: what an answer means, for people, as plain text and as a page.
+//! Stories: what an answer means, for people, as plain text and as a page. Of its sentences nothing is proved; a
+//! page is bytes of pieces, so that each id in it is escaped.
+//!
+//! ```text
+//! let story = failing_story(alloc, &unexplained, &lines)?;
+//! let text = plain_text(alloc, &story)?;
+//! let page = page_of(alloc, line, &story)?;
+//! ```
 #![tactic(auto)]
 
 mod calls;
@@ -14,13 +21,16 @@ mod page_pieces;
 mod parts;
 mod plain;
 mod refused;
+mod subject;
 mod telling;
 mod window;
 mod words;
 
 pub use event_lines::EventLines;
-pub use numbered_input::{RefusedLine, numbered};
+pub use failing::failing_story;
+pub use numbered_input::numbered;
 pub use page_pieces::page_of;
 pub use parts::Story;
 pub use plain::plain_text;
-pub use telling::{refused_story, story_of};
+pub use subject::{Explained, Unexplained};
+pub use telling::{explained_story, refused_story};

@@ -1,18 +1,36 @@
 ghost use Rattle.std.specs.Prelude.{◌≡◌, Err, IfOk, IfSome, MatchResult, Ok};
-ghost use Rattle.history.specs.Reading.{history_text};
+ghost use Rattle.history.specs.Reading.{history_text, takes_value};
 
 use crate::event_lines::EventLines;
-use api_lines::{InputFault, ReadFault, TextFault, next_line};
+use api_lines::{InputFault, LineReader, ReadFault, RefusedLine, take_lines};
 use history::{HashKeys, History, HistoryReader};
 use std::alloc::Global;
 use std::io::BufRead;
 
-/// A line that was refused.
-#[derive(Debug, Drop)]
-pub struct RefusedLine {
-    pub fault: TextFault,
-    /// Its bytes without the line feed, or a front of 65,537 where it has more.
-    pub line: Vec<u8>,
+// A history that is read line by line, and on which lines its events stand.
+#[derive(Drop)]
+struct NumberedReader {
+    history: HistoryReader,
+    lines: EventLines,
+}
+
+impl LineReader for NumberedReader {
+    ghost use Rattle.std.specs.Prelude.{List};
+    ghost use Rattle.history.specs.declared.event.Event.{Event};
+
+    ghost State = { List Event };
+
+    ghost takes = { takes_value };
+
+    ghost reached = { λ reader. reader.history };
+
+    fn line(&mut self, line: &[u8]) -> Result<(), ReadFault> {
+        self.history.line(line)?;
+        match self.lines.note(line) {
+            Ok(()) => Ok(()),
+            Err(_) => Err(ReadFault::NoMemory),
+        }
+    }
 }
 
 /// The history, with these keys, whose text the input has to its end, and on which lines its events stand; or the first line
@@ -26,15 +44,15 @@ pub fn numbered<B: BufRead>(
         (λ read. history_text text ≡ Ok read.0)
         (λ refused. history_text text ≡ Err refused.fault))) }
 {
-    let mut reader = HistoryReader::with_keys(alloc, keys);
-    let mut lines = EventLines::new(alloc);
-    let mut line = Vec::new(alloc);
-    while next_line(input, &mut line)? {
-        match reader.line(&line) {
-            Ok(()) => lines.note(&line)?,
-            Err(ReadFault::Text(fault)) => return Ok(Err(RefusedLine { fault, line })),
-            Err(ReadFault::NoMemory) => return Err(InputFault::NoMemory),
+    let mut reader = NumberedReader {
+        history: HistoryReader::with_keys(alloc, keys),
+        lines: EventLines::new(alloc),
+    };
+    match take_lines(alloc, &mut reader, input)? {
+        Ok(()) => {
+            let NumberedReader { history, lines } = reader;
+            Ok(Ok((history.finish(), lines)))
         }
+        Err(refused) => Ok(Err(refused)),
     }
-    Ok(Ok((reader.finish(), lines)))
 }

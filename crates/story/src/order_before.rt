@@ -1,9 +1,9 @@
 use crate::parts::PlaceTold;
+use crate::subject::Unexplained;
 use crate::window::window_before;
 use crate::words::{op_words, state_words};
-use compose::Case;
 use doc_check::{DocAnswer, answer};
-use doc_register::{DocState, Reply, state_after};
+use doc_register::{DocState, state_after};
 use history::Rec;
 use std::alloc::Global;
 use version_pair::{DocId, NoMemory, Pair};
@@ -30,11 +30,7 @@ pub struct OrderBefore {
 
 // The pair with which the call at a place was performed.
 fn pair_at(place: Place, record: Rec) -> Option<Pair> {
-    match (place.pair, record.heard) {
-        (Some(pair), _) => Some(pair),
-        (None, Some((_, Reply::Indexed { pair, .. } | Reply::Deleted { pair, .. }))) => Some(pair),
-        (None, _) => None,
-    }
+    place.pair.or(record.pair_taken())
 }
 
 // The step at a place, from this state.
@@ -82,21 +78,32 @@ fn last_steps(
     Ok(order)
 }
 
-/// The last so many places of an order of the document's calls before an event; `None` where the search of the document
-/// alone finds none.
+/// The last so many places of an order of the document's calls before the reply that broke it; `None` where the search of the
+/// document alone finds none.
 pub fn order_before(
     alloc: Global,
-    case: &Case,
-    event: usize,
+    unexplained: &Unexplained<'_>,
     id: &DocId,
     records: &[Rec],
     most: usize,
 ) -> Result<Option<OrderBefore>, NoMemory> {
-    let window = window_before(alloc, records, event, case.conflicts(), most)?;
+    let window = window_before(
+        alloc,
+        records,
+        unexplained.event,
+        unexplained.conflicts,
+        most,
+    )?;
     let untold = if window.is_prefixed { 1 } else { 0 };
     let answered_before = window.answered_before;
-    let seen = case.history().front(event).seen();
-    match answer(alloc, id.copy()?, window.records, seen, case.conflicts())? {
+    let seen = unexplained.history.front(unexplained.event).seen();
+    match answer(
+        alloc,
+        id.copy()?,
+        window.records,
+        seen,
+        unexplained.conflicts,
+    )? {
         DocAnswer::Found(witness) => {
             let mut order = last_steps(alloc, &witness, untold, most)?;
             order.left_out = order.left_out.saturating_add(answered_before);

@@ -1,14 +1,14 @@
 use crate::calls::id_words;
 use crate::event_lines::EventLines;
-use crate::failing::failing_story;
-use crate::numbered_input::RefusedLine;
 use crate::parts::{Part, Story};
 use crate::refused::{cause_words, line_shown};
+use crate::subject::Explained;
 use crate::words::{NOTATION, heard_words, op_words, pair_words};
-use compose::{Counts, Finding, Proof};
+use api_lines::RefusedLine;
 use history::Rec;
 use std::alloc::Global;
 use version_pair::{DocId, NoMemory, Pair};
+use witness::DocWitness;
 
 /// How many calls are told one by one.
 pub const MOST_TOLD: usize = 40;
@@ -33,12 +33,12 @@ fn completed_words(
 // The calls of unknown outcome that took effect in the order found: how many, and the first of them in words.
 fn completed(
     alloc: Global,
-    proof: &Proof,
+    witnesses: &[DocWitness],
     lines: &EventLines,
 ) -> Result<(u64, Vec<String>), NoMemory> {
     let mut count = 0u64;
     let mut told = Vec::new(alloc);
-    for witness in proof.witnesses() {
+    for witness in witnesses.iter() {
         for place in witness.places() {
             if let (Some(pair), Some(record)) = (place.pair, witness.records().get(place.rec)) {
                 count = count.saturating_add(1);
@@ -51,15 +51,14 @@ fn completed(
     Ok((count, told))
 }
 
-// What is told of a history that an order explains.
-fn explained_story(alloc: Global, proof: &Proof, lines: &EventLines) -> Result<Story, NoMemory> {
-    let counts = Counts::of(proof);
-    let (count, told) = completed(alloc, proof, lines)?;
-    let Counts {
-        docs,
-        calls,
-        left_out,
-    } = counts;
+/// What is told of a history that an order explains.
+pub fn explained_story(
+    alloc: Global,
+    explained: &Explained<'_>,
+    lines: &EventLines,
+) -> Result<Story, NoMemory> {
+    let (docs, calls, left_out) = (explained.docs, explained.calls, explained.left_out);
+    let (count, told) = completed(alloc, explained.witnesses, lines)?;
     let mut parts = Vec::new(alloc);
     parts.push(Part::Paragraph(format!(in alloc;
         "Documents: {docs}. Calls: {calls}. Calls of unknown outcome that took effect in the order that was found: {count}. Calls that stand in no place of it, so that they changed nothing: {left_out}."
@@ -77,14 +76,6 @@ fn explained_story(alloc: Global, proof: &Proof, lines: &EventLines) -> Result<S
         title: String::from_str(alloc, "One order of the calls explains every reply.")?,
         parts,
     })
-}
-
-/// What is told of a history.
-pub fn story_of(alloc: Global, finding: &Finding, lines: &EventLines) -> Result<Story, NoMemory> {
-    match finding {
-        Finding::Explained(proof) => explained_story(alloc, proof, lines),
-        Finding::Unexplained(case, failing) => failing_story(alloc, case, failing, lines),
-    }
 }
 
 /// What is told of a text that was refused.

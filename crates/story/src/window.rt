@@ -1,7 +1,7 @@
-use doc_register::{Conflicts, Op, Reply};
+use doc_register::{Conflicts, DocState, state_after};
 use history::Rec;
 use std::alloc::Global;
-use version_pair::{NoMemory, Pair};
+use version_pair::NoMemory;
 
 /// The last calls of a document before an event.
 ///
@@ -24,37 +24,12 @@ struct Start {
     last: Option<Rec>,
 }
 
-// The record as it was known before an event.
-fn known_before(record: Rec, event: usize) -> Rec {
-    match record.heard.map(|heard| heard.0) {
-        Some(place) if place < event => record,
-        _ => Rec {
-            heard: None,
-            ..record
-        },
-    }
-}
-
-// The pair that the reply of a write shows.
-fn pair_taken(record: Rec) -> Option<Pair> {
-    match record.heard.map(|heard| heard.1) {
-        Some(Reply::Indexed { pair, .. } | Reply::Deleted { pair, .. }) => Some(pair),
-        _ => None,
-    }
-}
-
-// Whether it is a write of which it isn't known whether it was performed.
-fn is_unsettled(record: Rec, conflicts: Conflicts) -> bool {
-    match record.heard.map(|heard| heard.1) {
-        Some(Reply::Conflict) => conflicts == Conflicts::Maybe,
-        Some(_) => false,
-        None => record.op != Op::Get,
-    }
-}
-
 // Of two writes the one with the greater pair; the first where the second is none.
 fn later(last: Option<Rec>, record: Rec) -> Option<Rec> {
-    match (last.and_then(pair_taken), pair_taken(record)) {
+    match (
+        last.and_then(|record| record.pair_taken()),
+        record.pair_taken(),
+    ) {
         (Some(before), Some(pair)) if pair.is_below(before) => last,
         (_, Some(_)) => Some(record),
         (_, None) => last,
@@ -79,8 +54,8 @@ fn start_of(records: &[Rec], event: usize, conflicts: Conflicts, most: usize) ->
             next.at = i;
             start = next;
         }
-        let known = known_before(*record, event);
-        if is_unsettled(known, conflicts) {
+        let known = record.known_before(event);
+        if !known.is_settled(conflicts) {
             break;
         }
         if let Some(place) = known.heard.map(|heard| heard.0) {
@@ -95,21 +70,8 @@ fn start_of(records: &[Rec], event: usize, conflicts: Conflicts, most: usize) ->
 // A write that makes a document that was never written what it was after this one.
 fn standing(last: Rec) -> Option<Rec> {
     let place = last.heard.map(|heard| heard.0)?;
-    let pair = pair_taken(last)?;
-    let (op, reply) = match last.op {
-        Op::Index { k, .. } | Op::Create { k } => (
-            Op::Index { k, cond: None },
-            Reply::Indexed {
-                pair,
-                created: true,
-            },
-        ),
-        Op::Delete { .. } => (
-            Op::Delete { cond: None },
-            Reply::Deleted { pair, found: false },
-        ),
-        Op::Get => return None,
-    };
+    let pair = last.pair_taken()?;
+    let (op, reply) = state_after(DocState::Never, &last.op, pair).making()?;
     Some(Rec {
         op,
         heard: Some((place, reply)),
@@ -138,7 +100,7 @@ pub fn window_before(
         window.records.push(write)?;
     }
     for record in called.iter().skip(start.at) {
-        window.records.push(known_before(*record, event))?;
+        window.records.push(record.known_before(event))?;
     }
     Ok(window)
 }

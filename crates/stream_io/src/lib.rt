@@ -1,4 +1,10 @@
-//! What streams read and write: texts taken from readers, and answers given to writers.
+//! What streams read and write: texts taken from readers, and answers given to writers. Why a stream ends without its answer
+//! is told by one enum, `StreamFault`.
+//!
+//! ```text
+//! let told = read_history(alloc, keys, &mut reader)?; // Result<History, TextFault>
+//! let status = write_answer(&mut writer, &answer)?;
+//! ```
 #![tactic(auto)]
 
 mod answer;
@@ -9,6 +15,6 @@ mod stream_fault;
 
 pub use answer::Answer;
 pub use input::{CHUNK, read_all, read_entries, read_history};
-pub use output::{NotWritten, write_answer, write_text};
+pub use output::{write_answer, write_text};
 pub use status::Status;
 pub use stream_fault::StreamFault;

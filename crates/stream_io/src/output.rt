@@ -1,14 +1,10 @@
-ghost use Rattle.std.specs.Prelude.{◌≡◌, ◌<◌, ◌≤◌, ℕ, [], IfNone, IfSome, MatchResult, OnOk, OnErr, length, take};
+ghost use Rattle.std.specs.Prelude.{◌≡◌, ◌<◌, ◌≤◌, ℕ, [], IfErr, IfNone, IfSome, MatchResult, OnOk, OnErr, length, take};
 ghost use Rattle.std.specs.Io.KnownBytes.{Appends};
 
 use crate::answer::Answer;
 use crate::status::Status;
 use crate::stream_fault::StreamFault;
 use std::io::Write;
-
-/// The writer failed, or took no byte.
-#[derive(Clone, Copy, Debug, PartialEq, Eq)]
-pub struct NotWritten;
 
 // Writes some front of a text that is not empty, and says how many bytes; `None` where the writer fails or takes none.
 fn write_some<W: Write>(writer: &mut W, text: &[u8]) -> Option<usize>
@@ -23,16 +19,17 @@ fn write_some<W: Write>(writer: &mut W, text: &[u8]) -> Option<usize>
     }
 }
 
-/// Writes the text. Where the writer fails or takes no byte, it holds a front of the text.
-pub fn write_text<W: Write>(writer: &mut W, text: &[u8]) -> Result<(), NotWritten>
+/// Writes the text. Where the writer fails or takes no byte, it holds a front of the text, and `Write` is told.
+pub fn write_text<W: Write>(writer: &mut W, text: &[u8]) -> Result<(), StreamFault>
     ensures ok { OnOk result (Appends (W.contents writer.old) (W.contents writer.new) text.now) }
     ensures err { OnErr result ((n : ℕ) × Appends (W.contents writer.old) (W.contents writer.new)
         (take n text.now)) }
+    ensures fault { IfErr result (λ fault. fault ≡ StreamFault.Write) }
 {
     let mut rest = text;
     while !rest.is_empty() {
         let Some(count) = write_some(writer, rest) else {
-            return Err(NotWritten);
+            return Err(StreamFault::Write);
         };
         rest = &rest[count..];
     }
@@ -47,8 +44,6 @@ pub fn write_answer<W: Write>(writer: &mut W, answer: &Answer) -> Result<Status,
         (λ fault. (fault ≡ StreamFault.Write) × ((n : ℕ) × Appends (W.contents writer.old)
         (W.contents writer.new) (take n answer.now.text.items))) }
 {
-    match write_text(writer, &answer.text) {
-        Ok(()) => Ok(answer.status),
-        Err(_) => Err(StreamFault::Write),
-    }
+    write_text(writer, &answer.text)?;
+    Ok(answer.status)
 }

@@ -1,3 +1,9 @@
+ghost use Rattle.std.specs.Prelude.{◌≡◌};
+ghost use Rattle.stream_io.specs.declared.stream_fault.StreamFault.TheVariants as fault;
+ghost use Rattle.stream_io.specs.Faults.{input_fault};
+
+use api_lines::InputFault;
+use std::alloc::AllocError;
 use thiserror::Error;
 
 /// Why a stream ended without its answer.
@@ -21,4 +27,23 @@ pub enum StreamFault {
     /// A number of a run's plan or group is refused. Nothing was written.
     #[error("setting")]
     Setting,
+}
+
+impl From<AllocError> for StreamFault {
+    ghost from_gives = { λ _ told. told ≡ fault.NoMemory };
+
+    fn from(_refused: AllocError) -> StreamFault {
+        StreamFault::NoMemory
+    }
+}
+
+impl From<InputFault> for StreamFault {
+    ghost from_gives = { λ read told. told ≡ input_fault read };
+
+    fn from(fault: InputFault) -> StreamFault {
+        match fault {
+            InputFault::Read => StreamFault::Read,
+            InputFault::NoMemory => StreamFault::NoMemory,
+        }
+    }
 }

@@ -10,6 +10,7 @@ ghost use Rattle.version_pair.specs.Id.{IsIdLength};
 use std::alloc::{AllocError, Global};
 use std::hash::{Hash, Hasher};
 use std::marker::Model;
+use thiserror::Error;
 
 /// What a call answers that was refused memory and can be refused nothing else.
 pub type NoMemory = AllocError;
@@ -18,13 +19,16 @@ pub type NoMemory = AllocError;
 pub const LONGEST_ID: usize = 512;
 
 /// Why a text is no document id.
-#[derive(Clone, Copy, Debug, PartialEq, Eq)]
+#[derive(Clone, Copy, Debug, PartialEq, Eq, Error)]
 pub enum IdFault {
     /// The text has no byte.
+    #[error("a document's id has at least one byte")]
     Empty,
     /// The text has more than 512 bytes.
+    #[error("a document's id has at most 512 bytes")]
     TooLong,
     /// The copy of the text was refused memory.
+    #[error("no memory")]
     NoMemory,
 }
 

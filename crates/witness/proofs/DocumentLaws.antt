@@ -89,7 +89,7 @@ plain_hides_none mode at Conflict pair plain gives = gives plain
 -- ---- places and what stands in the order
 
 -- what stands in the order is told of by its place
-told_by : (records : List Rec) (ps : List Place) (qs : List Placed) (i : ℕ) (q : Placed) → ArePlacedBy records ps qs → slice_get qs i ≡ Some q
+pub told_by : (records : List Rec) (ps : List Place) (qs : List Placed) (i : ℕ) (q : Placed) → ArePlacedBy records ps qs → slice_get qs i ≡ Some q
     → (p : Place) × (slice_get ps i ≡ Some p) × IsPlacedBy records p q
 told_by records [] [] i q all at = absurd (none_is_not_some q at)
 told_by records [] (u ∷ qs) i q all at = absurd all

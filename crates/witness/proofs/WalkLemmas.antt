@@ -11,6 +11,7 @@ use Rattle.doc_register.specs.declared.state.DocState.TheVariants.{Never}
 use Rattle.doc_register.specs.Register.{performed_reply}
 use Rattle.doc_register.proofs.RunLaws.{step_decided}
 use Rattle.history.specs.declared.record.Rec.{Rec}
+use Rattle.history.proofs.SetLemmas.{slice_get-set_other, slice_get-set_same}
 use Rattle.history.proofs.ListLemmas.{get_front, get_last, get_snoc, get_take, none_is_not_some, same_some, take_one_more}
 use Rattle.std.proofs.lemmas.Bool.{cases_eq}
 use Rattle.std.proofs.lemmas.List.{length-set}
@@ -96,18 +97,6 @@ pair_fault_is mode records places i p r (Some h) pair b is pair_is fresh not fau
 
 -- ---- lists
 
-set_here : (marks : List Bool) (k : ℕ) → k < length marks → slice_get (set marks k true) k ≡ Some true
-set_here [] k within = absurd (omega arith)
-set_here (m ∷ marks) zero within = refl
-set_here (m ∷ marks) (suc k) within = set_here marks k (omega arith)
-
-set_there : (marks : List Bool) (k j : ℕ) → (j ≡ k → ⊥) → slice_get (set marks k true) j ≡ slice_get marks j
-set_there [] k j other = refl
-set_there (m ∷ marks) zero zero other = absurd (other refl)
-set_there (m ∷ marks) zero (suc j) other = refl
-set_there (m ∷ marks) (suc k) zero other = refl
-set_there (m ∷ marks) (suc k) (suc j) other = set_there marks k j (λ same. other (ap suc same))
-
 -- ---- one place more
 
 pub run_append : (records : List Rec) (s m t : DocState) (ps qs : List Place) → IsPlaceRun records s ps m → IsPlaceRun records m qs t → IsPlaceRun records s (ps ++ qs) t
@@ -188,12 +177,12 @@ marked_more : (front : List Place) (p : Place) (marks : List Bool) → p.rec < l
 marked_more front p marks within marked k = elim (cases_eq k p.rec) as (λ _. (slice_get (set marks p.rec true) k ≡ Some true) ↔ IsNamed (front ++ p ∷ []) k) [
   | inl same ↦ (
     λ _. subst (IsNamed (front ++ p ∷ [])) (sym same) (named_last front p),
-    λ _. subst (λ j. slice_get (set marks p.rec true) j ≡ Some true) (sym same) (set_here marks p.rec within),
+    λ _. subst (λ j. slice_get (set marks p.rec true) j ≡ Some true) (sym same) (slice_get-set_same marks p.rec true within),
   )
   | inr other ↦ (
-    λ set_is. named_before front p k ((marked k).0 (sym (set_there marks p.rec k other) ∙ set_is)),
+    λ set_is. named_before front p k ((marked k).0 (sym (slice_get-set_other marks p.rec k true other) ∙ set_is)),
     λ named. elim (named_or_last front p k named) as (λ _. slice_get (set marks p.rec true) k ≡ Some true) [
-      | inl before ↦ set_there marks p.rec k other ∙ (marked k).1 before
+      | inl before ↦ slice_get-set_other marks p.rec k true other ∙ (marked k).1 before
       | inr same ↦ absurd (other same)
     ],
   )

@@ -1,20 +1,30 @@
+use thiserror::Error;
+
 /// Why places are not valid: the first fault. Places and records are numbered from 0.
-#[derive(Clone, Copy, Debug, PartialEq, Eq)]
+#[derive(Clone, Copy, Debug, PartialEq, Eq, Error)]
 pub enum Broken {
     /// The place names no record, or an unanswered get.
+    #[error("place {0} names no call that may have one")]
     Stranger(usize),
     /// An earlier place names the same record.
+    #[error("place {0} names a call that has a place already")]
     Twice(usize),
     /// No place names this record, whose call was answered.
+    #[error("the answered call of record {0} has no place")]
     Absent(usize),
     /// The call of this place was answered before an earlier place's call, or its own, was made.
+    #[error("the call of place {0} was answered before an earlier place's call was made")]
     Late(usize),
     /// The place of an unanswered write gives no pair.
+    #[error("place {0} gives no pair")]
     PairMissing(usize),
     /// The place of an answered call gives a pair that it may not give.
+    #[error("place {0} gives a pair that it may not give")]
     PairGiven(usize),
     /// The call of this place can't be answered so after the places before it.
+    #[error("the call of place {0} can't be answered so there")]
     Illegal(usize),
     /// A growth was refused memory.
+    #[error("no memory")]
     NoMemory,
 }

@@ -1,4 +1,10 @@
 //! Witnesses: the order that was found for the calls of one document, checked by itself, and the text of such orders.
+//!
+//! ```text
+//! // A witness; or the first fault, and all that was handed in.
+//! let witness = DocWitness::check(alloc, id, records, places, Conflicts::Plain);
+//! let entries = read_witness(alloc, text)?; // Vec<(DocId, Vec<Place>)>
+//! ```
 #![tactic(auto)]
 
 mod broken;

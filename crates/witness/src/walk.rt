@@ -11,7 +11,7 @@ use doc_register::{Conflicts, DocState, Op, Reply};
 use history::Rec;
 
 /// What the check knows after some places.
-#[derive(Debug, Drop)]
+#[derive(Drop)]
 pub struct Walk {
     /// Which records are named.
     pub marks: Vec<bool>,

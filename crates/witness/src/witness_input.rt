@@ -4,7 +4,7 @@ ghost use Rattle.witness.specs.Text.{witness_text};
 
 use crate::place::Place;
 use crate::witness_reader::WitnessReader;
-use api_lines::{InputFault, ReadFault, TextFault, next_line};
+use api_lines::{InputFault, TextFault, take_lines};
 use std::alloc::Global;
 use std::io::BufRead;
 use version_pair::DocId;
@@ -23,13 +23,8 @@ pub fn read_witness_from<B: BufRead>(
         (λ fault. witness_text text ≡ Err fault))) }
 {
     let mut reader = WitnessReader::new(alloc);
-    let mut line = Vec::new(alloc);
-    while next_line(input, &mut line)? {
-        match reader.line(&line) {
-            Ok(()) => {}
-            Err(ReadFault::Text(fault)) => return Ok(Err(fault)),
-            Err(ReadFault::NoMemory) => return Err(InputFault::NoMemory),
-        }
+    match take_lines(alloc, &mut reader, input)? {
+        Ok(()) => Ok(Ok(reader.finish())),
+        Err(refused) => Ok(Err(refused.fault)),
     }
-    Ok(Ok(reader.finish()))
 }

@@ -14,7 +14,7 @@ use version_pair::DocId;
 const RECORDS: u64 = 0x1_0000_0000;
 
 /// What a line of a witness text says.
-#[derive(Debug, Drop)]
+#[derive(Drop)]
 pub enum WitnessLine {
     /// A document begins.
     Document(DocId),

@@ -7,8 +7,7 @@ ghost use Rattle.witness.specs.Text.{takes_value, witness_text};
 
 use crate::documents::Documents;
 use crate::place::Place;
-use api_lines::ReadFault;
-use api_lines::lines::first_line;
+use api_lines::{LineReader, ReadFault, take_text};
 use std::alloc::Global;
 use std::marker::Model;
 use version_pair::DocId;
@@ -76,6 +75,21 @@ impl WitnessReader {
     }
 }
 
+impl LineReader for WitnessReader {
+    ghost use Rattle.std.specs.Prelude.{List};
+    ghost use Rattle.witness.specs.Text.{DocPlaces};
+
+    ghost State = { List DocPlaces };
+
+    ghost takes = { takes_value };
+
+    ghost reached = { λ reader. reader };
+
+    fn line(&mut self, line: &[u8]) -> Result<(), ReadFault> {
+        WitnessReader::line(self, line)
+    }
+}
+
 /// The documents of a witness text, each with its places; or the first line that is refused, with its first cause.
 ///
 /// A line `{"doc":"d"}` begins a document; then each line `{"rec":0}` is a place of it, or, with a pair,
@@ -89,13 +103,6 @@ pub fn read_witness(alloc: Global, text: &[u8]) -> Result<Vec<(DocId, Vec<Place>
         (λ fault. IfTextTold fault (λ told. witness_text text.now ≡ Err told)) }
 {
     let mut reader = WitnessReader::new(alloc);
-    let mut rest = text;
-    while !rest.is_empty() {
-        let (line, after) = first_line(rest);
-        if let Err(fault) = reader.line(line) {
-            return Err(fault);
-        }
-        rest = after;
-    }
+    take_text(&mut reader, text)?;
     Ok(reader.finish())
 }

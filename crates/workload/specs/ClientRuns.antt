@@ -4,7 +4,7 @@ use Rattle.version_pair.specs.declared.pair.Pair.{Pair}
 use Rattle.doc_register.specs.declared.op.Op.{Op}
 use Rattle.doc_register.specs.declared.op.Op.TheVariants.{Get, Index, Delete}
 use Rattle.doc_register.specs.declared.reply.Reply.{Reply as Answer}
-use Rattle.doc_register.specs.declared.reply.Reply.TheVariants.{Indexed, Deleted, Found, Missing, Conflict}
+use Rattle.doc_register.specs.Register.{pair_of_reply}
 use Rattle.history.specs.declared.event.Event.{Event}
 use Rattle.history.specs.declared.event.Event.TheVariants.{Call, Reply, Lost}
 use Rattle.recorder.specs.Pens.{PenState}
@@ -25,17 +25,9 @@ Known = ℕ → Option Pair
 abbrev pub nothing_known : Known
 nothing_known doc = None
 
--- the pair that a reply tells: that of a change, or of the document that was found
-abbrev pub pair_told : Answer → Option Pair
-pair_told (Indexed q created) = Some q
-pair_told (Deleted q found) = Some q
-pair_told (Found p k) = Some p
-pair_told Missing = None
-pair_told Conflict = None
-
 -- what is known after a reply about the document: of that document what the reply tells
 abbrev pub after_reply : Known → ℕ → Answer → Known
-after_reply known doc r = λ other. if other == doc then pair_told r else known other
+after_reply known doc r = λ other. if other == doc then pair_of_reply r else known other
 
 -- what is known after the ending of a call of the document; a lost call leaves it
 abbrev pub after_ending : Known → ℕ → Event → Known

@@ -1,4 +1,4 @@
-ghost use Rattle.std.specs.Prelude.{◌≡◌, ◌+◌, ◌<◌, ◌^◌, ◌++◌, ◌∷◌, [], ℕ, All, IfOk, length};
+ghost use Rattle.std.specs.Prelude.{◌≡◌, ◌+◌, ◌<◌, ◌^◌, ◌++◌, ◌∷◌, [], All, IfOk, length};
 ghost use Rattle.workload.specs.aids.Clients.{BeginsTurn, EndsTurn, IsHeard, IsLongerByRun, TakesTurn, ending_of, pair_in};
 
 use crate::asked::doc_name;

@@ -1,5 +1,5 @@
 ghost use Rattle.std.specs.Prelude.{◌≡◌, ◌<◌, IfOk};
-ghost use Rattle.workload.specs.ClientRuns.{after_reply, nothing_known, pair_told as told_by};
+ghost use Rattle.workload.specs.ClientRuns.{after_reply, nothing_known};
 ghost use Rattle.workload.specs.aids.Clients.{pair_in};
 
 use crate::plan::MOST_DOCS;
@@ -11,7 +11,7 @@ use version_pair::Pair;
 /// What a client knows: for each document that there may be the pair last told of it, if there is one.
 ///
 /// Contracts see the list of these pairs, which `pair_in` reads by the number of a document.
-#[derive(Debug, Drop)]
+#[derive(Drop)]
 pub struct Known {
     pairs: Vec<Option<Pair>>,
 }
@@ -26,18 +26,6 @@ impl Model for Known {
     ghost view = { λ k. k.pairs.items };
 
     ghost invariant = { λ k. length k.pairs.items ≡ MOST_DOCS };
-}
-
-// The pair that a reply tells: that of a change, or of the document that was found.
-fn pair_told(reply: &Reply) -> Option<Pair>
-    ensures { result ≡ told_by reply.now }
-{
-    match reply {
-        Reply::Indexed { pair, .. } | Reply::Deleted { pair, .. } | Reply::Found { pair, .. } => {
-            Some(*pair)
-        }
-        Reply::Missing | Reply::Conflict => None,
-    }
 }
 
 impl Known {
@@ -64,6 +52,6 @@ impl Known {
         requires { doc < MOST_DOCS }
         ensures { pair_in self.new ≡ after_reply (pair_in self.old) doc reply.now }
     {
-        self.pairs[doc as usize] = pair_told(reply);
+        self.pairs[doc as usize] = reply.pair();
     }
 }

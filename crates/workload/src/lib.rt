@@ -1,12 +1,16 @@
-//! The workload: what a target of recorded calls is, plans of what clients ask of it, and clients that run on threads or
-//! in turns.
+//! The workload: what a target of recorded calls is, plans of what clients ask of it, and clients that run on threads or in
+//! turns.
+//!
+//! ```text
+//! let plan = Plan::draw(alloc, 1, 4, 200, 3)?; // the seed, clients, calls of each, documents
+//! let pens = run_clients(rt, alloc, &plan, &target, &recorder, pens, 1_000)?; // polls a call 1,000 times at most
+//! ```
 #![tactic(auto)]
 
 mod asked;
 mod client;
 mod drawing;
 mod known;
-mod lent;
 mod open_call;
 mod plan;
 mod plan_fault;

@@ -4,7 +4,7 @@ ghost use Rattle.workload.specs.declared.plan.TheConstants.{MOST_DOCS};
 use crate::target::Ticket;
 
 /// A call that was recorded and submitted, and has no ending yet.
-#[derive(Clone, Copy, Debug)]
+#[derive(Clone, Copy)]
 pub struct OpenCall {
     /// The number of the call.
     pub no: u64,

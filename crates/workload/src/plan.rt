@@ -1,4 +1,4 @@
-ghost use Rattle.std.specs.Prelude.{◌≡◌, ◌+◌, ◌<◌, ◌≤◌, ◌^◌, ◌↔◌, ◌*◌, All, IfOk, IfSome, List, Some, slice_get, take, IsTrue, length, map, nat_lt, option_map, sum_by};
+ghost use Rattle.std.specs.Prelude.{◌≡◌, ◌+◌, ◌<◌, ◌≤◌, ◌^◌, ◌*◌, All, IfOk, IfSome, List, Some, slice_get, take, length, map, nat_lt, option_map, sum_by};
 ghost use Rattle.std.specs.List.{list_any};
 ghost use Rattle.workload.specs.Plans.{is_far, is_idle, is_too_large, lacks_turns, refusal_of, refusal_told, turn_at, turn_count};
 ghost use Rattle.workload.specs.declared.turn.Turn.{Turn};

@@ -7,14 +7,14 @@ use doc_register::Reply;
 use std::sync::Wait;
 
 /// An open call, and how often it may be polled yet.
-#[derive(Clone, Copy, Debug)]
+#[derive(Clone, Copy)]
 pub struct PolledCall {
     pub call: OpenCall,
     pub polls_left: u32,
 }
 
 /// What one poll of an open call comes to.
-#[derive(Clone, Copy, Debug, PartialEq, Eq)]
+#[derive(Clone, Copy, PartialEq, Eq)]
 pub enum Polled {
     /// It waits, and may be polled again.
     Waits,

@@ -4,15 +4,19 @@ ghost use Rattle.workload.specs.declared.run_fault.RunFault.TheVariants as run;
 use crate::target::TargetFault;
 use recorder::RecFault;
 use std::alloc::AllocError;
+use thiserror::Error;
 
 /// Why a run of clients failed.
-#[derive(Clone, Copy, Debug, PartialEq, Eq)]
+#[derive(Clone, Copy, Debug, PartialEq, Eq, Error)]
 pub enum RunFault {
     /// An event was not recorded.
+    #[error("{0}")]
     Record(RecFault),
     /// The target took no operation, or told nothing of one.
+    #[error("{0}")]
     Target(TargetFault),
     /// A growth was refused memory.
+    #[error("no memory")]
     NoMemory,
 }
 

@@ -1,5 +1,6 @@
 use doc_register::{Op, Reply};
 use std::sync::Wait;
+use thiserror::Error;
 use version_pair::DocId;
 
 /// What names a submitted operation at its target.
@@ -18,11 +19,13 @@ pub enum Progress {
 }
 
 /// Why a target takes no operation, or tells nothing of one.
-#[derive(Clone, Copy, Debug, PartialEq, Eq)]
+#[derive(Clone, Copy, Debug, PartialEq, Eq, Error)]
 pub enum TargetFault {
     /// The target has given all its tickets.
+    #[error("the target has given all its tickets")]
     Full,
     /// A growth was refused memory.
+    #[error("no memory")]
     NoMemory,
 }
 

@@ -4,17 +4,11 @@ use Rattle.std.specs.declared.cmp.Ordering.{Ordering}
 use Rattle.std.specs.Ordering.{nat_cmp, ordering_then}
 use Rattle.version_pair.specs.declared.pair.Pair.{Pair}
 use Rattle.version_pair.specs.PairOrder.{IsBelow}
-use Rattle.doc_register.specs.declared.reply.Reply.{Reply}
 use Rattle.doc_register.specs.declared.state.DocState.{DocState}
 use Rattle.doc_register.specs.declared.state.DocState.TheVariants.{Never}
 use Rattle.doc_register.specs.Register.{performed_state}
-use Rattle.doc_register.specs.Run.{pair_taken}
+use Rattle.history.specs.Heard.{pair_of}
 use Rattle.history.specs.declared.record.Rec.{Rec}
-
--- the pair that an answered write was performed with, as its reply shows
-abbrev pub pair_of : Option (ℕ × Reply) → Option Pair
-pair_of None = None
-pair_of (Some heard) = pair_taken heard.1 None
 
 -- a performed write: its pair, and the number of its record
 abbrev pub link_at : ℕ → Option Pair → List (Pair × ℕ) → List (Pair × ℕ)

@@ -1,21 +1,11 @@
 ghost use Rattle.std.specs.Prelude.{◌≡◌, ◌∷◌, ◌↔◌, IfOk, IsTrue, map};
 ghost use Rattle.doc_register.specs.declared.state.DocState.TheVariants.{Never};
-ghost use Rattle.write_chain.specs.Chain.{IsChain, Rises, after_link, pair_of, performed_records};
+ghost use Rattle.write_chain.specs.Chain.{IsChain, Rises, after_link, performed_records};
 
-use doc_register::{DocState, Op, Reply};
+use doc_register::{DocState, Op};
 use history::Rec;
 use std::alloc::Global;
 use version_pair::{NoMemory, Pair};
-
-/// The pair that an answered write was performed with, as its reply shows.
-pub fn performed_pair(heard: Option<(usize, Reply)>) -> Option<Pair>
-    ensures { result ≡ pair_of heard }
-{
-    match heard {
-        Some((_, Reply::Indexed { pair, .. } | Reply::Deleted { pair, .. })) => Some(pair),
-        _ => None,
-    }
-}
 
 // The performed answered writes by their numbers, each with its pair before it.
 fn performed(alloc: Global, records: &[Rec]) -> Result<Vec<(Pair, usize)>, NoMemory>
@@ -23,7 +13,7 @@ fn performed(alloc: Global, records: &[Rec]) -> Result<Vec<(Pair, usize)>, NoMem
 {
     let mut links = Vec::new(alloc);
     for k in 0..records.len() {
-        if let Some(pair) = performed_pair(records[k].heard) {
+        if let Some(pair) = records[k].pair_taken() {
             links.push((pair, k))?;
         }
     }

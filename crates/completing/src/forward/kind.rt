@@ -93,7 +93,7 @@ fn conflict_kind(op: Op, known: &KnownPairs) -> Option<Kind> {
     match op {
         Op::Get => None,
         Op::Create { .. } => Some(Kind::CreateConflict),
-        Op::Index { cond, .. } | Op::Delete { cond } => match cond {
+        Op::Index { .. } | Op::Delete { .. } => match op.condition() {
             Some(pair) => Some(kind_on(pair, known)),
             None => Some(Kind::FreeConflict),
         },

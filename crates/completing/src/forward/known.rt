@@ -1,11 +1,9 @@
 use crate::forward::numbers::Numbers;
-use crate::rules::link::condition;
 use doc_register::{Op, Reply};
 use history::Rec;
 use std::alloc::Global;
 use std::collections::BTreeSet;
 use version_pair::{NoMemory, Pair};
-use write_chain::performed_pair;
 
 /// A pair that some write has to have.
 #[derive(Clone, Copy)]
@@ -24,19 +22,11 @@ pub struct KnownPairs {
     entries: Vec<Known>,
 }
 
-// The number that the operation writes.
-fn written(op: Op) -> Option<u64> {
-    match op {
-        Op::Index { k, .. } | Op::Create { k } => Some(k),
-        Op::Get | Op::Delete { .. } => None,
-    }
-}
-
 // Adds the pairs that the record makes known.
 fn note_pairs(pairs: &mut BTreeSet<Pair>, found: Rec) -> Result<(), NoMemory> {
-    if let Some(pair) = performed_pair(found.heard) {
+    if let Some(pair) = found.pair_taken() {
         pairs.insert(pair)?;
-        if let Some(named) = condition(found.op) {
+        if let Some(named) = found.op.condition() {
             pairs.insert(named)?;
         }
     }
@@ -52,7 +42,7 @@ fn asked_for(entry: Known, records: &[Rec], numbers: &Numbers) -> Option<Pair> {
         return None;
     }
     let rec = numbers.only(entry.number?)?;
-    condition(records.get(rec)?.op)
+    records.get(rec)?.op.condition()
 }
 
 impl KnownPairs {
@@ -123,7 +113,7 @@ impl KnownPairs {
     fn note_writers(&mut self, records: &[Rec]) -> bool {
         for rec in 0..records.len() {
             let found = records[rec];
-            if let Some(pair) = performed_pair(found.heard) {
+            if let Some(pair) = found.pair_taken() {
                 if !self.note_writer(pair, rec, found.op) {
                     return false;
                 }
@@ -140,7 +130,7 @@ impl KnownPairs {
         match self.entries.get_mut(at) {
             Some(entry) if entry.writer.is_none() => {
                 entry.writer = Some(rec);
-                entry.number = written(op);
+                entry.number = op.value();
                 true
             }
             _ => false,

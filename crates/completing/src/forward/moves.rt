@@ -1,7 +1,7 @@
 use crate::forward::kind::Kind;
 use crate::forward::standing::Document;
 use crate::forward::walk::{Placed, Walk};
-use crate::rules::link::{condition, leaves_it, needs};
+use crate::rules::link::{leaves_it, needs};
 use doc_register::Conflicts;
 use history::Rec;
 
@@ -33,7 +33,7 @@ fn fits(walk: &Walk, found: Rec) -> bool {
     if needed.is_some() && needed != Some(document.is_live()) {
         return false;
     }
-    match condition(found.op) {
+    match found.op.condition() {
         Some(pair) => match document {
             Document::Known(at) => match walk.known.get(at) {
                 Some(present) => present.pair == pair,
@@ -233,7 +233,7 @@ fn may_insert(walk: &Walk) -> bool {
         return false;
     }
     match next_writer(walk) {
-        Some(found) => condition(found.op).is_none(),
+        Some(found) => found.op.condition().is_none(),
         None => true,
     }
 }
@@ -314,7 +314,7 @@ pub fn is_lost(walk: &mut Walk) -> bool {
         }
     }
     match next_writer(walk) {
-        Some(found) => condition(found.op).is_some() && !fits(walk, found),
+        Some(found) => found.op.condition().is_some() && !fits(walk, found),
         None => false,
     }
 }

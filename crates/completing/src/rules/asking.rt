@@ -1,4 +1,4 @@
-use crate::rules::link::{condition, conflicts};
+use crate::rules::link::conflicts;
 use crate::rules::lost::Lost;
 use crate::rules::performing::perform;
 use crate::rules::plan::{Plan, Side};
@@ -51,7 +51,7 @@ pub fn ask(
     let Some(heard) = found.heard else {
         return Ok(None);
     };
-    let stretch = match condition(found.op) {
+    let stretch = match found.op.condition() {
         Some(pair) => stand.of_pair(pair),
         None => Some(bound),
     };

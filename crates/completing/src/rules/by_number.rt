@@ -1,13 +1,13 @@
 use crate::rules::link::conflicts;
 use crate::rules::queue::is_left;
-use doc_register::{Conflicts, Op};
+use doc_register::Conflicts;
 use history::Rec;
 use std::alloc::Global;
 use version_pair::NoMemory;
 
 /// The writes that can have been shown with a number: the unanswered ones in the order of calls, and under Maybe after
 /// them those that answer a conflict.
-#[derive(Debug, Drop)]
+#[derive(Drop)]
 pub struct ByNumber {
     // The number, whether a conflict is answered, the place of the call, the record.
     entries: Vec<(u64, bool, usize, usize)>,
@@ -18,10 +18,7 @@ pub struct ByNumber {
 /// The number of a write that may be completed.
 pub fn number_of(found: Rec, reading: Conflicts) -> Option<u64> {
     let may_be = found.heard.is_none() || conflicts(found) && reading == Conflicts::Maybe;
-    match found.op {
-        Op::Index { k, .. } | Op::Create { k } if may_be => Some(k),
-        _ => None,
-    }
+    if may_be { found.op.value() } else { None }
 }
 
 impl ByNumber {

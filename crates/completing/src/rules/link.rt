@@ -3,20 +3,12 @@ use history::Rec;
 use version_pair::Pair;
 
 /// A write of the chain as the rules see it.
-#[derive(Clone, Copy, Debug, PartialEq, Eq, PartialOrd, Ord)]
+#[derive(Clone, Copy, PartialEq, Eq, PartialOrd, Ord)]
 pub struct Link {
     /// Its pair; `None` for one that is invented at the end.
     pub pair: Option<Pair>,
     /// Its record.
     pub rec: usize,
-}
-
-/// The condition of a write, where it has one.
-pub fn condition(op: Op) -> Option<Pair> {
-    match op {
-        Op::Index { cond, .. } | Op::Delete { cond } => cond,
-        Op::Get | Op::Create { .. } => None,
-    }
 }
 
 /// Whether the operation leaves the document there.
@@ -45,5 +37,5 @@ pub fn conflicts(found: Rec) -> bool {
 /// Whether the record answers a conflict that no document refuses: an index or a delete without a condition, which has
 /// to be performed.
 pub fn is_free_conflict(found: Rec) -> bool {
-    conflicts(found) && condition(found.op).is_none() && !matches!(found.op, Op::Create { .. })
+    conflicts(found) && found.op.condition().is_none() && !matches!(found.op, Op::Create { .. })
 }

@@ -1,4 +1,3 @@
-use crate::rules::link::condition;
 use crate::rules::queue::{Queue, is_left};
 use doc_register::Op;
 use history::Rec;
@@ -6,7 +5,7 @@ use std::alloc::Global;
 use version_pair::{NoMemory, Pair};
 
 /// The unanswered writes that may be completed, each kind in the order of calls, and which records are taken.
-#[derive(Debug, Drop)]
+#[derive(Drop)]
 pub struct Lost {
     // Whether the record stands in the chain.
     taken: Vec<bool>,
@@ -19,7 +18,7 @@ pub struct Lost {
 }
 
 /// What an insertion asks for.
-#[derive(Clone, Copy, Debug)]
+#[derive(Clone, Copy)]
 pub struct Ask {
     /// A delete will do.
     pub delete: bool,

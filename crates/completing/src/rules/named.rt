@@ -1,5 +1,5 @@
 use crate::rules::by_number::ByNumber;
-use crate::rules::link::{Link, condition};
+use crate::rules::link::Link;
 use crate::rules::lost::Lost;
 use crate::rules::queue::Queue;
 use doc_register::{Conflicts, Op, Reply};
@@ -35,7 +35,7 @@ fn unanswered_indexes(alloc: Global, records: &[Rec]) -> Result<Queue, NoMemory>
 }
 
 // The chain that is being named.
-#[derive(Debug, Drop)]
+#[derive(Drop)]
 struct Naming {
     links: Vec<Link>,
     // The pairs of the writes.
@@ -60,7 +60,7 @@ impl Naming {
             rec,
         })?;
         if let Some(found) = records.get(rec) {
-            if let Some(named) = condition(found.op) {
+            if let Some(named) = found.op.condition() {
                 if !self.known.contains(&named) {
                     self.asked.insert(named)?;
                 }

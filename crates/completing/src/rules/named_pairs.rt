@@ -1,10 +1,9 @@
-use crate::rules::link::condition;
 use history::Rec;
 use std::alloc::Global;
 use version_pair::{NoMemory, Pair};
 
 /// The pairs that conditions of a document name: an invented write takes one only where no other number is left.
-#[derive(Debug, Drop)]
+#[derive(Drop)]
 pub struct NamedPairs {
     // Rising, each once.
     named: Vec<Pair>,
@@ -13,7 +12,7 @@ pub struct NamedPairs {
 }
 
 /// An invented write that is to get a pair.
-#[derive(Clone, Copy, Debug)]
+#[derive(Clone, Copy)]
 pub struct Invented {
     /// The number of its stretch.
     pub stretch: usize,
@@ -33,7 +32,7 @@ impl NamedPairs {
         let mut named = Vec::new(alloc);
         let mut refused = Vec::new(alloc);
         for rec in 0..records.len() {
-            if let Some(pair) = condition(records[rec].op) {
+            if let Some(pair) = records[rec].op.condition() {
                 named.push(pair)?;
                 if let Some(Some(stretch)) = stretches.get(rec) {
                     refused.push((*stretch, pair))?;

@@ -4,7 +4,6 @@ use history::{Rec, Seen};
 use std::alloc::Global;
 use version_pair::{NoMemory, Pair};
 use witness::Place;
-use write_chain::performed_pair;
 
 // How far apart the numbers of two places are, so that calls fit between.
 const STEP: u64 = 1_048_576;
@@ -34,7 +33,7 @@ fn term_pair(term: u64, seen: Seen, place: usize, call_at: usize) -> Option<Pair
 }
 
 // What comes behind a write of the chain.
-#[derive(Clone, Copy, Debug)]
+#[derive(Clone, Copy)]
 struct Behind {
     // The next known pair after it.
     pair: Option<Pair>,
@@ -89,7 +88,7 @@ fn ordered(
 }
 
 // The pairs of the writes of the chain, which are told from the first to the last.
-#[derive(Debug, Drop)]
+#[derive(Drop)]
 struct Numbering {
     seen: Seen,
     named: NamedPairs,
@@ -174,7 +173,7 @@ pub fn numbered(
                 return Ok(None);
             };
             // A reply that shows the pair needs no other word of it.
-            if performed_pair(found.heard).is_none() {
+            if found.pair_taken().is_none() {
                 pair = Some(own);
             }
         }

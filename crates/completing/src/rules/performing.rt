@@ -1,5 +1,4 @@
 use crate::rules::flags::fit_flag;
-use crate::rules::link::condition;
 use crate::rules::lost::Lost;
 use crate::rules::plan::{Plan, Side};
 use crate::rules::refused::Refused;
@@ -18,7 +17,7 @@ pub fn perform(
     reply_at: usize,
     rec: usize,
 ) -> Result<Option<usize>, NoMemory> {
-    let (stretch, side) = match condition(found.op) {
+    let (stretch, side) = match found.op.condition() {
         Some(pair) => (stand.of_pair(pair), Side::After),
         None => (Some(plan.stretch_at(reply_at)), Side::Before),
     };

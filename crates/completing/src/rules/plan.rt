@@ -6,7 +6,7 @@ use std::alloc::Global;
 use version_pair::{NoMemory, Pair};
 
 /// What a round knows of the chain, and what it inserts.
-#[derive(Debug, Drop)]
+#[derive(Drop)]
 pub struct Plan {
     pub links: Vec<Link>,
     /// Of each stretch whether the document is there.
@@ -27,7 +27,7 @@ pub struct Plan {
 }
 
 /// Where an insertion stands in its stretch.
-#[derive(Clone, Copy, Debug)]
+#[derive(Clone, Copy)]
 pub enum Side {
     /// Directly after the stretch's write.
     After,

@@ -2,7 +2,7 @@ use std::alloc::Global;
 use version_pair::NoMemory;
 
 /// Records by a place each, with the first that is left.
-#[derive(Debug, Drop)]
+#[derive(Drop)]
 pub struct Queue {
     entries: Vec<(usize, usize)>,
     // Before it none is left.

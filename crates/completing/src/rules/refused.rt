@@ -8,7 +8,7 @@ use version_pair::NoMemory;
 
 /// The conflicts without a condition that have no place in the chain yet, in the order of their replies. They are taken
 /// along one walk from the first write of the chain to the last.
-#[derive(Debug, Drop)]
+#[derive(Drop)]
 pub struct Refused {
     // The place of the reply, and the record.
     entries: Vec<(usize, usize)>,

@@ -4,7 +4,7 @@ use version_pair::{NoMemory, Pair};
 
 /// How many writes can still be inserted in each stretch: between two known pairs of one term no more than there are
 /// numbers between.
-#[derive(Debug, Drop)]
+#[derive(Drop)]
 pub struct Rooms {
     // Of each stretch its gap between known pairs.
     gaps: Vec<usize>,

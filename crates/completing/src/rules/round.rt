@@ -12,7 +12,7 @@ use std::alloc::Global;
 use version_pair::NoMemory;
 
 /// What a round gives.
-#[derive(Debug, Drop)]
+#[derive(Drop)]
 pub enum Round {
     /// Writes were inserted: the chain with them.
     More(Vec<Link>),

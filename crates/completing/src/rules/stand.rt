@@ -1,4 +1,4 @@
-use crate::rules::link::{Link, condition};
+use crate::rules::link::Link;
 use crate::rules::plan::Plan;
 use doc_register::{Op, Reply};
 use history::Rec;
@@ -6,7 +6,7 @@ use std::alloc::Global;
 use version_pair::{NoMemory, Pair};
 
 /// Where the records of a round stand.
-#[derive(Debug, Drop)]
+#[derive(Drop)]
 pub struct Stand {
     // Of each record in the chain the stretch that it begins.
     links: Vec<Option<usize>>,
@@ -160,7 +160,7 @@ impl Stand {
             Op::Get => self.absent.get(bound).copied()?,
             Op::Create { .. } => self.present.get(bound).copied()?,
             Op::Index { .. } | Op::Delete { .. } => {
-                let pair = condition(found.op)?;
+                let pair = found.op.condition()?;
                 if plan.pairs.get(bound) == Some(&Some(pair)) {
                     bound.checked_sub(1)
                 } else {

@@ -6,7 +6,7 @@ use Rattle.history.specs.declared.record.Rec.{Rec}
 use Rattle.history.specs.Events.{documents_of, is_same}
 use Rattle.witness.specs.declared.place.Place.{Place}
 use Rattle.witness.specs.Witness.{Witness}
-use Rattle.evidence.specs.Taking.{taken_by}
+use Rattle.history.specs.Heard.{taken_by}
 use Rattle.compose.specs.VerifyFaults.{IsAtMost}
 use Rattle.compose.specs.declared.taken.Taken.{Taken}
 

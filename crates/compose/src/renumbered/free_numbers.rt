@@ -5,7 +5,7 @@ use std::alloc::Global;
 use version_pair::{NoMemory, Pair};
 
 /// Which numbers of a shard are taken, each with a number to look on from: all between are taken.
-#[derive(Debug, Drop)]
+#[derive(Drop)]
 pub struct FreeNumbers {
     next: IndexMap<(u32, Pair), u64, HashKeys>,
 }

@@ -1,7 +1,6 @@
 use crate::renumbered::free_numbers::FreeNumbers;
 use crate::taken::{pair_of_place, shard_of};
-use doc_register::{Op, Reply};
-use evidence::condition;
+use doc_register::Op;
 use history::{Front, HashKeys, Rec};
 use indexmap::IndexSet;
 use std::alloc::Global;
@@ -9,7 +8,7 @@ use version_pair::{NoMemory, Pair};
 use witness::{DocWitness, Place};
 
 /// Places with invented pairs between two other pairs of one term.
-#[derive(Debug, Drop)]
+#[derive(Drop)]
 pub struct Gap {
     pub shard: u32,
     /// The number of the witness.
@@ -22,7 +21,7 @@ pub struct Gap {
 }
 
 /// The gaps of all witnesses, and the pairs that calls name.
-#[derive(Debug, Drop)]
+#[derive(Drop)]
 pub struct Gaps {
     pub list: Vec<Gap>,
     // The pairs that conditions and gets of a document name, each with the number of its witness.
@@ -56,10 +55,9 @@ impl Wanting<'_> {
 
 // The pair that the call names: that of its condition, or the one that it found.
 fn named_by(found: Rec) -> Option<Pair> {
-    match (found.op, found.heard) {
-        (Op::Index { cond, .. } | Op::Delete { cond }, _) => cond,
-        (Op::Get, Some((_, Reply::Found { pair, .. }))) => Some(pair),
-        _ => None,
+    match found.op {
+        Op::Get => found.heard.and_then(|heard| heard.1.pair()),
+        _ => found.op.condition(),
     }
 }
 
@@ -107,7 +105,7 @@ impl Gaps {
                 } else {
                     None
                 };
-            } else if let (Some(place), Some(pair)) = (present, condition(found.op)) {
+            } else if let (Some(place), Some(pair)) = (present, found.op.condition()) {
                 self.refused.insert((number, place, pair))?;
             }
         }

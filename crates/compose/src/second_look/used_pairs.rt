@@ -1,14 +1,12 @@
 use crate::taken::shard_of;
 use doc_check::DocAnswer;
-use doc_register::Reply;
-use evidence::condition;
 use history::{Front, Rec};
 use std::alloc::Global;
 use version_pair::{NoMemory, Pair};
 
 /// The pairs that are known to be used, by shard: those that replies tell of performed writes, those that gets found, and those
 /// that the conditions of performed writes name.
-#[derive(Debug, Drop)]
+#[derive(Drop)]
 pub struct UsedPairs {
     // The shards, rising, each with the place of its first pair.
     shards: Vec<(u32, usize)>,
@@ -18,15 +16,13 @@ pub struct UsedPairs {
 
 // Notes the pairs that a call shows to be used.
 fn note_used(entries: &mut Vec<(u32, Pair)>, shard: u32, found: Rec) -> Result<(), NoMemory> {
-    match found.heard {
-        Some((_, Reply::Indexed { pair, .. } | Reply::Deleted { pair, .. })) => {
-            entries.push((shard, pair))?;
-            if let Some(named) = condition(found.op) {
-                entries.push((shard, named))?;
-            }
+    if let Some(pair) = found.heard.and_then(|heard| heard.1.pair()) {
+        entries.push((shard, pair))?;
+    }
+    if found.pair_taken().is_some() {
+        if let Some(named) = found.op.condition() {
+            entries.push((shard, named))?;
         }
-        Some((_, Reply::Found { pair, .. })) => entries.push((shard, pair))?,
-        Some((_, Reply::Missing | Reply::Conflict)) | None => {}
     }
     Ok(())
 }

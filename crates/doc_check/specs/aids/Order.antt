@@ -6,7 +6,7 @@ use Rattle.version_pair.specs.declared.pair.Pair.{Pair}
 use Rattle.doc_register.specs.declared.reply.Reply.{Reply}
 use Rattle.history.specs.declared.record.Rec.{Rec}
 use Rattle.witness.specs.declared.place.Place.{Place}
-use Rattle.write_chain.specs.Chain.{pair_of}
+use Rattle.history.specs.Heard.{pair_of}
 
 -- where a record stands: its stretch, 0 for the stretch's write and 1 for what comes after it, the place of its reply, its number
 abbrev pub Standing : Type 0

@@ -7,7 +7,8 @@ use Rattle.doc_register.specs.declared.state.DocState.{DocState}
 use Rattle.doc_register.specs.declared.state.DocState.TheVariants.{Never}
 use Rattle.doc_register.specs.Register.{DocStep, is_here}
 use Rattle.history.specs.declared.record.Rec.{Rec}
-use Rattle.write_chain.specs.Chain.{IsChain, Rises, after_link, pair_of}
+use Rattle.write_chain.specs.Chain.{IsChain, Rises, after_link}
+use Rattle.history.specs.Heard.{pair_of}
 use Rattle.doc_check.specs.declared.stretches.Stretches.{Stretches}
 
 -- the document in a stretch

@@ -7,7 +7,7 @@ use Rattle.witness.specs.declared.place.Place.{Place}
 use Rattle.doc_register.specs.declared.state.Conflicts.{Conflicts}
 use Rattle.witness.specs.Places.{AreValid, StepsAt}
 use Rattle.doc_check.specs.NoOrders.{AreUnpaired}
-use Rattle.write_chain.specs.Chain.{pair_of}
+use Rattle.history.specs.Heard.{pair_of}
 use Rattle.doc_check.specs.aids.Stretches.{Fits, cap, state_in, states_of}
 
 -- a place of the history, whether a reply stands there, and the number of the record whose call or reply it is

@@ -8,7 +8,8 @@ use Rattle.doc_register.specs.declared.reply.Reply.TheVariants.{Found}
 use Rattle.doc_register.specs.Run.{pair_taken}
 use Rattle.history.specs.declared.event.Event.{Event}
 use Rattle.history.specs.Events.{IsCallAt, heard_of}
-use Rattle.evidence.specs.Evidence.{IsFound, IsPerformed, condition_of}
+use Rattle.doc_register.specs.Register.{condition_of}
+use Rattle.evidence.specs.Evidence.{IsFound, IsPerformed}
 use Rattle.evidence.specs.declared.answered_call.FoundGet.{FoundGet}
 use Rattle.evidence.specs.declared.answered_call.PerformedWrite.{PerformedWrite}
 

@@ -1,11 +1,11 @@
-use crate::answered_call::{FoundGet, PerformedWrite, heard, pair_shown};
-use doc_register::{Op, Reply};
+use crate::answered_call::{FoundGet, PerformedWrite};
+use doc_register::Reply;
 use history::{Event, History};
 use std::alloc::Global;
 use version_pair::{DocId, NoMemory, Pair};
 
 /// A get that found its document. Documents are numbered as in the history.
-#[derive(Clone, Copy, Debug)]
+#[derive(Clone, Copy)]
 pub struct AnsweredGet {
     pub no: u64,
     pub doc: usize,
@@ -15,7 +15,7 @@ pub struct AnsweredGet {
 }
 
 /// A write that was performed. Documents are numbered as in the history.
-#[derive(Clone, Copy, Debug)]
+#[derive(Clone, Copy)]
 pub struct AnsweredWrite {
     pub no: u64,
     pub doc: usize,
@@ -24,7 +24,7 @@ pub struct AnsweredWrite {
 
 /// The answered calls of a history that evidence may name: the gets in the order of their calls, the writes in that of
 /// their replies.
-#[derive(Debug, Drop)]
+#[derive(Drop)]
 pub struct AnsweredCalls {
     pub gets: Vec<AnsweredGet>,
     pub writes: Vec<AnsweredWrite>,
@@ -58,7 +58,7 @@ impl AnsweredCalls {
         id: &DocId,
         called: usize,
     ) -> Result<(), NoMemory> {
-        let Some((replied, Reply::Found { pair, k })) = heard(history, no) else {
+        let Some((replied, Reply::Found { pair, k })) = history.heard(no) else {
             return Ok(());
         };
         let Some(doc) = history.doc_of(id) else {
@@ -86,7 +86,7 @@ impl AnsweredCalls {
         reply: Reply,
         replied: usize,
     ) -> Result<(), NoMemory> {
-        let Some(pair) = pair_shown(reply) else {
+        let Some(pair) = reply.pair_taken() else {
             return Ok(());
         };
         let Some(called) = history.call(no) else {

@@ -1,4 +1,4 @@
-use crate::holding::{asks_too_little, condition};
+use crate::holding::asks_too_little;
 use crate::refuted::Refuted;
 use crate::search::answered_calls::AnsweredWrite;
 use std::alloc::Global;
@@ -6,7 +6,7 @@ use version_pair::{NoMemory, Pair};
 
 // The writes of a document whose conditions are below some pair: the greatest place of their calls, and the greatest of
 // their pairs.
-#[derive(Clone, Copy, Debug)]
+#[derive(Clone, Copy)]
 struct Asking {
     doc: usize,
     last_called: usize,
@@ -48,7 +48,7 @@ fn least_ignored(
     for i in 0..writes.len() {
         let write = writes[i];
         marks.push((write.doc, write.performed.pair, false, i))?;
-        if let Some(asked) = condition(write.performed.op) {
+        if let Some(asked) = write.performed.op.condition() {
             marks.push((write.doc, asked, true, i))?;
         }
     }

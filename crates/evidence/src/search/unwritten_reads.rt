@@ -1,7 +1,5 @@
 ghost use Rattle.std.specs.Prelude.{◌<◌, length};
 
-use crate::answered_call::heard;
-use crate::holding::number_written;
 use crate::refuted::Refuted;
 use crate::search::answered_calls::AnsweredGet;
 use doc_register::{Conflicts, Reply};
@@ -11,7 +9,7 @@ use std::alloc::Global;
 use version_pair::{NoMemory, Pair};
 
 // The writes of a history that gave their document a number, or may have, by document and number.
-#[derive(Debug, Drop)]
+#[derive(Drop)]
 struct Writers {
     // The place of the first call that was answered with this pair.
     shown: IndexMap<(usize, u64, Pair), usize, HashKeys>,
@@ -52,10 +50,10 @@ impl Writers {
         let Event::Call { no, id, op, .. } = history.event(place) else {
             return Ok(());
         };
-        let (Some(k), Some(doc)) = (number_written(*op), history.doc_of(id)) else {
+        let (Some(k), Some(doc)) = (op.value(), history.doc_of(id)) else {
             return Ok(());
         };
-        match heard(history, *no) {
+        match history.heard(*no) {
             Some((_, Reply::Indexed { pair, .. })) => self.note_shown(doc, k, pair, place),
             Some((_, Reply::Conflict)) if conflicts == Conflicts::Maybe => {
                 self.note_open(doc, k, place)

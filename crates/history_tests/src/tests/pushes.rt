@@ -1,7 +1,7 @@
 //! Events added to a history: what it answers to them, and what it has then.
 
 use crate::tests::testing::same;
-use doc_register::{Op, Reply};
+use doc_register::{Conflicts, Op, Reply};
 use history::{Event, HistFault, History};
 use std::alloc::Global;
 use std::test::Fail;
@@ -170,6 +170,33 @@ fn keeps_three_calls(alloc: Global, history: &mut History) -> Result<(), Fail> {
 fn calls_and_endings(rt: HostRuntime) -> Result<(), Fail> {
     let mut history = history_of(rt.alloc(), THREE_CALLS)?;
     keeps_three_calls(rt.alloc(), &mut history)
+}
+
+// What is known before an event of the call with this number: whether it is settled, and the pair that it took.
+fn known_of(history: &History, no: u64, event: usize) -> Option<(bool, Option<Pair>)> {
+    let known = history.record(no)?.known_before(event);
+    Some((known.is_settled(Conflicts::Plain), known.pair_taken()))
+}
+
+#[test]
+fn records_by_number(rt: HostRuntime) -> Result<(), Fail> {
+    let history = history_of(rt.alloc(), THREE_CALLS)?;
+    let pair = Pair::new(1, 0);
+    for (no, event, want) in [
+        (0, 2, Some((true, pair))),
+        (0, 1, Some((false, None))),
+        (1, 5, Some((true, None))),
+        (3, 5, None),
+    ] {
+        assert_eq!(rt;
+            known_of(&history, no, event),
+            want,
+            "call {no} before event {event}"
+        );
+    }
+    assert_eq!(rt; history.heard(0).map(|heard| heard.0), Some(1));
+    assert_eq!(rt; history.heard(2), None);
+    Ok(())
 }
 
 // Asserts what the three calls answer to one more event.

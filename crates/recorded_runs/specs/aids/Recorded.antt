@@ -8,33 +8,37 @@ use Rattle.repl_group.specs.declared.fault.CoreFault.{CoreFault}
 use Rattle.repl_group.specs.declared.fault.CoreFault.TheVariants.{Copies}
 use Rattle.repl_group.specs.declared.fault.CoreFault.TheVariants as core
 use Rattle.stream_io.specs.declared.stream_fault.StreamFault.{StreamFault}
-use Rattle.stream_io.specs.declared.stream_fault.StreamFault.TheVariants as stream
-use Rattle.recorded_runs.specs.declared.unrecorded.Unrecorded.{Unrecorded}
-use Rattle.recorded_runs.specs.declared.unrecorded.Unrecorded.TheVariants.{Setting, NoMemory, Recording}
+use Rattle.stream_io.specs.declared.stream_fault.StreamFault.TheVariants.{Read, Write, NoMemory, Worker, Recording, Setting}
 
 -- a fault of a run of clients: want of memory, wherever it was, or that something was refused
-abbrev pub unrecorded_of : RunFault → Unrecorded
-unrecorded_of (run.Record recording.NotMine) = Recording
-unrecorded_of (run.Record recording.Ended) = Recording
-unrecorded_of (run.Record recording.Kind) = Recording
-unrecorded_of (run.Record recording.Full) = Recording
-unrecorded_of (run.Record recording.NoMemory) = NoMemory
-unrecorded_of (run.Record (recording.Rewound n)) = Recording
-unrecorded_of (run.Target target.Full) = Recording
-unrecorded_of (run.Target target.NoMemory) = NoMemory
-unrecorded_of run.NoMemory = NoMemory
-
--- the same as a fault of a stream
-abbrev pub stream_fault_of : Unrecorded → StreamFault
-stream_fault_of Setting = stream.Setting
-stream_fault_of NoMemory = stream.NoMemory
-stream_fault_of Recording = stream.Recording
+abbrev pub stream_fault_of : RunFault → StreamFault
+stream_fault_of (run.Record recording.NotMine) = Recording
+stream_fault_of (run.Record recording.Ended) = Recording
+stream_fault_of (run.Record recording.Kind) = Recording
+stream_fault_of (run.Record recording.Full) = Recording
+stream_fault_of (run.Record recording.NoMemory) = NoMemory
+stream_fault_of (run.Record (recording.Rewound n)) = Recording
+stream_fault_of (run.Target target.Full) = Recording
+stream_fault_of (run.Target target.NoMemory) = NoMemory
+stream_fault_of run.NoMemory = NoMemory
 
 -- it comes of recording, and not of the setting
-abbrev pub IsOfRecording : Unrecorded → Type 0
-IsOfRecording Setting = ⊥
+abbrev pub IsOfRecording : StreamFault → Type 0
+IsOfRecording Read = ⊥
+IsOfRecording Write = ⊥
 IsOfRecording NoMemory = Unit {0}
+IsOfRecording (Worker doc) = ⊥
 IsOfRecording Recording = Unit {0}
+IsOfRecording Setting = ⊥
+
+-- it comes of recording or of the setting, and not of writing
+abbrev pub IsOfRun : StreamFault → Type 0
+IsOfRun Read = ⊥
+IsOfRun Write = ⊥
+IsOfRun NoMemory = Unit {0}
+IsOfRun (Worker doc) = ⊥
+IsOfRun Recording = Unit {0}
+IsOfRun Setting = Unit {0}
 
 -- the answer is that the number of copies is refused
 abbrev pub tells_copies : {X : Type 0} → Result X CoreFault → Bool

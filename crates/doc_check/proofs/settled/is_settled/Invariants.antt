@@ -1,7 +1,7 @@
 use Rattle.std.proofs.Common.{◌≡◌, ◌≢◌, ◌<◌, ℕ, Some, slice_get}
 use Rattle.doc_register.specs.declared.op.Op.TheVariants.{Get}
 use Rattle.history.specs.declared.record.Rec.{Rec}
-use Rattle.doc_check.specs.NoOrders.{IsTold}
+use Rattle.history.specs.Heard.{IsTold}
 use Rattle.doc_check.proofs.settled.is_settled.Given as goal
 
 abbrev pub invariant-loop-found : goal.invariant-loop-found

@@ -9,12 +9,12 @@ pub returns-in_default-event : goal.returns-in_default-event
 returns-in_default-event c = λ d q w.
     found_elsewhere c.args.history.now c.args.no c.in-Some.called c.event.result.now (sym c.call.ensures.place ∙ c.in-Some.is) c.event.ensures c.in_default-event.not-Call
 
-pub returns-in-Some-pair_shown : goal.returns-in-Some-pair_shown
-returns-in-Some-pair_shown c = record {
+pub returns-in-Some-pair_taken : goal.returns-in-Some-pair_taken
+returns-in-Some-pair_taken c = record {
   doc = c.in-Call.id;
   reply = c.in-Some-heard.answer.1;
   call = call_there c.args.history.now c.args.no c.in-Some.called c.in-Call.no c.in-Call.shard c.in-Call.id c.in-Call.op (sym c.call.ensures.place ∙ c.in-Some.is)
       (c.event.ensures ∙ ap (λ e. Some e) c.in-Call.is);
   heard = sym c.heard.ensures ∙ c.in-Some-heard.is;
-  shows = sym c.pair_shown.ensures ∙ c.in-Some-pair_shown.is;
+  shows = sym c.pair_taken.ensures ∙ c.in-Some-pair_taken.is;
 }

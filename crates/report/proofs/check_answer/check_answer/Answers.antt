@@ -5,14 +5,14 @@ use Rattle.history.specs.Text.{IsHistoryText}
 use Rattle.report.proofs.AnswerLemmas.{if_each}
 use Rattle.report.proofs.check_answer.check_answer.Goals as goal
 
-pub returns-in_ok-answer-in-Ok-Ok : goal.returns-in_ok-answer-in-Ok-Ok
-returns-in_ok-answer-in-Ok-Ok g c =
+pub returns-in_ok-answer-in-Ok-Ok-clause-answer : goal.returns-in_ok-answer-in-Ok-Ok-clause-answer
+returns-in_ok-answer-in-Ok-Ok-clause-answer g c =
     let input = g.R.Read.remaining c.args.reader.now in
     let read = subst (λ told. IfSome input (λ text. IfOk told (IsHistoryText text))) c.in-Ok-Ok.field-0-is c.in-Ok-Ok.ensures.text in
-    if_each input read (λ text is. c.in_ok-answer-in-Ok-Ok.ensures text is)
+    if_each input read (λ text is. c.in_ok-answer-in-Ok-Ok.ensures.answer text is)
 
-pub returns-in_ok-answer-in-Ok-Err : goal.returns-in_ok-answer-in-Ok-Err
-returns-in_ok-answer-in-Ok-Err g c =
+pub returns-in_ok-answer-in-Ok-Err-clause-answer : goal.returns-in_ok-answer-in-Ok-Err-clause-answer
+returns-in_ok-answer-in-Ok-Err-clause-answer g c =
     let input = g.R.Read.remaining c.args.reader.now in
     let read = subst (λ told. IfSome input (λ text. MatchResult told (λ h. history_text text ≡ Ok h) (λ f. history_text text ≡ Err f))) c.in-Ok-Err.field-0-is c.in-Ok-Err.ensures.told in
     if_each input read (λ text told. c.in_ok-answer-in-Ok-Err.ensures.answers c.args.conflicts text told)

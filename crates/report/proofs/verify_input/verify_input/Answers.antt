@@ -6,14 +6,14 @@ use Rattle.history.specs.Text.{IsHistoryText}
 use Rattle.report.proofs.AnswerLemmas.{if_any, if_each}
 use Rattle.report.proofs.verify_input.verify_input.Goals as goal
 
-pub returns-in-Ok-Ok : goal.returns-in-Ok-Ok
-returns-in-Ok-Ok g c =
+pub returns-in-Ok-Ok-clause-answer : goal.returns-in-Ok-Ok-clause-answer
+returns-in-Ok-Ok-clause-answer g c =
     let input = g.R.Read.remaining c.args.history.now in
     let read = subst (λ told. IfSome input (λ text. IfOk told (IsHistoryText text))) c.in-Ok-Ok.field-0-is c.in-Ok-Ok.ensures.text in
-    IfOk-weaker c.read_witness_answer.result _ _ (λ answer each. if_each input read each) c.read_witness_answer.ensures
+    IfOk-weaker c.read_witness_answer.result _ _ (λ answer each. if_each input read each) c.read_witness_answer.ensures.answer
 
-pub returns-in_ok-answer-in-Ok-Err : goal.returns-in_ok-answer-in-Ok-Err
-returns-in_ok-answer-in-Ok-Err g c =
+pub returns-in_ok-answer-in-Ok-Err-clause-answer : goal.returns-in_ok-answer-in-Ok-Err-clause-answer
+returns-in_ok-answer-in-Ok-Err-clause-answer g c =
     let input = g.R.Read.remaining c.args.history.now in
     let read = subst (λ told. IfSome input (λ text. MatchResult told (λ h. history_text text ≡ Ok h) (λ f. history_text text ≡ Err f))) c.in-Ok-Err.field-0-is c.in-Ok-Err.ensures.told in
     if_each input read (λ history told.

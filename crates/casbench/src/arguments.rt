@@ -1,0 +1,156 @@
+ghost use Rattle.std.specs.Prelude.{◌≡◌, false, codes};
+ghost use Rattle.clap.specs.Words.{rule_of};
+ghost use Rattle.casbench.specs.Asked.{conflicts_rule, fault_rule, file_rule, first_rule, html_rule, needed_rule, seed_rule, small_rule, workers_rule};
+
+use clap::Arg;
+use clap::builder::ValueParser;
+use std::alloc::Global;
+
+/// The history text.
+pub const HISTORY: &str = "history";
+
+/// The body of a bulk request.
+pub const BODY: &str = "body";
+
+/// Its reply.
+pub const REPLY: &str = "reply";
+
+/// The number of the first call.
+pub const FIRST: &str = "first";
+
+/// How a conflict is read.
+pub const CONFLICTS: &str = "conflicts";
+
+/// How many workers there are.
+pub const WORKERS: &str = "workers";
+
+/// The file of a page.
+pub const HTML: &str = "html";
+
+/// The witness text.
+pub const WITNESS: &str = "witness";
+
+/// The seed of a run.
+pub const SEED: &str = "seed";
+
+/// How many clients a run has.
+pub const CLIENTS: &str = "clients";
+
+/// How many calls each of them makes.
+pub const CALLS: &str = "calls";
+
+/// How many documents there are.
+pub const DOCS: &str = "docs";
+
+/// How many copies the group has.
+pub const COPIES: &str = "copies";
+
+/// What the group does wrong.
+pub const FAULT: &str = "fault";
+
+/// The file of the history text, which may be left out.
+pub fn history<'a>(alloc: Global) -> Arg<'a>
+    ensures rule { rule_of result ≡ file_rule (codes "history") }
+    ensures local { result.global ≡ false }
+{
+    Arg::new(alloc, HISTORY)
+        .value_name("FILE")
+        .help("The history text; standard input where it is left out")
+}
+
+/// A file that may not be left out.
+pub fn needed<'a>(alloc: Global, id: &'a str, shown: &'a str, help: &'a str) -> Arg<'a>
+    ensures rule { rule_of result ≡ needed_rule id.entry.now }
+    ensures local { result.global ≡ false }
+{
+    Arg::new(alloc, id)
+        .value_name(shown)
+        .help(help)
+        .required(true)
+}
+
+/// The number of the first call, which may be left out.
+pub fn first<'a>(alloc: Global) -> Arg<'a>
+    ensures rule { rule_of result ≡ first_rule }
+    ensures local { result.global ≡ false }
+{
+    Arg::new(alloc, FIRST)
+        .long(FIRST)
+        .value_name("N")
+        .value_parser(ValueParser::Unsigned(0, u64::MAX))
+        .help("The number of the first call; 0 where it is left out")
+}
+
+/// How a conflict is read, which may be left out.
+pub fn conflicts<'a>(alloc: Global) -> Arg<'a>
+    ensures rule { rule_of result ≡ conflicts_rule }
+    ensures local { result.global ≡ false }
+{
+    Arg::new(alloc, CONFLICTS)
+        .long(CONFLICTS)
+        .value_name("READING")
+        .help(
+            "How a conflict is read: plain, as not performed, or maybe; plain where it is left out",
+        )
+}
+
+/// How many workers there are, which may be left out.
+pub fn workers<'a>(alloc: Global) -> Arg<'a>
+    ensures rule { rule_of result ≡ workers_rule }
+    ensures local { result.global ≡ false }
+{
+    Arg::new(alloc, WORKERS)
+        .long(WORKERS)
+        .value_name("N")
+        .value_parser(ValueParser::Unsigned(1, 16))
+        .help("How many workers search the documents, 1 to 16; 1 where it is left out")
+}
+
+/// The file of the page, which may be left out.
+pub fn html<'a>(alloc: Global) -> Arg<'a>
+    ensures rule { rule_of result ≡ html_rule }
+    ensures local { result.global ≡ false }
+{
+    Arg::new(alloc, HTML)
+        .long(HTML)
+        .value_name("OUT")
+        .help("Write the story as a page of HTML too, to this file")
+}
+
+/// The seed of a run.
+pub fn seed<'a>(alloc: Global) -> Arg<'a>
+    ensures rule { rule_of result ≡ seed_rule }
+    ensures local { result.global ≡ false }
+{
+    Arg::new(alloc, SEED)
+        .long(SEED)
+        .value_name("S")
+        .value_parser(ValueParser::Unsigned(0, u64::MAX))
+        .help("The seed from which the plan of the clients and the steps of the group are drawn")
+        .required(true)
+}
+
+/// A number below 2^32 that may not be left out.
+pub fn small<'a>(alloc: Global, id: &'a str, shown: &'a str, help: &'a str) -> Arg<'a>
+    ensures rule { rule_of result ≡ small_rule id.entry.now }
+    ensures local { result.global ≡ false }
+{
+    Arg::new(alloc, id)
+        .long(id)
+        .value_name(shown)
+        .value_parser(ValueParser::Unsigned(0, 4_294_967_295))
+        .help(help)
+        .required(true)
+}
+
+/// What the group does wrong.
+pub fn fault<'a>(alloc: Global) -> Arg<'a>
+    ensures rule { rule_of result ≡ fault_rule }
+    ensures local { result.global ≡ false }
+{
+    Arg::new(alloc, FAULT)
+        .long(FAULT)
+        .value_name("F")
+        .help("What the group does wrong: none, dirty, early, same-term, stale or blind")
+        .required(true)
+}

@@ -1,0 +1,38 @@
+-- What was heard of a call: which pair it took, and whether it tells that a write was performed.
+use Rattle.std.specs.Prelude.{◌≡◌, ◌≢◌, ℕ, Option, None, Some, if◌then◌else◌, nat_lt}
+use Rattle.version_pair.specs.declared.pair.Pair.{Pair}
+use Rattle.doc_register.specs.Run.{pair_taken}
+use Rattle.doc_register.specs.declared.op.Op.TheVariants.{Get}
+use Rattle.doc_register.specs.declared.reply.Reply.{Reply}
+use Rattle.doc_register.specs.declared.reply.Reply.TheVariants.{Conflict}
+use Rattle.doc_register.specs.declared.state.Conflicts.{Conflicts}
+use Rattle.doc_register.specs.declared.state.Conflicts.TheVariants.{Maybe}
+use Rattle.history.specs.declared.record.Rec.{Rec}
+
+-- the pair that a call takes: the one that its reply tells, or the one that is given to its place
+abbrev pub taken_by : Option (ℕ × Reply) → Option Pair → Option Pair
+taken_by None given = given
+taken_by (Some heard) given = pair_taken heard.1 given
+
+-- the pair that an answered write was performed with, as its reply shows
+abbrev pub pair_of : Option (ℕ × Reply) → Option Pair
+pair_of None = None
+pair_of (Some heard) = pair_taken heard.1 None
+
+-- what was heard before an event
+abbrev pub heard_before : ℕ → Option (ℕ × Reply) → Option (ℕ × Reply)
+heard_before event None = None
+heard_before event (Some heard) = if nat_lt heard.0 event then Some heard else None
+
+-- the call as it was known before an event
+abbrev pub known_before : ℕ → Rec → Rec
+known_before event r = record { no = r.no; op = r.op; call_at = r.call_at; heard = heard_before event r.heard }
+
+-- a reply was heard, and it tells whether the write was performed: under Maybe a conflict doesn't
+abbrev pub IsTold : Conflicts → Option (ℕ × Reply) → Type 0
+IsTold mode None = ⊥
+IsTold mode (Some heard) = mode ≡ Maybe → heard.1 ≢ Conflict
+
+-- the call is a get, or such a reply was heard
+abbrev pub IsSettled : Conflicts → Rec → Type 0
+IsSettled mode r = r.op ≢ Get → IsTold mode r.heard

@@ -1,0 +1,18 @@
+ghost use Rattle.std.specs.Prelude.{◌≡◌};
+ghost use Rattle.recorded_runs.specs.aids.Recorded.{stream_fault_of};
+
+use recorder::RecFault;
+use stream_io::StreamFault;
+use workload::{RunFault, TargetFault};
+
+/// A fault of a run of clients as one of a stream.
+pub fn stream_fault(fault: RunFault) -> StreamFault
+    ensures { result ≡ stream_fault_of fault }
+{
+    match fault {
+        RunFault::NoMemory
+        | RunFault::Record(RecFault::NoMemory)
+        | RunFault::Target(TargetFault::NoMemory) => StreamFault::NoMemory,
+        RunFault::Record(_) | RunFault::Target(_) => StreamFault::Recording,
+    }
+}

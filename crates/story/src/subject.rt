@@ -1,0 +1,33 @@
+use doc_register::Conflicts;
+use evidence::Refuted;
+use history::History;
+use witness::DocWitness;
+
+/// What a story tells of a history that an order explains.
+#[derive(Clone, Copy)]
+pub struct Explained<'h> {
+    /// How many documents the history has.
+    pub docs: usize,
+    /// How many calls it has.
+    pub calls: usize,
+    /// How many of these stand in no place of the order.
+    pub left_out: usize,
+    /// The orders of the documents.
+    pub witnesses: &'h [DocWitness],
+}
+
+/// What a story tells of a history for which no order was found.
+#[derive(Clone, Copy)]
+pub struct Unexplained<'h> {
+    pub history: &'h History,
+    /// How a conflict was read.
+    pub conflicts: Conflicts,
+    /// The evidence that there is no order, where some was found.
+    pub evidence: Option<Refuted>,
+    /// The place of the reply at which the search first failed, from 0.
+    pub event: usize,
+    /// The number of the call that it answers.
+    pub call: u64,
+    /// Whether an order of the events before it was found.
+    pub before_shown: bool,
+}
