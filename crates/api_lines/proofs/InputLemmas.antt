@@ -1,39 +1,29 @@
 -- Lines that are taken from a reader's bytes, and the text of all bytes.
-use Rattle.std.proofs.Common.{ℕ, ◌≡◌, ◌≢◌, ◌<◌, ◌≤◌, ◌+◌, List, [], ◌∷◌, ◌++◌, length, take, refl, sym, ap, ◌∙◌, arith, get_or, get_or-take, length-take-le, length-append, append_assoc, append-nil, eq-eqb, ne_eqb, Option, None, Some, IfSome, Ok, Err, Result, inl, inr}
+use Rattle.std.proofs.Common.{ℕ, ◌≡◌, ◌<◌, ◌≤◌, ◌+◌, List, [], ◌∷◌, ◌++◌, length, take, refl, sym, ap, ◌∙◌, arith, get_or, length-append, append_assoc, append-nil, Option, None, Some, IfSome, Ok, Err, Result, inl, inr}
 use Rattle.std.specs.Prelude.{◌==◌}
-use Rattle.std.proofs.lemmas.Bool.{or_from}
-use Rattle.std.proofs.lemmas.List.{get_or_default}
-use Rattle.std.proofs.lemmas.List.Elements.{All-head, All-tail}
 use Rattle.std.specs.Io.KnownBytes.{IsAtEnd}
 use Rattle.memchr.specs.Find.{Nowhere, Passes, is_byte}
 use Rattle.serde_json.specs.Data.{Data}
 use Rattle.api_lines.specs.Faults.{IfTextTold}
-use Rattle.api_lines.specs.Lines.{HasNoLineFeed, has_line_feed, lines_of, longest_line, most_lines}
-use Rattle.api_lines.specs.Sources.{EndsLine, HasNoFeed}
+use Rattle.api_lines.specs.Lines.{HasNoLineFeed, lines_of, longest_line, most_lines}
+use Rattle.api_lines.specs.Sources.{EndsLine}
 use Rattle.api_lines.specs.Texts.{SoFar, after_line, line_given, next_line, read_line, read_lines, so_far, taken}
 use Rattle.api_lines.specs.declared.text_fault.ReadFault.{ReadFault}
 use Rattle.api_lines.specs.declared.text_fault.ReadFault.TheVariants as refusal
 use Rattle.api_lines.specs.declared.text_fault.TextCause.{TextCause}
 use Rattle.api_lines.specs.declared.text_fault.TextFault.{TextFault}
+use Rattle.api_lines.proofs.LineLemmas.{front_without}
 use Rattle.api_lines.proofs.LineByLine.{last_line, long_stops, open_line, taken_more, taken_until}
 use Rattle.api_lines.proofs.ReadingLemmas.{IsReadUpTo, first_ok, given_within, read_all, read_none, read_refused}
 use Rattle.api_lines.proofs.WrittenLines.{one_line}
+use Rattle.std.proofs.lemmas.Bool.{false_from_ne_true}
 
 -- a front of bytes before which there is no line feed
-pub front_unfed : (bytes : List ℕ) (n : ℕ) → n ≤ length bytes → Nowhere (Passes (is_byte 10) bytes) 0 n → HasNoFeed (take n bytes)
-front_unfed bytes n within none k d below feed =
-    let short : k < n = omega (arith, below, length-take-le n bytes within) in
-    none k (omega arith) short
-    (eq-eqb (get_or bytes k 0) 10 (sym (get_or_default bytes k d 0 (omega arith)) ∙ sym (get_or-take n bytes k d short) ∙ feed))
+pub front_unfed : (bytes : List ℕ) (n : ℕ) → n ≤ length bytes → Nowhere (Passes (is_byte 10) bytes) 0 n → HasNoLineFeed (take n bytes)
+front_unfed bytes n within none = front_without bytes n within (λ k below. false_from_ne_true (get_or bytes k 0 == 10) (none k (omega arith) below))
 
 pub fewer : (bytes : List ℕ) (n m : ℕ) → n ≤ m → Nowhere (Passes (is_byte 10) bytes) 0 m → Nowhere (Passes (is_byte 10) bytes) 0 n
 fewer bytes n m within none k low high = none k low (omega arith)
-
--- no byte is one, byte by byte and all at once
-pub feedless : (bytes : List ℕ) → HasNoFeed bytes → HasNoLineFeed bytes
-feedless [] unfed = refl
-feedless (b ∷ bytes) unfed =
-    or_from (b == 10) (has_line_feed bytes) (ne_eqb b 10 (All-head (λ x. x ≢ 10) b bytes unfed)) (feedless bytes (All-tail (λ x. x ≢ 10) b bytes unfed))
 
 -- ---- a line that is too long
 
@@ -82,16 +72,16 @@ on_all takes start (Some text) None r before end = absurd before
 on_all takes start (Some text) (Some rest) r before end = read_all takes start text rest r.lines r.state before (ap length end)
 
 -- the lines of known bytes, where one was taken of them
-line_taken : (ys zs line : List ℕ) → HasNoFeed line → ys ≡ (line ++ 10 ∷ []) ++ zs → lines_of ys ≡ line ∷ lines_of zs
-line_taken ys zs line unfed took = ap lines_of (took ∙ append_assoc line (10 ∷ []) zs) ∙ one_line line zs (feedless line unfed)
+line_taken : (ys zs line : List ℕ) → HasNoLineFeed line → ys ≡ (line ++ 10 ∷ []) ++ zs → lines_of ys ≡ line ∷ lines_of zs
+line_taken ys zs line unfed took = ap lines_of (took ∙ append_assoc line (10 ∷ []) zs) ∙ one_line line zs unfed
 
-end_taken : (ys zs line : List ℕ) → HasNoFeed line → ys ≡ line ++ zs → zs ≡ [] → 0 < length line → lines_of ys ≡ line ∷ lines_of zs
+end_taken : (ys zs line : List ℕ) → HasNoLineFeed line → ys ≡ line ++ zs → zs ≡ [] → 0 < length line → lines_of ys ≡ line ∷ lines_of zs
 end_taken ys zs line unfed took end some =
-    ap lines_of (took ∙ ap (λ l. line ++ l) end ∙ append-nil line) ∙ last_line line (feedless line unfed) some ∙ ap (λ l. line ∷ lines_of l) (sym end)
+    ap lines_of (took ∙ ap (λ l. line ++ l) end ∙ append-nil line) ∙ last_line line unfed some ∙ ap (λ l. line ∷ lines_of l) (sym end)
 
 -- one line more, taken
 pub on_more : {S : Type 0} (takes : S → Data → Result S TextCause) (start : S) (input old new : Option (List ℕ)) (line : List ℕ) (r q : SoFar S)
-    → IsReadOn takes start input old r → HasNoFeed line → EndsLine old new line
+    → IsReadOn takes start input old r → HasNoLineFeed line → EndsLine old new line
     → next_line takes r line ≡ Ok q → q.lines ≤ most_lines → IsReadOn takes start input new q
 unfolding IsReadOn
 on_more takes start None old new line r q before unfed ends next few = tt
@@ -108,7 +98,7 @@ on_more takes start (Some text) (Some ys) (Some zs) line r q before unfed (inr (
 
 -- one line more, refused
 on_told : {S : Type 0} (takes : S → Data → Result S TextCause) (start : S) (input old new : Option (List ℕ)) (line : List ℕ) (r : SoFar S) (told : TextFault)
-    → IsReadOn takes start input old r → HasNoFeed line → EndsLine old new line
+    → IsReadOn takes start input old r → HasNoLineFeed line → EndsLine old new line
     → next_line takes r line ≡ Err told → IfSome input (λ text. read_lines takes 1 start (lines_of text) ≡ Err told)
 unfolding IsReadOn
 on_told takes start None old new line r told before unfed ends stop = tt
@@ -126,13 +116,13 @@ on_told {S} takes start (Some text) (Some ys) (Some zs) line r told before unfed
         → read_lines takes 1 start (lines_of text) ≡ Err told
     by_line (Ok t) is next = absurd (cc)
     by_line (Err cause) is next =
-        let on = open_line line zs (feedless line unfed) (omega (arith, long)) in
+        let on = open_line line zs unfed (omega (arith, long)) in
         let same : record { line = r.lines + 1; cause = cause } ≡ told = cc in
         read_refused takes start text ys (line ++ on.0) on.1 r.lines r.state cause before (ap lines_of took ∙ on.2)
         (long_refused takes (r.lines + 1) r.state line on.0 cause long is) ∙ ap (λ f. Err f) same
 
 pub on_stop : {S : Type 0} (takes : S → Data → Result S TextCause) (start : S) (input old new : Option (List ℕ)) (line : List ℕ) (r : SoFar S) (fault : ReadFault)
-    → IsReadOn takes start input old r → HasNoFeed line → EndsLine old new line
+    → IsReadOn takes start input old r → HasNoLineFeed line → EndsLine old new line
     → IfTextTold fault (λ told. next_line takes r line ≡ Err told)
     → IfTextTold fault (λ told. IfSome input (λ text. read_lines takes 1 start (lines_of text) ≡ Err told))
 on_stop takes start input old new line r (refusal.Text told) before unfed ends stop = on_told takes start input old new line r told before unfed ends stop

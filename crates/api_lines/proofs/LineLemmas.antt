@@ -1,9 +1,8 @@
 -- The first line of a text.
-use Rattle.std.proofs.Common.{ℕ, zero, suc, ◌≡◌, ◌<◌, ◌+◌, List, [], ◌∷◌, length, take, drop, refl, sym, ap, ◌∙◌, arith, Bool, true, false, get_or, add-one}
+use Rattle.std.proofs.Common.{Bool, List, [], add-one, ap, arith, drop, false, get_or, length, length-drop, refl, suc, sym, take, true, zero, ℕ, ◌+◌, ◌<◌, ◌∙◌, ◌∷◌, ◌≡◌}
 use Rattle.std.specs.Prelude.{◌≤◌, ◌==◌, ◌-◌, if◌then◌else◌}
-use Rattle.std.proofs.lemmas.Bool.{or_from}
+use Rattle.std.proofs.lemmas.Bool.{false_from_ne_true, or_from}
 use Rattle.std.proofs.lemmas.List.{take_all}
-use Rattle.std.proofs.Common.{length-drop}
 use Rattle.std.proofs.Math.Seq.{drop-length}
 use Rattle.memchr.specs.Find.{NoneBefore, Nowhere, Passes, is_byte}
 use Rattle.api_lines.specs.Lines.{HasNoLineFeed, has_line_feed, lines_of, onto_first}
@@ -25,10 +24,6 @@ lines_of-rest (b ∷ c ∷ bytes) h none =
     ap (λ (t : Bool). if t then [] ∷ lines_of (c ∷ bytes) else onto_first b (lines_of (c ∷ bytes))) (none 0 (omega arith))
     ∙ ap (onto_first b) (lines_of-rest (c ∷ bytes) (omega arith) (λ k below. none (suc k) (omega arith)))
 
-not_true : (b : Bool) → (b ≡ true → ⊥) → b ≡ false
-not_true true h = absurd (h refl)
-not_true false h = refl
-
 -- a slice to the end
 rest_of : (text : List ℕ) (i : ℕ) → take (length text - i) (drop i text) ≡ drop i text
 rest_of text i = take_all (length text - i) (drop i text) (omega (arith, length-drop i text))
@@ -37,17 +32,17 @@ rest_of text i = take_all (length text - i) (drop i text) (omega (arith, length-
 pub first_line_found : (text : List ℕ) (end : ℕ) → NoneBefore (Passes (is_byte 10) text) 0 (length text) end × Passes (is_byte 10) text end
     → lines_of text ≡ take end text ∷ lines_of (take (length text - (end + 1)) (drop (end + 1) text))
 first_line_found text end found =
-    lines_of-feed text end found.0.high found.1 (λ k below. not_true (get_or text k 0 == 10) (found.0.before k (omega arith) below))
+    lines_of-feed text end found.0.high found.1 (λ k below. false_from_ne_true (get_or text k 0 == 10) (found.0.before k (omega arith) below))
     ∙ ap (λ rest. take end text ∷ lines_of rest) (ap (λ i. drop i text) (sym (add-one end)) ∙ sym (rest_of text (end + 1)))
 
 pub first_line_missing : (text : List ℕ) → 0 < length text → Nowhere (Passes (is_byte 10) text) 0 (length text)
     → lines_of text ≡ text ∷ lines_of (take (length text - length text) (drop (length text) text))
 first_line_missing text h none =
-    lines_of-rest text h (λ k below. not_true (get_or text k 0 == 10) (none k (omega arith) below))
+    lines_of-rest text h (λ k below. false_from_ne_true (get_or text k 0 == 10) (none k (omega arith) below))
     ∙ ap (λ rest. text ∷ lines_of rest) (sym (rest_of text (length text) ∙ drop-length text))
 
 -- none before a place is a line feed
-front_without : (text : List ℕ) (i : ℕ) → i ≤ length text → ((k : ℕ) → k < i → (get_or text k 0 == 10) ≡ false) → HasNoLineFeed (take i text)
+pub front_without : (text : List ℕ) (i : ℕ) → i ≤ length text → ((k : ℕ) → k < i → (get_or text k 0 == 10) ≡ false) → HasNoLineFeed (take i text)
 front_without text zero h none = refl
 front_without [] (suc i) h none = refl
 front_without (b ∷ bytes) (suc i) h none =
@@ -55,9 +50,9 @@ front_without (b ∷ bytes) (suc i) h none =
 
 pub first_line_feedless : (text : List ℕ) (end : ℕ) → NoneBefore (Passes (is_byte 10) text) 0 (length text) end × Passes (is_byte 10) text end → HasNoLineFeed (take end text)
 first_line_feedless text end found =
-    front_without text end (omega (arith, found.0.high)) (λ k below. not_true (get_or text k 0 == 10) (found.0.before k (omega arith) below))
+    front_without text end (omega (arith, found.0.high)) (λ k below. false_from_ne_true (get_or text k 0 == 10) (found.0.before k (omega arith) below))
 
 pub last_line_feedless : (text : List ℕ) → Nowhere (Passes (is_byte 10) text) 0 (length text) → HasNoLineFeed text
 last_line_feedless text none =
     ap has_line_feed (sym (take_all (length text) text (omega arith)))
-    ∙ front_without text (length text) (omega arith) (λ k below. not_true (get_or text k 0 == 10) (none k (omega arith) below))
+    ∙ front_without text (length text) (omega arith) (λ k below. false_from_ne_true (get_or text k 0 == 10) (none k (omega arith) below))

@@ -13,9 +13,12 @@ use Rattle.api_lines.specs.declared.history_line.OpNumbers.TheVariants as number
 use Rattle.api_lines.specs.declared.history_line.LineSaid.{LineSaid}
 use Rattle.api_lines.specs.declared.history_line.LineSaid.TheVariants.{Call, Reply, Lost}
 use Rattle.api_lines.specs.declared.number.Number.{Number}
-use Rattle.api_lines.specs.declared.history_line.TheConstants.{SHARDS}
 use Rattle.api_lines.specs.declared.text_fault.TextCause.{TextCause}
 use Rattle.api_lines.specs.declared.text_fault.TextCause.TheVariants.{Range, Shape}
+
+-- how many shards there are: their numbers are below
+abbrev pub most_shards : ℕ
+most_shards = 1024
 
 -- ---- kinds
 
@@ -72,7 +75,7 @@ below_limit limit n = if nat_lt n limit then Ok n else Err Range
 -- the shard: 0 where it isn't named
 abbrev pub shard_told : Option Number → Result ℕ TextCause
 shard_told None = Ok 0
-shard_told (Some number) = whole_told number >>= below_limit SHARDS
+shard_told (Some number) = whole_told number >>= below_limit most_shards
 
 abbrev pub status_told : Number → Result ℕ TextCause
 status_told number = whole_told number >>= below_limit (2 ^ 16)

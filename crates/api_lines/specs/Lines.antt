@@ -1,7 +1,6 @@
 -- The lines of a text.
 use Rattle.std.specs.Prelude.{◌≡◌, ℕ, ◌==◌, ◌⊎◌, Bool, false, not, ◌||◌, List, [], ◌∷◌, ◌++◌, if◌then◌else◌}
 use Rattle.std.specs.List.{list_all, list_any}
-use Rattle.api_lines.specs.declared.lines.TheConstants.{LONGEST_LINE, MOST_LINES}
 
 -- the lines, with b at the front of the first
 abbrev pub onto_first : ℕ → List (List ℕ) → List (List ℕ)
@@ -38,8 +37,8 @@ is_written line = not (is_blank line)
 
 -- the most lines of a text
 abbrev pub most_lines : ℕ
-most_lines = MOST_LINES
+most_lines = 4194304
 
 -- the most bytes of a line, without its line feed
 abbrev pub longest_line : ℕ
-longest_line = LONGEST_LINE
+longest_line = 65536

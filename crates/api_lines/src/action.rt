@@ -111,7 +111,10 @@ pub fn action_fields(value: &Value) -> Option<ActionFields<'_>>
 }
 
 // The id and the condition of an action: `Shape`, `Id`, `Half`, `Range`.
-fn conditioned(alloc: Global, action: &ActionFields<'_>) -> Result<(DocId, Option<Pair>), LineFault>
+fn id_and_condition(
+    alloc: Global,
+    action: &ActionFields<'_>,
+) -> Result<(DocId, Option<Pair>), LineFault>
     ensures { Gives result (told_condition (action_seen action.now)) }
 {
     let name = action.id.required_text()?;
@@ -128,11 +131,11 @@ fn said_by(alloc: Global, action: &ActionFields<'_>) -> Result<ActionSaid, LineF
 {
     match action.action {
         ActionName::Index => {
-            let (id, cond) = conditioned(alloc, action)?;
+            let (id, cond) = id_and_condition(alloc, action)?;
             Ok(ActionSaid::Awaits(Awaited::Index { id, cond }))
         }
         ActionName::Delete => {
-            let (id, cond) = conditioned(alloc, action)?;
+            let (id, cond) = id_and_condition(alloc, action)?;
             Ok(ActionSaid::Deletes { id, cond })
         }
         ActionName::Create => {

@@ -1,5 +1,6 @@
-ghost use Rattle.std.specs.Prelude.{◌≡◌, ◌≢◌, ◌≤◌, All, IfOk, Ok, false, true, length};
-ghost use Rattle.std.specs.Io.KnownBytes.{IsAtEnd};
+ghost use Rattle.std.specs.Prelude.{◌≡◌, ◌≤◌, [], IfOk, OnErr, Ok, false, true, length};
+ghost use Rattle.std.specs.Io.KnownBytes.{Consumes, IsAtEnd};
+ghost use Rattle.api_lines.specs.Lines.{HasNoLineFeed};
 ghost use Rattle.api_lines.specs.Sources.{EndsLine, IsPart, most_held};
 
 use crate::lines::LONGEST_LINE;
@@ -42,6 +43,8 @@ fn take_part<B: BufRead>(reader: &mut B, line: &mut Vec<u8>) -> Result<Part, Inp
     ensures part { IfOk result (λ part. IsPart part (B.remaining reader.old) (B.remaining reader.new)
         line.old.items line.new.items) }
     ensures few { IfOk result (λ _. length line.new.items ≤ most_held) }
+    ensures err { OnErr result (Consumes (B.remaining reader.old) (B.remaining reader.new) []
+        × (line.new.items ≡ line.old.items)) }
 {
     let bytes = match reader.fill_buf() {
         Ok(bytes) => bytes,
@@ -74,13 +77,15 @@ fn take_part<B: BufRead>(reader: &mut B, line: &mut Vec<u8>) -> Result<Part, Inp
 /// The next line of a reader, without its line feed, put in place of what `line` had; or false at the end of its bytes. Of a
 /// line with more bytes than a line may have only a front is taken, of 65,537 bytes.
 ///
-/// A fault of the reader of any kind is `Read`, an interruption too; `NoMemory` is told where a growth was refused.
+/// A fault of the reader of any kind is `Read`, an interruption too; `NoMemory` is told where a growth was refused. After
+/// either, `line` has the bytes of the line that were taken from the reader.
 pub fn next_line<B: BufRead>(reader: &mut B, line: &mut Vec<u8>) -> Result<bool, InputFault>
-    ensures unfed { IfOk result (λ _. All (λ b. b ≢ 10) line.new.items) }
+    ensures unfed { IfOk result (λ _. HasNoLineFeed line.new.items) }
     ensures few { IfOk result (λ _. length line.new.items ≤ most_held) }
     ensures more { result ≡ Ok true
         → EndsLine (B.remaining reader.old) (B.remaining reader.new) line.new.items }
     ensures end { result ≡ Ok false → IsAtEnd (B.remaining reader.old) }
+    ensures err { OnErr result (Consumes (B.remaining reader.old) (B.remaining reader.new) line.new.items) }
 {
     line.clear();
     while line.len() <= LONGEST_LINE {

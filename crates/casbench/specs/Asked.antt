@@ -27,17 +27,17 @@ pub data Asked : Type 0 where
   ToExplain : Option Text → Conflicts → ℕ → Option Text → Asked
 
 abbrev pub asked_by : Words → Asked
-asked_by (words.Check file reading workers) = ToCheck (option_map (λ f. f.now) file) reading workers
-asked_by (words.Witness file reading) = ToWitness (option_map (λ f. f.now) file) reading
-asked_by (words.Verify history witness reading) = ToVerify history.now witness.now reading
+asked_by (words.Check file conflicts workers) = ToCheck (option_map (λ f. f.now) file) conflicts workers
+asked_by (words.Witness file conflicts) = ToWitness (option_map (λ f. f.now) file) conflicts
+asked_by (words.Verify history witness conflicts) = ToVerify history.now witness.now conflicts
 asked_by (words.Bulk body reply first) = ToWriteBulk body.now reply.now first
 asked_by (words.Run setting) = ToRun setting
-asked_by (words.Explain file reading workers page) = ToExplain (option_map (λ f. f.now) file) reading workers (option_map (λ t. t.now) page)
+asked_by (words.Explain file conflicts workers page) = ToExplain (option_map (λ f. f.now) file) conflicts workers (option_map (λ t. t.now) page)
 
 -- the reading of conflicts of this name, which is plain where none is given
-abbrev pub reading_of : Option Text → Option Conflicts
-reading_of None = Some Plain
-reading_of (Some name) =
+abbrev pub conflicts_named : Option Text → Option Conflicts
+conflicts_named None = Some Plain
+conflicts_named (Some name) =
     if bytes_eq name (codes "plain") then Some Plain else (if bytes_eq name (codes "maybe") then Some Maybe else None)
 
 -- a number below 2^64: digits, with a plus before them or not
@@ -54,18 +54,18 @@ number_or other (Some text) = if is_number text then Some (digits_value 10 (with
 -- one worker where no number is given
 abbrev pub check_of : Option Text → Option Text → Option Text → Option Asked
 check_of file name workers =
-    option_and_then (λ reading. option_map (λ n. ToCheck file reading n) (number_or 1 workers)) (reading_of name)
+    option_and_then (λ conflicts. option_map (λ n. ToCheck file conflicts n) (number_or 1 workers)) (conflicts_named name)
 
 -- one worker where no number is given
 abbrev pub explain_of : Option Text → Option Text → Option Text → Option Text → Option Asked
 explain_of file name workers page =
-    option_and_then (λ reading. option_map (λ n. ToExplain file reading n page) (number_or 1 workers)) (reading_of name)
+    option_and_then (λ conflicts. option_map (λ n. ToExplain file conflicts n page) (number_or 1 workers)) (conflicts_named name)
 
 abbrev pub witness_of : Option Text → Option Text → Option Asked
-witness_of file name = option_map (λ reading. ToWitness file reading) (reading_of name)
+witness_of file name = option_map (λ conflicts. ToWitness file conflicts) (conflicts_named name)
 
 abbrev pub verify_of : Option Text → Option Text → Option Text → Option Asked
-verify_of (Some history) (Some witness) name = option_map (λ reading. ToVerify history witness reading) (reading_of name)
+verify_of (Some history) (Some witness) name = option_map (λ conflicts. ToVerify history witness conflicts) (conflicts_named name)
 verify_of _ _ _ = None
 
 -- the calls are numbered from 0 where no number is given

@@ -59,7 +59,7 @@ pub fn history<'a>(alloc: Global) -> Arg<'a>
 }
 
 /// A file that may not be left out.
-pub fn needed<'a>(alloc: Global, id: &'a str, shown: &'a str, help: &'a str) -> Arg<'a>
+pub fn needed_file<'a>(alloc: Global, id: &'a str, shown: &'a str, help: &'a str) -> Arg<'a>
     ensures rule { rule_of result ≡ needed_rule id.entry.now }
     ensures local { result.global ≡ false }
 {

@@ -6,7 +6,7 @@ ghost use Rattle.casbench.specs.Asked.{bulk_line, check_line, command_line, expl
 use crate::arguments;
 use crate::arguments::{
     BODY, CALLS, CLIENTS, COPIES, DOCS, HISTORY, REPLY, conflicts, fault, first, history, html,
-    needed, seed, small, workers,
+    needed_file, seed, small, workers,
 };
 use clap::Command;
 use std::alloc::{AllocError, Global};
@@ -77,8 +77,8 @@ fn verify_command<'a>(alloc: Global) -> Result<Command<'a>, AllocError>
     Command::new(alloc, VERIFY)
         .about("Check a witness against a history")
         .after_help("Example:\n  casbench verify history.ndjson history.witness")
-        .arg(needed(alloc, HISTORY, "FILE", "The history text"))?
-        .arg(needed(alloc, arguments::WITNESS, "WITNESS", "The witness text"))?
+        .arg(needed_file(alloc, HISTORY, "FILE", "The history text"))?
+        .arg(needed_file(alloc, arguments::WITNESS, "WITNESS", "The witness text"))?
         .arg(conflicts(alloc))
 }
 
@@ -89,8 +89,8 @@ fn bulk_command<'a>(alloc: Global) -> Result<Command<'a>, AllocError>
     Command::new(alloc, BULK)
         .about("Write a bulk request and its reply as lines of a history")
         .after_help("Example:\n  casbench bulk bulk.body bulk.reply --first 100 >> history.ndjson")
-        .arg(needed(alloc, BODY, "BODY", "The body of the bulk request"))?
-        .arg(needed(
+        .arg(needed_file(alloc, BODY, "BODY", "The body of the bulk request"))?
+        .arg(needed_file(
             alloc,
             REPLY,
             "REPLY",

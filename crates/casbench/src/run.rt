@@ -1,7 +1,7 @@
 ghost use Rattle.std.specs.Prelude.{◌≡◌, ◌≢◌, ◌≤◌, ℕ, List, Option, None, IfErr, IfOk};
 ghost use Rattle.std.proofs.Common.{Bor};
 ghost use Rattle.std.specs.Io.KnownBytes.{Keeps};
-ghost use Rattle.doc_register.specs.declared.state.Conflicts.{Conflicts as Mode};
+ghost use Rattle.doc_register.specs.declared.state.Conflicts.{Conflicts as Reading};
 ghost use Rattle.report.specs.Explained.{ExplainsInput};
 ghost use Rattle.report.specs.Verdict.{IsAnswered, WitnessesInput};
 ghost use Rattle.recorded_runs.specs.Runs.{IsRunText};
@@ -79,21 +79,21 @@ pub fn run<R: Files + Eprint, T: Threads + Wait + Sync, I: Read + Drop, W: Write
     words: Words<'_>,
 ) -> Result<Status, StreamFault>
     // A check of the input answers it, with conflicts read as the words say.
-    ensures checked { (reading : Mode) (workers : ℕ) → words.entry ≡ Words.Check None reading workers
-        → IfOk result (IsAnswered reading (I.remaining input) (W.contents writer.old)
+    ensures checked { (conflicts : Reading) (workers : ℕ) → words.entry ≡ Words.Check None conflicts workers
+        → IfOk result (IsAnswered conflicts (I.remaining input) (W.contents writer.old)
         (W.contents writer.new)) }
     // The witness of the input is written, with conflicts read as the words say.
-    ensures witnessed { (reading : Mode) → words.entry ≡ Words.Witness None reading
-        → IfOk result (λ status. HasAnswer (WitnessesInput reading (I.remaining input) status)
+    ensures witnessed { (conflicts : Reading) → words.entry ≡ Words.Witness None conflicts
+        → IfOk result (λ status. HasAnswer (WitnessesInput conflicts (I.remaining input) status)
         (W.contents writer.old) (W.contents writer.new)) }
     // A check of the input that is told begins with its answer, whether a page is written too or not.
-    ensures explained { (reading : Mode) (workers : ℕ) (page : Option (Bor (List ℕ)))
-        → words.entry ≡ Words.Explain None reading workers page
-        → IfOk result (λ status. HasAnswer (ExplainsInput reading (I.remaining input) status)
+    ensures explained { (conflicts : Reading) (workers : ℕ) (page : Option (Bor (List ℕ)))
+        → words.entry ≡ Words.Explain None conflicts workers page
+        → IfOk result (λ status. HasAnswer (ExplainsInput conflicts (I.remaining input) status)
         (W.contents writer.old) (W.contents writer.new)) }
-    // What the clients of a run recorded is written.
+    // What the clients of a run recorded is written, and the status is yes.
     ensures recorded { (setting : Setting) → words.entry ≡ Words.Run setting
-        → IfOk result (λ _. HasAnswer (IsRunText ⟦<Group as Target>⟧.issued ⟦<Group as Target>⟧.gave setting)
+        → IfOk result (λ status. (status ≡ Status.Yes) × HasAnswer (IsRunText ⟦<Group as Target>⟧.issued ⟦<Group as Target>⟧.gave setting)
         (W.contents writer.old) (W.contents writer.new)) }
     ensures kept { IfErr result (λ fault. fault ≢ StreamFault.Write
         → Keeps (W.contents writer.old) (W.contents writer.new)) }

@@ -1,6 +1,6 @@
 ghost use Rattle.std.specs.Prelude.{◌≡◌, ◌⊎◌, [], Some, None, IfOk, IfErr, OnOk, map, option_map};
 ghost use Rattle.clap.specs.Words.{FailsBy, HasKind, found_of, rows_of, subcommand_rows_of};
-ghost use Rattle.casbench.specs.Asked.{asked_by, asked_of, asked_of_command, asked_on, bulk_of, check_of, explain_of, faults_on, number_or as number_told, reading_of, verify_of, witness_of};
+ghost use Rattle.casbench.specs.Asked.{asked_by, asked_of, asked_of_command, asked_on, bulk_of, check_of, explain_of, faults_on, number_or as number_told, conflicts_named, verify_of, witness_of};
 
 use crate::arguments;
 use crate::arguments::{BODY, CONFLICTS, FIRST, HISTORY, HTML, REPLY, WORKERS};
@@ -58,8 +58,8 @@ const PLAIN: &str = "plain";
 const MAYBE: &str = "maybe";
 
 // The reading of a conflict that is named: plain where none is, and none where the name is of no reading.
-fn reading(name: Option<&str>) -> Option<Conflicts>
-    ensures { result ≡ reading_of (option_map (λ t. t.now) name.entry) }
+fn conflicts_named(name: Option<&str>) -> Option<Conflicts>
+    ensures { result ≡ conflicts_named (option_map (λ t. t.now) name.entry) }
 {
     match name {
         None => Some(Conflicts::Plain),
@@ -96,7 +96,7 @@ fn check_words<'a>(
 {
     Some(Words::Check {
         file,
-        conflicts: reading(conflicts)?,
+        conflicts: conflicts_named(conflicts)?,
         workers: number_or(1, workers)?,
     })
 }
@@ -108,7 +108,7 @@ fn witness_words<'a>(file: Option<&'a str>, conflicts: Option<&'a str>) -> Optio
 {
     Some(Words::Witness {
         file,
-        conflicts: reading(conflicts)?,
+        conflicts: conflicts_named(conflicts)?,
     })
 }
 
@@ -125,7 +125,7 @@ fn verify_words<'a>(
     Some(Words::Verify {
         history: history?,
         witness: witness?,
-        conflicts: reading(conflicts)?,
+        conflicts: conflicts_named(conflicts)?,
     })
 }
 
@@ -158,7 +158,7 @@ fn explain_words<'a>(
         ≡ explain_of (option_map (λ f. f.now) file.entry) (option_map (λ t. t.now) conflicts.entry) (option_map
         (λ t. t.now) workers.entry) (option_map (λ t. t.now) page.entry) }
 {
-    let conflicts = reading(conflicts)?;
+    let conflicts = conflicts_named(conflicts)?;
     let workers = number_or(1, workers)?;
     Some(Words::Explain {
         file,
@@ -199,7 +199,7 @@ fn asked_of_command<'a>(name: &str, given: &ArgMatches<'a>) -> Option<Words<'a>>
 }
 
 // What is asked for by the matches of the program.
-fn asked<'a>(matches: &ArgMatches<'a>) -> Option<Words<'a>>
+fn asked_for<'a>(matches: &ArgMatches<'a>) -> Option<Words<'a>>
     ensures { option_map asked_by result ≡ asked_of (subcommand_rows_of matches.now) }
 {
     match matches.subcommand() {
@@ -223,7 +223,7 @@ fn parse<'a, S: AsStr>(alloc: Global, words: &'a [S]) -> Result<ArgMatches<'a>, 
 
 // The error of words that name no reading of a conflict or, for a run, no fault, with what they may name. That no command is
 // named, or not all its files and numbers, the parse refuses before.
-fn unnamed(alloc: Global, matches: &ArgMatches<'_>) -> Result<Error, AllocError> {
+fn unnamed_error(alloc: Global, matches: &ArgMatches<'_>) -> Result<Error, AllocError> {
     let told = match matches.subcommand() {
         Some((RUN, _)) => "the value of --fault is none, dirty, early, same-term, stale or blind",
         _ => "the value of --conflicts is plain or maybe",
@@ -244,8 +244,8 @@ pub fn read_words<'a, S: AsStr>(alloc: Global, words: &'a [S]) -> Result<Words<'
         ⊎ (asked_on (map S.text words.entry.now) ≡ None)) }
 {
     let matches = parse(alloc, words)?;
-    match asked(&matches) {
+    match asked_for(&matches) {
         Some(words) => Ok(words),
-        None => Err(unnamed(alloc, &matches)?),
+        None => Err(unnamed_error(alloc, &matches)?),
     }
 }

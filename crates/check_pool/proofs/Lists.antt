@@ -1,20 +1,12 @@
 -- Elements of lists by their places.
 use Rattle.std.proofs.Common.{ℕ, zero, suc, ◌≡◌, ◌≢◌, ◌⊎◌, inl, inr, List, [], ◌∷◌, ◌++◌, length, refl, ap, arith, Some, slice_get, slice_set, take}
 use Rattle.std.proofs.Math.Seq.{take-append_seam}
+use Rattle.history.proofs.ListLemmas.{get_snoc}
 
 -- a list without elements
 pub empty-from_length : {X : Type 0} (xs : List X) → length xs ≡ 0 → xs ≡ []
 empty-from_length [] none = refl
 empty-from_length (x ∷ xs) none = absurd (omega arith)
-
--- an element of a list with one more
-pub get-snoc : {X : Type 0} (xs : List X) (x y : X) (i : ℕ) → slice_get (xs ++ x ∷ []) i ≡ Some y
-    → (slice_get xs i ≡ Some y) ⊎ ((i ≡ length xs) × (x ≡ y))
-get-snoc [] x y zero at = inr (refl, cc)
-get-snoc [] x y (suc i) at = absurd (cc)
-get-snoc (z ∷ xs) x y zero at = inl at
-get-snoc (z ∷ xs) x y (suc i) at =
-    elim (get-snoc xs x y i at) [ inl here ↦ inl here | inr last ↦ inr (ap suc last.0, last.1) ]
 
 -- an element stays where it is as others come behind it
 pub get-before : {X : Type 0} (xs ys : List X) (x : X) (i : ℕ) → slice_get xs i ≡ Some x → slice_get (xs ++ ys) i ≡ Some x

@@ -8,21 +8,21 @@ use Rattle.check_pool.specs.declared.doc_job.DocJob.{DocJob}
 use Rattle.check_pool.specs.Answers.{IsAnswerTo, IsSearchOf}
 use Rattle.check_pool.specs.aids.Messages.{IsAboutJob, IsSearched}
 
-at_same : (doc d : List ℕ) (records r : List Rec) (mode m : Conflicts) (answer : DocAnswer) → d ≡ doc → r ≡ records → m ≡ mode
-    → IsSearchOf doc records mode answer → IsSearchOf d r m answer
-at_same doc d records r mode m answer same_doc same_records same_mode s = rw (same_doc, same_records, same_mode) s
+at_same : (doc d : List ℕ) (records r : List Rec) (conflicts m : Conflicts) (answer : DocAnswer) → d ≡ doc → r ≡ records → m ≡ conflicts
+    → IsSearchOf doc records conflicts answer → IsSearchOf d r m answer
+at_same doc d records r conflicts m answer same_doc same_records same_conflicts s = rw (same_doc, same_records, same_conflicts) s
 
 -- the search of a document promises its answer of what the answer itself is about
-pub IsSearched-from_search : (doc : List ℕ) (records : List Rec) (mode : Conflicts) (answer : DocAnswer)
-    → IsSearchOf doc records mode answer → IsSearched answer
-IsSearched-from_search doc records mode (Found w) s = at_same doc _ records _ mode _ (Found w) s.about.0 s.about.1 s.about.2 s
-IsSearched-from_search doc records mode (NotFound n) s = at_same doc _ records _ mode _ (NotFound n) s.about.0 s.about.1 s.about.2 s
+pub IsSearched-from_search : (doc : List ℕ) (records : List Rec) (conflicts : Conflicts) (answer : DocAnswer)
+    → IsSearchOf doc records conflicts answer → IsSearched answer
+IsSearched-from_search doc records conflicts (Found w) s = at_same doc _ records _ conflicts _ (Found w) s.about.0 s.about.1 s.about.2 s
+IsSearched-from_search doc records conflicts (NotFound n) s = at_same doc _ records _ conflicts _ (NotFound n) s.about.0 s.about.1 s.about.2 s
 
 -- an answer about a job that is what the search promises answers the job
 pub IsAnswerTo-from_about : (job : DocJob) (answer : DocAnswer) → IsSearched answer → IsAboutJob job answer → IsAnswerTo job answer
-IsAnswerTo-from_about job answer s about = rw (← about.same_id, ← about.same_records, ← about.same_mode) s
+IsAnswerTo-from_about job answer s about = rw (← about.same_id, ← about.same_records, ← about.same_conflicts) s
 
 -- an answer to a job is about it
 pub IsAboutJob-from_answer : (job : DocJob) (answer : DocAnswer) → IsAnswerTo job answer → IsAboutJob job answer
-IsAboutJob-from_answer job (Found w) s = record { same_id = s.about.0; same_records = s.about.1; same_mode = s.about.2 }
-IsAboutJob-from_answer job (NotFound n) s = record { same_id = s.about.0; same_records = s.about.1; same_mode = s.about.2 }
+IsAboutJob-from_answer job (Found w) s = record { same_id = s.about.0; same_records = s.about.1; same_conflicts = s.about.2 }
+IsAboutJob-from_answer job (NotFound n) s = record { same_id = s.about.0; same_records = s.about.1; same_conflicts = s.about.2 }

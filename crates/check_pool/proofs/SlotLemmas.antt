@@ -13,8 +13,9 @@ use Rattle.check_pool.specs.aids.Collected.{AreOfJobs, IsFaultOf, Lacks}
 use Rattle.check_pool.specs.Faults.{NamesJob}
 use Rattle.check_pool.specs.aids.Messages.{IsOfJob, IsSearched, Sent}
 use Rattle.check_pool.specs.aids.Slots.{AreEmpty, AreFilled, IsFirstEmpty, IsRefused}
-use Rattle.check_pool.proofs.Lists.{get-before, get-last, get-set, get-snoc}
+use Rattle.check_pool.proofs.Lists.{get-before, get-last, get-set}
 use Rattle.check_pool.proofs.MessageLemmas.{IsAnswerTo-from_about}
+use Rattle.history.proofs.ListLemmas.{get_snoc}
 
 -- what is not some value is none
 pub none_from : {X : Type 0} (o : Option X) → ((x : X) → ¬ (o ≡ Some x)) → o ≡ None
@@ -63,7 +64,7 @@ AreFilled-start jobs slots count empty = record {
 
 Lacks-snoc : (messages : List Sent) (m : Sent) (doc : ℕ) → Lacks messages doc → m.doc ≢ doc → Lacks (messages ++ m ∷ []) doc
 Lacks-snoc messages m doc lacks other k n at =
-    elim (get-snoc messages m n k at) [
+    elim (get_snoc messages m n k at) [
       | inl before ↦ lacks k n before
       | inr last ↦ subst (λ (x : Sent). x.doc ≢ doc) last.1 other
     ]
@@ -77,11 +78,11 @@ Lacks-last messages m lacks = lacks (length messages) m (get-last messages m [])
 AreOfJobs-snoc : (jobs : List DocJob) (messages : List Sent) (m : Sent) → AreOfJobs jobs messages → IsOfJob jobs m → Lacks messages m.doc
     → AreOfJobs jobs (messages ++ m ∷ [])
 AreOfJobs-snoc jobs messages m all one lacks = record {
-  each = λ k n at. elim (get-snoc messages m n k at) [
+  each = λ k n at. elim (get_snoc messages m n k at) [
     | inl before ↦ all.each k n before
     | inr last ↦ subst (IsOfJob jobs) last.1 one
   ];
-  once = λ k n at. elim (get-snoc messages m n k at) [
+  once = λ k n at. elim (get_snoc messages m n k at) [
     | inl before ↦
         let within : k < length messages = slice_get_within messages k n before in
         let short : take k (messages ++ m ∷ []) ≡ take k messages = take-append-le k messages (m ∷ []) (omega arith) in

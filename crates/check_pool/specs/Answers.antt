@@ -9,10 +9,10 @@ use Rattle.check_pool.specs.declared.doc_job.DocJob.{DocJob}
 -- all that the search of a document promises of its answer: it is about the document, its records and this reading of
 -- conflicts; where the order of the replies is valid, it is what is found; where any places without a given pair are valid,
 -- such places are found
-pub record IsSearchOf (doc : List ℕ) (records : List Rec) (mode : Conflicts) (answer : DocAnswer) : Type 0 where
-  pub about : IsAbout doc records mode answer
-  pub replies : FollowsReplies mode records answer
-  pub complete : FindsUnpaired mode records answer
+pub record IsSearchOf (doc : List ℕ) (records : List Rec) (conflicts : Conflicts) (answer : DocAnswer) : Type 0 where
+  pub about : IsAbout doc records conflicts answer
+  pub replies : FollowsReplies conflicts records answer
+  pub complete : FindsUnpaired conflicts records answer
 
 -- all this of the id, the records and the reading of conflicts of a job
 abbrev pub IsAnswerTo : DocJob → DocAnswer → Type 0

@@ -3,7 +3,7 @@ use crate::forward::moves::{Turn, is_lost, next_write};
 use crate::forward::standing::Standing;
 use crate::forward::walk::{Placed, Walk};
 use crate::rules::link::Link;
-use crate::rules::numbers::numbered;
+use crate::rules::numbers::places_with_pairs;
 use doc_register::Conflicts;
 use history::{Rec, Seen};
 use std::alloc::Global;
@@ -109,7 +109,10 @@ impl Search<'_> {
 }
 
 // The chain of the walk, and of each record that is not in it the stretch.
-fn walked(alloc: Global, walk: &Walk) -> Result<(Vec<Link>, Vec<Option<usize>>), NoMemory> {
+fn chain_and_stretches(
+    alloc: Global,
+    walk: &Walk,
+) -> Result<(Vec<Link>, Vec<Option<usize>>), NoMemory> {
     let mut links = Vec::new(alloc);
     let mut given = vec![in alloc; None; walk.records.len()]?;
     for placed in &walk.order {
@@ -159,7 +162,7 @@ fn found_chain(
     let most = most_steps(records.len());
     for _ in 0..most {
         match search.step()? {
-            Step::Done => return Ok(Some(walked(alloc, &search.walk)?)),
+            Step::Done => return Ok(Some(chain_and_stretches(alloc, &search.walk)?)),
             Step::More if search.walk.steps < most => {}
             Step::More | Step::Stuck => return Ok(None),
         }
@@ -170,7 +173,7 @@ fn found_chain(
 /// An order that completes unanswered writes, by a search forward in time, with room for an invented pair only where a
 /// number is left that none of the pairs in use has. `None` where none is found in a number of steps in proportion to
 /// the records. What is found is a guess, to be checked.
-pub fn searched(
+pub fn search_forward(
     alloc: Global,
     records: &[Rec],
     seen: Seen,
@@ -179,7 +182,7 @@ pub fn searched(
 ) -> Result<Option<Vec<Place>>, NoMemory> {
     // (What the search keeps is given up before the places are made, so that memory holds one of the two.)
     match found_chain(alloc, records, conflicts, used)? {
-        Some((links, given)) => numbered(alloc, records, &links, &given, seen),
+        Some((links, given)) => places_with_pairs(alloc, records, &links, &given, seen),
         None => Ok(None),
     }
 }

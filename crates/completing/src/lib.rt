@@ -2,13 +2,14 @@
 //! is promised of what is found; whoever takes a guess has `DocWitness::check` check it.
 //!
 //! ```text
-//! let places = completed(alloc, &records, seen, conflicts)?; // Option<Vec<Place>>
-//! let places = searched(alloc, &records, seen, conflicts, &used)?;
+//! let places = complete_by_rules(alloc, &records, seen, conflicts)?; // Option<Vec<Place>>
+//! let places = search_forward(alloc, &records, seen, conflicts, &used)?;
 //! ```
 #![tactic(auto)]
 
+mod earlier;
 mod forward;
 mod rules;
 
-pub use forward::searched;
-pub use rules::completed;
+pub use forward::search_forward;
+pub use rules::complete_by_rules;

@@ -1,6 +1,6 @@
 use crate::rules::lost::Lost;
 use crate::rules::named::named_chain;
-use crate::rules::numbers::numbered;
+use crate::rules::numbers::places_with_pairs;
 use crate::rules::round::{Round, next_round};
 use doc_register::Conflicts;
 use history::{Rec, Seen};
@@ -27,7 +27,7 @@ pub mod stand;
 /// An order that completes unanswered writes, by rules: first the pairs that are named get their writes; then, in
 /// rounds, the flags that do not fit ask for writes, then the calls that find no stretch, and then the conflicts that
 /// nothing refuses become writes. `None` where a rule finds no write to take. What is found is a guess, to be checked.
-pub fn completed(
+pub fn complete_by_rules(
     alloc: Global,
     records: &[Rec],
     seen: Seen,
@@ -41,7 +41,7 @@ pub fn completed(
         match next_round(alloc, records, links, &mut lost, conflicts)? {
             Round::More(more) => links = more,
             Round::Done(links, stretches) => {
-                return numbered(alloc, records, &links, &stretches, seen);
+                return places_with_pairs(alloc, records, &links, &stretches, seen);
             }
             Round::Stuck => return Ok(None),
         }

@@ -16,10 +16,10 @@ use Rattle.compose.specs.Counts.{calls_of}
 use Rattle.compose.specs.Covers.{AreCover}
 use Rattle.compose.specs.Laws.{places_in}
 use Rattle.compose.specs.Verdicts.{AreWitnesses}
-use Rattle.evidence.proofs.FilterLemmas.{mapped_from}
 use Rattle.compose.proofs.Filtering.{rank, rank_at, rank_once}
 use Rattle.compose.proofs.Locality.{covers_explain}
 use Rattle.compose.proofs.Points.{call_place, called_there}
+use Rattle.history.proofs.ListLemmas.{mapped_from}
 
 -- ---- the number of a placed call among all calls
 
@@ -53,8 +53,8 @@ rank_number events p q a b same =
 -- ---- the count
 
 -- an order of calls, each at most once, is no longer than there are calls
-order_within : (mode : Conflicts) (events : List Event) (order : List Placed) → Explains mode events order → length order ≤ calls_of events
-order_within mode events order explains =
+order_within : (conflicts : Conflicts) (events : List Event) (order : List Placed) → Explains conflicts events order → length order ≤ calls_of events
+order_within conflicts events order explains =
     let few : length (map (call_rank events) order) ≤ calls_of events = distinct_within (map (call_rank events) order) (calls_of events) once below in
     let size : length (map (call_rank events) order) ≡ length order = length-map order (call_rank events) in
     omega (arith, few, size) where
@@ -71,12 +71,12 @@ order_within mode events order explains =
           subst (λ n. n < calls_of events) p.2 (rank_below events p.0 (explains.is_order.calls i p.0 p.1))
 
 -- entries that cover a history have no more places than it has calls
-entries_within : (mode : Conflicts) (events : List Event) (entries : List DocPlaces) → IsHistory events → AreCover mode events entries → places_in entries ≤ calls_of events
-entries_within mode events entries history cover =
-    let order = covers_explain mode events entries history cover in
-    subst (λ n. n ≤ calls_of events) order.2.count (order_within mode events order.0 order.1)
+entries_within : (conflicts : Conflicts) (events : List Event) (entries : List DocPlaces) → IsHistory events → AreCover conflicts events entries → places_in entries ≤ calls_of events
+entries_within conflicts events entries history cover =
+    let order = covers_explain conflicts events entries history cover in
+    subst (λ n. n ≤ calls_of events) order.2.count (order_within conflicts events order.0 order.1)
 
 -- witnesses that cover a history have no more places than it has calls
-pub places_within : (mode : Conflicts) (events : List Event) (ws : List Witness) → IsHistory events → AreWitnesses mode events ws
+pub places_within : (conflicts : Conflicts) (events : List Event) (ws : List Witness) → IsHistory events → AreWitnesses conflicts events ws
     → places_in (map witness_places ws) ≤ calls_of events
-places_within mode events ws history are = entries_within mode events (map witness_places ws) history are.cover
+places_within conflicts events ws history are = entries_within conflicts events (map witness_places ws) history are.cover

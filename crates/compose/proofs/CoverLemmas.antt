@@ -1,5 +1,5 @@
 -- Entries whose places tell of an order that explains the history, restricted to each document, are a cover.
-use Rattle.std.proofs.Common.{ℕ, zero, suc, ◌≡◌, List, [], ◌∷◌, map, refl, sym, ap, subst, ◌∙◌, Option, Some, None, slice_get}
+use Rattle.std.proofs.Common.{ℕ, ◌≡◌, List, map, refl, sym, ap, subst, ◌∙◌, Option, Some, None, slice_get}
 use Rattle.std.specs.Prelude.{option_and_then}
 use Rattle.version_pair.specs.declared.pair.Pair.{Pair}
 use Rattle.doc_register.specs.declared.reply.Reply.{Reply as Answer}
@@ -12,30 +12,21 @@ use Rattle.history.specs.declared.event.Event.TheVariants.{Call}
 use Rattle.history.specs.declared.record.Rec.{Rec}
 use Rattle.history.specs.Events.{IsHistory, documents_of, records_of}
 use Rattle.history.specs.Order.{Explains, IsOfCall, Placed, run_of}
-use Rattle.history.proofs.ListLemmas.{none_is_not_some, same_some}
+use Rattle.history.proofs.ListLemmas.{mapped_from, same_some}
 use Rattle.witness.specs.declared.place.Place.{Place}
 use Rattle.witness.specs.Places.{AreValid}
-use Rattle.witness.specs.Laws.{ArePlacedBy, IsPlacedBy, TellsOf}
+use Rattle.witness.specs.Laws.{ArePlacedBy, TellsOf}
 use Rattle.witness.specs.Text.{DocPlaces}
-use Rattle.witness.proofs.DocumentLaws.{places_are_orders}
+use Rattle.witness.proofs.DocumentLaws.{places_are_orders, tells_of}
 use Rattle.compose.specs.Covers.{AreCover, ArePairsDistinct, IsEntered, IsTakenAt}
 use Rattle.history.specs.Heard.{taken_by}
 use Rattle.compose.specs.Laws.{restricted}
-use Rattle.evidence.proofs.FilterLemmas.{mapped_at, mapped_from}
+use Rattle.evidence.proofs.FilterLemmas.{mapped_at}
 use Rattle.compose.proofs.CalledDocuments.{shard_of_call}
 use Rattle.compose.proofs.ListedDocuments.{documents_apart}
 use Rattle.compose.proofs.RestrictedOrders.{restricted_change, restricted_explains, restricted_from, restricted_once}
 
 -- ---- places and what stands in the order
-
--- a place tells of what stands there
-pub tells_of : (records : List Rec) (ps : List Place) (qs : List Placed) (i : ℕ) (p : Place) → ArePlacedBy records ps qs → slice_get ps i ≡ Some p
-    → (q : Placed) × (slice_get qs i ≡ Some q) × IsPlacedBy records p q
-tells_of records [] [] i p all at = absurd (none_is_not_some p at)
-tells_of records [] (u ∷ qs) i p all at = absurd all
-tells_of records (v ∷ ps) [] i p all at = absurd all
-tells_of records (v ∷ ps) (u ∷ qs) zero p all at = (u, refl, subst (λ k. IsPlacedBy records k u) (same_some v p at) all.0)
-tells_of records (v ∷ ps) (u ∷ qs) (suc i) p all at = tells_of records ps qs i p all.1 at
 
 -- the pair that a place takes is the one that its call takes
 told_pair : (heard : Option (ℕ × Answer)) (pair : Option Pair) (e : Entry) → TellsOf heard pair e → pair_taken e.reply e.hidden ≡ taken_by heard pair
@@ -46,21 +37,21 @@ told_pair (Some x) pair e tells = ap (λ r. pair_taken r e.hidden) tells.0 ∙ a
 
 -- the places are valid for the document, and tell of the order restricted to it
 abbrev HasPlaces : Conflicts → List Event → List Placed → List ℕ → List Place → Type 0
-HasPlaces mode events order d places = AreValid mode (records_of events d) places × ArePlacedBy (records_of events d) places (restricted events d order)
+HasPlaces conflicts events order d places = AreValid conflicts (records_of events d) places × ArePlacedBy (records_of events d) places (restricted events d order)
 
 -- each document has such places
-places_of : (mode : Conflicts) (events : List Event) (order : List Placed) → IsHistory events → Explains mode events order → (d : List ℕ)
-    → (places : List Place) × HasPlaces mode events order d places
-places_of mode events order history explains d =
-    let v = places_are_orders.valid mode events d (restricted events d order) history
-    (restricted_explains mode events d order history explains) (restricted_change mode events d order history explains) in
+places_of : (conflicts : Conflicts) (events : List Event) (order : List Placed) → IsHistory events → Explains conflicts events order → (d : List ℕ)
+    → (places : List Place) × HasPlaces conflicts events order d places
+places_of conflicts events order history explains d =
+    let v = places_are_orders.valid conflicts events d (restricted events d order) history
+    (restricted_explains conflicts events d order history explains) (restricted_change conflicts events d order history explains) in
     (v.0, (v.1, v.2))
 
 -- the entries are of the documents of the history, in their order, and each has such places
-pub record AreRestricted (mode : Conflicts) (events : List Event) (order : List Placed) (entries : List DocPlaces) : Type 0 where
+pub record AreRestricted (conflicts : Conflicts) (events : List Event) (order : List Placed) (entries : List DocPlaces) : Type 0 where
   pub known : (i : ℕ) (e : DocPlaces) → slice_get entries i ≡ Some e → (h : ℕ) × (slice_get (documents_of events) i ≡ Some (e.doc, h))
   pub complete : (k : ℕ) (d : List ℕ × ℕ) → slice_get (documents_of events) k ≡ Some d → IsEntered entries d.0
-  pub valid : (i : ℕ) (e : DocPlaces) → slice_get entries i ≡ Some e → AreValid mode (records_of events e.doc) e.places
+  pub valid : (i : ℕ) (e : DocPlaces) → slice_get entries i ≡ Some e → AreValid conflicts (records_of events e.doc) e.places
   pub placed : (i : ℕ) (e : DocPlaces) → slice_get entries i ≡ Some e → ArePlacedBy (records_of events e.doc) e.places (restricted events e.doc order)
 
 -- the entry that gives a document its places
@@ -68,9 +59,9 @@ abbrev entry_of : (List ℕ → List Place) → List ℕ × ℕ → DocPlaces
 entry_of chosen d = record { doc = d.0; places = chosen d.0 }
 
 -- the entries that give the documents such places
-entries_restricted : (mode : Conflicts) (events : List Event) (order : List Placed) (chosen : List ℕ → List Place) → ((d : List ℕ) → HasPlaces mode events order d (chosen d))
-    → AreRestricted mode events order (map (entry_of chosen) (documents_of events))
-entries_restricted mode events order chosen has = record {
+entries_restricted : (conflicts : Conflicts) (events : List Event) (order : List Placed) (chosen : List ℕ → List Place) → ((d : List ℕ) → HasPlaces conflicts events order d (chosen d))
+    → AreRestricted conflicts events order (map (entry_of chosen) (documents_of events))
+entries_restricted conflicts events order chosen has = record {
   known = λ i e at.
       let d = mapped_from (entry_of chosen) (documents_of events) i e at in
       (d.0.1, d.1 ∙ ap (λ c. Some (c, d.0.1)) (ap (λ (x : DocPlaces). x.doc) d.2));
@@ -78,17 +69,17 @@ entries_restricted mode events order chosen has = record {
   valid = λ i e at. (has_places i e at).0;
   placed = λ i e at. (has_places i e at).1;
 } where
-  has_places : (i : ℕ) (e : DocPlaces) → slice_get (map (entry_of chosen) (documents_of events)) i ≡ Some e → HasPlaces mode events order e.doc e.places
+  has_places : (i : ℕ) (e : DocPlaces) → slice_get (map (entry_of chosen) (documents_of events)) i ≡ Some e → HasPlaces conflicts events order e.doc e.places
   has_places i e at =
       let d = mapped_from (entry_of chosen) (documents_of events) i e at in
-      subst (λ (x : DocPlaces). HasPlaces mode events order x.doc x.places) d.2 (has d.0.0)
+      subst (λ (x : DocPlaces). HasPlaces conflicts events order x.doc x.places) d.2 (has d.0.0)
 
 -- there are such entries
-pub restriction : (mode : Conflicts) (events : List Event) (order : List Placed) → IsHistory events → Explains mode events order
-    → (entries : List DocPlaces) × AreRestricted mode events order entries
-restriction mode events order history explains = (
-  map (entry_of (λ d. (places_of mode events order history explains d).0)) (documents_of events),
-  entries_restricted mode events order (λ d. (places_of mode events order history explains d).0) (λ d. (places_of mode events order history explains d).1),
+pub restriction : (conflicts : Conflicts) (events : List Event) (order : List Placed) → IsHistory events → Explains conflicts events order
+    → (entries : List DocPlaces) × AreRestricted conflicts events order entries
+restriction conflicts events order history explains = (
+  map (entry_of (λ d. (places_of conflicts events order history explains d).0)) (documents_of events),
+  entries_restricted conflicts events order (λ d. (places_of conflicts events order history explains d).0) (λ d. (places_of conflicts events order history explains d).1),
 )
 
 -- ---- no pair twice
@@ -101,9 +92,9 @@ record IsTakenIn (events : List Event) (order : List Placed) (e : DocPlaces) (j 
   takes : taken_at (run_of order) k ≡ Some x
 
 -- a pair that is taken at a place is taken in the order
-taken_in : (mode : Conflicts) (events : List Event) (order : List Placed) (entries : List DocPlaces) → IsHistory events → Explains mode events order → AreRestricted mode events order entries
+taken_in : (conflicts : Conflicts) (events : List Event) (order : List Placed) (entries : List DocPlaces) → IsHistory events → Explains conflicts events order → AreRestricted conflicts events order entries
     → (i j h : ℕ) (q : Pair) (t : IsTakenAt events entries i j h q) → (k : ℕ) × (p : Placed) × IsTakenIn events order t.entry j (h, q) k p
-taken_in mode events order entries history explains are i j h q t =
+taken_in conflicts events order entries history explains are i j h q t =
     let d = t.entry.doc in
     let told = tells_of (records_of events d) t.entry.places (restricted events d order) j t.place (are.placed i t.entry t.entered) t.placed in
     let p : Placed = told.0 in
@@ -125,27 +116,27 @@ taken_in mode events order entries history explains are i j h q t =
     )
 
 -- no pair of a shard is taken at two places of the entries
-pairs_distinct : (mode : Conflicts) (events : List Event) (order : List Placed) (entries : List DocPlaces) → IsHistory events → Explains mode events order → AreRestricted mode events order entries
+pairs_distinct : (conflicts : Conflicts) (events : List Event) (order : List Placed) (entries : List DocPlaces) → IsHistory events → Explains conflicts events order → AreRestricted conflicts events order entries
     → ArePairsDistinct events entries
-pairs_distinct mode events order entries history explains are i j k l h q a b =
-    let x = taken_in mode events order entries history explains are i j h q a in
-    let y = taken_in mode events order entries history explains are k l h q b in
+pairs_distinct conflicts events order entries history explains are i j k l h q a b =
+    let x = taken_in conflicts events order entries history explains are i j h q a in
+    let y = taken_in conflicts events order entries history explains are k l h q b in
     let place : x.0 ≡ y.0 = no_pair_twice (run_of order) explains.legal x.0 y.0 (h, q) x.2.takes y.2.takes in
     let one : x.1 ≡ y.1 = same_some x.1 y.1 (sym x.2.at ∙ (ap (slice_get order) place ∙ y.2.at)) in
     let doc : a.entry.doc ≡ b.entry.doc = sym x.2.own ∙ (ap (λ (p : Placed). p.entry.doc) one ∙ y.2.own) in
     let d = are.known i a.entry a.entered in
     let e = are.known k b.entry b.entered in (
       documents_apart events i k (a.entry.doc, d.0) (b.entry.doc, e.0) d.1 e.1 doc,
-      restricted_once mode events a.entry.doc order explains j l x.1 y.1 x.2.place
+      restricted_once conflicts events a.entry.doc order explains j l x.1 y.1 x.2.place
           (subst (λ c. slice_get (restricted events c order) l ≡ Some y.1) (sym doc) y.2.place) (ap (λ (p : Placed). p.no) one),
     )
 
 -- ---- the cover
 
 -- such entries are a cover
-pub restriction_covers : (mode : Conflicts) (events : List Event) (order : List Placed) (entries : List DocPlaces) → IsHistory events → Explains mode events order
-    → AreRestricted mode events order entries → AreCover mode events entries
-restriction_covers mode events order entries history explains are = record {
+pub restriction_covers : (conflicts : Conflicts) (events : List Event) (order : List Placed) (entries : List DocPlaces) → IsHistory events → Explains conflicts events order
+    → AreRestricted conflicts events order entries → AreCover conflicts events entries
+restriction_covers conflicts events order entries history explains are = record {
   fine = record {
     known = λ i e at. let d = are.known i e at in (d.0, (i, d.1));
     once = λ i j e f at bt same.
@@ -155,5 +146,5 @@ restriction_covers mode events order entries history explains are = record {
     valid = are.valid;
   };
   complete = are.complete;
-  distinct = pairs_distinct mode events order entries history explains are;
+  distinct = pairs_distinct conflicts events order entries history explains are;
 }

@@ -9,7 +9,7 @@ use Rattle.doc_register.specs.declared.state.Conflicts.{Conflicts}
 use Rattle.history.specs.declared.event.Event.{Event}
 use Rattle.history.specs.declared.record.Rec.{Rec}
 use Rattle.history.specs.Events.{documents_of, records_of}
-use Rattle.history.proofs.ListLemmas.{none_is_not_some, same_some, take_one_more}
+use Rattle.history.proofs.ListLemmas.{get_within, none_is_not_some, same_some, take_one_more}
 use Rattle.witness.specs.Documents.{witness_places}
 use Rattle.witness.specs.Places.{AreValid}
 use Rattle.witness.specs.Witness.{Witness}
@@ -21,83 +21,82 @@ use Rattle.compose.specs.Laws.{places_in}
 use Rattle.compose.specs.aids.Searched.{AnswersDocument, AreAlike, AreAnswersFor, AreKept, AreSearched, HasLost, IsAlike, IsAnswerFor, Keeps}
 use Rattle.compose.specs.aids.Taken.{IsTwice, pairs_taken}
 use Rattle.compose.specs.Verdicts.{AreWitnesses}
-use Rattle.compose.proofs.PositionLemmas.{element_at}
 use Rattle.compose.proofs.SearchedLemmas.{searched_cover, unordered_uncovered}
 
 -- an answer about the records and the id of a document is about it
-pub answers_document : (mode : Conflicts) (events : List Event) (k : ℕ) (id : List ℕ) (records : List Rec) (result : Result DocAnswer AllocError)
+pub answers_document : (conflicts : Conflicts) (events : List Event) (k : ℕ) (id : List ℕ) (records : List Rec) (result : Result DocAnswer AllocError)
     → option_map (λ d. records_of events d.0) (slice_get (documents_of events) k) ≡ Some records
-    → option_map (λ d. d.0) (slice_get (documents_of events) k) ≡ Some id → IfOk result (IsAbout id records mode) → IfOk result (FindsUnpaired mode records)
-    → IfOk result (AnswersDocument mode events k)
-answers_document mode events k id records (Err e) own named about complete = tt
-answers_document mode events k id records (Ok answer) own named about complete = λ d at.
+    → option_map (λ d. d.0) (slice_get (documents_of events) k) ≡ Some id → IfOk result (IsAbout id records conflicts) → IfOk result (FindsUnpaired conflicts records)
+    → IfOk result (AnswersDocument conflicts events k)
+answers_document conflicts events k id records (Err e) own named about complete = tt
+answers_document conflicts events k id records (Ok answer) own named about complete = λ d at.
     let same : id ≡ d.0 = same_some id d.0 (sym named ∙ ap (option_map (λ e. e.0)) at) in
     let recorded : records ≡ records_of events d.0 = same_some records (records_of events d.0) (sym own ∙ ap (option_map (λ e. records_of events e.0)) at) in (
-      subst (λ i. IsAbout i (records_of events d.0) mode answer) same (subst (λ rs. IsAbout id rs mode answer) recorded about),
-      subst (λ rs. FindsUnpaired mode rs answer) recorded complete,
+      subst (λ i. IsAbout i (records_of events d.0) conflicts answer) same (subst (λ rs. IsAbout id rs conflicts answer) recorded about),
+      subst (λ rs. FindsUnpaired conflicts rs answer) recorded complete,
     )
 
 -- ---- the answers for all documents
 
-answered_snoc : (mode : Conflicts) (events : List Event) (first : Bool) (ds : List (List ℕ × ℕ)) (xs : List DocAnswer) (d : List ℕ × ℕ) (x : DocAnswer) → AreAnswersFor mode events first ds xs
-    → IsAnswerFor mode events first d.0 x → AreAnswersFor mode events first (ds ++ d ∷ []) (xs ++ x ∷ [])
-answered_snoc mode events first [] [] d x are is = (is, tt)
-answered_snoc mode events first [] (y ∷ ys) d x are is = absurd are
-answered_snoc mode events first (c ∷ cs) [] d x are is = absurd are
-answered_snoc mode events first (c ∷ cs) (y ∷ ys) d x are is = (are.0, answered_snoc mode events first cs ys d x are.1 is)
+answered_snoc : (conflicts : Conflicts) (events : List Event) (first : Bool) (ds : List (List ℕ × ℕ)) (xs : List DocAnswer) (d : List ℕ × ℕ) (x : DocAnswer) → AreAnswersFor conflicts events first ds xs
+    → IsAnswerFor conflicts events first d.0 x → AreAnswersFor conflicts events first (ds ++ d ∷ []) (xs ++ x ∷ [])
+answered_snoc conflicts events first [] [] d x are is = (is, tt)
+answered_snoc conflicts events first [] (y ∷ ys) d x are is = absurd are
+answered_snoc conflicts events first (c ∷ cs) [] d x are is = absurd are
+answered_snoc conflicts events first (c ∷ cs) (y ∷ ys) d x are is = (are.0, answered_snoc conflicts events first cs ys d x are.1 is)
 
 -- one more document
-pub answered_one_more : (mode : Conflicts) (events : List Event) (xs : List DocAnswer) (k : ℕ) (x : DocAnswer) → k < length (documents_of events)
-    → AreAnswersFor mode events true (take k (documents_of events)) xs → AnswersDocument mode events k x
-    → AreAnswersFor mode events true (take (k + 1) (documents_of events)) (xs ++ x ∷ [])
-answered_one_more mode events xs k x within are answers =
-    let d = element_at (documents_of events) k within in
+pub answered_one_more : (conflicts : Conflicts) (events : List Event) (xs : List DocAnswer) (k : ℕ) (x : DocAnswer) → k < length (documents_of events)
+    → AreAnswersFor conflicts events true (take k (documents_of events)) xs → AnswersDocument conflicts events k x
+    → AreAnswersFor conflicts events true (take (k + 1) (documents_of events)) (xs ++ x ∷ [])
+answered_one_more conflicts events xs k x within are answers =
+    let d = get_within (documents_of events) k within in
     let is = answers d.0 d.1 in
-    subst (λ ds. AreAnswersFor mode events true ds (xs ++ x ∷ [])) (sym (ap (λ n. take n (documents_of events)) (add-one k) ∙ take_one_more (documents_of events) k d.0 d.1))
-    (answered_snoc mode events true (take k (documents_of events)) xs d.0 x are (is.0, λ yes. is.1))
+    subst (λ ds. AreAnswersFor conflicts events true ds (xs ++ x ∷ [])) (sym (ap (λ n. take n (documents_of events)) (add-one k) ∙ take_one_more (documents_of events) k d.0 d.1))
+    (answered_snoc conflicts events true (take k (documents_of events)) xs d.0 x are (is.0, λ yes. is.1))
 
 -- a document has its answer
-answer_at : (mode : Conflicts) (events : List Event) (first : Bool) (ds : List (List ℕ × ℕ)) (xs : List DocAnswer) (k : ℕ) (x : DocAnswer) → AreAnswersFor mode events first ds xs
-    → slice_get xs k ≡ Some x → (d : List ℕ × ℕ) × (slice_get ds k ≡ Some d) × IsAnswerFor mode events first d.0 x
-answer_at mode events first ds [] k x are at = absurd (none_is_not_some x at)
-answer_at mode events first [] (y ∷ ys) k x are at = absurd are
-answer_at mode events first (d ∷ ds) (y ∷ ys) zero x are at = (d, refl, subst (IsAnswerFor mode events first d.0) (same_some y x at) are.0)
-answer_at mode events first (d ∷ ds) (y ∷ ys) (suc k) x are at = answer_at mode events first ds ys k x are.1 at
+answer_at : (conflicts : Conflicts) (events : List Event) (first : Bool) (ds : List (List ℕ × ℕ)) (xs : List DocAnswer) (k : ℕ) (x : DocAnswer) → AreAnswersFor conflicts events first ds xs
+    → slice_get xs k ≡ Some x → (d : List ℕ × ℕ) × (slice_get ds k ≡ Some d) × IsAnswerFor conflicts events first d.0 x
+answer_at conflicts events first ds [] k x are at = absurd (none_is_not_some x at)
+answer_at conflicts events first [] (y ∷ ys) k x are at = absurd are
+answer_at conflicts events first (d ∷ ds) (y ∷ ys) zero x are at = (d, refl, subst (IsAnswerFor conflicts events first d.0) (same_some y x at) are.0)
+answer_at conflicts events first (d ∷ ds) (y ∷ ys) (suc k) x are at = answer_at conflicts events first ds ys k x are.1 at
 
 -- a document without an order leaves the history without a cover
-pub lost_uncovered : (mode : Conflicts) (events : List Event) (first : Bool) (xs : List DocAnswer) → AreAnswersFor mode events first (documents_of events) xs → HasLost xs → HasNoUnpairedCover mode events
-lost_uncovered mode events first xs are (k, n, at) =
-    let a = answer_at mode events first (documents_of events) xs k (NotFound n) are at in
-    unordered_uncovered mode events k a.0 a.1 a.2.0.3
+pub lost_uncovered : (conflicts : Conflicts) (events : List Event) (first : Bool) (xs : List DocAnswer) → AreAnswersFor conflicts events first (documents_of events) xs → HasLost xs → HasNoUnpairedCover conflicts events
+lost_uncovered conflicts events first xs are (k, n, at) =
+    let a = answer_at conflicts events first (documents_of events) xs k (NotFound n) are at in
+    unordered_uncovered conflicts events k a.0 a.1 a.2.0.3
 
 -- the answers are about the documents, whether they are the first or not
-pub answered_anyway : (mode : Conflicts) (events : List Event) (first : Bool) (ds : List (List ℕ × ℕ)) (xs : List DocAnswer) → AreAnswersFor mode events first ds xs
-    → AreAnswersFor mode events false ds xs
-answered_anyway mode events first [] [] are = tt
-answered_anyway mode events first [] (x ∷ xs) are = absurd are
-answered_anyway mode events first (d ∷ ds) [] are = absurd are
-answered_anyway mode events first (d ∷ ds) (x ∷ xs) are = ((are.0.0, λ is. absurd (false≢true is)), answered_anyway mode events first ds xs are.1)
+pub answered_anyway : (conflicts : Conflicts) (events : List Event) (first : Bool) (ds : List (List ℕ × ℕ)) (xs : List DocAnswer) → AreAnswersFor conflicts events first ds xs
+    → AreAnswersFor conflicts events false ds xs
+answered_anyway conflicts events first [] [] are = tt
+answered_anyway conflicts events first [] (x ∷ xs) are = absurd are
+answered_anyway conflicts events first (d ∷ ds) [] are = absurd are
+answered_anyway conflicts events first (d ∷ ds) (x ∷ xs) are = ((are.0.0, λ is. absurd (false≢true is)), answered_anyway conflicts events first ds xs are.1)
 
 -- witnesses that are the answers are of the documents
-pub found_searched : (mode : Conflicts) (events : List Event) (first : Bool) (ds : List (List ℕ × ℕ)) (ws : List Witness) → AreAnswersFor mode events first ds (map Found ws)
-    → AreSearched mode events first ds ws
-found_searched mode events first [] [] are = tt
-found_searched mode events first [] (w ∷ ws) are = absurd are
-found_searched mode events first (d ∷ ds) [] are = absurd are
-found_searched mode events first (d ∷ ds) (w ∷ ws) are = (
+pub found_searched : (conflicts : Conflicts) (events : List Event) (first : Bool) (ds : List (List ℕ × ℕ)) (ws : List Witness) → AreAnswersFor conflicts events first ds (map Found ws)
+    → AreSearched conflicts events first ds ws
+found_searched conflicts events first [] [] are = tt
+found_searched conflicts events first [] (w ∷ ws) are = absurd are
+found_searched conflicts events first (d ∷ ds) [] are = absurd are
+found_searched conflicts events first (d ∷ ds) (w ∷ ws) are = (
   record { doc = are.0.0.0; own = are.0.0.1; read = are.0.0.2; valid = are.0.0.3; unpaired = are.0.1 },
-  found_searched mode events first ds ws are.1,
+  found_searched conflicts events first ds ws are.1,
 )
 
 -- and witnesses of the documents are answers
-pub searched_found : (mode : Conflicts) (events : List Event) (first : Bool) (ds : List (List ℕ × ℕ)) (ws : List Witness) → AreSearched mode events first ds ws
-    → AreAnswersFor mode events first ds (map Found ws)
-searched_found mode events first [] [] are = tt
-searched_found mode events first [] (w ∷ ws) are = absurd are
-searched_found mode events first (d ∷ ds) [] are = absurd are
-searched_found mode events first (d ∷ ds) (w ∷ ws) are = (
+pub searched_found : (conflicts : Conflicts) (events : List Event) (first : Bool) (ds : List (List ℕ × ℕ)) (ws : List Witness) → AreSearched conflicts events first ds ws
+    → AreAnswersFor conflicts events first ds (map Found ws)
+searched_found conflicts events first [] [] are = tt
+searched_found conflicts events first [] (w ∷ ws) are = absurd are
+searched_found conflicts events first (d ∷ ds) [] are = absurd are
+searched_found conflicts events first (d ∷ ds) (w ∷ ws) are = (
   ((are.0.doc, are.0.own, are.0.read, are.0.valid), are.0.unpaired),
-  searched_found mode events first ds ws are.1,
+  searched_found conflicts events first ds ws are.1,
 )
 
 -- ---- other answers about the same
@@ -108,42 +107,42 @@ kept_snoc [] (v ∷ vs) y x are is = absurd are
 kept_snoc (u ∷ us) [] y x are is = absurd are
 kept_snoc (u ∷ us) (v ∷ vs) y x are is = (are.0, kept_snoc us vs y x are.1 is)
 
-pub kept_answers : (mode : Conflicts) (events : List Event) (ds : List (List ℕ × ℕ)) (olds news : List DocAnswer) → AreAnswersFor mode events false ds olds → AreKept olds news
-    → AreAnswersFor mode events false ds news
-kept_answers mode events [] [] [] are kept = tt
-kept_answers mode events [] [] (x ∷ xs) are kept = absurd kept
-kept_answers mode events [] (y ∷ ys) news are kept = absurd are
-kept_answers mode events (d ∷ ds) [] news are kept = absurd are
-kept_answers mode events (d ∷ ds) (y ∷ ys) [] are kept = absurd kept
-kept_answers mode events (d ∷ ds) (y ∷ ys) (x ∷ xs) are kept =
-    ((kept.0 d.0 (records_of events d.0) mode are.0.0, λ is. absurd (false≢true is)), kept_answers mode events ds ys xs are.1 kept.1)
+pub kept_answers : (conflicts : Conflicts) (events : List Event) (ds : List (List ℕ × ℕ)) (olds news : List DocAnswer) → AreAnswersFor conflicts events false ds olds → AreKept olds news
+    → AreAnswersFor conflicts events false ds news
+kept_answers conflicts events [] [] [] are kept = tt
+kept_answers conflicts events [] [] (x ∷ xs) are kept = absurd kept
+kept_answers conflicts events [] (y ∷ ys) news are kept = absurd are
+kept_answers conflicts events (d ∷ ds) [] news are kept = absurd are
+kept_answers conflicts events (d ∷ ds) (y ∷ ys) [] are kept = absurd kept
+kept_answers conflicts events (d ∷ ds) (y ∷ ys) (x ∷ xs) are kept =
+    ((kept.0 d.0 (records_of events d.0) conflicts are.0.0, λ is. absurd (false≢true is)), kept_answers conflicts events ds ys xs are.1 kept.1)
 
 -- ---- other places for the same records
 
 -- a witness that is alike is of the same document
-alike_searched : (mode : Conflicts) (events : List Event) (first : Bool) (ds : List (List ℕ × ℕ)) (olds news : List Witness) → AreSearched mode events first ds olds → AreAlike olds news
-    → AreSearched mode events false ds news
-alike_searched mode events first [] [] [] are alike = tt
-alike_searched mode events first [] [] (w ∷ ws) are alike = absurd alike
-alike_searched mode events first [] (v ∷ vs) news are alike = absurd are
-alike_searched mode events first (d ∷ ds) [] news are alike = absurd are
-alike_searched mode events first (d ∷ ds) (v ∷ vs) [] are alike = absurd alike
-alike_searched mode events first (d ∷ ds) (v ∷ vs) (w ∷ ws) are alike = (
+alike_searched : (conflicts : Conflicts) (events : List Event) (first : Bool) (ds : List (List ℕ × ℕ)) (olds news : List Witness) → AreSearched conflicts events first ds olds → AreAlike olds news
+    → AreSearched conflicts events false ds news
+alike_searched conflicts events first [] [] [] are alike = tt
+alike_searched conflicts events first [] [] (w ∷ ws) are alike = absurd alike
+alike_searched conflicts events first [] (v ∷ vs) news are alike = absurd are
+alike_searched conflicts events first (d ∷ ds) [] news are alike = absurd are
+alike_searched conflicts events first (d ∷ ds) (v ∷ vs) [] are alike = absurd alike
+alike_searched conflicts events first (d ∷ ds) (v ∷ vs) (w ∷ ws) are alike = (
   record {
     doc = alike.0.doc ∙ are.0.doc;
     own = alike.0.own ∙ are.0.own;
     read = alike.0.read ∙ are.0.read;
-    valid = subst (λ rs. AreValid mode rs w.places) are.0.own (subst (λ m. AreValid m v.records w.places) are.0.read alike.0.valid);
+    valid = subst (λ rs. AreValid conflicts rs w.places) are.0.own (subst (λ m. AreValid m v.records w.places) are.0.read alike.0.valid);
     unpaired = λ is. absurd (false≢true is);
   },
-  alike_searched mode events first ds vs ws are.1 alike.1,
+  alike_searched conflicts events first ds vs ws are.1 alike.1,
 )
 
 -- witnesses that are alike cover the history where they take no pair twice
-pub alike_cover : (mode : Conflicts) (events : List Event) (first : Bool) (olds news : List Witness) → AreSearched mode events first (documents_of events) olds → AreAlike olds news
-    → ((x : ℕ × Pair) → IsTwice (pairs_taken events news) x → ⊥) → AreWitnesses mode events news
-alike_cover mode events first olds news are alike distinct =
-    searched_cover mode events false news (alike_searched mode events first (documents_of events) olds news are alike) distinct
+pub alike_cover : (conflicts : Conflicts) (events : List Event) (first : Bool) (olds news : List Witness) → AreSearched conflicts events first (documents_of events) olds → AreAlike olds news
+    → ((x : ℕ × Pair) → IsTwice (pairs_taken events news) x → ⊥) → AreWitnesses conflicts events news
+alike_cover conflicts events first olds news are alike distinct =
+    searched_cover conflicts events false news (alike_searched conflicts events first (documents_of events) olds news are alike) distinct
 
 -- one more witness that is alike
 pub alike_snoc : (olds news : List Witness) (v w : Witness) → AreAlike olds news → IsAlike v w → AreAlike (olds ++ v ∷ []) (news ++ w ∷ [])

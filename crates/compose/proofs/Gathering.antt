@@ -23,22 +23,22 @@ use Rattle.compose.proofs.Sorting.{IsRising, sort, sort_filter, sort_length, sor
 -- ---- one entry
 
 -- The calls are an order of the entry's document, placed as the entry tells, each with its point.
-pub record IsPartOf (mode : Conflicts) (events : List Event) (e : DocPlaces) (ks : List Pointed) : Type 0 where
-  pub explains : ExplainsDocument mode events e.doc (placed_of ks)
+pub record IsPartOf (conflicts : Conflicts) (events : List Event) (e : DocPlaces) (ks : List Pointed) : Type 0 where
+  pub explains : ExplainsDocument conflicts events e.doc (placed_of ks)
   pub placed : ArePlacedBy (records_of events e.doc) e.places (placed_of ks)
   pub rising : IsRising (λ k. k.point) ks
   pub before : (i : ℕ) (k : Pointed) → slice_get ks i ≡ Some k → call_place events k.placed ≤ k.point
   pub reached : (i : ℕ) (k : Pointed) → slice_get ks i ≡ Some k → IsReached (call_place events) ks i k.point
 
 -- valid places of an entry make such a list
-part_made : (mode : Conflicts) (events : List Event) (e : DocPlaces) → IsHistory events → AreValid mode (records_of events e.doc) e.places
-    → (ks : List Pointed) × IsPartOf mode events e ks
-part_made mode events e history valid =
-    let made = places_are_orders.explains mode events e.doc e.places history valid in
+part_made : (conflicts : Conflicts) (events : List Event) (e : DocPlaces) → IsHistory events → AreValid conflicts (records_of events e.doc) e.places
+    → (ks : List Pointed) × IsPartOf conflicts events e ks
+part_made conflicts events e history valid =
+    let made = places_are_orders.explains conflicts events e.doc e.places history valid in
     let is : placed_of (pointed (call_place events) 0 made.0) ≡ made.0 = pointed_placed (call_place events) 0 made.0 in (
       pointed (call_place events) 0 made.0,
       record {
-        explains = subst (ExplainsDocument mode events e.doc) (sym is) made.1;
+        explains = subst (ExplainsDocument conflicts events e.doc) (sym is) made.1;
         placed = subst (ArePlacedBy (records_of events e.doc) e.places) (sym is) made.2;
         rising = pointed_rising (call_place events) 0 made.0;
         before = place_before (call_place events) 0 made.0;
@@ -47,15 +47,15 @@ part_made mode events e history valid =
     )
 
 -- its calls are of the entry's document
-own_document : (mode : Conflicts) (events : List Event) (e : DocPlaces) (ks : List Pointed) → IsPartOf mode events e ks → (i : ℕ) (k : Pointed) → slice_get ks i ≡ Some k
+own_document : (conflicts : Conflicts) (events : List Event) (e : DocPlaces) (ks : List Pointed) → IsPartOf conflicts events e ks → (i : ℕ) (k : Pointed) → slice_get ks i ≡ Some k
     → k.placed.entry.doc ≡ e.doc
-own_document mode events e ks is i k at = (is.explains.calls i k.placed (placed_at ks i k at)).1
+own_document conflicts events e ks is i k at = (is.explains.calls i k.placed (placed_at ks i k at)).1
 
 -- ---- all entries
 
 -- The calls are those of the entries: the part of each entry's document is one of it, and there are no others.
-pub record AreGathered (mode : Conflicts) (events : List Event) (entries : List DocPlaces) (ks : List Pointed) : Type 0 where
-  pub parts : (i : ℕ) (e : DocPlaces) → slice_get entries i ≡ Some e → IsPartOf mode events e (part e.doc ks)
+pub record AreGathered (conflicts : Conflicts) (events : List Event) (entries : List DocPlaces) (ks : List Pointed) : Type 0 where
+  pub parts : (i : ℕ) (e : DocPlaces) → slice_get entries i ≡ Some e → IsPartOf conflicts events e (part e.doc ks)
   pub entered : (i : ℕ) (k : Pointed) → slice_get ks i ≡ Some k → IsEntered entries k.placed.entry.doc
   pub count : length ks ≡ places_in entries
 
@@ -72,13 +72,13 @@ not_first : (e : DocPlaces) (es : List DocPlaces) → AreApart (e ∷ es) → (d
 not_first e es apart d entered same = let first : 0 ≡ suc entered.0 = apart 0 (suc entered.0) e entered.1 refl entered.2 (same ∙ sym entered.3) in omega arith
 
 -- the calls of one more entry
-gathered_more : (mode : Conflicts) (events : List Event) (e : DocPlaces) (es : List DocPlaces) (ks all : List Pointed) → AreApart (e ∷ es) → IsPartOf mode events e ks
-    → AreGathered mode events es all → AreGathered mode events (e ∷ es) (ks ++ all)
-gathered_more mode events e es ks all apart is rest = record { parts = parts; entered = entered; count = count } where
+gathered_more : (conflicts : Conflicts) (events : List Event) (e : DocPlaces) (es : List DocPlaces) (ks all : List Pointed) → AreApart (e ∷ es) → IsPartOf conflicts events e ks
+    → AreGathered conflicts events es all → AreGathered conflicts events (e ∷ es) (ks ++ all)
+gathered_more conflicts events e es ks all apart is rest = record { parts = parts; entered = entered; count = count } where
   first_part : part e.doc (ks ++ all) ≡ ks
   first_part =
       filter-append (is_of e.doc) ks all
-      ∙ (ap (λ xs. xs ++ part e.doc all) (filter_all (is_of e.doc) ks (λ i k at. (bytes_decides k.placed.entry.doc e.doc).1 (own_document mode events e ks is i k at)))
+      ∙ (ap (λ xs. xs ++ part e.doc all) (filter_all (is_of e.doc) ks (λ i k at. (bytes_decides k.placed.entry.doc e.doc).1 (own_document conflicts events e ks is i k at)))
       ∙ (ap (λ xs. ks ++ xs) (filter_none (is_of e.doc) all (λ i k at. other_id k.placed.entry.doc e.doc (not_first e es apart k.placed.entry.doc (rest.entered i k at)))) ∙ append-nil ks))
 
   later_part : (i : ℕ) (f : DocPlaces) → slice_get es i ≡ Some f → part f.doc (ks ++ all) ≡ part f.doc all
@@ -86,15 +86,15 @@ gathered_more mode events e es ks all apart is rest = record { parts = parts; en
       filter-append (is_of f.doc) ks all
       ∙ ap (λ xs. xs ++ part f.doc all)
       (filter_none (is_of f.doc) ks (λ j k bt. other_id k.placed.entry.doc f.doc
-      (λ same. not_first e es apart f.doc (i, f, at, refl) (sym (own_document mode events e ks is j k bt) ∙ sym same))))
+      (λ same. not_first e es apart f.doc (i, f, at, refl) (sym (own_document conflicts events e ks is j k bt) ∙ sym same))))
 
-  parts : (i : ℕ) (f : DocPlaces) → slice_get (e ∷ es) i ≡ Some f → IsPartOf mode events f (part f.doc (ks ++ all))
-  parts zero f at = subst (λ g. IsPartOf mode events g (part g.doc (ks ++ all))) (same_some e f at) (subst (IsPartOf mode events e) (sym first_part) is)
-  parts (suc i) f at = subst (IsPartOf mode events f) (sym (later_part i f at)) (rest.parts i f at)
+  parts : (i : ℕ) (f : DocPlaces) → slice_get (e ∷ es) i ≡ Some f → IsPartOf conflicts events f (part f.doc (ks ++ all))
+  parts zero f at = subst (λ g. IsPartOf conflicts events g (part g.doc (ks ++ all))) (same_some e f at) (subst (IsPartOf conflicts events e) (sym first_part) is)
+  parts (suc i) f at = subst (IsPartOf conflicts events f) (sym (later_part i f at)) (rest.parts i f at)
 
   entered : (i : ℕ) (k : Pointed) → slice_get (ks ++ all) i ≡ Some k → IsEntered (e ∷ es) k.placed.entry.doc
   entered i k at = elim (in_either ks all i k at) as (λ _. IsEntered (e ∷ es) k.placed.entry.doc) [
-    | inl here ↦ (0, e, refl, sym (own_document mode events e ks is here.0 k here.1))
+    | inl here ↦ (0, e, refl, sym (own_document conflicts events e ks is here.0 k here.1))
     | inr there ↦ (let found = rest.entered there.0 k there.1 in (suc found.0, found.1, found.2, found.3))
   ]
 
@@ -107,34 +107,34 @@ gathered_more mode events e es ks all apart is rest = record { parts = parts; en
       omega arith
 
 -- the calls of all entries, one entry's after another's
-gather : (mode : Conflicts) (events : List Event) (entries : List DocPlaces) → IsHistory events
-    → ((i : ℕ) (e : DocPlaces) → slice_get entries i ≡ Some e → AreValid mode (records_of events e.doc) e.places) → AreApart entries
-    → (ks : List Pointed) × AreGathered mode events entries ks
-gather mode events [] history valid apart = (
+gather : (conflicts : Conflicts) (events : List Event) (entries : List DocPlaces) → IsHistory events
+    → ((i : ℕ) (e : DocPlaces) → slice_get entries i ≡ Some e → AreValid conflicts (records_of events e.doc) e.places) → AreApart entries
+    → (ks : List Pointed) × AreGathered conflicts events entries ks
+gather conflicts events [] history valid apart = (
   [],
   record { parts = λ i e at. absurd (none_is_not_some e at); entered = λ i k at. absurd (none_is_not_some k at); count = refl },
 )
-gather mode events (e ∷ es) history valid apart =
-    let own = part_made mode events e history (valid 0 e refl) in
-    let rest = gather mode events es history (λ i f at. valid (suc i) f at) (later_apart e es apart) in
-    (own.0 ++ rest.0, gathered_more mode events e es own.0 rest.0 apart own.1 rest.1)
+gather conflicts events (e ∷ es) history valid apart =
+    let own = part_made conflicts events e history (valid 0 e refl) in
+    let rest = gather conflicts events es history (λ i f at. valid (suc i) f at) (later_apart e es apart) in
+    (own.0 ++ rest.0, gathered_more conflicts events e es own.0 rest.0 apart own.1 rest.1)
 
 -- ---- by their points
 
 -- sorting by points keeps them the calls of the entries
-sorted_gathered : (mode : Conflicts) (events : List Event) (entries : List DocPlaces) (ks : List Pointed) → AreGathered mode events entries ks
-    → AreGathered mode events entries (sort (λ k. k.point) ks)
-sorted_gathered mode events entries ks is = record {
-  parts = λ i e at. subst (IsPartOf mode events e) (sym (sort_filter (λ k. k.point) (is_of e.doc) ks (is.parts i e at).rising)) (is.parts i e at);
+sorted_gathered : (conflicts : Conflicts) (events : List Event) (entries : List DocPlaces) (ks : List Pointed) → AreGathered conflicts events entries ks
+    → AreGathered conflicts events entries (sort (λ k. k.point) ks)
+sorted_gathered conflicts events entries ks is = record {
+  parts = λ i e at. subst (IsPartOf conflicts events e) (sym (sort_filter (λ k. k.point) (is_of e.doc) ks (is.parts i e at).rising)) (is.parts i e at);
   entered = λ i k at. let from : Has ks k = sorted_from (λ k. k.point) ks i k at in is.entered from.0 k from.1;
   count = sort_length (λ k. k.point) ks ∙ is.count;
 }
 
 -- the calls of all entries, by their points
-pub gathered : (mode : Conflicts) (events : List Event) (entries : List DocPlaces) → IsHistory events
-    → ((i : ℕ) (e : DocPlaces) → slice_get entries i ≡ Some e → AreValid mode (records_of events e.doc) e.places)
+pub gathered : (conflicts : Conflicts) (events : List Event) (entries : List DocPlaces) → IsHistory events
+    → ((i : ℕ) (e : DocPlaces) → slice_get entries i ≡ Some e → AreValid conflicts (records_of events e.doc) e.places)
     → ((i j : ℕ) (e f : DocPlaces) → slice_get entries i ≡ Some e → slice_get entries j ≡ Some f → e.doc ≡ f.doc → i ≡ j)
-    → (ks : List Pointed) × AreGathered mode events entries ks × IsRising (λ k. k.point) ks
-gathered mode events entries history valid apart =
-    let all = gather mode events entries history valid apart in
-    (sort (λ k. k.point) all.0, sorted_gathered mode events entries all.0 all.1, sort_rising (λ k. k.point) all.0)
+    → (ks : List Pointed) × AreGathered conflicts events entries ks × IsRising (λ k. k.point) ks
+gathered conflicts events entries history valid apart =
+    let all = gather conflicts events entries history valid apart in
+    (sort (λ k. k.point) all.0, sorted_gathered conflicts events entries all.0 all.1, sort_rising (λ k. k.point) all.0)

@@ -35,11 +35,11 @@ same_document events history p q a b same =
     cc
 
 -- a call number stands once
-once : (mode : Conflicts) (events : List Event) (entries : List DocPlaces) (ks : List Pointed) → IsHistory events → AreGathered mode events entries ks
+once : (conflicts : Conflicts) (events : List Event) (entries : List DocPlaces) (ks : List Pointed) → IsHistory events → AreGathered conflicts events entries ks
     → (i j : ℕ) (k l : Pointed) → slice_get ks i ≡ Some k → slice_get ks j ≡ Some l → k.placed.no ≡ l.placed.no → i ≡ j
-once mode events entries ks history all i j k l at bt same =
-    let a = listed mode events entries ks all i k at in
-    let b = listed mode events entries ks all j l bt in
+once conflicts events entries ks history all i j k l at bt same =
+    let a = listed conflicts events entries ks all i k at in
+    let b = listed conflicts events entries ks all j l bt in
     let d = a.entry.doc in
     let other : l.placed.entry.doc ≡ d = sym (same_document events history k.placed l.placed a.call b.call same) ∙ a.doc in
     let stands : slice_get (part d ks) (rank (is_of d) ks j) ≡ Some l = rank_at (is_of d) ks j l bt (passes d l other) in
@@ -55,9 +55,9 @@ in_order d ks r p at =
     (from.0, subst (λ q. slice_get (placed_of ks) from.0 ≡ Some q) k.2 (placed_at ks from.0 k.0 from.1))
 
 -- an answered call stands with its reply in the part of its document
-answered : (mode : Conflicts) (events : List Event) (entries : List DocPlaces) (ks : List Pointed) → IsHistory events → AreCover mode events entries → AreGathered mode events entries ks
+answered : (conflicts : Conflicts) (events : List Event) (entries : List DocPlaces) (ks : List Pointed) → IsHistory events → AreCover conflicts events entries → AreGathered conflicts events entries ks
     → (k n : ℕ) (r : Answer) → IsReplyAt events k n r → (i : ℕ) × (p : Placed) × (slice_get (placed_of ks) i ≡ Some p) × (p.no ≡ n) × (p.entry.reply ≡ r)
-answered mode events entries ks history cover all k n r reply =
+answered conflicts events entries ks history cover all k n r reply =
     let call = answered_call events history k n r reply in
     let document = call_document events call.0 n call.1 call.2 call.3 call.4 in
     let e = cover.complete document.1.0 (call.2, document.0) document.1.1 in
@@ -68,14 +68,14 @@ answered mode events entries ks history cover all k n r reply =
 
 -- Where one call precedes another it stands first. Otherwise the other's point would not be after its own, which some call
 -- of its document at or before it has, and would then precede.
-respects : (mode : Conflicts) (events : List Event) (entries : List DocPlaces) (ks : List Pointed) → IsHistory events → AreGathered mode events entries ks → IsRising (λ k. k.point) ks
+respects : (conflicts : Conflicts) (events : List Event) (entries : List DocPlaces) (ks : List Pointed) → IsHistory events → AreGathered conflicts events entries ks → IsRising (λ k. k.point) ks
     → (i j : ℕ) (k l : Pointed) → slice_get ks i ≡ Some k → slice_get ks j ≡ Some l → Precedes events k.placed.no l.placed.no → i < j
-respects mode events entries ks history all rising i j k l at bt first =
+respects conflicts events entries ks history all rising i j k l at bt first =
     elim (cases_lt i j) as (λ _. i < j) [ inl less ↦ less | inr not ↦ absurd (not_after not) ] where
       not_after : j ≤ i → ⊥
       not_after not =
-          let a = listed mode events entries ks all i k at in
-          let b = listed mode events entries ks all j l bt in
+          let a = listed conflicts events entries ks all i k at in
+          let b = listed conflicts events entries ks all j l bt in
           let own : List Pointed = part a.entry.doc ks in
           let r : ℕ = rank (is_of a.entry.doc) ks i in
           let latest = a.own.reached r k a.stands in
@@ -95,36 +95,36 @@ respects mode events entries ks history all rising i j k l at bt first =
 -- ---- the theorem
 
 -- the order explains the history
-explains : (mode : Conflicts) (events : List Event) (entries : List DocPlaces) (ks : List Pointed) → IsHistory events → AreCover mode events entries → AreGathered mode events entries ks
-    → IsRising (λ k. k.point) ks → Explains mode events (placed_of ks)
-explains mode events entries ks history cover all rising = record {
-  is_order = record { calls = calls; once = all_once; answered = answered mode events entries ks history cover all; plain = plain };
+explains : (conflicts : Conflicts) (events : List Event) (entries : List DocPlaces) (ks : List Pointed) → IsHistory events → AreCover conflicts events entries → AreGathered conflicts events entries ks
+    → IsRising (λ k. k.point) ks → Explains conflicts events (placed_of ks)
+explains conflicts events entries ks history cover all rising = record {
+  is_order = record { calls = calls; once = all_once; answered = answered conflicts events entries ks history cover all; plain = plain };
   respects = λ i j p q at bt.
       let k = pointed_at ks i p at in
       let l = pointed_at ks j q bt in
       subst (λ u. Precedes events u.no q.no → i < j) k.2
-      (subst (λ v. Precedes events k.0.placed.no v.no → i < j) l.2 (respects mode events entries ks history all rising i j k.0 l.0 k.1 l.1));
-  legal = (locality (run_of (placed_of ks))).1 (part_legal mode events entries ks all, distinct mode events entries ks history cover all);
+      (subst (λ v. Precedes events k.0.placed.no v.no → i < j) l.2 (respects conflicts events entries ks history all rising i j k.0 l.0 k.1 l.1));
+  legal = (locality (run_of (placed_of ks))).1 (part_legal conflicts events entries ks all, distinct conflicts events entries ks history cover all);
 } where
   calls : (i : ℕ) (p : Placed) → slice_get (placed_of ks) i ≡ Some p → IsOfCall events p
-  calls i p at = let k = pointed_at ks i p at in subst (λ u. IsOfCall events u) k.2 (listed mode events entries ks all i k.0 k.1).call
+  calls i p at = let k = pointed_at ks i p at in subst (λ u. IsOfCall events u) k.2 (listed conflicts events entries ks all i k.0 k.1).call
 
   all_once : (i j : ℕ) (p q : Placed) → slice_get (placed_of ks) i ≡ Some p → slice_get (placed_of ks) j ≡ Some q → p.no ≡ q.no → i ≡ j
   all_once i j p q at bt same =
       let k = pointed_at ks i p at in
       let l = pointed_at ks j q bt in
-      once mode events entries ks history all i j k.0 l.0 k.1 l.1 (ap (λ u. u.no) k.2 ∙ (same ∙ ap (λ u. u.no) (sym l.2)))
+      once conflicts events entries ks history all i j k.0 l.0 k.1 l.1 (ap (λ u. u.no) k.2 ∙ (same ∙ ap (λ u. u.no) (sym l.2)))
 
-  plain : mode ≡ Plain → (i : ℕ) (p : Placed) → slice_get (placed_of ks) i ≡ Some p → p.entry.hidden ≡ None
+  plain : conflicts ≡ Plain → (i : ℕ) (p : Placed) → slice_get (placed_of ks) i ≡ Some p → p.entry.hidden ≡ None
   plain is i p at =
       let k = pointed_at ks i p at in
-      let a = listed mode events entries ks all i k.0 k.1 in
+      let a = listed conflicts events entries ks all i k.0 k.1 in
       let r : ℕ = rank (is_of a.entry.doc) ks i in
       subst (λ u. u.entry.hidden ≡ None) k.2 (a.own.explains.plain is r k.0.placed (placed_at (part a.entry.doc ks) r k.0 a.stands))
 
 -- it is an order of exactly the places of the entries
-order_of : (mode : Conflicts) (events : List Event) (entries : List DocPlaces) (ks : List Pointed) → AreGathered mode events entries ks → IsOrderOf events entries (placed_of ks)
-order_of mode events entries ks all = record {
+order_of : (conflicts : Conflicts) (events : List Event) (entries : List DocPlaces) (ks : List Pointed) → AreGathered conflicts events entries ks → IsOrderOf events entries (placed_of ks)
+order_of conflicts events entries ks all = record {
   placed = λ i e at. subst (ArePlacedBy (records_of events e.doc) e.places) (sym (part_placed e.doc ks)) (all.parts i e at).placed;
   entered = λ i p at. let k = pointed_at ks i p at in subst (λ u. IsEntered entries u.entry.doc) k.2 (all.entered i k.0 k.1);
   count = length-map ks (λ k. k.placed) ∙ all.count;
@@ -132,6 +132,6 @@ order_of mode events entries ks all = record {
 
 -- entries that cover a history make it linearizable, by an order of exactly their places
 pub covers_explain : CoversExplain
-covers_explain mode events entries history cover =
-    let all = gathered mode events entries history cover.fine.valid cover.fine.once in
-    (placed_of all.0, explains mode events entries all.0 history cover all.1 all.2, order_of mode events entries all.0 all.1)
+covers_explain conflicts events entries history cover =
+    let all = gathered conflicts events entries history cover.fine.valid cover.fine.once in
+    (placed_of all.0, explains conflicts events entries all.0 history cover all.1 all.2, order_of conflicts events entries all.0 all.1)

@@ -1,5 +1,5 @@
 -- Places of a list: that each has an element, and the first at which a test passes.
-use Rattle.std.proofs.Common.{ℕ, zero, suc, ◌<◌, length, ◌≡◌, ◌+◌, List, [], ◌∷◌, refl, sym, ap, subst, ◌∙◌, arith, Bool, true, false, Some, None, slice_get, cond}
+use Rattle.std.proofs.Common.{ℕ, zero, suc, ◌≡◌, ◌+◌, List, [], ◌∷◌, refl, sym, ap, subst, ◌∙◌, arith, Bool, true, false, Some, None, slice_get, cond}
 use Rattle.std.specs.Prelude.{position}
 use Rattle.std.specs.List.{position_from}
 use Rattle.std.proofs.lemmas.Iterator.Adapters.{position_from-zero}
@@ -41,9 +41,3 @@ position_found test xs k is =
 -- where none is found, no element passes it
 pub position_none : {X : Type 0} (test : X → Bool) (xs : List X) (k : ℕ) (x : X) → position test xs ≡ None → slice_get xs k ≡ Some x → test x ≡ false
 position_none test xs k x is at = none_from test 0 xs k x (sym (position_from-zero test xs) ∙ is) at
-
--- a place within a list has an element
-pub element_at : {X : Type 0} (xs : List X) (i : ℕ) → i < length xs → (x : X) × (slice_get xs i ≡ Some x)
-element_at [] i within = absurd (omega arith)
-element_at (x ∷ xs) zero within = (x, refl)
-element_at (x ∷ xs) (suc i) within = element_at xs i (omega arith)

@@ -19,12 +19,13 @@ use Rattle.history.specs.declared.event.Event.{Event}
 use Rattle.history.specs.Events.{IsCallAt, IsHistory, IsReplyAt, PassesAt, heard_of, is_call, is_same}
 use Rattle.history.specs.Order.{Explains, IsOfCall, Placed, Respects, run_of}
 use Rattle.history.proofs.HistoryLemmas.{call_passes}
-use Rattle.history.proofs.ListLemmas.{compare, none_is_not_some, same_some}
+use Rattle.history.proofs.ListLemmas.{compare, mapped_from, none_is_not_some, same_some}
 use Rattle.witness.specs.Laws.{AllChange, ExplainsDocument}
 use Rattle.compose.specs.Laws.{is_kept, part_of_order, restricted}
-use Rattle.evidence.proofs.FilterLemmas.{kept_from, kept_order, mapped_from}
+use Rattle.evidence.proofs.FilterLemmas.{kept_from, kept_order}
 use Rattle.compose.proofs.Filtering.{place_kept}
-use Rattle.evidence.proofs.HeardLemmas.{heard_is_reply, reply_is_heard, same_call}
+use Rattle.evidence.proofs.HeardLemmas.{heard_is_reply, reply_is_heard}
+use Rattle.history.proofs.EventLemmas.{same_call}
 
 -- ---- places in the restricted order
 
@@ -119,9 +120,9 @@ step_at (u ∷ qs) s t run (suc i) q at = step_at qs run.0 t run.2 i q at
 -- ---- the document is explained
 
 -- no call stands twice in the restricted order
-pub restricted_once : (mode : Conflicts) (events : List Event) (d : List ℕ) (order : List Placed) → Explains mode events order
+pub restricted_once : (conflicts : Conflicts) (events : List Event) (d : List ℕ) (order : List Placed) → Explains conflicts events order
     → (i j : ℕ) (p q : Placed) → slice_get (restricted events d order) i ≡ Some p → slice_get (restricted events d order) j ≡ Some q → p.no ≡ q.no → i ≡ j
-restricted_once mode events d order explains i j p q at bt same = compare i j (apart i j p q at bt same) (apart j i q p bt at (sym same)) where
+restricted_once conflicts events d order explains i j p q at bt same = compare i j (apart i j p q at bt same) (apart j i q p bt at (sym same)) where
   apart : (i j : ℕ) (p q : Placed) → slice_get (restricted events d order) i ≡ Some p → slice_get (restricted events d order) j ≡ Some q → p.no ≡ q.no → i < j → ⊥
   apart i j p q at bt same below =
       let m = restricted_in_order events d order i j p q below at bt in
@@ -130,8 +131,8 @@ restricted_once mode events d order explains i j p q at bt same = compare i j (a
       omega arith
 
 -- the restricted order respects the history
-restricted_respects : (mode : Conflicts) (events : List Event) (d : List ℕ) (order : List Placed) → Explains mode events order → Respects events (restricted events d order)
-restricted_respects mode events d order explains i j p q at bt first =
+restricted_respects : (conflicts : Conflicts) (events : List Event) (d : List ℕ) (order : List Placed) → Explains conflicts events order → Respects events (restricted events d order)
+restricted_respects conflicts events d order explains i j p q at bt first =
     elim (cases_lt i j) as (λ _. i < j) [
       | inl below ↦ below
       | inr other ↦ elim (cases_lt j i) as (λ _. i < j) [
@@ -150,10 +151,10 @@ restricted_respects mode events d order explains i j p q at bt first =
     ]
 
 -- an answered call of the document stands in the restricted order, with its reply
-restricted_answered : (mode : Conflicts) (events : List Event) (d : List ℕ) (order : List Placed) → IsHistory events → Explains mode events order
+restricted_answered : (conflicts : Conflicts) (events : List Event) (d : List ℕ) (order : List Placed) → IsHistory events → Explains conflicts events order
     → (k j n h : ℕ) (op : Op) (r : Answer) → IsReplyAt events k n r → IsCallAt events j n h d op
     → (i : ℕ) × (p : Placed) × (slice_get (restricted events d order) i ≡ Some p) × (p.no ≡ n) × (p.entry.reply ≡ r)
-restricted_answered mode events d order history explains k j n h op r reply call =
+restricted_answered conflicts events d order history explains k j n h op r reply call =
     let x = explains.is_order.answered k n r reply in
     let of : IsOfCall events x.1 = explains.is_order.calls x.0 x.1 x.2 in
     let place : of.0 ≡ j = history.called_once n of.0 j
@@ -167,14 +168,14 @@ restricted_answered mode events d order history explains k j n h op r reply call
     (i.0, x.1, i.1, x.3, x.4)
 
 -- the restricted order explains the document
-pub restricted_explains : (mode : Conflicts) (events : List Event) (d : List ℕ) (order : List Placed) → IsHistory events → Explains mode events order
-    → ExplainsDocument mode events d (restricted events d order)
-restricted_explains mode events d order history explains = record {
+pub restricted_explains : (conflicts : Conflicts) (events : List Event) (d : List ℕ) (order : List Placed) → IsHistory events → Explains conflicts events order
+    → ExplainsDocument conflicts events d (restricted events d order)
+restricted_explains conflicts events d order history explains = record {
   calls = λ i p at. let s = restricted_from events d order i p at in (explains.is_order.calls s.0 p s.1.at, s.1.own);
-  once = restricted_once mode events d order explains;
-  answered = restricted_answered mode events d order history explains;
-  plain = λ mode_is i p at. let s = restricted_from events d order i p at in explains.is_order.plain mode_is s.0 p s.1.at;
-  respects = restricted_respects mode events d order explains;
+  once = restricted_once conflicts events d order explains;
+  answered = restricted_answered conflicts events d order history explains;
+  plain = λ conflicts_is i p at. let s = restricted_from events d order i p at in explains.is_order.plain conflicts_is s.0 p s.1.at;
+  respects = restricted_respects conflicts events d order explains;
   legal = legal_of_one d (run_of (restricted events d order))
       (λ i e at. let p = mapped_from (λ (p : Placed). p.entry) (restricted events d order) i e at in
       ap (λ (x : Entry). x.doc) (sym p.2) ∙ (restricted_from events d order i p.0 p.1).1.own)
@@ -192,8 +193,8 @@ nothing_taken e m n (inl get) step = by_kind (step_kind m Get e.reply e.hidden n
 nothing_taken e m n (inr conflict) step = ap (λ r. pair_taken r e.hidden) conflict.0 ∙ conflict.1
 
 -- each unanswered call of the restricted order changes something
-pub restricted_change : (mode : Conflicts) (events : List Event) (d : List ℕ) (order : List Placed) → IsHistory events → Explains mode events order → AllChange events (restricted events d order)
-restricted_change mode events d order history explains i p at pending nothing =
+pub restricted_change : (conflicts : Conflicts) (events : List Event) (d : List ℕ) (order : List Placed) → IsHistory events → Explains conflicts events order → AllChange events (restricted events d order)
+restricted_change conflicts events d order history explains i p at pending nothing =
     let s = restricted_from events d order i p at in
     let of : IsOfCall events p = explains.is_order.calls s.0 p s.1.at in
     let run = restricted_run events d order explains.legal in

@@ -7,18 +7,18 @@ use Rattle.compose.proofs.UnpairedPlaces.{replies_unpaired, settled_unpaired}
 
 -- the order, restricted to each document, is a cover
 pub orders_are_covers : OrdersAreCovers
-orders_are_covers mode events order history explains =
-    let made = restriction mode events order history explains in
-    (made.0, restriction_covers mode events order made.0 history explains made.1, made.1.placed)
+orders_are_covers conflicts events order history explains =
+    let made = restriction conflicts events order history explains in
+    (made.0, restriction_covers conflicts events order made.0 history explains made.1, made.1.placed)
 
 -- an order of a settled history gives a cover without a given pair
 pub settled_have_no_order : SettledHaveNoOrder
-settled_have_no_order mode events history settled none (order, explains) =
-    let made = orders_are_covers mode events order history explains in
-    none made.0 (λ i e at. settled_unpaired mode events e.doc e.places history settled (made.1.fine.valid i e at)) made.1
+settled_have_no_order conflicts events history settled none (order, explains) =
+    let made = orders_are_covers conflicts events order history explains in
+    none made.0 (λ i e at. settled_unpaired conflicts events e.doc e.places history settled (made.1.fine.valid i e at)) made.1
 
 -- the order of the replies gives a cover without a given pair
 pub plainly_right_are_covered : PlainlyRightAreCovered
-plainly_right_are_covered mode events history right =
-    let made = orders_are_covers mode events (reply_order events) history (reply_order_explains mode events history right) in
+plainly_right_are_covered conflicts events history right =
+    let made = orders_are_covers conflicts events (reply_order events) history (reply_order_explains conflicts events history right) in
     (made.0, λ i e at. replies_unpaired events e.doc e.places history (made.2 i e at), made.1)

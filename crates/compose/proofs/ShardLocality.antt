@@ -11,7 +11,6 @@ use Rattle.history.specs.Order.{Explains, IsOfCall, Placed, run_of}
 use Rattle.history.proofs.HistoryLemmas.{answered_call, call_passes}
 use Rattle.compose.specs.Shards.{LocalByShard, part_of_shard}
 use Rattle.evidence.proofs.CallsByNumber.{same_shard}
-use Rattle.evidence.proofs.FilterLemmas.{mapped_from}
 use Rattle.compose.proofs.Filtering.{filter_made, part_from, rank, rank_at, rank_once}
 use Rattle.compose.proofs.Points.{Pointed, call_place, called_there, placed_at, placed_of, pointed_at}
 use Rattle.compose.proofs.ShardMerge.{AreMerged, IsOrderOn, is_on, merged, those_on}
@@ -19,6 +18,7 @@ use Rattle.compose.proofs.ShardOrders.{one_shard, part_explained}
 use Rattle.compose.proofs.ShardParts.{has_call, part_call, precedes_in_part, reply_in_part, split_by_shard}
 use Rattle.compose.proofs.ShardRuns.{is_in, legal_all, run_in}
 use Rattle.compose.proofs.Sorting.{IsRising, rising_at}
+use Rattle.history.proofs.ListLemmas.{mapped_from}
 
 -- ---- the calls of all shards
 
@@ -27,8 +27,8 @@ abbrev shards : ℕ
 shards = 1024
 
 -- the call at the place stands among those on its shard, which are an order of its part
-record IsListed (mode : Conflicts) (events : List Event) (ks : List Pointed) (i : ℕ) (k : Pointed) : Type 0 where
-  pub own : IsOrderOn mode events k.placed.entry.shard (those_on k.placed.entry.shard ks)
+record IsListed (conflicts : Conflicts) (events : List Event) (ks : List Pointed) (i : ℕ) (k : Pointed) : Type 0 where
+  pub own : IsOrderOn conflicts events k.placed.entry.shard (those_on k.placed.entry.shard ks)
   pub stands : slice_get (those_on k.placed.entry.shard ks) (rank (is_on k.placed.entry.shard) ks i) ≡ Some k
   pub call : IsOfCall events k.placed
 
@@ -41,10 +41,10 @@ passes : (h : ℕ) (k : Pointed) → k.placed.entry.shard ≡ h → is_on h k �
 passes h k same = eq-eqb k.placed.entry.shard h same
 
 -- each of the calls is so
-listed : (mode : Conflicts) (events : List Event) (n : ℕ) (ks : List Pointed) → AreMerged mode events n ks → (i : ℕ) (k : Pointed) → slice_get ks i ≡ Some k → IsListed mode events ks i k
-listed mode events n ks all i k at =
+listed : (conflicts : Conflicts) (events : List Event) (n : ℕ) (ks : List Pointed) → AreMerged conflicts events n ks → (i : ℕ) (k : Pointed) → slice_get ks i ≡ Some k → IsListed conflicts events ks i k
+listed conflicts events n ks all i k at =
     let h : ℕ = k.placed.entry.shard in
-    let own : IsOrderOn mode events h (those_on h ks) = all.parts h (all.below i k at) in
+    let own : IsOrderOn conflicts events h (those_on h ks) = all.parts h (all.below i k at) in
     let r : ℕ = rank (is_on h) ks i in
     let stands : slice_get (those_on h ks) r ≡ Some k = rank_at (is_on h) ks i k at (passes h k refl) in
     record { own = own; stands = stands; call = whole_call events h k.placed (own.explains.is_order.calls r k.placed (placed_at (those_on h ks) r k stands)) }
@@ -59,11 +59,11 @@ shard_of_number events history p q a b same =
     (subst (λ i. IsCallAt events i q.no q.entry.shard q.entry.doc q.entry.op) place b.1) a.1
 
 -- a call number stands once
-once : (mode : Conflicts) (events : List Event) (n : ℕ) (ks : List Pointed) → IsHistory events → AreMerged mode events n ks
+once : (conflicts : Conflicts) (events : List Event) (n : ℕ) (ks : List Pointed) → IsHistory events → AreMerged conflicts events n ks
     → (i j : ℕ) (k l : Pointed) → slice_get ks i ≡ Some k → slice_get ks j ≡ Some l → k.placed.no ≡ l.placed.no → i ≡ j
-once mode events n ks history all i j k l at bt same =
-    let a = listed mode events n ks all i k at in
-    let b = listed mode events n ks all j l bt in
+once conflicts events n ks history all i j k l at bt same =
+    let a = listed conflicts events n ks all i k at in
+    let b = listed conflicts events n ks all j l bt in
     let h : ℕ = k.placed.entry.shard in
     let there = passes h l (shard_of_number events history k.placed l.placed a.call b.call same) in
     rank_once (is_on h) ks i j k l at bt (passes h k refl) there
@@ -78,9 +78,9 @@ in_order h ks r p at =
     (from.0, subst (λ q. slice_get (placed_of ks) from.0 ≡ Some q) k.2 (placed_at ks from.0 k.0 from.1))
 
 -- an answered call stands with its reply among those on its shard
-answered : (mode : Conflicts) (events : List Event) (ks : List Pointed) → IsHistory events → AreMerged mode events shards ks
+answered : (conflicts : Conflicts) (events : List Event) (ks : List Pointed) → IsHistory events → AreMerged conflicts events shards ks
     → (k n : ℕ) (r : Answer) → IsReplyAt events k n r → (i : ℕ) × (p : Placed) × (slice_get (placed_of ks) i ≡ Some p) × (p.no ≡ n) × (p.entry.reply ≡ r)
-answered mode events ks history all k n r reply =
+answered conflicts events ks history all k n r reply =
     let call = answered_call events history k n r reply in
     let h : ℕ = call.1 in
     let own = all.parts h (history.shards call.0 n h call.2 call.3 call.4) in
@@ -90,14 +90,14 @@ answered mode events ks history all k n r reply =
 
 -- Where one call precedes another it stands first. Otherwise the other's point would not be after its own, which some call
 -- of its shard at or before it has, and would then precede.
-respects : (mode : Conflicts) (events : List Event) (n : ℕ) (ks : List Pointed) → IsHistory events → AreMerged mode events n ks → IsRising (λ k. k.point) ks
+respects : (conflicts : Conflicts) (events : List Event) (n : ℕ) (ks : List Pointed) → IsHistory events → AreMerged conflicts events n ks → IsRising (λ k. k.point) ks
     → (i j : ℕ) (k l : Pointed) → slice_get ks i ≡ Some k → slice_get ks j ≡ Some l → Precedes events k.placed.no l.placed.no → i < j
-respects mode events n ks history all rising i j k l at bt first =
+respects conflicts events n ks history all rising i j k l at bt first =
     elim (cases_lt i j) as (λ _. i < j) [ inl less ↦ less | inr not ↦ absurd (not_after not) ] where
       not_after : j ≤ i → ⊥
       not_after not =
-          let a = listed mode events n ks all i k at in
-          let b = listed mode events n ks all j l bt in
+          let a = listed conflicts events n ks all i k at in
+          let b = listed conflicts events n ks all j l bt in
           let h : ℕ = k.placed.entry.shard in
           let own : List Pointed = those_on h ks in
           let r : ℕ = rank (is_on h) ks i in
@@ -124,29 +124,29 @@ respects mode events n ks history all rising i j k l at bt first =
 -- ---- the theorem
 
 -- the calls of all shards explain the history
-explains : (mode : Conflicts) (events : List Event) (ks : List Pointed) → IsHistory events → AreMerged mode events shards ks → IsRising (λ k. k.point) ks → Explains mode events (placed_of ks)
-explains mode events ks history all rising = record {
-  is_order = record { calls = calls; once = all_once; answered = answered mode events ks history all; plain = plain };
+explains : (conflicts : Conflicts) (events : List Event) (ks : List Pointed) → IsHistory events → AreMerged conflicts events shards ks → IsRising (λ k. k.point) ks → Explains conflicts events (placed_of ks)
+explains conflicts events ks history all rising = record {
+  is_order = record { calls = calls; once = all_once; answered = answered conflicts events ks history all; plain = plain };
   respects = λ i j p q at bt.
       let k = pointed_at ks i p at in
       let l = pointed_at ks j q bt in
       subst (λ u. Precedes events u.no q.no → i < j) k.2
-      (subst (λ v. Precedes events k.0.placed.no v.no → i < j) l.2 (respects mode events shards ks history all rising i j k.0 l.0 k.1 l.1));
+      (subst (λ v. Precedes events k.0.placed.no v.no → i < j) l.2 (respects conflicts events shards ks history all rising i j k.0 l.0 k.1 l.1));
   legal = legal_all (run_of (placed_of ks)) (one_shard events history (placed_of ks) calls) legal;
 } where
   calls : (i : ℕ) (p : Placed) → slice_get (placed_of ks) i ≡ Some p → IsOfCall events p
-  calls i p at = let k = pointed_at ks i p at in subst (λ u. IsOfCall events u) k.2 (listed mode events shards ks all i k.0 k.1).call
+  calls i p at = let k = pointed_at ks i p at in subst (λ u. IsOfCall events u) k.2 (listed conflicts events shards ks all i k.0 k.1).call
 
   all_once : (i j : ℕ) (p q : Placed) → slice_get (placed_of ks) i ≡ Some p → slice_get (placed_of ks) j ≡ Some q → p.no ≡ q.no → i ≡ j
   all_once i j p q at bt same =
       let k = pointed_at ks i p at in
       let l = pointed_at ks j q bt in
-      once mode events shards ks history all i j k.0 l.0 k.1 l.1 (ap (λ u. u.no) k.2 ∙ (same ∙ ap (λ u. u.no) (sym l.2)))
+      once conflicts events shards ks history all i j k.0 l.0 k.1 l.1 (ap (λ u. u.no) k.2 ∙ (same ∙ ap (λ u. u.no) (sym l.2)))
 
-  plain : mode ≡ Plain → (i : ℕ) (p : Placed) → slice_get (placed_of ks) i ≡ Some p → p.entry.hidden ≡ None
+  plain : conflicts ≡ Plain → (i : ℕ) (p : Placed) → slice_get (placed_of ks) i ≡ Some p → p.entry.hidden ≡ None
   plain is i p at =
       let k = pointed_at ks i p at in
-      let a = listed mode events shards ks all i k.0 k.1 in
+      let a = listed conflicts events shards ks all i k.0 k.1 in
       let h : ℕ = k.0.placed.entry.shard in
       let r : ℕ = rank (is_on h) ks i in
       subst (λ u. u.entry.hidden ≡ None) k.2 (a.own.explains.is_order.plain is r k.0.placed (placed_at (those_on h ks) r k.0 a.stands))
@@ -158,7 +158,7 @@ explains mode events ks history all rising = record {
   legal i e at =
       let p = mapped_from (λ (x : Placed). x.entry) (placed_of ks) i e at in
       let k = pointed_at ks i p.0 p.1 in
-      let own = (listed mode events shards ks all i k.0 k.1).own in
+      let own = (listed conflicts events shards ks all i k.0 k.1).own in
       let shard : k.0.placed.entry.shard ≡ e.shard = ap (λ (x : Placed). x.entry.shard) k.2 ∙ ap (λ (x : Entry). x.shard) p.2 in
       subst (λ h. IsLegalRun (run_in h (run_of (placed_of ks)))) shard (subst IsLegalRun (sym (run_on k.0.placed.entry.shard)) own.explains.legal)
 
@@ -166,8 +166,8 @@ explains mode events ks history all rising = record {
 pub local_by_shard : LocalByShard
 local_by_shard = record {
   split = split_by_shard;
-  linearizable = λ mode events history. (
-    λ (order, explained) h. (_, part_explained mode events h order history explained),
-    λ each. let all = merged mode events each shards in (placed_of all.0, explains mode events all.0 history all.1 all.2),
+  linearizable = λ conflicts events history. (
+    λ (order, explained) h. (_, part_explained conflicts events h order history explained),
+    λ each. let all = merged conflicts events each shards in (placed_of all.0, explains conflicts events all.0 history all.1 all.2),
   );
 }

@@ -27,18 +27,18 @@ those_on h ks = filter (is_on h) ks
 -- ---- one shard
 
 -- The calls are an order of the part of the shard, each with its point.
-pub record IsOrderOn (mode : Conflicts) (events : List Event) (h : ℕ) (ks : List Pointed) : Type 0 where
-  pub explains : Explains mode (part_of_shard h events) (placed_of ks)
+pub record IsOrderOn (conflicts : Conflicts) (events : List Event) (h : ℕ) (ks : List Pointed) : Type 0 where
+  pub explains : Explains conflicts (part_of_shard h events) (placed_of ks)
   pub rising : IsRising (λ k. k.point) ks
   pub before : (i : ℕ) (k : Pointed) → slice_get ks i ≡ Some k → call_place events k.placed ≤ k.point
   pub reached : (i : ℕ) (k : Pointed) → slice_get ks i ≡ Some k → IsReached (call_place events) ks i k.point
 
 -- where the part is linearizable there are such calls
-order_made : (mode : Conflicts) (events : List Event) (h : ℕ) → IsLinearizable mode (part_of_shard h events) → (ks : List Pointed) × IsOrderOn mode events h ks
-order_made mode events h (order, explains) = (
+order_made : (conflicts : Conflicts) (events : List Event) (h : ℕ) → IsLinearizable conflicts (part_of_shard h events) → (ks : List Pointed) × IsOrderOn conflicts events h ks
+order_made conflicts events h (order, explains) = (
   pointed (call_place events) 0 order,
   record {
-    explains = subst (Explains mode (part_of_shard h events)) (sym (pointed_placed (call_place events) 0 order)) explains;
+    explains = subst (Explains conflicts (part_of_shard h events)) (sym (pointed_placed (call_place events) 0 order)) explains;
     rising = pointed_rising (call_place events) 0 order;
     before = place_before (call_place events) 0 order;
     reached = reached (call_place events) order;
@@ -46,26 +46,26 @@ order_made mode events h (order, explains) = (
 )
 
 -- they are on the shard
-own_shard : (mode : Conflicts) (events : List Event) (h : ℕ) (ks : List Pointed) → IsOrderOn mode events h ks → (i : ℕ) (k : Pointed) → slice_get ks i ≡ Some k → k.placed.entry.shard ≡ h
-own_shard mode events h ks is i k at =
+own_shard : (conflicts : Conflicts) (events : List Event) (h : ℕ) (ks : List Pointed) → IsOrderOn conflicts events h ks → (i : ℕ) (k : Pointed) → slice_get ks i ≡ Some k → k.placed.entry.shard ≡ h
+own_shard conflicts events h ks is i k at =
     let of = is.explains.is_order.calls i k.placed (placed_at ks i k at) in
     (part_call events h of.0 k.placed.no k.placed.entry.shard k.placed.entry.doc k.placed.entry.op of.1).2
 
 -- ---- the first shards
 
 -- The calls are those of the shards below n: those on each shard are an order of its part, and there are no others.
-pub record AreMerged (mode : Conflicts) (events : List Event) (n : ℕ) (ks : List Pointed) : Type 0 where
-  pub parts : (h : ℕ) → h < n → IsOrderOn mode events h (those_on h ks)
+pub record AreMerged (conflicts : Conflicts) (events : List Event) (n : ℕ) (ks : List Pointed) : Type 0 where
+  pub parts : (h : ℕ) → h < n → IsOrderOn conflicts events h (those_on h ks)
   pub below : (i : ℕ) (k : Pointed) → slice_get ks i ≡ Some k → k.placed.entry.shard < n
 
 -- the calls of one more shard
-merged_more : (mode : Conflicts) (events : List Event) (n : ℕ) (ks own : List Pointed) → AreMerged mode events n ks → IsOrderOn mode events n own → AreMerged mode events (suc n) (ks ++ own)
-merged_more mode events n ks own all is = record { parts = parts; below = below } where
+merged_more : (conflicts : Conflicts) (events : List Event) (n : ℕ) (ks own : List Pointed) → AreMerged conflicts events n ks → IsOrderOn conflicts events n own → AreMerged conflicts events (suc n) (ks ++ own)
+merged_more conflicts events n ks own all is = record { parts = parts; below = below } where
   earlier : (h : ℕ) → h < n → those_on h (ks ++ own) ≡ those_on h ks
   earlier h less =
       filter-append (is_on h) ks own
       ∙ (ap (λ xs. those_on h ks ++ xs) (filter_none (is_on h) own (λ i k at.
-      ne_eqb k.placed.entry.shard h (λ same. let last : k.placed.entry.shard ≡ n = own_shard mode events n own is i k at in omega arith)))
+      ne_eqb k.placed.entry.shard h (λ same. let last : k.placed.entry.shard ≡ n = own_shard conflicts events n own is i k at in omega arith)))
       ∙ append-nil (those_on h ks))
 
   last : those_on n (ks ++ own) ≡ own
@@ -73,37 +73,37 @@ merged_more mode events n ks own all is = record { parts = parts; below = below 
       filter-append (is_on n) ks own
       ∙ (ap (λ xs. xs ++ those_on n own) (filter_none (is_on n) ks (λ i k at.
       ne_eqb k.placed.entry.shard n (λ same. let low : k.placed.entry.shard < n = all.below i k at in omega arith)))
-      ∙ filter_all (is_on n) own (λ i k at. eq-eqb k.placed.entry.shard n (own_shard mode events n own is i k at)))
+      ∙ filter_all (is_on n) own (λ i k at. eq-eqb k.placed.entry.shard n (own_shard conflicts events n own is i k at)))
 
-  parts : (h : ℕ) → h < suc n → IsOrderOn mode events h (those_on h (ks ++ own))
-  parts h less = elim (cases_lt h n) as (λ _. IsOrderOn mode events h (those_on h (ks ++ own))) [
-    | inl low ↦ subst (IsOrderOn mode events h) (sym (earlier h low)) (all.parts h low)
+  parts : (h : ℕ) → h < suc n → IsOrderOn conflicts events h (those_on h (ks ++ own))
+  parts h less = elim (cases_lt h n) as (λ _. IsOrderOn conflicts events h (those_on h (ks ++ own))) [
+    | inl low ↦ subst (IsOrderOn conflicts events h) (sym (earlier h low)) (all.parts h low)
     | inr not ↦ (let same : n ≡ h = omega arith in
-        subst (λ g. IsOrderOn mode events g (those_on g (ks ++ own))) same (subst (IsOrderOn mode events n) (sym last) is))
+        subst (λ g. IsOrderOn conflicts events g (those_on g (ks ++ own))) same (subst (IsOrderOn conflicts events n) (sym last) is))
   ]
 
   below : (i : ℕ) (k : Pointed) → slice_get (ks ++ own) i ≡ Some k → k.placed.entry.shard < suc n
   below i k at = elim (in_either ks own i k at) as (λ _. k.placed.entry.shard < suc n) [
     | inl here ↦ (let low : k.placed.entry.shard < n = all.below here.0 k here.1 in omega arith)
-    | inr there ↦ (let same : k.placed.entry.shard ≡ n = own_shard mode events n own is there.0 k there.1 in omega arith)
+    | inr there ↦ (let same : k.placed.entry.shard ≡ n = own_shard conflicts events n own is there.0 k there.1 in omega arith)
   ]
 
 -- the calls of the first shards, one shard's after another's
-merge : (mode : Conflicts) (events : List Event) → ((h : ℕ) → IsLinearizable mode (part_of_shard h events)) → (n : ℕ) → (ks : List Pointed) × AreMerged mode events n ks
-merge mode events each zero = ([], record { parts = λ h less. absurd (omega (arith, less)); below = λ i k at. absurd (none_is_not_some k at) })
-merge mode events each (suc n) =
-    let rest = merge mode events each n in
-    let own = order_made mode events n (each n) in
-    (rest.0 ++ own.0, merged_more mode events n rest.0 own.0 rest.1 own.1)
+merge : (conflicts : Conflicts) (events : List Event) → ((h : ℕ) → IsLinearizable conflicts (part_of_shard h events)) → (n : ℕ) → (ks : List Pointed) × AreMerged conflicts events n ks
+merge conflicts events each zero = ([], record { parts = λ h less. absurd (omega (arith, less)); below = λ i k at. absurd (none_is_not_some k at) })
+merge conflicts events each (suc n) =
+    let rest = merge conflicts events each n in
+    let own = order_made conflicts events n (each n) in
+    (rest.0 ++ own.0, merged_more conflicts events n rest.0 own.0 rest.1 own.1)
 
 -- and by their points
-pub merged : (mode : Conflicts) (events : List Event) → ((h : ℕ) → IsLinearizable mode (part_of_shard h events)) → (n : ℕ)
-    → (ks : List Pointed) × AreMerged mode events n ks × IsRising (λ k. k.point) ks
-merged mode events each n =
-    let all = merge mode events each n in (
+pub merged : (conflicts : Conflicts) (events : List Event) → ((h : ℕ) → IsLinearizable conflicts (part_of_shard h events)) → (n : ℕ)
+    → (ks : List Pointed) × AreMerged conflicts events n ks × IsRising (λ k. k.point) ks
+merged conflicts events each n =
+    let all = merge conflicts events each n in (
       sort (λ k. k.point) all.0,
       record {
-        parts = λ h less. subst (IsOrderOn mode events h) (sym (sort_filter (λ k. k.point) (is_on h) all.0 (all.1.parts h less).rising)) (all.1.parts h less);
+        parts = λ h less. subst (IsOrderOn conflicts events h) (sym (sort_filter (λ k. k.point) (is_on h) all.0 (all.1.parts h less).rising)) (all.1.parts h less);
         below = λ i k at. let from : Has all.0 k = sorted_from (λ k. k.point) all.0 i k at in all.1.below from.0 k from.1;
       },
       sort_rising (λ k. k.point) all.0,

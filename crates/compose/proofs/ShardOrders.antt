@@ -8,9 +8,9 @@ use Rattle.doc_register.specs.Run.{Entry, IsLegalRun}
 use Rattle.history.specs.declared.event.Event.{Event}
 use Rattle.history.specs.Events.{IsCallAt, IsHistory, IsReplyAt, Precedes}
 use Rattle.history.specs.Order.{Explains, IsOfCall, Placed, run_of}
-use Rattle.history.proofs.ListLemmas.{compare}
+use Rattle.history.proofs.ListLemmas.{compare, mapped_from}
 use Rattle.compose.specs.Shards.{concerns, part_of_shard}
-use Rattle.evidence.proofs.FilterLemmas.{kept_order, mapped_from}
+use Rattle.evidence.proofs.FilterLemmas.{kept_order}
 use Rattle.compose.proofs.Filtering.{filter_made, part_from, rank, rank_at, rank_rises, ranked_from}
 use Rattle.compose.proofs.ShardParts.{call_in_part, on_shard, part_precedes, part_reply}
 use Rattle.compose.proofs.ShardRuns.{HaveOneShard, is_in, legal_in}
@@ -56,10 +56,10 @@ kept_once h order once i j p q at bt same = compare i j (apart i j p q at bt sam
       omega arith
 
 -- an answered call of the part stands with its reply
-kept_answered : (mode : Conflicts) (events : List Event) (h : ℕ) (order : List Placed) → IsHistory events → Explains mode events order
+kept_answered : (conflicts : Conflicts) (events : List Event) (h : ℕ) (order : List Placed) → IsHistory events → Explains conflicts events order
     → (k n : ℕ) (r : Answer) → IsReplyAt (part_of_shard h events) k n r
     → (i : ℕ) × (p : Placed) × (slice_get (calls_on h order) i ≡ Some p) × (p.no ≡ n) × (p.entry.reply ≡ r)
-kept_answered mode events h order history explains k n r at =
+kept_answered conflicts events h order history explains k n r at =
     let reply = part_reply events h k n r at in
     let x = explains.is_order.answered reply.0 n r reply.1 in
     let of : IsOfCall events x.1 = explains.is_order.calls x.0 x.1 x.2 in
@@ -68,9 +68,9 @@ kept_answered mode events h order history explains k n r at =
     (rank (on h) order x.0, x.1, rank_at (on h) order x.0 x.1 x.2 (eq-eqb x.1.entry.shard h shard), x.3, x.4)
 
 -- where one call precedes another it stands first
-kept_respects : (mode : Conflicts) (events : List Event) (h : ℕ) (order : List Placed) → Explains mode events order
+kept_respects : (conflicts : Conflicts) (events : List Event) (h : ℕ) (order : List Placed) → Explains conflicts events order
     → (i j : ℕ) (p q : Placed) → slice_get (calls_on h order) i ≡ Some p → slice_get (calls_on h order) j ≡ Some q → Precedes (part_of_shard h events) p.no q.no → i < j
-kept_respects mode events h order explains i j p q at bt first =
+kept_respects conflicts events h order explains i j p q at bt first =
     let a = ranked_from (on h) order i p at in
     let b = ranked_from (on h) order j q bt in
     let less : a.0 < b.0 = explains.respects a.0 b.0 p q a.1 b.1 (part_precedes events h p.no q.no first) in
@@ -80,17 +80,17 @@ kept_respects mode events h order explains i j p q at bt first =
     omega arith
 
 -- the restricted order explains the part
-pub part_explained : (mode : Conflicts) (events : List Event) (h : ℕ) (order : List Placed) → IsHistory events → Explains mode events order
-    → Explains mode (part_of_shard h events) (calls_on h order)
-part_explained mode events h order history explains = record {
+pub part_explained : (conflicts : Conflicts) (events : List Event) (h : ℕ) (order : List Placed) → IsHistory events → Explains conflicts events order
+    → Explains conflicts (part_of_shard h events) (calls_on h order)
+part_explained conflicts events h order history explains = record {
   is_order = record {
     calls = λ i p at.
         let from = part_from (on h) order i p at in
         kept_call events h p (explains.is_order.calls from.0 p from.1) (eqb-true p.entry.shard h from.2);
     once = kept_once h order explains.is_order.once;
-    answered = kept_answered mode events h order history explains;
+    answered = kept_answered conflicts events h order history explains;
     plain = λ is i p at. let from = part_from (on h) order i p at in explains.is_order.plain is from.0 p from.1;
   };
-  respects = kept_respects mode events h order explains;
+  respects = kept_respects conflicts events h order explains;
   legal = subst IsLegalRun (filter_made (λ (p : Placed). p.entry) (is_in h) order) (legal_in h (run_of order) (one_shard events history order explains.is_order.calls) explains.legal);
 }

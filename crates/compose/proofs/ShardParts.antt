@@ -1,5 +1,5 @@
 -- The part of a history that concerns a shard: which calls and replies stand in it, and that the parts split the history.
-use Rattle.std.proofs.Common.{ℕ, suc, ◌≡◌, ◌<◌, List, [], ◌∷◌, refl, sym, ap, subst, ◌∙◌, arith, Bool, true, false, Option, Some, None, option_map, slice_get}
+use Rattle.std.proofs.Common.{ℕ, suc, ◌≡◌, ◌<◌, List, [], ◌∷◌, refl, sym, ap, subst, ◌∙◌, arith, Bool, true, false, Some, slice_get}
 use Rattle.std.specs.Prelude.{◌&&◌, ◌||◌, ◌==◌}
 use Rattle.std.specs.List.{list_any}
 use Rattle.std.proofs.lemmas.Bool.{eq-eqb, eqb-true, false≢true}
@@ -10,18 +10,15 @@ use Rattle.history.specs.declared.event.Event.{Event}
 use Rattle.history.specs.declared.event.Event.TheVariants.{Call, Reply, Lost}
 use Rattle.history.specs.Events.{IsCallAt, IsHistory, IsReplyAt, PassesAt, Precedes, is_call, is_ending}
 use Rattle.history.proofs.HistoryLemmas.{call_at, call_passes, reply_passes}
-use Rattle.history.proofs.ListLemmas.{compare, none_is_not_some, same_some}
+use Rattle.history.proofs.ListLemmas.{compare}
 use Rattle.compose.specs.Shards.{IsSplitByShard, concerns, is_call_on, part_of_shard}
 use Rattle.evidence.proofs.CallsByNumber.{same_shard}
 use Rattle.evidence.proofs.FilterLemmas.{kept_order}
 use Rattle.compose.proofs.Filtering.{filter_none, part_from, rank, rank_at, rank_rises, ranked_from}
+use Rattle.history.proofs.EventLemmas.{element_passes, passes_element}
+use Rattle.version_pair.proofs.TruthLemmas.{both}
 
 -- ---- calls on a shard
-
--- both halves of a test
-both : (a b : Bool) → (a && b) ≡ true → (a ≡ true) × (b ≡ true)
-both true b is = (refl, is)
-both false b is = absurd (false≢true is)
 
 -- an event that is found is the call
 call_on : (x : Event) (h n : ℕ) → is_call_on h n x ≡ true → (d : List ℕ) × (op : Op) × (x ≡ Call n h d op)
@@ -78,25 +75,14 @@ reply_in_part events h k n r at some = rank_at (concerns h events) events k (Rep
 
 -- ---- places
 
--- the event that passes a test at a place
-element : (t : Event → Bool) (xs : List Event) (i : ℕ) → PassesAt t xs i → (e : Event) × (slice_get xs i ≡ Some e) × (t e ≡ true)
-element t xs i passes = by_option (slice_get xs i) refl passes where
-  by_option : (o : Option Event) → slice_get xs i ≡ o → option_map t o ≡ Some true → (e : Event) × (slice_get xs i ≡ Some e) × (t e ≡ true)
-  by_option None is p = absurd (none_is_not_some true p)
-  by_option (Some e) is p = (e, is, same_some (t e) true p)
-
--- and back
-passes_at : (t : Event → Bool) (xs : List Event) (i : ℕ) (e : Event) → slice_get xs i ≡ Some e → t e ≡ true → PassesAt t xs i
-passes_at t xs i e at is = ap (option_map t) at ∙ ap (λ b. Some b) is
-
 -- what passes tests at two places of the part does so at two places of the history, in the same order
 passes_in_order : (t u : Event → Bool) (events : List Event) (h i j : ℕ) → i < j → PassesAt t (part_of_shard h events) i → PassesAt u (part_of_shard h events) j
     → (k l : ℕ) × (k < l) × PassesAt t events k × PassesAt u events l
 passes_in_order t u events h i j less p q =
-    let x = element t (part_of_shard h events) i p in
-    let y = element u (part_of_shard h events) j q in
+    let x = passes_element t (part_of_shard h events) i p in
+    let y = passes_element u (part_of_shard h events) j q in
     let m = kept_order (concerns h events) events i j x.0 y.0 less x.1 y.1 in
-    (m.0, m.1, m.2, passes_at t events m.0 x.0 m.3.at x.2, passes_at u events m.1 y.0 m.4.at y.2)
+    (m.0, m.1, m.2, element_passes t events m.0 x.0 m.3.at x.2, element_passes u events m.1 y.0 m.4.at y.2)
 
 -- a test that passes at one place of the history passes at one of the part
 once_in_part : (t : Event → Bool) (events : List Event) (h : ℕ) → ((k l : ℕ) → PassesAt t events k → PassesAt t events l → k ≡ l)
@@ -119,9 +105,9 @@ ending_on h events (Lost m) n is concerned = subst (λ k. list_any (is_call_on h
 ended_after : (events : List Event) (h : ℕ) → IsHistory events → (n i : ℕ) → PassesAt (is_ending n) (part_of_shard h events) i
     → (j : ℕ) × (j < i) × PassesAt (is_call n) (part_of_shard h events) j
 ended_after events h history n i p =
-    let e = element (is_ending n) (part_of_shard h events) i p in
+    let e = passes_element (is_ending n) (part_of_shard h events) i p in
     let from = ranked_from (concerns h events) events i e.0 e.1 in
-    let c = history.ended_after_call n from.0 (passes_at (is_ending n) events from.0 e.0 from.1 e.2) in
+    let c = history.ended_after_call n from.0 (element_passes (is_ending n) events from.0 e.0 from.1 e.2) in
     let call = call_at events c.0 n c.2 in
     let shard : call.0 ≡ h = on_shard events history h c.0 n call.0 call.1 call.2 call.3 (ending_on h events e.0 n e.2 from.2) in
     let own : IsCallAt events c.0 n h call.1 call.2 = subst (λ g. IsCallAt events c.0 n g call.1 call.2) shard call.3 in
@@ -170,7 +156,7 @@ ending_one events history i n passes =
 concerns_one : (events : List Event) → IsHistory events → (i : ℕ) (e : Event) → slice_get events i ≡ Some e → ConcernsOne events e
 concerns_one events history i (Call n h d op) at = (h, eq-eqb h h refl, λ g is. sym (eqb-true h g is))
 concerns_one events history i (Reply n r) at = ending_one events history i n (reply_passes events i n r at)
-concerns_one events history i (Lost n) at = ending_one events history i n (passes_at (is_ending n) events i (Lost n) at (eq-eqb n n refl))
+concerns_one events history i (Lost n) at = ending_one events history i n (element_passes (is_ending n) events i (Lost n) at (eq-eqb n n refl))
 
 -- an event that concerns a shard is a call on it, or the ending of one
 concerned_call : (events : List Event) (h i : ℕ) (e : Event) → slice_get events i ≡ Some e → concerns h events e ≡ true → (n : ℕ) × IsFoundOn events h n
@@ -199,9 +185,9 @@ split_by_shard events history = record {
 pub part_precedes : (events : List Event) (h a b : ℕ) → Precedes (part_of_shard h events) a b → Precedes events a b
 part_precedes events h a b first =
     let r = first.reply in
-    let c = element (is_call b) (part_of_shard h events) first.called first.call in
+    let c = passes_element (is_call b) (part_of_shard h events) first.called first.call in
     let m = kept_order (concerns h events) events first.answered first.called (Reply a r.0) c.0 first.before r.1 c.1 in
-    record { answered = m.0; called = m.1; before = m.2; reply = (r.0, m.3.at); call = passes_at (is_call b) events m.1 c.0 m.4.at c.2 }
+    record { answered = m.0; called = m.1; before = m.2; reply = (r.0, m.3.at); call = element_passes (is_call b) events m.1 c.0 m.4.at c.2 }
 
 -- and where a reply to a call on the shard stands before another call on it, it does so in the part
 pub precedes_in_part : (events : List Event) (h a b i j : ℕ) (r : Answer) (d : List ℕ) (op : Op) → i < j → IsReplyAt events i a r → list_any (is_call_on h a) events ≡ true

@@ -14,19 +14,19 @@ pub passes : (d : List ℕ) (k : Pointed) → k.placed.entry.doc ≡ d → is_of
 passes d k same = (bytes_decides k.placed.entry.doc d).1 same
 
 -- the call at the place is of an entry's document, and stands in its part
-pub record IsListed (mode : Conflicts) (events : List Event) (entries : List DocPlaces) (ks : List Pointed) (i : ℕ) (k : Pointed) : Type 0 where
+pub record IsListed (conflicts : Conflicts) (events : List Event) (entries : List DocPlaces) (ks : List Pointed) (i : ℕ) (k : Pointed) : Type 0 where
   pub number : ℕ
   pub entry : DocPlaces
   pub entered : slice_get entries number ≡ Some entry
   pub doc : k.placed.entry.doc ≡ entry.doc
-  pub own : IsPartOf mode events entry (part entry.doc ks)
+  pub own : IsPartOf conflicts events entry (part entry.doc ks)
   pub stands : slice_get (part entry.doc ks) (rank (is_of entry.doc) ks i) ≡ Some k
   pub call : IsOfCall events k.placed
 
 -- each of the gathered calls is so
-pub listed : (mode : Conflicts) (events : List Event) (entries : List DocPlaces) (ks : List Pointed) → AreGathered mode events entries ks → (i : ℕ) (k : Pointed) → slice_get ks i ≡ Some k
-    → IsListed mode events entries ks i k
-listed mode events entries ks all i k at =
+pub listed : (conflicts : Conflicts) (events : List Event) (entries : List DocPlaces) (ks : List Pointed) → AreGathered conflicts events entries ks → (i : ℕ) (k : Pointed) → slice_get ks i ≡ Some k
+    → IsListed conflicts events entries ks i k
+listed conflicts events entries ks all i k at =
     let e = all.entered i k at in
     let own = all.parts e.0 e.1 e.2 in
     let r = rank (is_of e.1.doc) ks i in

@@ -10,7 +10,7 @@ use Rattle.version_pair.specs.declared.pair.Pair.{Pair}
 use Rattle.history.specs.declared.event.Event.{Event}
 use Rattle.history.specs.declared.record.Rec.{Rec}
 use Rattle.history.specs.Events.{documents_of, is_same, records_of}
-use Rattle.history.proofs.ListLemmas.{IsMadeAt, kept_at, kept_in_order, made_in_order, made_of, none_is_not_some, same_some}
+use Rattle.history.proofs.ListLemmas.{IsMadeAt, kept_at, kept_in_order, made_in_order, made_of, mapped_from, none_is_not_some, same_some}
 use Rattle.witness.specs.declared.place.Place.{Place}
 use Rattle.witness.specs.Documents.{witness_places}
 use Rattle.witness.specs.Text.{DocPlaces}
@@ -19,7 +19,7 @@ use Rattle.compose.specs.Covers.{IsOfShard, IsTakenAt}
 use Rattle.history.specs.Heard.{taken_by}
 use Rattle.compose.specs.VerifyFaults.{IsTakenTwice}
 use Rattle.compose.specs.aids.Taken.{IsTwice, pair_at, pairs_of_document, pairs_taken, shard_in}
-use Rattle.evidence.proofs.FilterLemmas.{mapped_at, mapped_from}
+use Rattle.evidence.proofs.FilterLemmas.{mapped_at}
 use Rattle.compose.proofs.FlatPlaces.{AreInside, IsBefore, IsInside, flat_in_order, inside_in_order}
 use Rattle.compose.proofs.ListedDocuments.{documents_apart}
 

@@ -23,9 +23,9 @@ use Rattle.witness.specs.Laws.{ArePlacedBy, TellsOf}
 use Rattle.doc_check.specs.NoOrders.{AreUnpaired}
 use Rattle.history.specs.Heard.{IsTold}
 use Rattle.compose.specs.Laws.{IsSettled, restricted}
-use Rattle.compose.proofs.CoverLemmas.{tells_of}
 use Rattle.evidence.proofs.HeardLemmas.{record_heard, reply_is_heard}
 use Rattle.compose.proofs.RestrictedOrders.{restricted_from}
+use Rattle.witness.proofs.DocumentLaws.{tells_of}
 
 -- ---- settled histories
 
@@ -37,40 +37,40 @@ write_of (Delete c) = inr (λ same. (let impossible : Delete c ≡ Get = same in
 write_of (Create k) = inr (λ same. (let impossible : Create k ≡ Get = same in cc))
 
 -- the record of a write of a settled history has a reply that tells whether it was performed
-settled_told : (mode : Conflicts) (events : List Event) (d : List ℕ) → IsHistory events → IsSettled mode events
-    → (k : ℕ) (r : Rec) → IsRecordAt events d k r → (r.op ≡ Get → ⊥) → IsTold mode r.heard
-settled_told mode events d history settled k r at write =
+settled_told : (conflicts : Conflicts) (events : List Event) (d : List ℕ) → IsHistory events → IsSettled conflicts events
+    → (k : ℕ) (r : Rec) → IsRecordAt events d k r → (r.op ≡ Get → ⊥) → IsTold conflicts r.heard
+settled_told conflicts events d history settled k r at write =
     let split = split_by_document events history in
     let call = split.of_call d k r at in
     let reply = settled r.call_at r.no call.0 d r.op call.1 write in
-    subst (IsTold mode) (sym ((split.heard d k r at reply.0 reply.1).1 reply.2)) reply.3
+    subst (IsTold conflicts) (sym ((split.heard d k r at reply.0 reply.1).1 reply.2)) reply.3
 
 -- a get has no conflict for a reply
 get_fits : (r : Answer) → fits Get r ≡ true → r ≡ Conflict → ⊥
 get_fits r fit is = true≢false (sym fit ∙ ap (fits Get) is)
 
 -- the place of a call whose reply tells that, or of a get, gives no pair
-gives_none : (mode : Conflicts) (op : Op) (heard : Option (ℕ × Answer)) (pair : Option Pair) → ((op ≡ Get → ⊥) → IsTold mode heard) → ((op ≡ Get) × (heard ≡ None) → ⊥)
-    → ((x : ℕ × Answer) → op ≡ Get → heard ≡ Some x → x.1 ≡ Conflict → ⊥) → GivesAsMay mode heard pair → pair ≡ None
-gives_none mode op None pair told known shown gives =
+gives_none : (conflicts : Conflicts) (op : Op) (heard : Option (ℕ × Answer)) (pair : Option Pair) → ((op ≡ Get → ⊥) → IsTold conflicts heard) → ((op ≡ Get) × (heard ≡ None) → ⊥)
+    → ((x : ℕ × Answer) → op ≡ Get → heard ≡ Some x → x.1 ≡ Conflict → ⊥) → GivesAsMay conflicts heard pair → pair ≡ None
+gives_none conflicts op None pair told known shown gives =
     elim (write_of op) as (λ _. pair ≡ None) [ inl get ↦ absurd (known (get, refl)) | inr write ↦ absurd (told write) ]
-gives_none mode op (Some (at, Indexed q created)) pair told known shown gives = gives
-gives_none mode op (Some (at, Deleted q found)) pair told known shown gives = gives
-gives_none mode op (Some (at, Found q k)) pair told known shown gives = gives
-gives_none mode op (Some (at, Missing)) pair told known shown gives = gives
+gives_none conflicts op (Some (at, Indexed q created)) pair told known shown gives = gives
+gives_none conflicts op (Some (at, Deleted q found)) pair told known shown gives = gives
+gives_none conflicts op (Some (at, Found q k)) pair told known shown gives = gives
+gives_none conflicts op (Some (at, Missing)) pair told known shown gives = gives
 gives_none Plain op (Some (at, Conflict)) pair told known shown gives = gives refl
 gives_none Maybe op (Some (at, Conflict)) pair told known shown gives =
     elim (write_of op) as (λ _. pair ≡ None) [ inl get ↦ absurd (shown (at, Conflict) get refl refl) | inr write ↦ absurd (told write refl refl) ]
 
 -- valid places of a document of a settled history give no pair
-pub settled_unpaired : (mode : Conflicts) (events : List Event) (d : List ℕ) (places : List Place) → IsHistory events → IsSettled mode events
-    → AreValid mode (records_of events d) places → AreUnpaired places
-settled_unpaired mode events d places history settled valid i p at =
+pub settled_unpaired : (conflicts : Conflicts) (events : List Event) (d : List ℕ) (places : List Place) → IsHistory events → IsSettled conflicts events
+    → AreValid conflicts (records_of events d) places → AreUnpaired places
+settled_unpaired conflicts events d places history settled valid i p at =
     let known = valid.right.known i p at in
     let r : Rec = known.0 in
     let split = split_by_document events history in
     let call = split.of_call d p.rec r known.1 in
-    gives_none mode r.op r.heard p.pair (settled_told mode events d history settled p.rec r known.1) known.2
+    gives_none conflicts r.op r.heard p.pair (settled_told conflicts events d history settled p.rec r known.1) known.2
     (λ x get heard conflict.
     let reply : IsReplyAt events x.0 r.no x.1 = (split.heard d p.rec r known.1 x.0 x.1).0 heard in
     get_fits x.1 (subst (λ o. fits o x.1 ≡ true) get (history.replies_fit r.no x.0 r.call_at call.0 d r.op x.1 reply call.1)) conflict)

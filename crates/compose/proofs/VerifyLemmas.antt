@@ -10,7 +10,7 @@ use Rattle.version_pair.specs.declared.pair.Pair.{Pair}
 use Rattle.doc_register.specs.declared.state.Conflicts.{Conflicts}
 use Rattle.history.specs.declared.event.Event.{Event}
 use Rattle.history.specs.Events.{documents_of, is_same, records_of}
-use Rattle.history.proofs.ListLemmas.{get_front, get_last, get_middle, get_snoc, same_some}
+use Rattle.history.proofs.ListLemmas.{get_front, get_last, get_middle, get_snoc, get_within, same_some}
 use Rattle.witness.specs.Documents.{witness_places}
 use Rattle.witness.specs.Places.{AreValid}
 use Rattle.witness.specs.Text.{DocPlaces}
@@ -25,7 +25,7 @@ use Rattle.compose.specs.declared.verify_fault.VerifyFault.TheVariants as fault
 use Rattle.history.proofs.SetLemmas.{slice_get-set_other, slice_get-set_same}
 use Rattle.compose.proofs.ListedDocuments.{documents_apart}
 use Rattle.compose.proofs.TakenPlaces.{AreOwn, taken_twice, twice_taken}
-use Rattle.compose.proofs.PositionLemmas.{element_at, position_found, position_none}
+use Rattle.compose.proofs.PositionLemmas.{position_found, position_none}
 
 -- ---- the document of an id
 
@@ -57,15 +57,15 @@ entered_before before e d n other = by_place (get_snoc before e n.1 n.0 n.2) whe
   by_place (inr last) = absurd (other (ap (λ x. x.doc) last.1 ∙ n.3))
 
 -- a document that is not marked is not entered
-not_entered : (mode : Conflicts) (events : List Event) (before : List DocPlaces) (marks : List Bool) (ws : List Witness) (d : List ℕ) (k : ℕ)
-    → AreVerified mode events before marks ws → IsOpen events marks d k → IsEntered before d → ⊥
-not_entered mode events before marks ws d k are free entered =
+not_entered : (conflicts : Conflicts) (events : List Event) (before : List DocPlaces) (marks : List Bool) (ws : List Witness) (d : List ℕ) (k : ℕ)
+    → AreVerified conflicts events before marks ws → IsOpen events marks d k → IsEntered before d → ⊥
+not_entered conflicts events before marks ws d k are free entered =
     true≢false (same_some true false (sym ((are.marked k (d, free.0) free.1).1 entered) ∙ free.2))
 
 -- the entries with one more are fine
-fine_next : (mode : Conflicts) (events : List Event) (before : List DocPlaces) (e : DocPlaces) → AreFine mode events before → IsKnown events e → (IsEntered before e.doc → ⊥)
-    → AreValid mode (records_of events e.doc) e.places → AreFine mode events (before ++ e ∷ [])
-fine_next mode events before e fine known new valid = record {
+fine_next : (conflicts : Conflicts) (events : List Event) (before : List DocPlaces) (e : DocPlaces) → AreFine conflicts events before → IsKnown events e → (IsEntered before e.doc → ⊥)
+    → AreValid conflicts (records_of events e.doc) e.places → AreFine conflicts events (before ++ e ∷ [])
+fine_next conflicts events before e fine known new valid = record {
   known = λ i f at. known_at f (get_snoc before e f i at);
   once = λ i j f g at bt same. once_at i j f g same (get_snoc before e f i at) (get_snoc before e g j bt);
   valid = λ i f at. valid_at f (get_snoc before e f i at);
@@ -74,9 +74,9 @@ fine_next mode events before e fine known new valid = record {
   known_at {i} f (inl at) = fine.known i f at
   known_at f (inr last) = subst (IsKnown events) last.1 known
 
-  valid_at : {i : ℕ} (f : DocPlaces) → (slice_get before i ≡ Some f) ⊎ ((i ≡ length before) × (e ≡ f)) → AreValid mode (records_of events f.doc) f.places
+  valid_at : {i : ℕ} (f : DocPlaces) → (slice_get before i ≡ Some f) ⊎ ((i ≡ length before) × (e ≡ f)) → AreValid conflicts (records_of events f.doc) f.places
   valid_at {i} f (inl at) = fine.valid i f at
-  valid_at f (inr last) = subst (λ (x : DocPlaces). AreValid mode (records_of events x.doc) x.places) last.1 valid
+  valid_at f (inr last) = subst (λ (x : DocPlaces). AreValid conflicts (records_of events x.doc) x.places) last.1 valid
 
   once_at : (i j : ℕ) (f g : DocPlaces) → f.doc ≡ g.doc → (slice_get before i ≡ Some f) ⊎ ((i ≡ length before) × (e ≡ f))
       → (slice_get before j ≡ Some g) ⊎ ((j ≡ length before) × (e ≡ g)) → i ≡ j
@@ -85,15 +85,15 @@ fine_next mode events before e fine known new valid = record {
   once_at i j f g same (inr last) (inl bt) = absurd (new (j, g, bt, sym same ∙ ap (λ x. x.doc) (sym last.1)))
   once_at i j f g same (inr last) (inr end) = last.0 ∙ sym end.0
 
-pub entered_next : (mode : Conflicts) (events : List Event) (before : List DocPlaces) (e : DocPlaces) (marks : List Bool) (ws : List Witness) (k : ℕ) (w : Witness)
-    → AreVerified mode events before marks ws → IsOpen events marks e.doc k → IsWitnessAt mode events k e w
-    → AreVerified mode events (before ++ e ∷ []) (slice_set marks k true) (ws ++ w ∷ [])
-entered_next mode events before e marks ws k w are free witnessed =
+pub entered_next : (conflicts : Conflicts) (events : List Event) (before : List DocPlaces) (e : DocPlaces) (marks : List Bool) (ws : List Witness) (k : ℕ) (w : Witness)
+    → AreVerified conflicts events before marks ws → IsOpen events marks e.doc k → IsWitnessAt conflicts events k e w
+    → AreVerified conflicts events (before ++ e ∷ []) (slice_set marks k true) (ws ++ w ∷ [])
+entered_next conflicts events before e marks ws k w are free witnessed =
     let is = witnessed (e.doc, free.0) free.1 in
-    let new = not_entered mode events before marks ws e.doc k are free in
+    let new = not_entered conflicts events before marks ws e.doc k are free in
     let within : k < length marks = slice_get_within marks k false free.2 in
     record {
-      fine = fine_next mode events before e are.fine (free.0, (k, free.1)) new is.1;
+      fine = fine_next conflicts events before e are.fine (free.0, (k, free.1)) new is.1;
       places = map-append witness_places ws (w ∷ []) ∙ (ap (λ es. es ++ witness_places w ∷ []) are.places ∙ ap (λ v. before ++ witness_places v ∷ []) is.0);
       own = λ i v at. own_at i v is.0 (get_snoc ws w v i at);
       size = length-set marks k true ∙ are.size;
@@ -102,10 +102,10 @@ entered_next mode events before e marks ws k w are free witnessed =
         λ entered. by_entered j d at within (cases_eq j k) entered,
       );
     } where
-      own_at : (i : ℕ) (v : Witness) → w ≡ record { doc = e.doc; records = records_of events e.doc; places = e.places; conflicts = mode }
-          → (slice_get ws i ≡ Some v) ⊎ ((i ≡ length ws) × (w ≡ v)) → (v.records ≡ records_of events v.doc) × (v.conflicts ≡ mode)
+      own_at : (i : ℕ) (v : Witness) → w ≡ record { doc = e.doc; records = records_of events e.doc; places = e.places; conflicts = conflicts }
+          → (slice_get ws i ≡ Some v) ⊎ ((i ≡ length ws) × (w ≡ v)) → (v.records ≡ records_of events v.doc) × (v.conflicts ≡ conflicts)
       own_at i v is (inl at) = are.own i v at
-      own_at i v is (inr last) = subst (λ (x : Witness). (x.records ≡ records_of events x.doc) × (x.conflicts ≡ mode)) (sym is ∙ last.1) (refl, refl)
+      own_at i v is (inr last) = subst (λ (x : Witness). (x.records ≡ records_of events x.doc) × (x.conflicts ≡ conflicts)) (sym is ∙ last.1) (refl, refl)
 
       by_marked : (j : ℕ) (d : List ℕ × ℕ) → slice_get (documents_of events) j ≡ Some d → (j ≡ k) ⊎ (j ≡ k → ⊥) → slice_get (slice_set marks k true) j ≡ Some true
           → IsEntered (before ++ e ∷ []) d.0
@@ -123,58 +123,58 @@ entered_next mode events before e marks ws k w are free witnessed =
 
 -- ---- the fault of one more entry
 
-pub entry_fault_document : (mode : Conflicts) (events : List Event) (before : List DocPlaces) (e : DocPlaces) (marks : List Bool) (ws : List Witness) (entry : ℕ) (told : VerifyFault)
-    → AreVerified mode events before marks ws → length before ≡ entry → IsFaultOfDocument events marks entry e.doc told → IsFaultOfEntry mode events before e told
-entry_fault_document mode events before e marks ws entry (fault.DocStranger i) are size wrong = (wrong.0 ∙ sym size, λ known. wrong.1 known.0 known.1)
-entry_fault_document mode events before e marks ws entry (fault.DocTwice i) are size wrong =
+pub entry_fault_document : (conflicts : Conflicts) (events : List Event) (before : List DocPlaces) (e : DocPlaces) (marks : List Bool) (ws : List Witness) (entry : ℕ) (told : VerifyFault)
+    → AreVerified conflicts events before marks ws → length before ≡ entry → IsFaultOfDocument events marks entry e.doc told → IsFaultOfEntry conflicts events before e told
+entry_fault_document conflicts events before e marks ws entry (fault.DocStranger i) are size wrong = (wrong.0 ∙ sym size, λ known. wrong.1 known.0 known.1)
+entry_fault_document conflicts events before e marks ws entry (fault.DocTwice i) are size wrong =
     (wrong.0 ∙ sym size, (wrong.1.1, (wrong.1.0, wrong.1.2)), (are.marked wrong.1.0 (e.doc, wrong.1.1) wrong.1.2).0 wrong.1.3)
-entry_fault_document mode events before e marks ws entry (fault.Broken i broken) are size wrong = absurd wrong
-entry_fault_document mode events before e marks ws entry (fault.DocMissing k) are size wrong = absurd wrong
-entry_fault_document mode events before e marks ws entry (fault.PairTwice shard pair) are size wrong = absurd wrong
-entry_fault_document mode events before e marks ws entry fault.NoMemory are size wrong = absurd wrong
+entry_fault_document conflicts events before e marks ws entry (fault.Broken i broken) are size wrong = absurd wrong
+entry_fault_document conflicts events before e marks ws entry (fault.DocMissing k) are size wrong = absurd wrong
+entry_fault_document conflicts events before e marks ws entry (fault.PairTwice shard pair) are size wrong = absurd wrong
+entry_fault_document conflicts events before e marks ws entry fault.NoMemory are size wrong = absurd wrong
 
-pub entry_fault_places : (mode : Conflicts) (events : List Event) (before : List DocPlaces) (e : DocPlaces) (marks : List Bool) (ws : List Witness) (k entry : ℕ) (told : VerifyFault)
-    → AreVerified mode events before marks ws → length before ≡ entry → IsOpen events marks e.doc k → IsFaultOfPlaces mode events k entry e told
-    → IsFaultOfEntry mode events before e told
-entry_fault_places mode events before e marks ws k entry told are size free wrong =
+pub entry_fault_places : (conflicts : Conflicts) (events : List Event) (before : List DocPlaces) (e : DocPlaces) (marks : List Bool) (ws : List Witness) (k entry : ℕ) (told : VerifyFault)
+    → AreVerified conflicts events before marks ws → length before ≡ entry → IsOpen events marks e.doc k → IsFaultOfPlaces conflicts events k entry e told
+    → IsFaultOfEntry conflicts events before e told
+entry_fault_places conflicts events before e marks ws k entry told are size free wrong =
     let is = wrong (e.doc, free.0) free.1 in
-    subst (IsFaultOfEntry mode events before e) (sym is.1) (sym size, (free.0, (k, free.1)), not_entered mode events before marks ws e.doc k are free, is.2)
+    subst (IsFaultOfEntry conflicts events before e) (sym is.1) (sym size, (free.0, (k, free.1)), not_entered conflicts events before marks ws e.doc k are free, is.2)
 
 -- ---- the first fault of all entries
 
-fine_front : (mode : Conflicts) (events : List Event) (before : List DocPlaces) (e : DocPlaces) (after : List DocPlaces) → AreFine mode events before
-    → IsAtEntry mode events (before ++ e ∷ after) (length before) e
-fine_front mode events before e after fine = record {
+fine_front : (conflicts : Conflicts) (events : List Event) (before : List DocPlaces) (e : DocPlaces) (after : List DocPlaces) → AreFine conflicts events before
+    → IsAtEntry conflicts events (before ++ e ∷ after) (length before) e
+fine_front conflicts events before e after fine = record {
   here = get_middle before after e;
-  fine = subst (AreFine mode events) (sym (take-append_seam before (e ∷ after))) fine;
+  fine = subst (AreFine conflicts events) (sym (take-append_seam before (e ∷ after))) fine;
 }
 
 entered_front : (before : List DocPlaces) (e : DocPlaces) (after : List DocPlaces) → take (length before) (before ++ e ∷ after) ≡ before
 entered_front before e after = take-append_seam before (e ∷ after)
 
-pub first_of_entry : (mode : Conflicts) (events : List Event) (before : List DocPlaces) (e : DocPlaces) (after : List DocPlaces) (told : VerifyFault) → AreFine mode events before
-    → IsFaultOfEntry mode events before e told → IsFirstVerifyFault mode events (before ++ e ∷ after) told
-first_of_entry mode events before e after (fault.DocStranger i) fine wrong =
-    subst (λ n. IsFirstVerifyFault mode events (before ++ e ∷ after) (fault.DocStranger n)) (sym wrong.0) (e, fine_front mode events before e after fine, wrong.1)
-first_of_entry mode events before e after (fault.DocTwice i) fine wrong =
-    subst (λ n. IsFirstVerifyFault mode events (before ++ e ∷ after) (fault.DocTwice n)) (sym wrong.0)
-    (e, fine_front mode events before e after fine, wrong.1, subst (λ es. IsEntered es e.doc) (sym (entered_front before e after)) wrong.2)
-first_of_entry mode events before e after (fault.Broken i broken) fine wrong =
-    subst (λ n. IsFirstVerifyFault mode events (before ++ e ∷ after) (fault.Broken n broken)) (sym wrong.0)
-    (e, fine_front mode events before e after fine, wrong.1, (λ entered. wrong.2 (subst (λ es. IsEntered es e.doc) (entered_front before e after) entered)), wrong.3)
-first_of_entry mode events before e after (fault.DocMissing k) fine wrong = absurd wrong
-first_of_entry mode events before e after (fault.PairTwice shard pair) fine wrong = absurd wrong
-first_of_entry mode events before e after fault.NoMemory fine wrong = absurd wrong
+pub first_of_entry : (conflicts : Conflicts) (events : List Event) (before : List DocPlaces) (e : DocPlaces) (after : List DocPlaces) (told : VerifyFault) → AreFine conflicts events before
+    → IsFaultOfEntry conflicts events before e told → IsFirstVerifyFault conflicts events (before ++ e ∷ after) told
+first_of_entry conflicts events before e after (fault.DocStranger i) fine wrong =
+    subst (λ n. IsFirstVerifyFault conflicts events (before ++ e ∷ after) (fault.DocStranger n)) (sym wrong.0) (e, fine_front conflicts events before e after fine, wrong.1)
+first_of_entry conflicts events before e after (fault.DocTwice i) fine wrong =
+    subst (λ n. IsFirstVerifyFault conflicts events (before ++ e ∷ after) (fault.DocTwice n)) (sym wrong.0)
+    (e, fine_front conflicts events before e after fine, wrong.1, subst (λ es. IsEntered es e.doc) (sym (entered_front before e after)) wrong.2)
+first_of_entry conflicts events before e after (fault.Broken i broken) fine wrong =
+    subst (λ n. IsFirstVerifyFault conflicts events (before ++ e ∷ after) (fault.Broken n broken)) (sym wrong.0)
+    (e, fine_front conflicts events before e after fine, wrong.1, (λ entered. wrong.2 (subst (λ es. IsEntered es e.doc) (entered_front before e after) entered)), wrong.3)
+first_of_entry conflicts events before e after (fault.DocMissing k) fine wrong = absurd wrong
+first_of_entry conflicts events before e after (fault.PairTwice shard pair) fine wrong = absurd wrong
+first_of_entry conflicts events before e after fault.NoMemory fine wrong = absurd wrong
 
 -- ---- when all entries are verified
 
 -- a document that is the first not to be marked is missing
-pub verified_missing : (mode : Conflicts) (events : List Event) (entries : List DocPlaces) (marks : List Bool) (ws : List Witness) (k : ℕ) → AreVerified mode events entries marks ws
-    → slice_get marks k ≡ Some false → ((j : ℕ) → j < k → slice_get marks j ≡ Some true) → IsFirstVerifyFault mode events entries (fault.DocMissing k)
-verified_missing mode events entries marks ws k are unmarked before =
+pub verified_missing : (conflicts : Conflicts) (events : List Event) (entries : List DocPlaces) (marks : List Bool) (ws : List Witness) (k : ℕ) → AreVerified conflicts events entries marks ws
+    → slice_get marks k ≡ Some false → ((j : ℕ) → j < k → slice_get marks j ≡ Some true) → IsFirstVerifyFault conflicts events entries (fault.DocMissing k)
+verified_missing conflicts events entries marks ws k are unmarked before =
     let within : k < length marks = slice_get_within marks k false unmarked in
     let size : length marks ≡ length (documents_of events) = are.size in
-    let d = element_at (documents_of events) k (omega arith) in (
+    let d = get_within (documents_of events) k (omega arith) in (
       d.0,
       are.fine,
       d.1,
@@ -183,15 +183,15 @@ verified_missing mode events entries marks ws k are unmarked before =
     )
 
 -- each document is entered where each is marked
-verified_complete : (mode : Conflicts) (events : List Event) (entries : List DocPlaces) (marks : List Bool) (ws : List Witness) → AreVerified mode events entries marks ws
+verified_complete : (conflicts : Conflicts) (events : List Event) (entries : List DocPlaces) (marks : List Bool) (ws : List Witness) → AreVerified conflicts events entries marks ws
     → ((j : ℕ) → j < length marks → slice_get marks j ≡ Some true) → AreComplete events entries
-verified_complete mode events entries marks ws are all k d at =
+verified_complete conflicts events entries marks ws are all k d at =
     let within : k < length (documents_of events) = slice_get_within (documents_of events) k d at in
     let size : length marks ≡ length (documents_of events) = are.size in
     (are.marked k d at).0 (all k (omega arith))
 
-own_records : (mode : Conflicts) (events : List Event) (entries : List DocPlaces) (marks : List Bool) (ws : List Witness) → AreVerified mode events entries marks ws → AreOwn events ws
-own_records mode events entries marks ws are i w at = (are.own i w at).0
+own_records : (conflicts : Conflicts) (events : List Event) (entries : List DocPlaces) (marks : List Bool) (ws : List Witness) → AreVerified conflicts events entries marks ws → AreOwn events ws
+own_records conflicts events entries marks ws are i w at = (are.own i w at).0
 
 -- entries that take no pair twice are distinct
 distinct_from_none : (events : List Event) (entries : List DocPlaces) → ((h : ℕ) (q : Pair) → IsTakenTwice events entries h q → ⊥) → ArePairsDistinct events entries
@@ -205,29 +205,29 @@ distinct_from_none events entries none i j k l h q a b = by_entry (cases_eq i k)
   by_entry (inr other) place = absurd (twice (λ both. other both.0))
 
 -- they cover the history where no pair is taken twice
-pub verified_covers : (mode : Conflicts) (events : List Event) (entries : List DocPlaces) (marks : List Bool) (ws : List Witness) → AreVerified mode events entries marks ws
-    → ((j : ℕ) → j < length marks → slice_get marks j ≡ Some true) → IsLeastTwice (pairs_taken events ws) None → (map witness_places ws ≡ entries) × AreWitnesses mode events ws
-verified_covers mode events entries marks ws are all none = (
+pub verified_covers : (conflicts : Conflicts) (events : List Event) (entries : List DocPlaces) (marks : List Bool) (ws : List Witness) → AreVerified conflicts events entries marks ws
+    → ((j : ℕ) → j < length marks → slice_get marks j ≡ Some true) → IsLeastTwice (pairs_taken events ws) None → (map witness_places ws ≡ entries) × AreWitnesses conflicts events ws
+verified_covers conflicts events entries marks ws are all none = (
   are.places,
   record {
     own = are.own;
-    cover = subst (AreCover mode events) (sym are.places) (record {
+    cover = subst (AreCover conflicts events) (sym are.places) (record {
       fine = are.fine;
-      complete = verified_complete mode events entries marks ws are all;
-      distinct = distinct_from_none events entries (λ h q twice. none (h, q) (taken_twice events ws h q (own_records mode events entries marks ws are)
+      complete = verified_complete conflicts events entries marks ws are all;
+      distinct = distinct_from_none events entries (λ h q twice. none (h, q) (taken_twice events ws h q (own_records conflicts events entries marks ws are)
           (subst (λ es. IsTakenTwice events es h q) (sym are.places) twice)));
     });
   },
 )
 
 -- else the least pair that is taken twice is told
-pub verified_twice : (mode : Conflicts) (events : List Event) (entries : List DocPlaces) (marks : List Bool) (ws : List Witness) (x : ℕ × Pair)
-    → AreVerified mode events entries marks ws → ((j : ℕ) → j < length marks → slice_get marks j ≡ Some true) → IsLeastTwice (pairs_taken events ws) (Some x)
-    → IsFirstVerifyFault mode events entries (fault.PairTwice x.0 x.1)
-verified_twice mode events entries marks ws x are all least =
-    let own = own_records mode events entries marks ws are in (
+pub verified_twice : (conflicts : Conflicts) (events : List Event) (entries : List DocPlaces) (marks : List Bool) (ws : List Witness) (x : ℕ × Pair)
+    → AreVerified conflicts events entries marks ws → ((j : ℕ) → j < length marks → slice_get marks j ≡ Some true) → IsLeastTwice (pairs_taken events ws) (Some x)
+    → IsFirstVerifyFault conflicts events entries (fault.PairTwice x.0 x.1)
+verified_twice conflicts events entries marks ws x are all least =
+    let own = own_records conflicts events entries marks ws are in (
       are.fine,
-      verified_complete mode events entries marks ws are all,
+      verified_complete conflicts events entries marks ws are all,
       subst (λ es. IsTakenTwice events es x.0 x.1) are.places (twice_taken events ws x.0 x.1 own least.0),
       λ h q twice. least.1 (h, q) (taken_twice events ws h q own (subst (λ es. IsTakenTwice events es h q) (sym are.places) twice)),
     )

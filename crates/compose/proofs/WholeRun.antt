@@ -25,13 +25,13 @@ use Rattle.compose.proofs.Points.{Pointed, is_of, part, part_run, placed_at, pla
 use Rattle.compose.proofs.Standing.{IsListed, listed, passes}
 
 -- the part of a document is a run of it alone
-pub part_legal : (mode : Conflicts) (events : List Event) (entries : List DocPlaces) (ks : List Pointed) → AreGathered mode events entries ks → (d : List ℕ)
+pub part_legal : (conflicts : Conflicts) (events : List Event) (entries : List DocPlaces) (ks : List Pointed) → AreGathered conflicts events entries ks → (d : List ℕ)
     → (t : DocState) × IsDocRun Never (part_of d (run_of (placed_of ks))) t
-part_legal mode events entries ks all d = subst (λ es. (t : DocState) × IsDocRun Never es t) (sym (part_run d ks)) (by_part (part d ks) refl) where
+part_legal conflicts events entries ks all d = subst (λ es. (t : DocState) × IsDocRun Never es t) (sym (part_run d ks)) (by_part (part d ks) refl) where
   twice : (c : List ℕ) → part c (part c ks) ≡ part c ks
   twice c = filter_all (is_of c) (part c ks) (λ i k at. (part_from (is_of c) ks i k at).2)
 
-  entered_part : (e : DocPlaces) → IsPartOf mode events e (part e.doc ks) → (t : DocState) × IsDocRun Never (run_of (placed_of (part e.doc ks))) t
+  entered_part : (e : DocPlaces) → IsPartOf conflicts events e (part e.doc ks) → (t : DocState) × IsDocRun Never (run_of (placed_of (part e.doc ks))) t
   entered_part e is =
       subst (λ es. (t : DocState) × IsDocRun Never es t) (part_run e.doc (part e.doc ks) ∙ ap (λ ls. run_of (placed_of ls)) (twice e.doc))
       (((locality (run_of (placed_of (part e.doc ks)))).0 is.explains.legal).0 e.doc)
@@ -40,7 +40,7 @@ part_legal mode events entries ks all d = subst (λ es. (t : DocState) × IsDocR
   by_part [] is = (Never, subst (λ ls. IsDocRun Never (run_of (placed_of ls)) Never) (sym is) refl)
   by_part (k ∷ ls) is =
       let from = part_from (is_of d) ks 0 k (ap (λ xs. slice_get xs 0) is) in
-      let a = listed mode events entries ks all from.0 k from.1 in
+      let a = listed conflicts events entries ks all from.0 k from.1 in
       let doc : a.entry.doc ≡ d = sym a.doc ∙ (bytes_decides k.placed.entry.doc d).0 from.2 in
       subst (λ c. (t : DocState) × IsDocRun Never (run_of (placed_of (part c ks))) t) doc (entered_part a.entry a.own)
 
@@ -63,9 +63,9 @@ told_pair None given e q tells takes = sym tells.1 ∙ takes
 told_pair (Some heard) given e q tells takes = ap (λ h. pair_taken heard.1 h) (sym tells.1) ∙ (ap (λ r. pair_taken r e.hidden) (sym tells.0) ∙ takes)
 
 -- the shard of an entry's document is that of its calls
-own_shard : (mode : Conflicts) (events : List Event) (entries : List DocPlaces) → IsHistory events → AreCover mode events entries → (number : ℕ) (e : DocPlaces)
+own_shard : (conflicts : Conflicts) (events : List Event) (entries : List DocPlaces) → IsHistory events → AreCover conflicts events entries → (number : ℕ) (e : DocPlaces)
     → slice_get entries number ≡ Some e → (p : Placed) → IsOfCall events p → p.entry.doc ≡ e.doc → IsOfShard events e.doc p.entry.shard
-own_shard mode events entries history cover number e entered p call doc =
+own_shard conflicts events entries history cover number e entered p call doc =
     let known = cover.fine.known number e entered in
     let called = document_called events (e.doc, known.0) (known.1.0, known.1.1) in
     let shard : known.0 ≡ p.entry.shard = history.one_shard called.0 call.0 called.1 p.no known.0 p.entry.shard e.doc called.2 p.entry.op called.3
@@ -73,9 +73,9 @@ own_shard mode events entries history cover number e entered p call doc =
     subst (λ h. IsOfShard events e.doc h) shard known.1
 
 -- the place of an entry takes the pair that the call takes
-taken_there : (mode : Conflicts) (events : List Event) (entries : List DocPlaces) (ks : List Pointed) → IsHistory events → AreCover mode events entries → (i : ℕ) (k : Pointed) (q : ℕ × Pair)
-    → (a : IsListed mode events entries ks i k) → taken k.placed.entry ≡ Some q → IsTakenAt events entries a.number (rank (is_of a.entry.doc) ks i) q.0 q.1
-taken_there mode events entries ks history cover i k q a takes =
+taken_there : (conflicts : Conflicts) (events : List Event) (entries : List DocPlaces) (ks : List Pointed) → IsHistory events → AreCover conflicts events entries → (i : ℕ) (k : Pointed) (q : ℕ × Pair)
+    → (a : IsListed conflicts events entries ks i k) → taken k.placed.entry ≡ Some q → IsTakenAt events entries a.number (rank (is_of a.entry.doc) ks i) q.0 q.1
+taken_there conflicts events entries ks history cover i k q a takes =
     let r : ℕ = rank (is_of a.entry.doc) ks i in
     let told = told_by (records_of events a.entry.doc) a.entry.places (placed_of (part a.entry.doc ks)) r k.placed a.own.placed (placed_at (part a.entry.doc ks) r k a.stands) in
     let pair = taken_parts k.placed.entry.shard (pair_taken k.placed.entry.reply k.placed.entry.hidden) q takes in
@@ -86,20 +86,20 @@ taken_there mode events entries ks history cover i k q a takes =
       entered = a.entered;
       placed = told.1;
       names = told.2.names;
-      shard = subst (λ h. IsOfShard events a.entry.doc h) pair.0 (own_shard mode events entries history cover a.number a.entry a.entered k.placed a.call a.doc);
+      shard = subst (λ h. IsOfShard events a.entry.doc h) pair.0 (own_shard conflicts events entries history cover a.number a.entry a.entered k.placed a.call a.doc);
       takes = told_pair told.2.named.heard told.0.pair k.placed.entry q.1 told.2.tells pair.1;
     }
 
 -- no pair of a shard is taken at two places
-pub distinct : (mode : Conflicts) (events : List Event) (entries : List DocPlaces) (ks : List Pointed) → IsHistory events → AreCover mode events entries → AreGathered mode events entries ks
+pub distinct : (conflicts : Conflicts) (events : List Event) (entries : List DocPlaces) (ks : List Pointed) → IsHistory events → AreCover conflicts events entries → AreGathered conflicts events entries ks
     → PairsDistinct (run_of (placed_of ks))
-distinct mode events entries ks history cover all i j q one two =
+distinct conflicts events entries ks history cover all i j q one two =
     let x = taken_by_call ks i q one in
     let y = taken_by_call ks j q two in
-    let a = listed mode events entries ks all i x.0 x.1 in
-    let b = listed mode events entries ks all j y.0 y.1 in
+    let a = listed conflicts events entries ks all i x.0 x.1 in
+    let b = listed conflicts events entries ks all j y.0 y.1 in
     let same = cover.distinct a.number (rank (is_of a.entry.doc) ks i) b.number (rank (is_of b.entry.doc) ks j) q.0 q.1
-    (taken_there mode events entries ks history cover i x.0 q a x.2) (taken_there mode events entries ks history cover j y.0 q b y.2) in
+    (taken_there conflicts events entries ks history cover i x.0 q a x.2) (taken_there conflicts events entries ks history cover j y.0 q b y.2) in
     let entry : a.entry ≡ b.entry = same_some a.entry b.entry (sym a.entered ∙ (ap (λ n. slice_get entries n) same.0 ∙ b.entered)) in
     let doc : b.entry.doc ≡ a.entry.doc = ap (λ e. e.doc) (sym entry) in
     rank_once (is_of a.entry.doc) ks i j x.0 y.0 x.1 y.1 (passes a.entry.doc x.0 a.doc) (passes a.entry.doc y.0 (b.doc ∙ doc))

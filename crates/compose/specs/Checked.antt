@@ -14,9 +14,9 @@ use Rattle.compose.specs.declared.checking.Verdict.TheVariants.{Yes, No}
 -- The verdict is on this history and this reading of conflicts: `Yes` with witnesses that cover it, so that it is
 -- linearizable, `No` where none without a given pair do.
 abbrev pub IsVerdictOn : Conflicts → List Event → Verdict → Type 0
-IsVerdictOn mode events (Yes p) =
-    (p.events ≡ events) × (p.conflicts ≡ mode) × AreWitnesses mode events p.witnesses × IsLinearizable mode events
-IsVerdictOn mode events (No c) = (c.events ≡ events) × (c.conflicts ≡ mode) × HasNoOrderFound mode events
+IsVerdictOn conflicts events (Yes p) =
+    (p.events ≡ events) × (p.conflicts ≡ conflicts) × AreWitnesses conflicts events p.witnesses × IsLinearizable conflicts events
+IsVerdictOn conflicts events (No c) = (c.events ≡ events) × (c.conflicts ≡ conflicts) × HasNoOrderFound conflicts events
 
 abbrev pub IsYes : Verdict → Type 0
 IsYes (Yes p) = Unit {0}

@@ -24,10 +24,10 @@ abbrev pub IsEntered : List DocPlaces → List ℕ → Type 0
 IsEntered entries d = (i : ℕ) × (e : DocPlaces) × (slice_get entries i ≡ Some e) × (e.doc ≡ d)
 
 -- each entry is of a document of the history, no two of one document, and its places are valid
-pub record AreFine (mode : Conflicts) (events : List Event) (entries : List DocPlaces) : Type 0 where
+pub record AreFine (conflicts : Conflicts) (events : List Event) (entries : List DocPlaces) : Type 0 where
   pub known : (i : ℕ) (e : DocPlaces) → slice_get entries i ≡ Some e → IsKnown events e
   pub once : (i j : ℕ) (e f : DocPlaces) → slice_get entries i ≡ Some e → slice_get entries j ≡ Some f → e.doc ≡ f.doc → i ≡ j
-  pub valid : (i : ℕ) (e : DocPlaces) → slice_get entries i ≡ Some e → AreValid mode (records_of events e.doc) e.places
+  pub valid : (i : ℕ) (e : DocPlaces) → slice_get entries i ≡ Some e → AreValid conflicts (records_of events e.doc) e.places
 
 -- each document of the history is entered
 abbrev pub AreComplete : List Event → List DocPlaces → Type 0
@@ -55,8 +55,8 @@ ArePairsDistinct events entries = (i j k l h : ℕ) (q : Pair) → IsTakenAt eve
 
 -- The entries cover the history: each document is entered once and no other, the places of each are valid, and no pair of a
 -- shard is taken at two places.
-pub record AreCover (mode : Conflicts) (events : List Event) (entries : List DocPlaces) : Type 0 where
-  pub fine : AreFine mode events entries
+pub record AreCover (conflicts : Conflicts) (events : List Event) (entries : List DocPlaces) : Type 0 where
+  pub fine : AreFine conflicts events entries
   pub complete : AreComplete events entries
   pub distinct : ArePairsDistinct events entries
 
@@ -66,4 +66,4 @@ AreAllUnpaired entries = (i : ℕ) (e : DocPlaces) → slice_get entries i ≡ S
 
 -- no entries without a given pair cover the history
 abbrev pub HasNoUnpairedCover : Conflicts → List Event → Type 0
-HasNoUnpairedCover mode events = (entries : List DocPlaces) → AreAllUnpaired entries → ¬ AreCover mode events entries
+HasNoUnpairedCover conflicts events = (entries : List DocPlaces) → AreAllUnpaired entries → ¬ AreCover conflicts events entries

@@ -38,8 +38,8 @@ pub record IsOrderOf (events : List Event) (entries : List DocPlaces) (order : L
 
 -- entries that cover a history make it linearizable, by an order of exactly their places
 abbrev pub CoversExplain : Type 0
-CoversExplain = (mode : Conflicts) (events : List Event) (entries : List DocPlaces) → IsHistory events → AreCover mode events entries
-    → (order : List Placed) × Explains mode events order × IsOrderOf events entries order
+CoversExplain = (conflicts : Conflicts) (events : List Event) (entries : List DocPlaces) → IsHistory events → AreCover conflicts events entries
+    → (order : List Placed) × Explains conflicts events order × IsOrderOf events entries order
 
 -- ---- an order gives a cover
 
@@ -57,30 +57,30 @@ restricted events d order =
 -- An order that explains a history, restricted to each document without its unanswered calls that change nothing, gives
 -- valid places of it, and all of them together are a cover.
 abbrev pub OrdersAreCovers : Type 0
-OrdersAreCovers = (mode : Conflicts) (events : List Event) (order : List Placed) → IsHistory events → Explains mode events order
-    → (entries : List DocPlaces) × AreCover mode events entries
+OrdersAreCovers = (conflicts : Conflicts) (events : List Event) (order : List Placed) → IsHistory events → Explains conflicts events order
+    → (entries : List DocPlaces) × AreCover conflicts events entries
     × ((i : ℕ) (e : DocPlaces) → slice_get entries i ≡ Some e → ArePlacedBy (records_of events e.doc) e.places (restricted events e.doc order))
 
 -- ---- histories without a cover
 
 -- each write has a reply, under Maybe one other than a conflict
 abbrev pub IsSettled : Conflicts → List Event → Type 0
-IsSettled mode events = (i n h : ℕ) (d : List ℕ) (op : Op) → IsCallAt events i n h d op → op ≢ Get
-    → (k : ℕ) × (r : Answer) × IsReplyAt events k n r × (mode ≡ Maybe → r ≢ Conflict)
+IsSettled conflicts events = (i n h : ℕ) (d : List ℕ) (op : Op) → IsCallAt events i n h d op → op ≢ Get
+    → (k : ℕ) × (r : Answer) × IsReplyAt events k n r × (conflicts ≡ Maybe → r ≢ Conflict)
 
 -- a settled history that no entries without a given pair cover is not linearizable
 abbrev pub SettledHaveNoOrder : Type 0
-SettledHaveNoOrder = (mode : Conflicts) (events : List Event) → IsHistory events → IsSettled mode events → HasNoUnpairedCover mode events
-    → ¬ IsLinearizable mode events
+SettledHaveNoOrder = (conflicts : Conflicts) (events : List Event) → IsHistory events → IsSettled conflicts events → HasNoUnpairedCover conflicts events
+    → ¬ IsLinearizable conflicts events
 
 -- a plainly right history is covered by entries without a given pair
 abbrev pub PlainlyRightAreCovered : Type 0
-PlainlyRightAreCovered = (mode : Conflicts) (events : List Event) → IsHistory events → IsPlainlyRight events
-    → (entries : List DocPlaces) × AreAllUnpaired entries × AreCover mode events entries
+PlainlyRightAreCovered = (conflicts : Conflicts) (events : List Event) → IsHistory events → IsPlainlyRight events
+    → (entries : List DocPlaces) × AreAllUnpaired entries × AreCover conflicts events entries
 
 -- ---- faults
 
 -- entries that have a first fault are no cover
 abbrev pub FaultyAreNoCover : Type 0
-FaultyAreNoCover = (mode : Conflicts) (events : List Event) (entries : List DocPlaces) (told : VerifyFault)
-    → IsFirstVerifyFault mode events entries told → ¬ AreCover mode events entries
+FaultyAreNoCover = (conflicts : Conflicts) (events : List Event) (entries : List DocPlaces) (told : VerifyFault)
+    → IsFirstVerifyFault conflicts events entries told → ¬ AreCover conflicts events entries

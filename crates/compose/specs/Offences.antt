@@ -9,7 +9,7 @@ use Rattle.compose.specs.declared.offence.Offence.{Offence}
 
 -- At its place stands a reply, to the call with its number; the events up to it are not plainly right; and where it says that the
 -- events before it have an order, they are linearizable.
-pub record IsOffence (mode : Conflicts) (events : List Event) (o : Offence) : Type 0 where
+pub record IsOffence (conflicts : Conflicts) (events : List Event) (o : Offence) : Type 0 where
   pub reply : (r : Answer) × IsReplyAt events o.event o.call r
   pub wrong : ¬ IsPlainlyRight (prefix events (o.event + 1))
-  pub shown : o.before_shown ≡ true → IsLinearizable mode (prefix events o.event)
+  pub shown : o.before_shown ≡ true → IsLinearizable conflicts (prefix events o.event)

@@ -38,5 +38,5 @@ pub record IsSplitByShard (events : List Event) : Type 0 where
 -- A history is split into the parts of its shards, and it is linearizable exactly where each of them is.
 pub record LocalByShard : Type 0 where
   pub split : (events : List Event) → IsHistory events → IsSplitByShard events
-  pub linearizable : (mode : Conflicts) (events : List Event) → IsHistory events
-      → IsLinearizable mode events ↔ ((h : ℕ) → IsLinearizable mode (part_of_shard h events))
+  pub linearizable : (conflicts : Conflicts) (events : List Event) → IsHistory events
+      → IsLinearizable conflicts events ↔ ((h : ℕ) → IsLinearizable conflicts (part_of_shard h events))

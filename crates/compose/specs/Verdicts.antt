@@ -5,15 +5,16 @@ use Rattle.history.specs.declared.event.Event.{Event}
 use Rattle.history.specs.Events.{documents_of, records_of}
 use Rattle.history.specs.Order.{Explains, IsLinearizable, IsPlainlyRight, Placed}
 use Rattle.witness.specs.Documents.{witness_places}
+use Rattle.witness.specs.Text.{DocPlaces}
 use Rattle.witness.specs.Witness.{Witness}
 use Rattle.compose.specs.Counts.{calls_of}
 use Rattle.compose.specs.Covers.{AreCover, HasNoUnpairedCover}
 use Rattle.compose.specs.Laws.{IsSettled, places_in}
 
 -- The witnesses carry the records of their documents in the history, and their places cover it.
-pub record AreWitnesses (mode : Conflicts) (events : List Event) (ws : List Witness) : Type 0 where
-  pub own : (i : ℕ) (w : Witness) → slice_get ws i ≡ Some w → (w.records ≡ records_of events w.doc) × (w.conflicts ≡ mode)
-  pub cover : AreCover mode events (map witness_places ws)
+pub record AreWitnesses (conflicts : Conflicts) (events : List Event) (ws : List Witness) : Type 0 where
+  pub own : (i : ℕ) (w : Witness) → slice_get ws i ≡ Some w → (w.records ≡ records_of events w.doc) × (w.conflicts ≡ conflicts)
+  pub cover : AreCover conflicts events (map witness_places ws)
 
 -- a history with the witnesses of its documents, and how a conflict is read
 pub record Proven : Type 0 where
@@ -30,18 +31,25 @@ pub record Unproven : Type 0 where
 abbrev pub left_out_of : Proven → ℕ
 left_out_of p = calls_of p.events - places_in (map witness_places p.witnesses)
 
+-- what is counted of a history and its entries: so many documents, so many calls, and so many of these that stand in no place of the
+-- entries
+pub record AreCounts (events : List Event) (entries : List DocPlaces) (docs calls left_out : ℕ) : Type 0 where
+  pub documents : length (documents_of events) ≡ docs
+  pub all_calls : calls_of events ≡ calls
+  pub the_rest : places_in entries + left_out ≡ calls
+
 -- What a `yes` rests on once the text is read: so many documents and calls, and an order that explains the history, in which
 -- so many of its calls do not stand.
-pub record HasOrder (mode : Conflicts) (events : List Event) (docs calls left_out : ℕ) : Type 0 where
+pub record HasOrder (conflicts : Conflicts) (events : List Event) (docs calls left_out : ℕ) : Type 0 where
   pub documents : length (documents_of events) ≡ docs
   pub all_calls : calls_of events ≡ calls
   pub order : List Placed
-  pub explains : Explains mode events order
+  pub explains : Explains conflicts events order
   pub the_rest : length order + left_out ≡ calls
 
 -- What a `no` rests on: no entries without a given pair cover the history. So it is not plainly right, and where it is settled
 -- no order explains it.
-pub record HasNoOrderFound (mode : Conflicts) (events : List Event) : Type 0 where
-  pub uncovered : HasNoUnpairedCover mode events
+pub record HasNoOrderFound (conflicts : Conflicts) (events : List Event) : Type 0 where
+  pub uncovered : HasNoUnpairedCover conflicts events
   pub not_right : ¬ IsPlainlyRight events
-  pub settled : IsSettled mode events → ¬ IsLinearizable mode events
+  pub settled : IsSettled conflicts events → ¬ IsLinearizable conflicts events

@@ -12,9 +12,9 @@ use Rattle.compose.specs.declared.verify_fault.VerifyFault.{VerifyFault}
 use Rattle.compose.specs.declared.verify_fault.VerifyFault.TheVariants as fault
 
 -- the entry stands at i, and those before it are fine
-pub record IsAtEntry (mode : Conflicts) (events : List Event) (entries : List DocPlaces) (i : ℕ) (e : DocPlaces) : Type 0 where
+pub record IsAtEntry (conflicts : Conflicts) (events : List Event) (entries : List DocPlaces) (i : ℕ) (e : DocPlaces) : Type 0 where
   pub here : slice_get entries i ≡ Some e
-  pub fine : AreFine mode events (take i entries)
+  pub fine : AreFine conflicts events (take i entries)
 
 -- the pair of the shard is taken at two places
 pub record IsTakenTwice (events : List Event) (entries : List DocPlaces) (h : ℕ) (q : Pair) : Type 0 where
@@ -34,16 +34,16 @@ IsAtMost h q g p = (h < g) ⊎ ((h ≡ g) × ((q ≡ p) ⊎ IsBelow q p))
 -- before, places that are not valid; then the first document that is not entered; then the least shard, and of it the least
 -- pair, that is taken at two places.
 abbrev pub IsFirstVerifyFault : Conflicts → List Event → List DocPlaces → VerifyFault → Type 0
-IsFirstVerifyFault mode events entries (fault.DocStranger i) = (e : DocPlaces) × IsAtEntry mode events entries i e × (¬ IsKnown events e)
-IsFirstVerifyFault mode events entries (fault.DocTwice i) =
-    (e : DocPlaces) × IsAtEntry mode events entries i e × IsKnown events e × IsEntered (take i entries) e.doc
-IsFirstVerifyFault mode events entries (fault.Broken i broken) =
-    (e : DocPlaces) × IsAtEntry mode events entries i e × IsKnown events e × (¬ IsEntered (take i entries) e.doc)
-    × IsFirstFault mode (records_of events e.doc) e.places broken
-IsFirstVerifyFault mode events entries (fault.DocMissing k) =
-    (d : List ℕ × ℕ) × AreFine mode events entries × (slice_get (documents_of events) k ≡ Some d) × (¬ IsEntered entries d.0)
+IsFirstVerifyFault conflicts events entries (fault.DocStranger i) = (e : DocPlaces) × IsAtEntry conflicts events entries i e × (¬ IsKnown events e)
+IsFirstVerifyFault conflicts events entries (fault.DocTwice i) =
+    (e : DocPlaces) × IsAtEntry conflicts events entries i e × IsKnown events e × IsEntered (take i entries) e.doc
+IsFirstVerifyFault conflicts events entries (fault.Broken i broken) =
+    (e : DocPlaces) × IsAtEntry conflicts events entries i e × IsKnown events e × (¬ IsEntered (take i entries) e.doc)
+    × IsFirstFault conflicts (records_of events e.doc) e.places broken
+IsFirstVerifyFault conflicts events entries (fault.DocMissing k) =
+    (d : List ℕ × ℕ) × AreFine conflicts events entries × (slice_get (documents_of events) k ≡ Some d) × (¬ IsEntered entries d.0)
     × ((j : ℕ) (c : List ℕ × ℕ) → j < k → slice_get (documents_of events) j ≡ Some c → IsEntered entries c.0)
-IsFirstVerifyFault mode events entries (fault.PairTwice shard pair) =
-    AreFine mode events entries × AreComplete events entries × IsTakenTwice events entries shard pair
+IsFirstVerifyFault conflicts events entries (fault.PairTwice shard pair) =
+    AreFine conflicts events entries × AreComplete events entries × IsTakenTwice events entries shard pair
     × ((h : ℕ) (q : Pair) → IsTakenTwice events entries h q → IsAtMost shard pair h q)
-IsFirstVerifyFault mode events entries fault.NoMemory = ⊥
+IsFirstVerifyFault conflicts events entries fault.NoMemory = ⊥

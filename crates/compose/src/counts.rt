@@ -3,7 +3,7 @@ ghost use Rattle.history.specs.Events.{is_any_call};
 ghost use Rattle.witness.specs.Documents.{witness_places};
 ghost use Rattle.compose.specs.Counts.{calls_of};
 ghost use Rattle.compose.specs.Laws.{places_in};
-ghost use Rattle.compose.specs.Verdicts.{HasOrder};
+ghost use Rattle.compose.specs.Verdicts.{AreCounts, HasOrder};
 
 use crate::proof::Proof;
 use history::{Event, History};
@@ -51,9 +51,11 @@ pub fn count_places(witnesses: &[DocWitness]) -> usize
 }
 
 impl Counts {
-    /// The counts of a proof.
+    /// The counts of a proof: the documents and calls of its history, and the calls that stand in no place of its witnesses.
     pub fn of(proof: &Proof) -> Counts
-        ensures { HasOrder proof.now.conflicts proof.now.events result.docs result.calls result.left_out }
+        ensures counts { AreCounts proof.now.events (map witness_places proof.now.witnesses) result.docs
+            result.calls result.left_out }
+        ensures order { HasOrder proof.now.conflicts proof.now.events result.docs result.calls result.left_out }
     {
         let history = proof.history();
         // A look at the witnesses: that they cover the history is known from here on.

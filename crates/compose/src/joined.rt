@@ -1,6 +1,6 @@
 ghost use Rattle.std.specs.Prelude.{◌≡◌, Bool, IfOk, MatchOption, map, true};
 ghost use Rattle.doc_check.specs.declared.search.DocAnswer.TheVariants.{Found as Ordered};
-ghost use Rattle.doc_register.specs.declared.state.Conflicts.{Conflicts as Mode};
+ghost use Rattle.doc_register.specs.declared.state.Conflicts.{Conflicts as Reading};
 ghost use Rattle.history.specs.Events.{documents_of};
 ghost use Rattle.compose.specs.Covers.{HasNoUnpairedCover};
 ghost use Rattle.compose.specs.aids.Joined.{IsJoined};
@@ -71,10 +71,10 @@ fn join_changed(
     witnesses: Vec<DocWitness>,
     changes: &[Change],
 ) -> Result<Joined, NoMemory>
-    ensures { IfOk result (λ joined. (mode : Mode) (first : Bool)
-        → AreSearched mode history.now first (documents_of history.now) witnesses.items
-        → (first ≡ true → HasNoUnpairedCover mode history.now)
-        → IsJoined mode history.now first joined) }
+    ensures { IfOk result (λ joined. (conflicts : Reading) (first : Bool)
+        → AreSearched conflicts history.now first (documents_of history.now) witnesses.items
+        → (first ≡ true → HasNoUnpairedCover conflicts history.now)
+        → IsJoined conflicts history.now first joined) }
 {
     let Some(others) = with_all(alloc, witnesses, changes)? else {
         return Ok(Joined::Spent);
@@ -91,9 +91,9 @@ fn join_witnesses(
     history: &Front<'_>,
     witnesses: Vec<DocWitness>,
 ) -> Result<Joined, NoMemory>
-    ensures { IfOk result (λ joined. (mode : Mode) (first : Bool)
-        → AreSearched mode history.now first (documents_of history.now) witnesses.items
-        → IsJoined mode history.now first joined) }
+    ensures { IfOk result (λ joined. (conflicts : Reading) (first : Bool)
+        → AreSearched conflicts history.now first (documents_of history.now) witnesses.items
+        → IsJoined conflicts history.now first joined) }
 {
     match pair_twice(alloc, history, &witnesses)? {
         None => Ok(Joined::Cover(witnesses)),
@@ -111,9 +111,9 @@ pub fn join_answers(
     history: &Front<'_>,
     answers: Vec<DocAnswer>,
 ) -> Result<Joined, NoMemory>
-    ensures { IfOk result (λ joined. (mode : Mode) (first : Bool)
-        → AreAnswersFor mode history.now first (documents_of history.now) answers.items
-        → IsJoined mode history.now first joined) }
+    ensures { IfOk result (λ joined. (conflicts : Reading) (first : Bool)
+        → AreAnswersFor conflicts history.now first (documents_of history.now) answers.items
+        → IsJoined conflicts history.now first joined) }
 {
     if has_lost(&answers) {
         return Ok(Joined::Open(answers));

@@ -7,7 +7,7 @@ use crate::checking::is_explained;
 use doc_register::Conflicts;
 use history::laws::late_calls;
 use history::{Event, History};
-use narrowing::guessed;
+use narrowing::guess;
 use std::alloc::Global;
 use version_pair::NoMemory;
 
@@ -164,7 +164,7 @@ pub fn first_offence(alloc: Global, case: &Case) -> Result<Offence, NoMemory>
 {
     let history = case.history();
     let conflicts = case.conflicts();
-    if let Some(place) = guessed(alloc, history, conflicts)? {
+    if let Some(place) = guess(alloc, history, conflicts)? {
         if let Some(offence) = offence_if(alloc, history, conflicts, place)? {
             return Ok(offence);
         }

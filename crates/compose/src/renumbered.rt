@@ -96,7 +96,7 @@ fn changes_in(
 }
 
 // The witness with its changes, where they leave it valid.
-fn changed(
+fn change_places(
     alloc: Global,
     witness: DocWitness,
     changes: &[Change],
@@ -144,7 +144,7 @@ fn with_changes(
         let _ = witness.places();
         return Ok(Some(witness));
     }
-    changed(alloc, witness, changes)
+    change_places(alloc, witness, changes)
 }
 
 /// The witnesses with their changes, which are in their order; `None` where one is not valid any more.

@@ -1,5 +1,5 @@
 ghost use Rattle.std.specs.Prelude.{◌≡◌, ◌≢◌, ◌<◌, ◌++◌, ◌∷◌, [], IfErr, IfOk, IsOk, List, MatchOption, MatchResult, OnOk, Some, false, true, ℕ, length, map, slice_get};
-ghost use Rattle.doc_register.specs.declared.state.Conflicts.{Conflicts as Mode};
+ghost use Rattle.doc_register.specs.declared.state.Conflicts.{Conflicts as Reading};
 ghost use Rattle.history.specs.Events.{documents_of};
 ghost use Rattle.witness.specs.Documents.{doc_places, witness_places};
 ghost use Rattle.witness.specs.Text.{DocPlaces};
@@ -55,7 +55,7 @@ impl Verification {
     // No entries.
     fn new(alloc: Global, history: &History) -> Result<Verification, VerifyFault>
         ensures size { IfOk result (λ v. length v.entered.items ≡ length (documents_of history.now)) }
-        ensures ok { IfOk result (λ v. (mode : Mode) → AreVerified mode history.now [] v.entered.items v.witnesses.items) }
+        ensures ok { IfOk result (λ v. (conflicts : Reading) → AreVerified conflicts history.now [] v.entered.items v.witnesses.items) }
         ensures fault { IfErr result (λ fault. fault ≡ Unverified) }
     {
         match vec![in alloc; false; history.docs()] {

@@ -1,5 +1,5 @@
 -- The chain: its pairs, its records, and that a valid order performs just its writes, one after another.
-use Rattle.std.proofs.Common.{ℕ, zero, suc, ◌≡◌, ◌<◌, ◌≤◌, ◌+◌, ◌-◌, ◌⊎◌, inl, inr, List, [], ◌∷◌, length, refl, sym, ap, subst, ◌∙◌, arith, false, Option, Some, None, slice_get, get_or, Ordering}
+use Rattle.std.proofs.Common.{ℕ, zero, suc, ◌≡◌, ◌<◌, ◌+◌, ◌-◌, ◌⊎◌, inl, inr, List, [], ◌∷◌, length, refl, sym, ap, subst, ◌∙◌, arith, false, Option, Some, None, slice_get, Ordering}
 use Rattle.std.specs.Cmp.{IsTotalOrder}
 use Rattle.std.specs.Ordering.{nat_cmp, ordering_then, is_lt}
 use Rattle.std.proofs.lemmas.Cmp.{nat_cmp_total, on_total, ranked, then_total}
@@ -7,12 +7,13 @@ use Rattle.version_pair.specs.declared.pair.Pair.{Pair}
 use Rattle.version_pair.specs.PairOrder.{IsBelow}
 use Rattle.history.specs.declared.record.Rec.{Rec}
 use Rattle.std.specs.declared.cmp.Ordering.TheVariants.{Less, Equal, Greater}
-use Rattle.std.proofs.lemmas.Bool.{cases_lt, true≢false}
-use Rattle.std.proofs.lemmas.Option.{slice_get_read, slice_get_within}
+use Rattle.std.proofs.lemmas.Bool.{true≢false}
+use Rattle.std.proofs.lemmas.Option.{slice_get_within}
 use Rattle.history.proofs.ListLemmas.{compare, none_is_not_some, same_some}
 use Rattle.write_chain.specs.Chain.{IsChain, Rises, by_pair, link_at, pair_cmp, performed_records}
 use Rattle.history.specs.Heard.{pair_of}
 use Rattle.doc_check.proofs.Lists.{Has, KeyOnce, KeyRises, not_below_then, once_moved, same_rising, sorted_at}
+use Rattle.doc_register.proofs.RunLemmas.{below_trans, not_both_below}
 
 abbrev Link : Type 0
 Link = Pair × ℕ
@@ -95,14 +96,6 @@ some_at [] i within = absurd (omega arith)
 some_at (c ∷ cs) zero within = (c, refl)
 some_at (c ∷ cs) (suc i) within = some_at cs i (omega arith)
 
-below_trans : (p q r : Pair) → IsBelow p q → IsBelow q r → IsBelow p r
-below_trans p q r (inl a) (inl b) = inl (omega arith)
-below_trans p q r (inl a) (inr b) = let same : q.term ≡ r.term = b.0 in inl (omega arith)
-below_trans p q r (inr a) (inl b) = let same : p.term ≡ q.term = a.0 in inl (omega arith)
-below_trans p q r (inr a) (inr b) =
-    let first : p.term ≡ q.term = a.0 in let second : q.term ≡ r.term = b.0 in
-    let low : p.seq < q.seq = a.1 in let high : q.seq < r.seq = b.1 in inr (omega arith, omega arith)
-
 split_pairs : (p q : Pair) (o : Ordering) → is_lt (ordering_then (pair_cmp p q) o) ≡ false → IsBelow q p ⊎ ((q.term ≡ p.term) × (q.seq ≡ p.seq))
 split_pairs p q o unless = by_term (nat_cmp p.term q.term) refl unless where
   by_term : (t : Ordering) → t ≡ nat_cmp p.term q.term → is_lt (ordering_then (ordering_then t (nat_cmp p.seq q.seq)) o) ≡ false → IsBelow q p ⊎ ((q.term ≡ p.term) × (q.seq ≡ p.seq))
@@ -117,12 +110,6 @@ split_pairs p q o unless = by_term (nat_cmp p.term q.term) refl unless where
 not_both : (p q : Pair) → (p.term ≡ q.term) × (p.seq ≡ q.seq) → IsBelow p q → ⊥
 not_both p q same (inl less) = let term : p.term ≡ q.term = same.0 in omega arith
 not_both p q same (inr less) = let seq : p.seq ≡ q.seq = same.1 in let below : p.seq < q.seq = less.1 in omega arith
-
-pub not_both_below : (p q : Pair) → IsBelow p q → IsBelow q p → ⊥
-not_both_below p q (inl a) (inl b) = omega arith
-not_both_below p q (inl a) (inr b) = let same : q.term ≡ p.term = b.0 in omega arith
-not_both_below p q (inr a) (inl b) = let same : p.term ≡ q.term = a.0 in omega arith
-not_both_below p q (inr a) (inr b) = let first : p.seq < q.seq = a.1 in let second : q.seq < p.seq = b.1 in omega arith
 
 -- lists that climb and have the same elements are one
 pub same_climbing : (xs ys : List (Pair × ℕ)) → Climbs xs → Climbs ys → ((c : Pair × ℕ) → Has xs c → Has ys c) → ((c : Pair × ℕ) → Has ys c → Has xs c) → xs ≡ ys

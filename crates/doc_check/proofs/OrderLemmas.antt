@@ -437,12 +437,12 @@ placed (s ∷ ss) (suc i) p at = placed ss i p at
 place_there : (sorted : List Standing) (i : ℕ) (s : Standing) → slice_get sorted i ≡ Some s → slice_get (map place_of sorted) i ≡ Some (place_of s)
 place_there sorted i s at = slice_get-map place_of sorted i ∙ ap (option_map place_of) at
 
-gives : (mode : Conflicts) (h : ℕ × Reply) → GivesAsMay mode (Some h) None
-gives mode (at, Indexed q created) = refl
-gives mode (at, Deleted q found) = refl
-gives mode (at, Found q k) = refl
-gives mode (at, Missing) = refl
-gives mode (at, Conflict) = λ plain. refl
+gives : (conflicts : Conflicts) (h : ℕ × Reply) → GivesAsMay conflicts (Some h) None
+gives conflicts (at, Indexed q created) = refl
+gives conflicts (at, Deleted q found) = refl
+gives conflicts (at, Found q k) = refl
+gives conflicts (at, Missing) = refl
+gives conflicts (at, Conflict) = λ plain. refl
 
 heard_early : (heard : Option (ℕ × Reply)) (h : ℕ × Reply) (place : ℕ) → heard ≡ Some h → IsHeardBefore heard place → h.0 < place
 heard_early None h place is early = absurd (none_is_not_some h is)
@@ -455,9 +455,9 @@ some_is (Some h) is = (h, refl)
 of_same : (records : List Rec) (given : List (Option ℕ)) (s : Standing) (p : Place) (r : Rec) (st : Stood records given s) → p ≡ place_of s → IsPlaceOf records p r → st.record_of ≡ r
 of_same records given s p r st is names = same_some st.record_of r (sym st.names ∙ (ap (λ (q : Place). slice_get records q.rec) (sym is) ∙ names))
 
-sorted_right : (mode : Conflicts) (records : List Rec) (chain : List (Pair × ℕ)) (given : List (Option ℕ)) (places : List Place) (sorted : List Standing)
-    → Given records chain given places sorted → AreRight mode records (map place_of sorted)
-sorted_right mode records chain given places sorted g = record {
+sorted_right : (conflicts : Conflicts) (records : List Rec) (chain : List (Pair × ℕ)) (given : List (Option ℕ)) (places : List Place) (sorted : List Standing)
+    → Given records chain given places sorted → AreRight conflicts records (map place_of sorted)
+sorted_right conflicts records chain given places sorted g = record {
   known = λ i p at.
       let s = placed sorted i p at in
       let st = stood records chain given places sorted g i s.0 s.1 in
@@ -470,7 +470,7 @@ sorted_right mode records chain given places sorted g = record {
       let s = placed sorted i p at in
       let st = stood records chain given places sorted g i s.0 s.1 in
       let heard : r.heard ≡ Some st.heard_of = sym (ap (λ k. k.heard) (of_same records given s.0 p r st s.2 names)) ∙ st.heard in
-      subst (λ o. GivesAsMay mode o p.pair) (sym heard) (subst (GivesAsMay mode (Some st.heard_of)) (sym (ap (λ (o : Place). o.pair) s.2)) (gives mode st.heard_of));
+      subst (λ o. GivesAsMay conflicts o p.pair) (sym heard) (subst (GivesAsMay conflicts (Some st.heard_of)) (sym (ap (λ (o : Place). o.pair) s.2)) (gives conflicts st.heard_of));
   in_time = λ i j p q r u less at bt of_p of_q early.
       let s = placed sorted i p at in
       let t = placed sorted j q bt in
@@ -509,9 +509,9 @@ sorted_right mode records chain given places sorted g = record {
       )
 
 -- the order of the sweep is valid where any places that give no pair are
-pub order_valid : (mode : Conflicts) (records : List Rec) (chain : List (Pair × ℕ)) (given : List (Option ℕ)) (places order : List Place) → IsChain records chain → Rises chain
-    → AreGiven records chain given → AreSpread records chain places → IsStretchOrder records given order → AreValid mode records order
-order_valid mode records chain given places order is_chain rising are_given spread (sorted, moved, in_order, is) =
+pub order_valid : (conflicts : Conflicts) (records : List Rec) (chain : List (Pair × ℕ)) (given : List (Option ℕ)) (places order : List Place) → IsChain records chain → Rises chain
+    → AreGiven records chain given → AreSpread records chain places → IsStretchOrder records given order → AreValid conflicts records order
+order_valid conflicts records chain given places order is_chain rising are_given spread (sorted, moved, in_order, is) =
     let g : Given records chain given places sorted = record {
       is_chain = is_chain;
       rising = rising;
@@ -520,8 +520,8 @@ order_valid mode records chain given places order is_chain rising are_given spre
       moved = moved;
       in_order = in_order;
     } in
-    subst (AreValid mode records) (sym is) (record {
-      right = sorted_right mode records chain given places sorted g;
+    subst (AreValid conflicts records) (sym is) (record {
+      right = sorted_right conflicts records chain given places sorted g;
       answered = λ k r at heard.
           let h = some_is r.heard heard in
           let given_is = are_given.all k r h.0 at h.1 in

@@ -206,9 +206,9 @@ heard_of_pair : (heard : Option (ℕ × Reply)) (q : Pair) → pair_of heard ≡
 heard_of_pair None q is = absurd (none_is_not_some q is)
 heard_of_pair (Some h) q is = refl
 
-into_links : (mode : Conflicts) (records : List Rec) (chain : List (Pair × ℕ)) (places : List Place) → IsChain records chain → AreValid mode records places
+into_links : (conflicts : Conflicts) (records : List Rec) (chain : List (Pair × ℕ)) (places : List Place) → IsChain records chain → AreValid conflicts records places
     → (c : Pair × ℕ) → Has chain c → Has (links records places) c
-into_links mode records chain places is valid c has =
+into_links conflicts records chain places is valid c has =
     let back = has_back (performed_records 0 records) chain c is.all has in
     let l = link_record records 0 back.0 c back.1 in
     let named = valid.answered l.from l.record_of l.at (heard_of_pair l.record_of.heard c.0 l.pair) in
@@ -216,28 +216,28 @@ into_links mode records chain places is valid c has =
     let pair : pair_at (slice_get records named.1.rec) ≡ Some c.0 = ap (λ k. pair_at (slice_get records k)) named.3 ∙ (ap pair_at l.at ∙ l.pair) in
     (level records places named.0, link_at_level records places named.0 named.1 c.0 named.2 pair ∙ ap (λ k. Some (c.0, k)) number)
 
-from_links : (mode : Conflicts) (records : List Rec) (chain : List (Pair × ℕ)) (places : List Place) → IsChain records chain → AreValid mode records places
+from_links : (conflicts : Conflicts) (records : List Rec) (chain : List (Pair × ℕ)) (places : List Place) → IsChain records chain → AreValid conflicts records places
     → (c : Pair × ℕ) → Has (links records places) c → Has chain c
-from_links mode records chain places is valid c has =
+from_links conflicts records chain places is valid c has =
     let l = link_of_place records places has.0 c has.1 in
     let known = valid.right.known l.0 l.1 l.2 in
     let pair : pair_of known.0.heard ≡ Some c.0 = sym (ap pair_at known.1) ∙ l.4 in
     let number : 0 + l.1.rec ≡ c.1 = (let a : l.1.rec ≡ c.1 = l.3 in omega arith) in
     has_moved (performed_records 0 records) chain c is.all (subst (λ k. Has (performed_records 0 records) (c.0, k)) number (performed_has records 0 l.1.rec known.0 c.0 known.1 pair))
 
-links_climb : (mode : Conflicts) (records : List Rec) (places : List Place) → AreUnpaired places → AreValid mode records places → Climbs (links records places)
-links_climb mode records places none valid = (rising_run records Never places valid.right.legal.0 none valid.right.legal.1).climbs
+links_climb : (conflicts : Conflicts) (records : List Rec) (places : List Place) → AreUnpaired places → AreValid conflicts records places → Climbs (links records places)
+links_climb conflicts records places none valid = (rising_run records Never places valid.right.legal.0 none valid.right.legal.1).climbs
 
-pub forced_climbs : (mode : Conflicts) (records : List Rec) (chain : List (Pair × ℕ)) (places : List Place) → IsChain records chain → AreUnpaired places → AreValid mode records places
+pub forced_climbs : (conflicts : Conflicts) (records : List Rec) (chain : List (Pair × ℕ)) (places : List Place) → IsChain records chain → AreUnpaired places → AreValid conflicts records places
     → Climbs chain
-forced_climbs mode records chain places is none valid =
-    chain_climbs records chain (links records places) is (links_climb mode records places none valid) (into_links mode records chain places is valid)
+forced_climbs conflicts records chain places is none valid =
+    chain_climbs records chain (links records places) is (links_climb conflicts records places none valid) (into_links conflicts records chain places is valid)
 
-pub forced_chain : (mode : Conflicts) (records : List Rec) (chain : List (Pair × ℕ)) (places : List Place) → IsChain records chain → AreUnpaired places → AreValid mode records places
+pub forced_chain : (conflicts : Conflicts) (records : List Rec) (chain : List (Pair × ℕ)) (places : List Place) → IsChain records chain → AreUnpaired places → AreValid conflicts records places
     → chain ≡ links records places
-forced_chain mode records chain places is none valid =
-    same_climbing chain (links records places) (forced_climbs mode records chain places is none valid) (links_climb mode records places none valid)
-    (into_links mode records chain places is valid) (from_links mode records chain places is valid)
+forced_chain conflicts records chain places is none valid =
+    same_climbing chain (links records places) (forced_climbs conflicts records chain places is none valid) (links_climb conflicts records places none valid)
+    (into_links conflicts records chain places is valid) (from_links conflicts records chain places is valid)
 
 -- ---- where the records stand
 
@@ -290,9 +290,9 @@ standing records places y j r names (i, p, at, named, is) =
       counted = counted;
     }
 
-step_at : (mode : Conflicts) (records : List Rec) (places : List Place) (y j : ℕ) (r : Rec) → AreUnpaired places → AreValid mode records places → Standing records places y j r
+step_at : (conflicts : Conflicts) (records : List Rec) (places : List Place) (y j : ℕ) (r : Rec) → AreUnpaired places → AreValid conflicts records places → Standing records places y j r
     → StepsAt (state_in (states_of records (links records places)) (cap (pair_of r.heard) j)) r.op r.heard None (state_in (states_of records (links records places)) j)
-step_at mode records places y j r none valid st =
+step_at conflicts records places y j r none valid st =
     let step = place_step records Never places valid.right.legal.0 st.at_place st.place none valid.right.legal.1 st.at in
     let same : step.0 ≡ r = same_some step.0 r (sym step.1 ∙ st.names) in
     let at_r = subst (λ k. StepsAt (from_state records Never (links records places) (level records places st.at_place)) k.op k.heard None (from_state records Never (links records places) (level records places (suc st.at_place)))) same step.2 in
@@ -303,9 +303,9 @@ read_fits : (states : List DocState) (op : Op) (heard : Option (ℕ × Reply)) (
 read_fits states op None j step = absurd step
 read_fits states op (Some h) j step = step
 
-stands_fit : (mode : Conflicts) (records : List Rec) (places : List Place) (y j : ℕ) (r : Rec) → AreUnpaired places → AreValid mode records places → Standing records places y j r
+stands_fit : (conflicts : Conflicts) (records : List Rec) (places : List Place) (y j : ℕ) (r : Rec) → AreUnpaired places → AreValid conflicts records places → Standing records places y j r
     → Fits records (links records places) y r j
-stands_fit mode records places y j r none valid st = by_pair (pair_of r.heard) refl (step_at mode records places y j r none valid st) where
+stands_fit conflicts records places y j r none valid st = by_pair (pair_of r.heard) refl (step_at conflicts records places y j r none valid st) where
   by_pair : (d : Option Pair) → pair_of r.heard ≡ d
       → StepsAt (state_in (states_of records (links records places)) (cap (pair_of r.heard) j)) r.op r.heard None (state_in (states_of records (links records places)) j)
       → FitsAs d (links records places) (states_of records (links records places)) y r j
@@ -317,13 +317,13 @@ stands_fit mode records places y j r none valid st = by_pair (pair_of r.heard) r
     link_at_level records places st.at_place st.place q st.at (st.pair ∙ is) ∙ ap (λ k. Some (q, k)) st.named,
   )
 
-spread_links : (mode : Conflicts) (records : List Rec) (places : List Place) → AreUnpaired places → AreValid mode records places → AreSpread records (links records places) places
-spread_links mode records places none valid = record {
+spread_links : (conflicts : Conflicts) (records : List Rec) (places : List Place) → AreUnpaired places → AreValid conflicts records places → AreSpread records (links records places) places
+spread_links conflicts records places none valid = record {
   stands = λ y r h at is.
       let named = valid.answered y r at (some_heard r.heard h is) in
       (level records places (suc named.0), (named.0, named.1, named.2, named.3, refl));
   within = λ y j st. let is : j ≡ level records places (suc st.0) = st.4 in let few = level_within records places (suc st.0) in omega arith;
-  fits = λ y j r names st. stands_fit mode records places y j r none valid (standing records places y j r names st);
+  fits = λ y j r names st. stands_fit conflicts records places y j r none valid (standing records places y j r names st);
   own = λ y r h at is.
       let named = valid.answered y r at (some_heard r.heard h is) in
       let of_place : IsPlaceOf records named.1 r = ap (slice_get records) named.3 ∙ at in
@@ -339,11 +339,11 @@ spread_links mode records places none valid = record {
       let cap_is : cap (pair_of r.heard) i ≡ level records places a.at_place = a.before in
       let stretch : j ≡ level records places (suc b.at_place) = b.stretch in
       omega arith;
-  steps = λ y j r names st. step_at mode records places y j r none valid (standing records places y j r names st);
+  steps = λ y j r names st. step_at conflicts records places y j r none valid (standing records places y j r names st);
 }
 
 -- valid places that give no pair spread the records over the stretches of the chain
-pub spread : (mode : Conflicts) (records : List Rec) (chain : List (Pair × ℕ)) (places : List Place) → IsChain records chain → AreUnpaired places → AreValid mode records places
+pub spread : (conflicts : Conflicts) (records : List Rec) (chain : List (Pair × ℕ)) (places : List Place) → IsChain records chain → AreUnpaired places → AreValid conflicts records places
     → AreSpread records chain places
-spread mode records chain places is none valid =
-    subst (λ cs. AreSpread records cs places) (sym (forced_chain mode records chain places is none valid)) (spread_links mode records places none valid)
+spread conflicts records chain places is none valid =
+    subst (λ cs. AreSpread records cs places) (sym (forced_chain conflicts records chain places is none valid)) (spread_links conflicts records places none valid)

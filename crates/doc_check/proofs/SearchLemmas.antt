@@ -1,8 +1,7 @@
 -- The search: the order of the replies is one, and what the sweep says of all orders without a given pair.
-use Rattle.std.proofs.Common.{ℕ, zero, suc, ◌≡◌, ◌<◌, ◌≤◌, ◌⊎◌, inl, inr, List, [], ◌∷◌, map, sym, ap, subst, ◌∙◌, arith, Option, Some, None, slice_get}
+use Rattle.std.proofs.Common.{Err, List, None, Ok, Option, Result, Some, [], ap, arith, inl, inr, map, slice_get, subst, suc, sym, zero, ℕ, ◌<◌, ◌∙◌, ◌∷◌, ◌≡◌, ◌≤◌, ◌⊎◌}
 use Rattle.std.specs.Prelude.{IfOk, IsPermutation, IsSorted, option_map}
 use Rattle.std.specs.declared.alloc.AllocError.{AllocError}
-use Rattle.std.proofs.Common.{Result, Ok, Err}
 use Rattle.doc_check.specs.Search.{FindsUnpaired, FollowsReplies}
 use Rattle.doc_check.specs.declared.search.DocAnswer.{DocAnswer}
 use Rattle.std.specs.Cmp.{IsTotalOrder}
@@ -100,30 +99,30 @@ replies_unpaired records places (xs, moved, up, is) i p at =
 
 -- ---- what the sweep says
 
-pub equal_pairs_none : (records : List Rec) (chain : List (Pair × ℕ)) → IsChain records chain → (Rises chain → ⊥) → (mode : Conflicts) → HasNoOrder mode records
-equal_pairs_none records chain is not mode places none valid = not (climbing_rises chain (forced_climbs mode records chain places is none valid))
+pub equal_pairs_none : (records : List Rec) (chain : List (Pair × ℕ)) → IsChain records chain → (Rises chain → ⊥) → (conflicts : Conflicts) → HasNoOrder conflicts records
+equal_pairs_none records chain is not conflicts places none valid = not (climbing_rises chain (forced_climbs conflicts records chain places is none valid))
 
-pub unspread_none : (records : List Rec) (chain : List (Pair × ℕ)) → IsChain records chain → ((places : List Place) → AreSpread records chain places → ⊥) → (mode : Conflicts) → HasNoOrder mode records
-unspread_none records chain is not mode places none valid = not places (spread mode records chain places is none valid)
+pub unspread_none : (records : List Rec) (chain : List (Pair × ℕ)) → IsChain records chain → ((places : List Place) → AreSpread records chain places → ⊥) → (conflicts : Conflicts) → HasNoOrder conflicts records
+unspread_none records chain is not conflicts places none valid = not places (spread conflicts records chain places is none valid)
 
 pub order_of_sweep : (records : List Rec) (chain : List (Pair × ℕ)) (given : List (Option ℕ)) (order : List Place) → IsChain records chain → Rises chain → AreGiven records chain given
-    → IsStretchOrder records given order → (mode : Conflicts) → IsOfSweep mode records order
-order_of_sweep records chain given order is rising are_given is_order mode = record {
+    → IsStretchOrder records given order → (conflicts : Conflicts) → IsOfSweep conflicts records order
+order_of_sweep records chain given order is rising are_given is_order conflicts = record {
   unpaired = order_unpaired records given order is_order;
-  valid = λ others none valid. order_valid mode records chain given others order is rising are_given (spread mode records chain others is none valid) is_order;
+  valid = λ others none valid. order_valid conflicts records chain given others order is rising are_given (spread conflicts records chain others is none valid) is_order;
 }
 
 -- where the order of the replies is not valid, whatever is found follows it
-pub follows_none : (mode : Conflicts) (records : List Rec) (places : List Place) (r : Result DocAnswer AllocError) → IsReplyOrder records places → (AreValid mode records places → ⊥)
-    → IfOk r (FollowsReplies mode records)
-follows_none mode records places (Ok a) order not = λ others other valid. absurd (not (subst (AreValid mode records) (one_reply_order records others places other order) valid))
-follows_none mode records places (Err e) order not = tt
+pub follows_none : (conflicts : Conflicts) (records : List Rec) (places : List Place) (r : Result DocAnswer AllocError) → IsReplyOrder records places → (AreValid conflicts records places → ⊥)
+    → IfOk r (FollowsReplies conflicts records)
+follows_none conflicts records places (Ok a) order not = λ others other valid. absurd (not (subst (AreValid conflicts records) (one_reply_order records others places other order) valid))
+follows_none conflicts records places (Err e) order not = tt
 
 -- where no places without a given pair are valid, none have to be found
-pub finds_none : (mode : Conflicts) (records : List Rec) (r : Result DocAnswer AllocError) → HasNoOrder mode records → IfOk r (FindsUnpaired mode records)
-finds_none mode records (Ok a) none = λ places unpaired valid. absurd (none places unpaired valid)
-finds_none mode records (Err e) none = tt
+pub finds_none : (conflicts : Conflicts) (records : List Rec) (r : Result DocAnswer AllocError) → HasNoOrder conflicts records → IfOk r (FindsUnpaired conflicts records)
+finds_none conflicts records (Ok a) none = λ places unpaired valid. absurd (none places unpaired valid)
+finds_none conflicts records (Err e) none = tt
 
 -- where the order of the sweep is not valid, there is none
-pub sweep_invalid : (mode : Conflicts) (records : List Rec) (places : List Place) → IsOfSweep mode records places → (AreValid mode records places → ⊥) → HasNoOrder mode records
-sweep_invalid mode records places is not others unpaired valid = not (is.valid others unpaired valid)
+pub sweep_invalid : (conflicts : Conflicts) (records : List Rec) (places : List Place) → IsOfSweep conflicts records places → (AreValid conflicts records places → ⊥) → HasNoOrder conflicts records
+sweep_invalid conflicts records places is not others unpaired valid = not (is.valid others unpaired valid)

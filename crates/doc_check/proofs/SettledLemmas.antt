@@ -24,16 +24,16 @@ step_of records s t (q ∷ ps) zero p run at =
 step_of records s t (q ∷ ps) (suc i) p run at = step_of records run.0 t ps i p run.4 at
 
 -- a settled call gives no pair
-gives_none : (mode : Conflicts) (op : Op) (heard : Option (ℕ × Reply)) (pair : Option Pair) (m u : DocState) → ((op ≡ Get → ⊥) → IsTold mode heard)
-    → ((op ≡ Get) × (heard ≡ None) → ⊥) → GivesAsMay mode heard pair → StepsAt m op heard pair u → pair ≡ None
-gives_none mode Get None pair m u told known gives step = absurd (known (refl, refl))
-gives_none mode (Index k c) None pair m u told known gives step = absurd (told (λ same. (let impossible : Index k c ≡ Get = same in cc)))
-gives_none mode (Delete c) None pair m u told known gives step = absurd (told (λ same. (let impossible : Delete c ≡ Get = same in cc)))
-gives_none mode (Create k) None pair m u told known gives step = absurd (told (λ same. (let impossible : Create k ≡ Get = same in cc)))
-gives_none mode op (Some (at, Indexed q created)) pair m u told known gives step = gives
-gives_none mode op (Some (at, Deleted q found)) pair m u told known gives step = gives
-gives_none mode op (Some (at, Found q k)) pair m u told known gives step = gives
-gives_none mode op (Some (at, Missing)) pair m u told known gives step = gives
+gives_none : (conflicts : Conflicts) (op : Op) (heard : Option (ℕ × Reply)) (pair : Option Pair) (m u : DocState) → ((op ≡ Get → ⊥) → IsTold conflicts heard)
+    → ((op ≡ Get) × (heard ≡ None) → ⊥) → GivesAsMay conflicts heard pair → StepsAt m op heard pair u → pair ≡ None
+gives_none conflicts Get None pair m u told known gives step = absurd (known (refl, refl))
+gives_none conflicts (Index k c) None pair m u told known gives step = absurd (told (λ same. (let impossible : Index k c ≡ Get = same in cc)))
+gives_none conflicts (Delete c) None pair m u told known gives step = absurd (told (λ same. (let impossible : Delete c ≡ Get = same in cc)))
+gives_none conflicts (Create k) None pair m u told known gives step = absurd (told (λ same. (let impossible : Create k ≡ Get = same in cc)))
+gives_none conflicts op (Some (at, Indexed q created)) pair m u told known gives step = gives
+gives_none conflicts op (Some (at, Deleted q found)) pair m u told known gives step = gives
+gives_none conflicts op (Some (at, Found q k)) pair m u told known gives step = gives
+gives_none conflicts op (Some (at, Missing)) pair m u told known gives step = gives
 gives_none Plain op (Some (at, Conflict)) pair m u told known gives step = gives refl
 gives_none Maybe Get (Some (at, Conflict)) pair m u told known gives step = step.1
 gives_none Maybe (Index k c) (Some (at, Conflict)) pair m u told known gives step = absurd (told (λ same. (let impossible : Index k c ≡ Get = same in cc)) refl refl)
@@ -41,9 +41,9 @@ gives_none Maybe (Delete c) (Some (at, Conflict)) pair m u told known gives step
 gives_none Maybe (Create k) (Some (at, Conflict)) pair m u told known gives step = absurd (told (λ same. (let impossible : Create k ≡ Get = same in cc)) refl refl)
 
 pub settled_have_none : SettledHaveNone
-settled_have_none mode records settled none places valid = none places (λ i p at.
+settled_have_none conflicts records settled none places valid = none places (λ i p at.
     let step = step_of records _ valid.right.legal.0 places i p valid.right.legal.1 at in
     let known = valid.right.known i p at in
-    gives_none mode step.2.op step.2.heard p.pair step.0 step.1 (settled p.rec step.2 step.3)
+    gives_none conflicts step.2.op step.2.heard p.pair step.0 step.1 (settled p.rec step.2 step.3)
     (λ unanswered. known.2 (subst IsUnansweredGet (same_some step.2 known.0 (sym step.3 ∙ known.1)) unanswered))
     (valid.right.pairs i p step.2 at step.3) step.4) valid

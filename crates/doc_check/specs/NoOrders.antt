@@ -12,7 +12,7 @@ AreUnpaired places = (i : ℕ) (p : Place) → slice_get places i ≡ Some p →
 
 -- no places without a given pair are valid for the records
 abbrev pub HasNoOrder : Conflicts → List Rec → Type 0
-HasNoOrder mode records = (places : List Place) → AreUnpaired places → ¬ AreValid mode records places
+HasNoOrder conflicts records = (places : List Place) → AreUnpaired places → ¬ AreValid conflicts records places
 
 -- a document for whose records that holds, in this reading of conflicts
 pub record Unordered : Type 0 where
@@ -24,9 +24,9 @@ pub record Unordered : Type 0 where
 
 -- each write has a reply that tells whether it was performed
 abbrev pub AreSettled : Conflicts → List Rec → Type 0
-AreSettled mode records = (k : ℕ) (r : Rec) → slice_get records k ≡ Some r → IsSettled mode r
+AreSettled conflicts records = (k : ℕ) (r : Rec) → slice_get records k ≡ Some r → IsSettled conflicts r
 
 -- settled records for which no places without a given pair are valid have no valid places
 abbrev pub SettledHaveNone : Type 0
-SettledHaveNone = (mode : Conflicts) (records : List Rec) → AreSettled mode records → HasNoOrder mode records
-    → (places : List Place) → ¬ AreValid mode records places
+SettledHaveNone = (conflicts : Conflicts) (records : List Rec) → AreSettled conflicts records → HasNoOrder conflicts records
+    → (places : List Place) → ¬ AreValid conflicts records places

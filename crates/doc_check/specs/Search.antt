@@ -12,8 +12,8 @@ use Rattle.doc_check.specs.declared.search.DocAnswer.TheVariants.{Found, NotFoun
 -- The answer is about the document, its records and this reading of conflicts: an order found is valid for them; where none
 -- is found, no places without a given pair are.
 abbrev pub IsAbout : List ℕ → List Rec → Conflicts → DocAnswer → Type 0
-IsAbout doc records mode (Found w) = (w.doc ≡ doc) × (w.records ≡ records) × (w.conflicts ≡ mode) × AreValid mode records w.places
-IsAbout doc records mode (NotFound n) = (n.doc ≡ doc) × (n.records ≡ records) × (n.conflicts ≡ mode) × HasNoOrder mode records
+IsAbout doc records conflicts (Found w) = (w.doc ≡ doc) × (w.records ≡ records) × (w.conflicts ≡ conflicts) × AreValid conflicts records w.places
+IsAbout doc records conflicts (NotFound n) = (n.doc ≡ doc) × (n.records ≡ records) × (n.conflicts ≡ conflicts) × HasNoOrder conflicts records
 
 -- the id of the document that an answer is about
 abbrev pub id_of : DocAnswer → List ℕ
@@ -26,9 +26,9 @@ records_of (Found w) = w.records
 records_of (NotFound n) = n.records
 
 -- and its reading of conflicts
-abbrev pub mode_of : DocAnswer → Conflicts
-mode_of (Found w) = w.conflicts
-mode_of (NotFound n) = n.conflicts
+abbrev pub conflicts_of : DocAnswer → Conflicts
+conflicts_of (Found w) = w.conflicts
+conflicts_of (NotFound n) = n.conflicts
 
 -- an order is found, with just these places
 abbrev pub IsFoundWith : List Place → DocAnswer → Type 0
@@ -37,7 +37,7 @@ IsFoundWith places (NotFound n) = ⊥
 
 -- where the order of the replies is valid, it is what is found
 abbrev pub FollowsReplies : Conflicts → List Rec → DocAnswer → Type 0
-FollowsReplies mode records answer = (places : List Place) → IsReplyOrder records places → AreValid mode records places
+FollowsReplies conflicts records answer = (places : List Place) → IsReplyOrder records places → AreValid conflicts records places
     → IsFoundWith places answer
 
 -- an order is found, of the answered calls alone
@@ -47,4 +47,4 @@ IsFoundUnpaired (NotFound n) = ⊥
 
 -- where any places without a given pair are valid, such places are found
 abbrev pub FindsUnpaired : Conflicts → List Rec → DocAnswer → Type 0
-FindsUnpaired mode records answer = (places : List Place) → AreUnpaired places → AreValid mode records places → IsFoundUnpaired answer
+FindsUnpaired conflicts records answer = (places : List Place) → AreUnpaired places → AreValid conflicts records places → IsFoundUnpaired answer

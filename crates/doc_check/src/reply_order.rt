@@ -7,7 +7,7 @@ use version_pair::NoMemory;
 use witness::Place;
 
 // The answered records by their numbers, each with the place of its reply before it.
-fn answered(alloc: Global, records: &[Rec]) -> Result<Vec<(usize, usize)>, NoMemory>
+fn answered_by_reply(alloc: Global, records: &[Rec]) -> Result<Vec<(usize, usize)>, NoMemory>
     ensures { IfOk result (λ answered. answered.items ≡ answered_records 0 records.now) }
 {
     let mut answered = Vec::new(alloc);
@@ -23,7 +23,7 @@ fn answered(alloc: Global, records: &[Rec]) -> Result<Vec<(usize, usize)>, NoMem
 pub fn reply_order(alloc: Global, records: &[Rec]) -> Result<Vec<Place>, NoMemory>
     ensures { IfOk result (λ places. IsReplyOrder records.now places.items) }
 {
-    let mut answered = answered(alloc, records)?;
+    let mut answered = answered_by_reply(alloc, records)?;
     answered.sort_unstable();
     let mut places = Vec::with_capacity(alloc, answered.len())?;
     for i in 0..answered.len() {

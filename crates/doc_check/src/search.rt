@@ -1,8 +1,9 @@
 ghost use Rattle.std.specs.Prelude.{◌≡◌, IfOk, IfSome, MatchOption};
-ghost use Rattle.doc_register.specs.declared.state.Conflicts.{Conflicts as Mode};
+ghost use Rattle.doc_register.specs.declared.state.Conflicts.{Conflicts as Reading};
 ghost use Rattle.witness.specs.Places.{AreValid};
 ghost use Rattle.doc_check.specs.NoOrders.{HasNoOrder};
-ghost use Rattle.doc_check.specs.Search.{FindsUnpaired, FollowsReplies, IsAbout, id_of, mode_of, records_of};
+ghost use Rattle.doc_check.specs.Search.{FindsUnpaired, FollowsReplies, IsAbout, id_of, conflicts_of, records_of};
+ghost use Rattle.doc_check.specs.aids.Checked.{IsChecked};
 ghost use Rattle.doc_check.specs.aids.Sweep.{IsOfSweep};
 
 use crate::no_order::NoOrder;
@@ -11,7 +12,7 @@ use crate::reply_order::reply_order;
 use crate::settled::is_settled;
 use crate::stretches::Stretches;
 use crate::sweep::sweep;
-use completing::{completed, searched};
+use completing::{complete_by_rules, search_forward};
 use doc_register::Conflicts;
 use history::{Rec, Seen};
 use std::alloc::{AllocError, Global};
@@ -51,7 +52,7 @@ impl DocAnswer {
 
     /// How a conflict is read.
     pub fn conflicts(&self) -> Conflicts
-        ensures { result ≡ mode_of self.now }
+        ensures { result ≡ conflicts_of self.now }
     {
         match self {
             DocAnswer::Found(witness) => witness.conflicts(),
@@ -61,9 +62,9 @@ impl DocAnswer {
 }
 
 // The order of the answered records that the sweep gives; `None` where it finds that there is none.
-fn swept(alloc: Global, records: &[Rec]) -> Result<Option<Vec<Place>>, NoMemory>
-    ensures { IfOk result (λ swept. (mode : Mode) → MatchOption swept (HasNoOrder mode records.now)
-        (λ places. IsOfSweep mode records.now places.items)) }
+fn sweep_order(alloc: Global, records: &[Rec]) -> Result<Option<Vec<Place>>, NoMemory>
+    ensures { IfOk result (λ swept. (conflicts : Reading) → MatchOption swept (HasNoOrder conflicts records.now)
+        (λ places. IsOfSweep conflicts records.now places.items)) }
 {
     let chain = chain_of(alloc, records)?;
     if !rises(&chain) {
@@ -73,6 +74,33 @@ fn swept(alloc: Global, records: &[Rec]) -> Result<Option<Vec<Place>>, NoMemory>
     match sweep(alloc, records, &stretches)? {
         Some(given) => Ok(Some(order_of(alloc, records, &given)?)),
         None => Ok(None),
+    }
+}
+
+// What the check says of places: that they are an order of the document's calls, or that they are none.
+#[derive(Drop)]
+enum Checked {
+    Valid(DocWitness),
+    // With the id and the records again.
+    Invalid(DocId, Vec<Rec>),
+}
+
+// Checks an order that was found.
+fn check_places(
+    alloc: Global,
+    id: DocId,
+    recs: Vec<Rec>,
+    places: Vec<Place>,
+    conflicts: Conflicts,
+) -> Result<Checked, NoMemory>
+    ensures { IfOk result (IsChecked id recs.items places.items conflicts) }
+{
+    match DocWitness::check(alloc, id, recs, places, conflicts) {
+        Ok(witness) => Ok(Checked::Valid(witness)),
+        Err((fault, id, recs, _)) => match fault {
+            Broken::NoMemory => Err(AllocError),
+            _ => Ok(Checked::Invalid(id, recs)),
+        },
     }
 }
 
@@ -91,13 +119,12 @@ fn answer_forward(
     if is_settled(&recs, conflicts) {
         return Ok(DocAnswer::NotFound(NoOrder::of(id, recs, conflicts)));
     }
-    match searched(alloc, &recs, seen, conflicts, &[])? {
-        Some(places) => match DocWitness::check(alloc, id, recs, places, conflicts) {
-            Ok(witness) => Ok(DocAnswer::Found(witness)),
-            Err((fault, id, recs, _)) => match fault {
-                Broken::NoMemory => Err(AllocError),
-                _ => Ok(DocAnswer::NotFound(NoOrder::of(id, recs, conflicts))),
-            },
+    match search_forward(alloc, &recs, seen, conflicts, &[])? {
+        Some(places) => match check_places(alloc, id, recs, places, conflicts)? {
+            Checked::Valid(witness) => Ok(DocAnswer::Found(witness)),
+            Checked::Invalid(id, recs) => {
+                Ok(DocAnswer::NotFound(NoOrder::of(id, recs, conflicts)))
+            }
         },
         None => Ok(DocAnswer::NotFound(NoOrder::of(id, recs, conflicts))),
     }
@@ -115,13 +142,10 @@ fn answer_by_rules(
     requires { HasNoOrder conflicts recs.items }
     ensures { IfOk result (IsAbout id recs.items conflicts) }
 {
-    match completed(alloc, &recs, seen, conflicts)? {
-        Some(places) => match DocWitness::check(alloc, id, recs, places, conflicts) {
-            Ok(witness) => Ok(DocAnswer::Found(witness)),
-            Err((fault, id, recs, _)) => match fault {
-                Broken::NoMemory => Err(AllocError),
-                _ => answer_forward(alloc, id, recs, seen, conflicts),
-            },
+    match complete_by_rules(alloc, &recs, seen, conflicts)? {
+        Some(places) => match check_places(alloc, id, recs, places, conflicts)? {
+            Checked::Valid(witness) => Ok(DocAnswer::Found(witness)),
+            Checked::Invalid(id, recs) => answer_forward(alloc, id, recs, seen, conflicts),
         },
         None => answer_forward(alloc, id, recs, seen, conflicts),
     }
@@ -138,13 +162,10 @@ fn answer_by_sweep(
     ensures about { IfOk result (IsAbout id recs.items conflicts) }
     ensures complete { IfOk result (FindsUnpaired conflicts recs.items) }
 {
-    match swept(alloc, &recs)? {
-        Some(places) => match DocWitness::check(alloc, id, recs, places, conflicts) {
-            Ok(witness) => Ok(DocAnswer::Found(witness)),
-            Err((fault, id, recs, _)) => match fault {
-                Broken::NoMemory => Err(AllocError),
-                _ => answer_by_rules(alloc, id, recs, seen, conflicts),
-            },
+    match sweep_order(alloc, &recs)? {
+        Some(places) => match check_places(alloc, id, recs, places, conflicts)? {
+            Checked::Valid(witness) => Ok(DocAnswer::Found(witness)),
+            Checked::Invalid(id, recs) => answer_by_rules(alloc, id, recs, seen, conflicts),
         },
         None => answer_by_rules(alloc, id, recs, seen, conflicts),
     }
@@ -167,12 +188,9 @@ pub fn answer(
     ensures complete { IfOk result (FindsUnpaired conflicts recs.items) }
 {
     let places = reply_order(alloc, &recs)?;
-    match DocWitness::check(alloc, id, recs, places, conflicts) {
-        Ok(witness) => Ok(DocAnswer::Found(witness)),
-        Err((fault, id, recs, _)) => match fault {
-            Broken::NoMemory => Err(AllocError),
-            _ => answer_by_sweep(alloc, id, recs, seen, conflicts),
-        },
+    match check_places(alloc, id, recs, places, conflicts)? {
+        Checked::Valid(witness) => Ok(DocAnswer::Found(witness)),
+        Checked::Invalid(id, recs) => answer_by_sweep(alloc, id, recs, seen, conflicts),
     }
 }
 
@@ -195,11 +213,10 @@ pub fn answer_among(
     if is_settled(&recs, conflicts) {
         return Ok(None);
     }
-    match searched(alloc, &recs, seen, conflicts, used)? {
-        Some(places) => match DocWitness::check(alloc, id, recs, places, conflicts) {
-            Ok(witness) => Ok(Some(witness)),
-            Err((Broken::NoMemory, ..)) => Err(AllocError),
-            Err(_) => Ok(None),
+    match search_forward(alloc, &recs, seen, conflicts, used)? {
+        Some(places) => match check_places(alloc, id, recs, places, conflicts)? {
+            Checked::Valid(witness) => Ok(Some(witness)),
+            Checked::Invalid(..) => Ok(None),
         },
         None => Ok(None),
     }

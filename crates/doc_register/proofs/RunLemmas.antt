@@ -19,13 +19,19 @@ pub not_below_itself : (p : Pair) → IsBelow p p → ⊥
 not_below_itself p (inl h) = omega (arith, h)
 not_below_itself p (inr h) = let seq : p.seq < p.seq = h.1 in omega arith
 
-below_trans : (p q r : Pair) → IsBelow p q → IsBelow q r → IsBelow p r
+pub below_trans : (p q r : Pair) → IsBelow p q → IsBelow q r → IsBelow p r
 below_trans p q r (inl a) (inl b) = inl (omega arith)
 below_trans p q r (inl a) (inr b) = let same : q.term ≡ r.term = b.0 in inl (omega arith)
 below_trans p q r (inr a) (inl b) = let same : p.term ≡ q.term = a.0 in inl (omega arith)
 below_trans p q r (inr a) (inr b) =
     let first : p.term ≡ q.term = a.0 in let second : q.term ≡ r.term = b.0 in
     let low : p.seq < q.seq = a.1 in let high : q.seq < r.seq = b.1 in inr (omega arith, omega arith)
+
+pub not_both_below : (p q : Pair) → IsBelow p q → IsBelow q p → ⊥
+not_both_below p q (inl a) (inl b) = omega arith
+not_both_below p q (inl a) (inr b) = let same : q.term ≡ p.term = b.0 in omega arith
+not_both_below p q (inr a) (inl b) = let same : p.term ≡ q.term = a.0 in omega arith
+not_both_below p q (inr a) (inr b) = let first : p.seq < q.seq = a.1 in let second : q.seq < p.seq = b.1 in omega arith
 
 -- the document was changed, and the pair of its last change is p or above it
 abbrev pub AtMost : Pair → DocState → Type 0
@@ -66,7 +72,7 @@ write_kind s op Missing h t w = absurd w
 write_kind s op Conflict None t w = inl (refl, w.1)
 write_kind s op Conflict (Some q) t w = inr (q, refl, w)
 
-shown_takes_none : (s : DocState) → pair_taken (shown s) None ≡ None
+pub shown_takes_none : (s : DocState) → pair_taken (shown s) None ≡ None
 shown_takes_none Never = refl
 shown_takes_none (Gone p) = refl
 shown_takes_none (Here p k) = refl

@@ -3,7 +3,7 @@ ghost use Rattle.std.specs.Cmp.Lexicographic.{pointwise};
 ghost use Rattle.std.specs.Map.{lookup};
 ghost use Rattle.indexmap.specs.IndexSet.{spare};
 ghost use Rattle.doc_register.specs.Documents.{Accepts, IsTooLow, IsUsedTwice, no_documents, state_of};
-ghost use Rattle.doc_register.specs.Register.{performed_state, shown};
+ghost use Rattle.doc_register.specs.Register.{IsPerformed, performed_state, shown};
 ghost use Rattle.doc_register.specs.aids.Answers.{unperformed_reply as the_unperformed_reply};
 
 use crate::map_fault::MapFault;
@@ -138,7 +138,7 @@ impl DocMap {
     /// The answer to a call, where a write that is performed takes the pair.
     ///
     /// A get answers what the document shows, and a write that is not performed a conflict; both leave the documents as
-    /// they were and use no pair. A performed write is refused with `PairUsed` where its pair is used already, by any
+    /// they were, use no pair and are never refused. A performed write is refused with `PairUsed` where its pair is used already, by any
     /// document; with `PairLow` where it is not greater than that of the document's last change; with `NoMemory` where a
     /// growth was refused. A refusal changes nothing.
     pub fn apply(&mut self, id: &DocId, op: &Op, pair: Pair) -> Result<Reply, MapFault>
@@ -146,6 +146,7 @@ impl DocMap {
         ensures used { (result ≡ Err MapFault.PairUsed) ↔ IsUsedTwice self.old id.now op.now pair }
         ensures low { (result ≡ Err MapFault.PairLow) ↔ IsTooLow self.old id.now op.now pair }
         ensures refused { OnErr result (self.new ≡ self.old) }
+        ensures performed { OnErr result (IsPerformed (state_of self.old id.now) op.now) }
     {
         let state = self.state(id);
         if !is_performed(state, *op) {

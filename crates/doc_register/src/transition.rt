@@ -75,7 +75,7 @@ pub fn performed_reply(state: DocState, op: Op, pair: Pair) -> Reply
 }
 
 // The document after the write is performed with the pair; `None` where it is not.
-fn performed(state: DocState, op: Op, pair: Pair) -> Option<DocState>
+fn perform(state: DocState, op: Op, pair: Pair) -> Option<DocState>
     ensures some { IfSome result (λ after. Performs state op pair after) }
     ensures none { IfNone result ((after : State) → ¬ Performs state op pair after) }
 {
@@ -109,12 +109,12 @@ fn write(state: DocState, op: Op, reply: Reply, hidden: Option<Pair>) -> Option<
     match (reply, hidden) {
         (Reply::Indexed { pair, .. } | Reply::Deleted { pair, .. }, None) => {
             if reply == performed_reply(state, op, pair) {
-                performed(state, op, pair)
+                perform(state, op, pair)
             } else {
                 None
             }
         }
-        (Reply::Conflict, Some(pair)) => performed(state, op, pair),
+        (Reply::Conflict, Some(pair)) => perform(state, op, pair),
         (Reply::Conflict, None) => {
             if is_performed(state, op) {
                 None

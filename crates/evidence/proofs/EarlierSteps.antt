@@ -8,13 +8,12 @@ use Rattle.doc_register.specs.declared.reply.Reply.{Reply as Answer}
 use Rattle.doc_register.specs.declared.reply.Reply.TheVariants.{Indexed, Deleted, Found, Missing, Conflict}
 use Rattle.doc_register.specs.declared.state.DocState.{DocState}
 use Rattle.doc_register.specs.declared.state.DocState.TheVariants.{Gone, Here}
-use Rattle.doc_register.specs.Register.{DocStep, WriteStep}
+use Rattle.doc_register.specs.Register.{DocStep, WriteStep, value_of}
 use Rattle.doc_register.specs.Run.{Entry, IsRun, State, Step, pair_taken}
 use Rattle.doc_register.proofs.RunLemmas.{AtMost, IsKind, below_new, leaves_pair, step_kind}
 use Rattle.doc_register.proofs.RunLaws.{pair_performs}
 use Rattle.history.specs.Events.{is_same}
 use Rattle.history.proofs.ListLemmas.{none_is_not_some, same_some}
-use Rattle.doc_register.specs.Register.{value_of}
 
 -- the step of the document before which it has the pair or one above it
 pub record StepsAbove (q : Pair) (e : Entry) : Type 0 where

@@ -11,24 +11,24 @@ use Rattle.doc_register.specs.declared.state.Conflicts.{Conflicts}
 use Rattle.doc_register.specs.declared.state.Conflicts.TheVariants.{Plain, Maybe}
 use Rattle.doc_register.specs.declared.state.DocState.{DocState}
 use Rattle.doc_register.specs.declared.state.DocState.TheVariants.{Never, Gone, Here}
-use Rattle.doc_register.specs.Register.{DocStep, HasPair, Performs, shown}
+use Rattle.doc_register.specs.Register.{DocStep, HasPair, Performs, condition_of, shown, value_of}
 use Rattle.doc_register.specs.Run.{Entry, IsLegalRun, pair_taken, start, taken, taken_at}
-use Rattle.doc_register.proofs.RunLemmas.{AtMost, below_new, not_below_itself, step_kind, taken_of}
+use Rattle.doc_register.proofs.RunLemmas.{AtMost, below_new, not_below_itself, not_both_below, step_kind, taken_of}
 use Rattle.doc_register.proofs.RunLaws.{no_pair_twice, pair_performs}
 use Rattle.history.specs.declared.event.Event.{Event}
 use Rattle.history.specs.declared.event.Event.TheVariants.{Call, Reply}
 use Rattle.history.specs.Events.{IsCallAt, IsHistory, PassesAt, Precedes, heard_of, is_call}
 use Rattle.history.specs.Order.{Explains, IsLinearizable, IsOfCall, Placed, run_of}
 use Rattle.history.proofs.HistoryLemmas.{call_passes}
-use Rattle.history.proofs.ListLemmas.{none_is_not_some, same_some}
+use Rattle.history.proofs.ListLemmas.{mapped_from, none_is_not_some, same_some}
 use Rattle.history.specs.Heard.{taken_by}
-use Rattle.doc_register.specs.Register.{condition_of, value_of}
 use Rattle.evidence.specs.Evidence.{EvidenceRefutes, HasNoWriter, IsPairTwice, IsPerformed, IsStaleGet, IsStaleSwap, MayTake}
 use Rattle.evidence.specs.declared.refuted.Refuted.TheVariants as evidence
 use Rattle.evidence.proofs.EarlierSteps.{GivesNumber, IsGivenBefore, StepsAbove, above_taken, steps_from}
-use Rattle.evidence.proofs.FilterLemmas.{mapped_at, mapped_from}
+use Rattle.evidence.proofs.FilterLemmas.{mapped_at}
 use Rattle.evidence.proofs.CallsByNumber.{same_shard}
-use Rattle.evidence.proofs.HeardLemmas.{heard_is_reply, same_call}
+use Rattle.evidence.proofs.HeardLemmas.{heard_is_reply}
+use Rattle.history.proofs.EventLemmas.{same_call}
 
 -- ---- answered calls in an order
 
@@ -45,9 +45,9 @@ record IsPlaced (order : List Placed) (n h : ℕ) (d : List ℕ) (op : Op) (r : 
   pub entry : slice_get (run_of order) place ≡ Some placed.entry
 
 -- an answered call stands in each order that explains the history
-placed : (mode : Conflicts) (events : List Event) (order : List Placed) → IsHistory events → Explains mode events order
+placed : (conflicts : Conflicts) (events : List Event) (order : List Placed) → IsHistory events → Explains conflicts events order
     → (i n h y : ℕ) (d : List ℕ) (op : Op) (r : Answer) → IsCallAt events i n h d op → heard_of events n ≡ Some (y, r) → IsPlaced order n h d op r
-placed mode events order history explains i n h y d op r call heard =
+placed conflicts events order history explains i n h y d op r call heard =
     let x = explains.is_order.answered y n r (heard_is_reply events history i n h d op call y r heard) in
     let of : IsOfCall events x.1 = explains.is_order.calls x.0 x.1 x.2 in
     let place : of.0 ≡ i = history.called_once n of.0 i
@@ -88,11 +88,11 @@ record IsPlacedWith (order : List Placed) (n h : ℕ) (d : List ℕ) (op : Op) (
   pub takes : pair_taken own.placed.entry.reply own.placed.entry.hidden ≡ Some q
   pub shows : pair_taken reply None ≡ Some q
 
-placed_with : (mode : Conflicts) (events : List Event) (order : List Placed) → IsHistory events → Explains mode events order
+placed_with : (conflicts : Conflicts) (events : List Event) (order : List Placed) → IsHistory events → Explains conflicts events order
     → (n : ℕ) (d : List ℕ) (q : Pair) (w : IsPerformed events n d q) → IsPlacedWith order n w.shard d w.op q
-placed_with mode events order history explains n d q w =
+placed_with conflicts events order history explains n d q w =
     let heard = shown_heard (heard_of events n) q w.shows in
-    let own = placed mode events order history explains w.called n w.shard heard.0 d w.op heard.1 w.call heard.2 in
+    let own = placed conflicts events order history explains w.called n w.shard heard.0 d w.op heard.1 w.call heard.2 in
     record {
       reply = heard.1;
       own = own;
@@ -102,10 +102,10 @@ placed_with mode events order history explains n d q w =
 
 -- ---- a pair twice
 
-pair_twice : (mode : Conflicts) (events : List Event) (a b : ℕ) → IsHistory events → IsPairTwice events a b → ¬ IsLinearizable mode events
-pair_twice mode events a b history twice (order, explains) =
-    let one = placed_with mode events order history explains a twice.doc twice.pair twice.one in
-    let two = placed_with mode events order history explains b twice.other twice.pair twice.two in
+pair_twice : (conflicts : Conflicts) (events : List Event) (a b : ℕ) → IsHistory events → IsPairTwice events a b → ¬ IsLinearizable conflicts events
+pair_twice conflicts events a b history twice (order, explains) =
+    let one = placed_with conflicts events order history explains a twice.doc twice.pair twice.one in
+    let two = placed_with conflicts events order history explains b twice.other twice.pair twice.two in
     let q : ℕ × Pair = (twice.one.shard, twice.pair) in
     let same : one.own.place ≡ two.own.place = no_pair_twice (run_of order) explains.legal one.own.place two.own.place q
     (takes_at order one.own.place one.own.placed.entry twice.one.shard twice.pair one.own.entry one.own.shard one.takes)
@@ -130,22 +130,18 @@ found_has x (Index n c) h y p k step = absurd step
 found_has x (Delete c) h y p k step = absurd step
 found_has x (Create n) h y p k step = absurd step
 
--- two pairs are not each below the other
-not_both : (p q : Pair) → IsBelow p q → IsBelow q p → ⊥
-not_both p q below above = not_below_itself p (below_new p p (Here q 0) (inr below) above)
-
 -- no pair below one that the document has at least is its pair
 not_lower : (p q : Pair) (x : DocState) → AtMost q x → HasPair x p → IsBelow p q → ⊥
 not_lower p q Never most has below = absurd most
 not_lower p q (Gone r) most has below = absurd has
 not_lower p q (Here r k) (inl same) has below = not_below_itself p (subst (IsBelow p) (same ∙ has) below)
-not_lower p q (Here r k) (inr above) has below = not_both p q below (subst (IsBelow q) has above)
+not_lower p q (Here r k) (inr above) has below = not_both_below p q below (subst (IsBelow q) has above)
 
 -- where one call precedes another that is placed, it stands first
-stale_get : (mode : Conflicts) (events : List Event) (g w : ℕ) → IsHistory events → IsStaleGet events g w → ¬ IsLinearizable mode events
-stale_get mode events g w history stale (order, explains) =
-    let get = placed mode events order history explains stale.get.called g stale.get.shard stale.replied stale.doc stale.get.op (Found stale.found stale.number) stale.get.call stale.get.heard in
-    let write = placed_with mode events order history explains w stale.doc stale.pair stale.write in
+stale_get : (conflicts : Conflicts) (events : List Event) (g w : ℕ) → IsHistory events → IsStaleGet events g w → ¬ IsLinearizable conflicts events
+stale_get conflicts events g w history stale (order, explains) =
+    let get = placed conflicts events order history explains stale.get.called g stale.get.shard stale.replied stale.doc stale.get.op (Found stale.found stale.number) stale.get.call stale.get.heard in
+    let write = placed_with conflicts events order history explains w stale.doc stale.pair stale.write in
     let first : write.own.place < get.place =
     explains.respects write.own.place get.place write.own.placed get.placed write.own.at get.at
     (subst (λ n. Precedes events n get.placed.no) (sym write.own.number) (subst (λ n. Precedes events w n) (sym get.number) stale.first)) in
@@ -176,10 +172,10 @@ lesser_first order a b h g d op o q r legal one two before =
       performed : (e : Entry) (s : StepsAbove r e) (q : Pair) → pair_taken e.reply e.hidden ≡ Some q → Performs s.before e.op q s.after
       performed e s q is = pair_performs s.before e s.after q is (step_kind s.before e.op e.reply e.hidden s.after s.step)
 
-stale_swap : (mode : Conflicts) (events : List Event) (a b : ℕ) → IsHistory events → IsStaleSwap events a b → ¬ IsLinearizable mode events
-stale_swap mode events a b history stale (order, explains) =
-    let one = placed_with mode events order history explains a stale.doc stale.pair stale.one in
-    let two = placed_with mode events order history explains b stale.doc stale.later stale.two in
+stale_swap : (conflicts : Conflicts) (events : List Event) (a b : ℕ) → IsHistory events → IsStaleSwap events a b → ¬ IsLinearizable conflicts events
+stale_swap conflicts events a b history stale (order, explains) =
+    let one = placed_with conflicts events order history explains a stale.doc stale.pair stale.one in
+    let two = placed_with conflicts events order history explains b stale.doc stale.later stale.two in
     let first : one.own.place < two.own.place = in_order one two stale.first in
     let above = above_taken (run_of order) start explains.legal.0 explains.legal.1 one.own.place two.own.place one.own.placed.entry two.own.placed.entry stale.pair first
     one.own.entry two.own.entry (one.own.doc ∙ sym two.own.doc) one.takes in
@@ -196,7 +192,7 @@ stale_swap mode events a b history stale (order, explains) =
           elim (cases_lt one.own.place two.own.place) as (λ _. one.own.place < two.own.place) [
             | inl less ↦ less
             | inr other ↦ elim (cases_lt two.own.place one.own.place) as (λ _. one.own.place < two.own.place) [
-              | inl more ↦ absurd (not_both stale.pair stale.later below
+              | inl more ↦ absurd (not_both_below stale.pair stale.later below
                   (lesser_first order a b stale.one.shard stale.two.shard stale.doc stale.one.op stale.two.op stale.pair stale.later explains.legal one two more))
               | inr under ↦ (let same : one.own.place ≡ two.own.place = omega arith in
                   let call : one.own.placed ≡ two.own.placed = same_some one.own.placed two.own.placed (sym one.own.at ∙ (ap (slice_get order) same ∙ two.own.at)) in
@@ -207,21 +203,21 @@ stale_swap mode events a b history stale (order, explains) =
 -- ---- no writer
 
 -- what is heard of a call that gave a number with a pair allows that it did
-may_take : (mode : Conflicts) (heard : Option (ℕ × Answer)) (e : Entry) (p : Pair) (k : ℕ) → GivesNumber p k e → (mode ≡ Plain → e.hidden ≡ None)
-    → ((y : ℕ) (r : Answer) → heard ≡ Some (y, r) → e.reply ≡ r) → MayTake mode heard p
-may_take mode None e p k gives plain told = tt
-may_take mode (Some (y, r)) e p k gives plain told = by_reply (told y r refl) gives.takes where
-  by_mode : (m : Conflicts) → mode ≡ m → e.hidden ≡ Some p → mode ≡ Maybe
-  by_mode Plain is hides = absurd (none_is_not_some p (sym (plain is) ∙ hides))
-  by_mode Maybe is hides = is
+may_take : (conflicts : Conflicts) (heard : Option (ℕ × Answer)) (e : Entry) (p : Pair) (k : ℕ) → GivesNumber p k e → (conflicts ≡ Plain → e.hidden ≡ None)
+    → ((y : ℕ) (r : Answer) → heard ≡ Some (y, r) → e.reply ≡ r) → MayTake conflicts heard p
+may_take conflicts None e p k gives plain told = tt
+may_take conflicts (Some (y, r)) e p k gives plain told = by_reply (told y r refl) gives.takes where
+  by_conflicts : (m : Conflicts) → conflicts ≡ m → e.hidden ≡ Some p → conflicts ≡ Maybe
+  by_conflicts Plain is hides = absurd (none_is_not_some p (sym (plain is) ∙ hides))
+  by_conflicts Maybe is hides = is
 
-  by_reply : e.reply ≡ r → ((created : _) × (e.reply ≡ Indexed p created)) ⊎ ((e.reply ≡ Conflict) × (e.hidden ≡ Some p)) → MayTake mode (Some (y, r)) p
-  by_reply same (inl shows) = subst (λ x. MayTake mode (Some (y, x)) p) (sym shows.1 ∙ same) refl
-  by_reply same (inr hides) = subst (λ x. MayTake mode (Some (y, x)) p) (sym hides.0 ∙ same) (by_mode mode refl hides.1)
+  by_reply : e.reply ≡ r → ((created : _) × (e.reply ≡ Indexed p created)) ⊎ ((e.reply ≡ Conflict) × (e.hidden ≡ Some p)) → MayTake conflicts (Some (y, r)) p
+  by_reply same (inl shows) = subst (λ x. MayTake conflicts (Some (y, x)) p) (sym shows.1 ∙ same) refl
+  by_reply same (inr hides) = subst (λ x. MayTake conflicts (Some (y, x)) p) (sym hides.0 ∙ same) (by_conflicts conflicts refl hides.1)
 
-no_writer : (mode : Conflicts) (events : List Event) (g : ℕ) → IsHistory events → HasNoWriter mode events g → ¬ IsLinearizable mode events
-no_writer mode events g history evidence (order, explains) =
-    let get = placed mode events order history explains evidence.get.called g evidence.get.shard evidence.replied evidence.doc evidence.get.op (Found evidence.pair evidence.number) evidence.get.call
+no_writer : (conflicts : Conflicts) (events : List Event) (g : ℕ) → IsHistory events → HasNoWriter conflicts events g → ¬ IsLinearizable conflicts events
+no_writer conflicts events g history evidence (order, explains) =
+    let get = placed conflicts events order history explains evidence.get.called g evidence.get.shard evidence.replied evidence.doc evidence.get.op (Found evidence.pair evidence.number) evidence.get.call
     evidence.get.heard in
     let step = steps_from (run_of order) start explains.legal.0 explains.legal.1 get.place get.placed.entry get.entry in
     let here = found_has step.before get.placed.entry.op get.placed.entry.hidden step.after evidence.pair evidence.number
@@ -257,7 +253,7 @@ no_writer mode events g history evidence (order, explains) =
       -- what was heard of a call of the order is its reply there
       told : (i : ℕ) (p : Placed) → slice_get order i ≡ Some p → IsOfCall events p → (y : ℕ) (r : Answer) → heard_of events p.no ≡ Some (y, r) → p.entry.reply ≡ r
       told i p at of y r heard =
-          let own = placed mode events order history explains of.0 p.no p.entry.shard y p.entry.doc p.entry.op r of.1 heard in
+          let own = placed conflicts events order history explains of.0 p.no p.entry.shard y p.entry.doc p.entry.op r of.1 heard in
           let same : own.place ≡ i = explains.is_order.once own.place i own.placed p own.at at own.number in
           let call : own.placed ≡ p = same_some own.placed p (sym own.at ∙ (ap (slice_get order) same ∙ at)) in
           ap (λ (q : Placed). q.entry.reply) (sym call) ∙ own.reply
@@ -275,7 +271,7 @@ no_writer mode events g history evidence (order, explains) =
             op = x.0.entry.op;
             call = subst (λ d. IsCallAt events of.0 x.0.no x.0.entry.shard d x.0.entry.op) doc of.1;
             gives = ap (λ (e : Entry). value_of e.op) x.2 ∙ given.gives.number;
-            takes = may_take mode (heard_of events x.0.no) given.entry evidence.pair evidence.number given.gives
+            takes = may_take conflicts (heard_of events x.0.no) given.entry evidence.pair evidence.number given.gives
                 (λ is. ap (λ (e : Entry). e.hidden) (sym x.2) ∙ explains.is_order.plain is given.place x.0 x.1)
                 (λ y r heard. ap (λ (e : Entry). e.reply) (sym x.2) ∙ told given.place x.0 x.1 of y r heard);
           })
@@ -288,7 +284,7 @@ no_writer mode events g history evidence (order, explains) =
 -- ---- the law
 
 pub evidence_refutes : EvidenceRefutes
-evidence_refutes mode events (evidence.PairTwice a b) history holds explained = pair_twice mode events a b history holds explained
-evidence_refutes mode events (evidence.NoWriter g) history holds explained = no_writer mode events g history holds explained
-evidence_refutes mode events (evidence.StaleGet g w) history holds explained = stale_get mode events g w history holds explained
-evidence_refutes mode events (evidence.StaleSwap a b) history holds explained = stale_swap mode events a b history holds explained
+evidence_refutes conflicts events (evidence.PairTwice a b) history holds explained = pair_twice conflicts events a b history holds explained
+evidence_refutes conflicts events (evidence.NoWriter g) history holds explained = no_writer conflicts events g history holds explained
+evidence_refutes conflicts events (evidence.StaleGet g w) history holds explained = stale_get conflicts events g w history holds explained
+evidence_refutes conflicts events (evidence.StaleSwap a b) history holds explained = stale_swap conflicts events a b history holds explained

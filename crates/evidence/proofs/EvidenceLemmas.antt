@@ -21,7 +21,8 @@ use Rattle.evidence.specs.aids.AnsweredCalls.{AsksTooLittle, IsFoundGet, IsPerfo
 use Rattle.evidence.specs.declared.answered_call.FoundGet.{FoundGet}
 use Rattle.evidence.specs.declared.answered_call.PerformedWrite.{PerformedWrite}
 use Rattle.evidence.proofs.CallsByNumber.{same_shard}
-use Rattle.evidence.proofs.HeardLemmas.{heard_is_reply, same_call}
+use Rattle.evidence.proofs.HeardLemmas.{heard_is_reply}
+use Rattle.history.proofs.EventLemmas.{same_call}
 
 -- ---- calls at places
 
@@ -215,22 +216,22 @@ stale_swap_told events a b one two history x y apart = (
 
 -- ---- no writer
 
-pub no_writer_told : (mode : Conflicts) (events : List Event) (g : ℕ) (get : FoundGet) → IsHistory events → (x : IsFoundGet events g get)
-    → ((j : ℕ) → ¬ IsWriter mode events x.doc get.replied get.pair get.k j) ↔ HasNoWriter mode events g
-no_writer_told mode events g get history x = (
+pub no_writer_told : (conflicts : Conflicts) (events : List Event) (g : ℕ) (get : FoundGet) → IsHistory events → (x : IsFoundGet events g get)
+    → ((j : ℕ) → ¬ IsWriter conflicts events x.doc get.replied get.pair get.k j) ↔ HasNoWriter conflicts events g
+no_writer_told conflicts events g get history x = (
   λ none. record { doc = x.doc; replied = get.replied; pair = get.pair; number = get.k; get = found_as events g get x; none = none },
   λ evidence j writer.
       let that = that_get events g get evidence.doc evidence.replied evidence.pair evidence.number history x evidence.get in
-      evidence.none j (subst (λ d. IsWriter mode events d evidence.replied evidence.pair evidence.number j) that.doc
-      (subst (λ i. IsWriter mode events x.doc i evidence.pair evidence.number j) that.replied
-      (subst (λ p. IsWriter mode events x.doc get.replied p evidence.number j) that.pair
-      (subst (λ k. IsWriter mode events x.doc get.replied get.pair k j) that.number writer)))),
+      evidence.none j (subst (λ d. IsWriter conflicts events d evidence.replied evidence.pair evidence.number j) that.doc
+      (subst (λ i. IsWriter conflicts events x.doc i evidence.pair evidence.number j) that.replied
+      (subst (λ p. IsWriter conflicts events x.doc get.replied p evidence.number j) that.pair
+      (subst (λ k. IsWriter conflicts events x.doc get.replied get.pair k j) that.number writer)))),
 )
 
 -- the call at the place is a writer, if it may give the number with the pair and is of the document
-pub writer_told : (mode : Conflicts) (events : List Event) (d e : List ℕ) (get : FoundGet) (j n h : ℕ) (op : Op) → j < get.replied → IsCallAt events j n h e op
-    → ((value_of op ≡ Some get.k) × MayTake mode (heard_of events n) get.pair × PassesAt (is_call_of d) events j) ↔ IsWriter mode events d get.replied get.pair get.k j
-writer_told mode events d e get j n h op before call = (
+pub writer_told : (conflicts : Conflicts) (events : List Event) (d e : List ℕ) (get : FoundGet) (j n h : ℕ) (op : Op) → j < get.replied → IsCallAt events j n h e op
+    → ((value_of op ≡ Some get.k) × MayTake conflicts (heard_of events n) get.pair × PassesAt (is_call_of d) events j) ↔ IsWriter conflicts events d get.replied get.pair get.k j
+writer_told conflicts events d e get j n h op before call = (
   λ (gives, takes, own). record {
     before = before;
     number = n;
@@ -243,7 +244,7 @@ writer_told mode events d e get j n h op before call = (
   λ writer.
       let same = same_call events j writer.number n writer.shard h d e writer.op op writer.call call in (
         ap value_of (sym same.2) ∙ writer.gives,
-        subst (λ m. MayTake mode (heard_of events m) get.pair) same.0 writer.takes,
+        subst (λ m. MayTake conflicts (heard_of events m) get.pair) same.0 writer.takes,
         of_document events j n h d op (subst (λ f. IsCallAt events j n h f op) (sym same.1) call),
       ),
 )

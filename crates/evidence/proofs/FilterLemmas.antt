@@ -1,5 +1,5 @@
 -- Places among the elements that a test keeps, and places of what a function makes of each element.
-use Rattle.std.proofs.Common.{ℕ, zero, suc, ◌≡◌, ◌<◌, List, [], ◌∷◌, refl, sym, ap, ◌∙◌, arith, Bool, true, false, cond, map, Option, Some, None, slice_get}
+use Rattle.std.proofs.Common.{ℕ, zero, suc, ◌≡◌, ◌<◌, List, [], ◌∷◌, refl, sym, ap, ◌∙◌, arith, Bool, true, false, cond, map, Some, slice_get}
 use Rattle.std.specs.Prelude.{filter, option_map}
 use Rattle.std.proofs.lemmas.Option.{slice_get-map}
 use Rattle.history.proofs.ListLemmas.{none_is_not_some, same_some}
@@ -51,13 +51,6 @@ kept_order {X} test (y ∷ ys) i j x z below at bt = by_test (test y) refl i j b
       (suc m.0, suc m.1, (omega arith), kept_next test y ys m.0 x m.3, kept_next test y ys m.1 z m.4)
 
 -- ---- what a function makes of each element
-
--- what stands in the list that is made is made of the element at its place
-pub mapped_from : {X Y : Type 0} (f : X → Y) (xs : List X) (i : ℕ) (y : Y) → slice_get (map f xs) i ≡ Some y → (x : X) × (slice_get xs i ≡ Some x) × (f x ≡ y)
-mapped_from {X} {Y} f xs i y at = by_option (slice_get xs i) refl (sym (slice_get-map f xs i) ∙ at) where
-  by_option : (o : Option X) → slice_get xs i ≡ o → option_map f o ≡ Some y → (x : X) × (slice_get xs i ≡ Some x) × (f x ≡ y)
-  by_option None is made = absurd (none_is_not_some y made)
-  by_option (Some x) is made = (x, is, same_some (f x) y made)
 
 -- and of each element one is made
 pub mapped_at : {X Y : Type 0} (f : X → Y) (xs : List X) (i : ℕ) (x : X) → slice_get xs i ≡ Some x → slice_get (map f xs) i ≡ Some (f x)

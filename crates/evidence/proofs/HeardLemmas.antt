@@ -11,12 +11,7 @@ use Rattle.history.specs.Laws.{IsRecordAt}
 use Rattle.history.proofs.HistoryLemmas.{answered_call}
 use Rattle.history.proofs.ListLemmas.{made_of, none_is_not_some, same_some}
 use Rattle.history.proofs.RecordLaws.{split_by_document}
-
--- two calls at one place are one
-pub same_call : (events : List Event) (i n m h g : ℕ) (d e : List ℕ) (op o : Op) → IsCallAt events i n h d op → IsCallAt events i m g e o → (n ≡ m) × (d ≡ e) × (op ≡ o)
-same_call events i n m h g d e op o at bt =
-    let same : Call n h d op ≡ Call m g e o = same_some (Call n h d op) (Call m g e o) (sym at ∙ bt) in
-    (cc, cc, cc)
+use Rattle.history.proofs.EventLemmas.{same_call}
 
 -- the record that is made at a place tells what was heard of its number
 record_made : (events : List Event) (i : ℕ) (r : Rec) → record_at events i ≡ Some r → r.heard ≡ heard_of events r.no

@@ -42,22 +42,22 @@ pub record IsFound (events : List Event) (n : ℕ) (d : List ℕ) (i : ℕ) (p :
 -- What was heard of an index or a create allows that it took the pair p: it was answered with this pair, it is pending, or,
 -- under Maybe, it was answered with a conflict.
 abbrev pub MayTake : Conflicts → Option (ℕ × Answer) → Pair → Type 0
-MayTake mode None p = Unit {0}
-MayTake mode (Some (at, Indexed q created)) p = q ≡ p
-MayTake mode (Some (at, Deleted q found)) p = ⊥
-MayTake mode (Some (at, Found q k)) p = ⊥
-MayTake mode (Some (at, Missing)) p = ⊥
-MayTake mode (Some (at, Conflict)) p = mode ≡ Maybe
+MayTake conflicts None p = Unit {0}
+MayTake conflicts (Some (at, Indexed q created)) p = q ≡ p
+MayTake conflicts (Some (at, Deleted q found)) p = ⊥
+MayTake conflicts (Some (at, Found q k)) p = ⊥
+MayTake conflicts (Some (at, Missing)) p = ⊥
+MayTake conflicts (Some (at, Conflict)) p = conflicts ≡ Maybe
 
 -- The call at the place j, before i, is an index or a create which may have given the document d the number k with the pair p.
-pub record IsWriter (mode : Conflicts) (events : List Event) (d : List ℕ) (i : ℕ) (p : Pair) (k j : ℕ) : Type 0 where
+pub record IsWriter (conflicts : Conflicts) (events : List Event) (d : List ℕ) (i : ℕ) (p : Pair) (k j : ℕ) : Type 0 where
   pub before : j < i
   pub number : ℕ
   pub shard : ℕ
   pub op : Op
   pub call : IsCallAt events j number shard d op
   pub gives : value_of op ≡ Some k
-  pub takes : MayTake mode (heard_of events number) p
+  pub takes : MayTake conflicts (heard_of events number) p
 
 -- ---- the kinds of evidence
 
@@ -72,13 +72,13 @@ pub record IsPairTwice (events : List Event) (a b : ℕ) : Type 0 where
   pub same_shard : one.shard ≡ two.shard
 
 -- the get found a pair with a number, and no call before its reply may have given its document both
-pub record HasNoWriter (mode : Conflicts) (events : List Event) (g : ℕ) : Type 0 where
+pub record HasNoWriter (conflicts : Conflicts) (events : List Event) (g : ℕ) : Type 0 where
   pub doc : List ℕ
   pub replied : ℕ
   pub pair : Pair
   pub number : ℕ
   pub get : IsFound events g doc replied pair number
-  pub none : (j : ℕ) → ¬ IsWriter mode events doc replied pair number j
+  pub none : (j : ℕ) → ¬ IsWriter conflicts events doc replied pair number j
 
 -- the get found a pair below that of a write of its document which precedes it
 pub record IsStaleGet (events : List Event) (g w : ℕ) : Type 0 where
@@ -108,14 +108,14 @@ pub record IsStaleSwap (events : List Event) (a b : ℕ) : Type 0 where
 
 -- the evidence holds in the history, with conflicts read as told
 abbrev pub Holds : Conflicts → List Event → Refuted → Type 0
-Holds mode events (evidence.PairTwice a b) = IsPairTwice events a b
-Holds mode events (evidence.NoWriter g) = HasNoWriter mode events g
-Holds mode events (evidence.StaleGet g w) = IsStaleGet events g w
-Holds mode events (evidence.StaleSwap a b) = IsStaleSwap events a b
+Holds conflicts events (evidence.PairTwice a b) = IsPairTwice events a b
+Holds conflicts events (evidence.NoWriter g) = HasNoWriter conflicts events g
+Holds conflicts events (evidence.StaleGet g w) = IsStaleGet events g w
+Holds conflicts events (evidence.StaleSwap a b) = IsStaleSwap events a b
 
 -- ---- the law
 
 -- where evidence holds in a history, no order of its calls explains it, however its pending calls are completed
 abbrev pub EvidenceRefutes : Type 0
-EvidenceRefutes = (mode : Conflicts) (events : List Event) (told : Refuted) → IsHistory events → Holds mode events told
-    → ¬ IsLinearizable mode events
+EvidenceRefutes = (conflicts : Conflicts) (events : List Event) (told : Refuted) → IsHistory events → Holds conflicts events told
+    → ¬ IsLinearizable conflicts events

@@ -22,7 +22,7 @@ use unwritten_reads::least_without_writer;
 use version_pair::NoMemory;
 
 // The evidence, where it holds.
-fn confirmed(history: &History, found: Option<Refuted>, conflicts: Conflicts) -> Option<Refuted>
+fn confirm(history: &History, found: Option<Refuted>, conflicts: Conflicts) -> Option<Refuted>
     ensures { IfSome result (Holds conflicts history.now) }
 {
     match found {
@@ -48,17 +48,17 @@ pub fn find_evidence(
 {
     let calls = AnsweredCalls::of(alloc, history)?;
     let twice = least_pair_twice(alloc, &calls.writes)?;
-    if let Some(evidence) = confirmed(history, twice, conflicts) {
+    if let Some(evidence) = confirm(history, twice, conflicts) {
         return Ok(Some(evidence));
     }
     let unwritten = least_without_writer(alloc, history, &calls.gets, conflicts)?;
-    if let Some(evidence) = confirmed(history, unwritten, conflicts) {
+    if let Some(evidence) = confirm(history, unwritten, conflicts) {
         return Ok(Some(evidence));
     }
     let stale = least_stale_get(&calls.gets, &calls.writes);
-    if let Some(evidence) = confirmed(history, stale, conflicts) {
+    if let Some(evidence) = confirm(history, stale, conflicts) {
         return Ok(Some(evidence));
     }
     let swap = least_stale_swap(alloc, &calls.writes)?;
-    Ok(confirmed(history, swap, conflicts))
+    Ok(confirm(history, swap, conflicts))
 }

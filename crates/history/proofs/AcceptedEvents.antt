@@ -3,7 +3,7 @@ use Rattle.std.proofs.Common.{ℕ, ◌≡◌, ◌<◌, ◌≤◌, List, [], ◌�
 use Rattle.std.specs.Prelude.{◌==◌, if◌then◌else◌, is_some, not, option_and_then}
 use Rattle.std.specs.Option.{option_map_or}
 use Rattle.std.specs.Cmp.Lexicographic.{bytes_decides}
-use Rattle.std.proofs.lemmas.Bool.{eqb-true, lt-ltb}
+use Rattle.std.proofs.lemmas.Bool.{eqb-true, lt-ltb, not-false}
 use Rattle.doc_register.specs.declared.op.Op.{Op}
 use Rattle.doc_register.specs.Register.{fits}
 use Rattle.history.specs.declared.event.Event.{Event}
@@ -14,7 +14,8 @@ use Rattle.history.specs.Refusal.{first_event, is_moved, most_events, op_named, 
 use Rattle.history.proofs.EventLemmas.{element_passes, passes_element, passes_front, passes_within, place_of-none, place_of-passes, place_of-some}
 use Rattle.history.proofs.HistoryLemmas.{call_passes, history_after_call, history_after_lost, history_after_reply}
 use Rattle.history.proofs.ListLemmas.{get_front, get_middle, get_of_front}
-use Rattle.history.proofs.PushLemmas.{chosen, fitting, longer, missing, not_false, op_of-call, shard_of-call, told, when_full_room}
+use Rattle.history.proofs.PushLemmas.{chosen, fitting, longer, op_of-call, shard_of-call, told, when_full_room}
+use Rattle.version_pair.proofs.TruthLemmas.{none_from_is_some}
 
 -- ---- an event that isn't refused
 
@@ -22,20 +23,20 @@ pub history_after : (H : List Event) (x : Event) → IsHistory H → refusal_of 
 history_after H (Call n h d op) old accepted within =
     let first = chosen (is_some (place_of (is_call n) H)) SecondCall (if is_moved H d h then Some ShardMoved else when_full H) accepted in
     let second = chosen (is_moved H d h) ShardMoved (when_full H) first.1 in
-    let fresh : place_of (is_call n) H ≡ None = missing (place_of (is_call n) H) first.0 in
+    let fresh : place_of (is_call n) H ≡ None = none_from_is_some (place_of (is_call n) H) first.0 in
     history_after_call H n h d op old (place_of-none (is_call n) H fresh)
-    (λ i m g o at. eqb-true g h (not_false (g == h) (sym (ap (λ s. option_map_or (λ k. not (k == h)) s false) (shard_of-call H old i m g d o at)) ∙ second.0))) within
+    (λ i m g o at. eqb-true g h (not-false (g == h) (sym (ap (λ s. option_map_or (λ k. not (k == h)) s false) (shard_of-call H old i m g d o at)) ∙ second.0))) within
 history_after H (Reply n r) old accepted within =
     let known = told (op_of H n) (λ op. when_ended H n (if fits op r then when_full H else Some Kind)) accepted in
     let first = chosen (is_some (place_of (is_ending n) H)) Ended (if fits known.0 r then when_full H else Some Kind) known.2 in
     let second = fitting (fits known.0 r) (when_full H) first.1 in
     let call = op_of-call H n known.0 known.1 in
-    history_after_reply H n call.0 call.1 call.2 known.0 r old call.3 (place_of-none (is_ending n) H (missing (place_of (is_ending n) H) first.0)) second.0
+    history_after_reply H n call.0 call.1 call.2 known.0 r old call.3 (place_of-none (is_ending n) H (none_from_is_some (place_of (is_ending n) H) first.0)) second.0
 history_after H (Lost n) old accepted within =
     let known = told (op_of H n) (λ op. when_ended H n (when_full H)) accepted in
     let first = chosen (is_some (place_of (is_ending n) H)) Ended (when_full H) known.2 in
     let call = op_of-call H n known.0 known.1 in
-    history_after_lost H n call.0 call.1 call.2 known.0 old call.3 (place_of-none (is_ending n) H (missing (place_of (is_ending n) H) first.0))
+    history_after_lost H n call.0 call.1 call.2 known.0 old call.3 (place_of-none (is_ending n) H (none_from_is_some (place_of (is_ending n) H) first.0))
 
 pub few_after : (H : List Event) (x : Event) → refusal_of H x ≡ None → length (H ++ x ∷ []) ≤ most_events
 few_after H (Call n h d op) accepted =

@@ -1,5 +1,5 @@
 -- The lines of a bulk request and its reply, item by item.
-use Rattle.std.proofs.Common.{ℕ, zero, suc, ◌≡◌, ◌<◌, ◌≤◌, ◌+◌, List, [], ◌∷◌, ◌++◌, length, length-append, map, refl, sym, ap, ◌∙◌, arith, Bool, true, false, Option, Some, None, Result, Ok, Err, append_assoc, slice_get, take}
+use Rattle.std.proofs.Common.{Bool, Err, List, None, Ok, Option, Result, Some, [], ap, append_assoc, arith, false, length, length-append, length-take-le, map, slice_get, suc, sym, take, true, ℕ, ◌++◌, ◌+◌, ◌<◌, ◌∙◌, ◌∷◌, ◌≡◌}
 use Rattle.std.specs.Prelude.{◌==◌, if◌then◌else◌}
 use Rattle.std.proofs.lemmas.Grind.{flat_map-append}
 use Rattle.doc_register.specs.declared.op.Op.{Op}
@@ -15,6 +15,7 @@ use Rattle.api_lines.specs.declared.reply_table.Heard.TheVariants.{Unknown}
 use Rattle.history.specs.BulkText.{call_values, ending_value, ending_values}
 use Rattle.history.specs.Written.{call_value, written_values}
 use Rattle.history.proofs.PlaceLemmas.{take_next}
+use Rattle.std.proofs.lemmas.List.{length-map}
 
 -- ---- lines
 
@@ -44,28 +45,23 @@ endings_more n (x ∷ items) (g ∷ hs) item h same =
     ap (λ vs. ending_value n x.0 g ∷ vs) (endings_more (suc n) items hs item h (omega arith)
     ∙ ap (λ k. ending_values (suc n) items hs ++ ending_value k item.0 h ∷ []) (let sum : suc n + length items ≡ n + suc (length items) = omega arith in sum))
 
-length_take : {X : Type 0} (xs : List X) (i : ℕ) → i ≤ length xs → length (take i xs) ≡ i
-length_take xs zero within = refl
-length_take [] (suc i) within = absurd (omega arith)
-length_take (x ∷ xs) (suc i) within = ap suc (length_take xs i (omega arith))
-
 pub calls_next : (old text new : List ℕ) (first i : ℕ) (items : List (List ℕ × Op)) (item : List ℕ × Op) → slice_get items i ≡ Some item → i < length items
     → text ≡ old ++ written_values (call_values first (take i items)) → new ≡ text ++ written_values (call_value (first + i) 0 item.0 item.1 ∷ [])
     → new ≡ old ++ written_values (call_values first (take (i + 1) items))
 calls_next old text new first i items item at within before after =
     one_more old text new (call_values first (take i items)) (call_value (first + i) 0 item.0 item.1) before after
     ∙ ap (λ vs. old ++ written_values vs)
-    (ap (λ k. call_values first (take i items) ++ call_value (first + k) 0 item.0 item.1 ∷ []) (sym (length_take items i (omega arith)))
+    (ap (λ k. call_values first (take i items) ++ call_value (first + k) 0 item.0 item.1 ∷ []) (sym (length-take-le i items (omega arith)))
     ∙ (sym (calls_more first (take i items) item) ∙ ap (call_values first) (sym (take_next items i item at))))
 
 pub endings_next : (old text new : List ℕ) (first i : ℕ) (items : List (List ℕ × Op)) (hs : List Heard) (item : List ℕ × Op) (h : Heard) → slice_get items i ≡ Some item
     → slice_get hs i ≡ Some h → i < length items → length hs ≡ length items → text ≡ old ++ written_values (ending_values first (take i items) (take i hs))
     → new ≡ text ++ written_values (ending_value (first + i) item.0 h ∷ []) → new ≡ old ++ written_values (ending_values first (take (i + 1) items) (take (i + 1) hs))
 endings_next old text new first i items hs item h at heard within same before after =
-    let sizes : length (take i hs) ≡ length (take i items) = length_take hs i (omega arith) ∙ sym (length_take items i (omega arith)) in
+    let sizes : length (take i hs) ≡ length (take i items) = length-take-le i hs (omega arith) ∙ sym (length-take-le i items (omega arith)) in
     one_more old text new (ending_values first (take i items) (take i hs)) (ending_value (first + i) item.0 h) before after
     ∙ ap (λ vs. old ++ written_values vs)
-    (ap (λ k. ending_values first (take i items) (take i hs) ++ ending_value (first + k) item.0 h ∷ []) (sym (length_take items i (omega arith)))
+    (ap (λ k. ending_values first (take i items) (take i hs) ++ ending_value (first + k) item.0 h ∷ []) (sym (length-take-le i items (omega arith)))
     ∙ (sym (endings_more first (take i items) (take i hs) item h sizes)
     ∙ (ap (λ xs. ending_values first xs (take i hs ++ h ∷ [])) (sym (take_next items i item at))
     ∙ ap (ending_values first (take (i + 1) items)) (sym (take_next hs i h heard)))))
@@ -90,10 +86,6 @@ items_heard i so_far (call ∷ calls) (v ∷ vs) hs is = by_item (heard_item i c
       let longer : length (so_far ++ h ∷ []) ≡ length so_far + 1 = length-append so_far (h ∷ []) in omega arith
   by_item (Err fault) later is = err_not_ok fault hs is
 
-length_map : {X Y : Type 0} (f : X → Y) (xs : List X) → length (map f xs) ≡ length xs
-length_map f [] = refl
-length_map f (x ∷ xs) = ap suc (length_map f xs)
-
 pub as_many_heard : (items : List (List ℕ × Op)) (status : ℕ) (reply : List ℕ) (hs : List Heard) → bulk_reply items status reply ≡ Ok hs → length hs ≡ length items
 as_many_heard items status reply hs is = by_status (status == 200) is where
   by_count : (vs : List Data) (b : Bool) → (if b then heard_items 0 [] items vs else Err Count) ≡ Ok hs → length hs ≡ length items
@@ -110,4 +102,4 @@ as_many_heard items status reply hs is = by_status (status == 200) is where
 
   by_status : (b : Bool) → (if b then heard_json items (json_value reply) else Ok (map (λ call. Unknown) items)) ≡ Ok hs → length hs ≡ length items
   by_status true is = by_json (json_value reply) is
-  by_status false is = ap length (sym (ok_same (map (λ (call : List ℕ × Op). Unknown) items) hs is)) ∙ length_map (λ (call : List ℕ × Op). Unknown) items
+  by_status false is = ap length (sym (ok_same (map (λ (call : List ℕ × Op). Unknown) items) hs is)) ∙ length-map items (λ (call : List ℕ × Op). Unknown)

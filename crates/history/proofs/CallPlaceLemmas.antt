@@ -12,6 +12,7 @@ use Rattle.std.proofs.lemmas.Cmp.{ranked}
 use Rattle.std.proofs.lemmas.List.Sorted.{IsNonDecreasingBy-from_default}
 use Rattle.history.specs.aids.CallPlaces.{AreBelow, AreFoundAlike, AreRising, number_at}
 use Rattle.history.specs.aids.Indexes.{IsNotedAt}
+use Rattle.history.proofs.ListLemmas.{none_is_not_some}
 
 -- ---- what a search by halves finds
 
@@ -57,9 +58,6 @@ found_in_front t (e ∷ es) fs i is = by_test (t e.0) refl (found_in_front t es 
       ap (λ b. cond b (Some e.1) (lookup t (es ++ fs))) is_here ∙ (sym (ap (λ b. cond b (Some e.1) (lookup t es)) is_here) ∙ is)
   by_test false not_here behind =
       ap (λ b. cond b (Some e.1) (lookup t (es ++ fs))) not_here ∙ behind (sym (ap (λ b. cond b (Some e.1) (lookup t es)) not_here) ∙ is)
-
-none_is_not_some : (i : ℕ) → None ≡ Some i → ⊥
-none_is_not_some i h = cc
 
 pub found_behind : (t : ℕ → Bool) (es fs : List (ℕ × ℕ)) → lookup t es ≡ None → lookup t (es ++ fs) ≡ lookup t fs
 found_behind t [] fs none = refl

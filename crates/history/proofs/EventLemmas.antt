@@ -3,8 +3,10 @@ use Rattle.std.proofs.Common.{ℕ, zero, suc, ◌≡◌, ◌<◌, List, [], ◌�
 use Rattle.std.specs.Prelude.{option_map, if◌then◌else◌, IfSome}
 use Rattle.std.proofs.lemmas.Option.{slice_get_within}
 use Rattle.history.specs.declared.event.Event.{Event}
-use Rattle.history.specs.Events.{PassesAt, place_of}
-use Rattle.history.proofs.ListLemmas.{get_front, get_last, get_snoc}
+use Rattle.history.specs.declared.event.Event.TheVariants.{Call}
+use Rattle.history.specs.Events.{IsCallAt, PassesAt, place_of}
+use Rattle.doc_register.specs.declared.op.Op.{Op}
+use Rattle.history.proofs.ListLemmas.{get_front, get_last, get_snoc, same_some}
 
 -- ---- events that pass a test
 
@@ -88,3 +90,9 @@ place_of-some t xs i p = of_option (place_of t xs) refl where
 pub first_within : (t : Event → Bool) (xs : List Event) (o : Option ℕ) → o ≡ place_of t xs → IfSome o (λ i. i < length xs)
 first_within t xs None h = tt
 first_within t xs (Some i) h = passes_within t xs i (place_of-passes t xs i (sym h))
+
+-- two calls at one place are one
+pub same_call : (events : List Event) (i n m h g : ℕ) (d e : List ℕ) (op o : Op) → IsCallAt events i n h d op → IsCallAt events i m g e o → (n ≡ m) × (d ≡ e) × (op ≡ o)
+same_call events i n m h g d e op o at bt =
+    let same : Call n h d op ≡ Call m g e o = same_some (Call n h d op) (Call m g e o) (sym at ∙ bt) in
+    (cc, cc, cc)

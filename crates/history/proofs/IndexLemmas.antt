@@ -6,13 +6,10 @@ use Rattle.std.proofs.lemmas.Bool.{eqb-true}
 use Rattle.history.specs.declared.event.Event.{Event}
 use Rattle.history.specs.Events.{place_of}
 use Rattle.history.specs.Refusal.{first_event}
-use Rattle.history.proofs.ListLemmas.{get_front, get_last}
+use Rattle.history.proofs.ListLemmas.{get_front, get_last, none_is_not_some}
 use Rattle.history.proofs.EventLemmas.{passes_element, place_of-front, place_of-last, place_of-passes}
 
 -- ---- places by number
-
-none_is_not_some : (i : ℕ) → None ≡ Some i → ⊥
-none_is_not_some i h = cc
 
 pub found_after : (t : ℕ → Event → Bool) (H : List Event) (x : Event) (k : ℕ) (es fs : List (ℕ × ℕ))
     → ((q : ℕ) → lookup (◌==◌ q) es ≡ place_of (t q) H) → place_of (t k) H ≡ None

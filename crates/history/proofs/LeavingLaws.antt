@@ -53,13 +53,13 @@ legal_without front back p nothing legal =
     )
 
 pub unanswered_left_out : UnansweredLeftOut
-unanswered_left_out mode H front back p pending nothing explains = record {
+unanswered_left_out conflicts H front back p pending nothing explains = record {
   is_order = record {
     calls = λ i q at. explains.is_order.calls (moved front i) q (get_moved front back p i ∙ at);
     once = λ i j q r at bt same.
         moved_once front i j (explains.is_order.once (moved front i) (moved front j) q r (get_moved front back p i ∙ at) (get_moved front back p j ∙ bt) same);
     answered = λ k n r at. found k n r at (explains.is_order.answered k n r at);
-    plain = λ mode_is i q at. explains.is_order.plain mode_is (moved front i) q (get_moved front back p i ∙ at);
+    plain = λ conflicts_is i q at. explains.is_order.plain conflicts_is (moved front i) q (get_moved front back p i ∙ at);
   };
   respects = λ i j q r at bt first.
       moved_order front i j (explains.respects (moved front i) (moved front j) q r (get_moved front back p i ∙ at) (get_moved front back p j ∙ bt) first);

@@ -1,6 +1,6 @@
 pub mod ListLemmas
 pub mod SetLemmas
-mod EventLemmas
+pub mod EventLemmas
 pub mod HistoryLemmas
 mod IndexLemmas
 pub mod DocumentLemmas

@@ -1,8 +1,9 @@
 -- Places in lists.
-use Rattle.std.proofs.Common.{ℕ, zero, suc, ◌≡◌, ◌<◌, List, [], ◌∷◌, ◌++◌, length, take, refl, inl, inr, arith, Some, None, slice_get, ◌⊎◌, Option, ap, ◌∙◌}
-use Rattle.std.specs.Prelude.{filter_map}
+use Rattle.std.proofs.Common.{ℕ, zero, suc, ◌≡◌, ◌<◌, List, [], ◌∷◌, ◌++◌, length, map, take, refl, sym, inl, inr, arith, Some, None, slice_get, ◌⊎◌, Option, ap, ◌∙◌}
+use Rattle.std.specs.Prelude.{filter_map, option_map}
 use Rattle.std.specs.List.{cons_option}
 use Rattle.std.proofs.lemmas.Bool.{cases_lt}
+use Rattle.std.proofs.lemmas.Option.{slice_get-map}
 
 pub none_is_not_some : {X : Type 0} (x : X) → None ≡ Some x → ⊥
 none_is_not_some x h = cc
@@ -136,3 +137,10 @@ kept_in_order {X} {Y} f (v ∷ xs) (suc k) (suc l) w x y z below at bt made othe
       → (i j : ℕ) × (i < j) × (slice_get (cons_option o (filter_map f xs)) i ≡ Some y) × (slice_get (cons_option o (filter_map f xs)) j ≡ Some z)
   by_image None later = later
   by_image (Some u) later = let less : later.0 < later.1 = later.2 in (suc later.0, suc later.1, (omega arith), later.3, later.4)
+
+-- what a mapped element is made of
+pub mapped_from : {X Y : Type 0} (f : X → Y) (xs : List X) (i : ℕ) (y : Y) → slice_get (map f xs) i ≡ Some y → (x : X) × (slice_get xs i ≡ Some x) × (f x ≡ y)
+mapped_from {X} {Y} f xs i y at = by_option (slice_get xs i) refl (sym (slice_get-map f xs i) ∙ at) where
+  by_option : (o : Option X) → slice_get xs i ≡ o → option_map f o ≡ Some y → (x : X) × (slice_get xs i ≡ Some x) × (f x ≡ y)
+  by_option None is made = absurd (none_is_not_some y made)
+  by_option (Some x) is made = (x, is, same_some (f x) y made)

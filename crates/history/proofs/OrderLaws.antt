@@ -42,4 +42,4 @@ precedence_is_strict = record {
 -- ---- plainly right histories
 
 pub plainly_right_is_linearizable : PlainlyRightIsLinearizable
-plainly_right_is_linearizable mode H history right = (reply_order H, reply_order_explains mode H history right)
+plainly_right_is_linearizable conflicts H history right = (reply_order H, reply_order_explains conflicts H history right)

@@ -106,8 +106,8 @@ respects H history i j p q at bt first =
     omega arith
 
 -- the answered calls by place of reply explain the history, where they are a legal run
-pub reply_order_explains : (mode : Conflicts) (H : List Event) → IsHistory H → IsLegalRun (run_of (reply_order H)) → Explains mode H (reply_order H)
-reply_order_explains mode H history legal = record {
+pub reply_order_explains : (conflicts : Conflicts) (H : List Event) → IsHistory H → IsLegalRun (run_of (reply_order H)) → Explains conflicts H (reply_order H)
+reply_order_explains conflicts H history legal = record {
   is_order = record {
     calls = λ i p at. (replied_of H i p at).1.call;
     once = once H history;
@@ -115,7 +115,7 @@ reply_order_explains mode H history legal = record {
         let c = reply_placed H history k n r at in
         let place = kept_at (answered_by H) H k (Reply n r) c.0 at c.1 in
         (place.0, c.0, place.1, c.2, c.3);
-    plain = λ mode_is i p at. (replied_of H i p at).1.shown;
+    plain = λ conflicts_is i p at. (replied_of H i p at).1.shown;
   };
   respects = respects H history;
   legal = legal;

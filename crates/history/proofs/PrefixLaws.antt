@@ -159,13 +159,13 @@ precedes_still H n a b p = record {
 }
 
 -- the part of the order explains the prefix
-front_explains : (mode : Conflicts) (H : List Event) (n : ℕ) (order : List Placed) (c : Cut (is_answered (take n H)) order) → Explains mode H order → Explains mode (take n H) c.front
-front_explains mode H n order c explains = record {
+front_explains : (conflicts : Conflicts) (H : List Event) (n : ℕ) (order : List Placed) (c : Cut (is_answered (take n H)) order) → Explains conflicts H order → Explains conflicts (take n H) c.front
+front_explains conflicts H n order c explains = record {
   is_order = record {
     calls = λ i p at. called i p at (explains.is_order.calls i p (whole i p at));
     once = λ i j p q at bt same. explains.is_order.once i j p q (whole i p at) (whole j q bt) same;
     answered = λ k m r at. found k m r at (explains.is_order.answered k m r (get_take H n k (Reply m r) at).0);
-    plain = λ mode_is i p at. explains.is_order.plain mode_is i p (whole i p at);
+    plain = λ conflicts_is i p at. explains.is_order.plain conflicts_is i p (whole i p at);
   };
   respects = λ i j p q at bt first. explains.respects i j p q (whole i p at) (whole j q bt) (precedes_still H n p.no q.no first);
   legal = legal_front c.front c.back (subst (λ o. IsLegalRun (run_of o)) c.split explains.legal);
@@ -207,7 +207,7 @@ front_explains mode H n order c explains = record {
 pub prefixes_stay : PrefixesStay
 prefixes_stay = record {
   history = prefix_history;
-  linearizable = λ mode H n (order, explains).
+  linearizable = λ conflicts H n (order, explains).
       let c = cut (is_answered (take n H)) order in
-      (c.front, front_explains mode H n order c explains);
+      (c.front, front_explains conflicts H n order c explains);
 }

@@ -4,7 +4,7 @@ use Rattle.std.specs.Prelude.{◌==◌, not, option_and_then, if◌then◌else�
 use Rattle.std.specs.Option.{option_map_or}
 use Rattle.std.specs.Cmp.Lexicographic.{bytes_decides}
 use Rattle.std.specs.Map.{lookup}
-use Rattle.std.proofs.lemmas.Bool.{eqb-true, ltb-true}
+use Rattle.std.proofs.lemmas.Bool.{eqb-true, ltb-true, not-false}
 use Rattle.std.proofs.lemmas.List.Sums.{fold-append}
 use Rattle.doc_register.specs.declared.op.Op.{Op}
 use Rattle.doc_register.specs.Register.{fits}
@@ -13,7 +13,7 @@ use Rattle.history.specs.declared.event.Event.TheVariants.{Call, Reply, Lost}
 use Rattle.history.specs.declared.fault.HistFault.{HistFault}
 use Rattle.history.specs.declared.fault.HistFault.TheVariants.{SecondCall, NoCall, Ended, Kind, Full, ShardMoved}
 use Rattle.history.specs.Events.{IsCallAt, IsHistory, PassesAt, documents_of, is_call, is_call_of, is_ending, is_same, place_of, places_from, with_document, with_event}
-use Rattle.api_lines.specs.declared.history_line.TheConstants.{SHARDS}
+use Rattle.api_lines.specs.HistoryLines.{most_shards}
 use Rattle.history.specs.aids.CallPlaces.{AreFoundAlike}
 use Rattle.history.specs.aids.Indexes.{AreIndexed, IsEndingOf, IsNotedAt, calls_at, with_listed}
 use Rattle.history.specs.Refusal.{is_moved, most_events, op_named, op_of, refusal_of, shard_named, shard_of, when_ended, when_full}
@@ -23,6 +23,7 @@ use Rattle.history.proofs.IndexLemmas.{found_after, found_still, first_front, fi
 use Rattle.history.proofs.DocumentLemmas.{lookup_with}
 use Rattle.history.proofs.ListLemmas.{get_snoc, none_is_not_some}
 use Rattle.history.proofs.ListedLemmas.{AreDistinct, documents_distinct, endings_after_call, endings_after_ending, lists_after, lists_still}
+use Rattle.version_pair.proofs.TruthLemmas.{none_from_is_some}
 
 -- ---- what the refusals rule out
 
@@ -39,10 +40,6 @@ room false h = absurd (some_not_none Full h)
 
 pub when_full_room : (H : List Event) → when_full H ≡ None → length H < most_events
 when_full_room H h = ltb-true (length H) most_events (room (nat_lt (length H) most_events) h)
-
-pub missing : {X : Type 0} (o : Option X) → is_some o ≡ false → o ≡ None
-missing None h = refl
-missing (Some x) h = let impossible : true ≡ false = h in cc
 
 -- the operation of a call that is there, with its call
 pub op_of-call : (H : List Event) (n : ℕ) (op : Op) → op_of H n ≡ Some op → (c h : ℕ) × (d : List ℕ) × IsCallAt H c n h d op
@@ -117,10 +114,6 @@ shard_of-call H history i m g d o at = by_place (place_of-some (is_call_of d) H 
       let e = passes_element (is_call_of d) H p.0 (place_of-passes (is_call_of d) H p.0 p.1) in
       ap (option_and_then shard_named) (ap (option_and_then (slice_get H)) p.1 ∙ e.1) ∙ by_event p.0 e.0 e.1 e.2
 
-pub not_false : (b : Bool) → not b ≡ false → b ≡ true
-not_false true h = refl
-not_false false h = let impossible : true ≡ false = h in cc
-
 documents_after : (H : List Event) (x : Event) (docs : List (List ℕ × ℕ)) → docs ≡ documents_of H → with_event docs x ≡ documents_of (H ++ x ∷ [])
 documents_after H x docs h = ap (λ ds. with_event ds x) h ∙ sym (fold-append with_event [] H (x ∷ []))
 
@@ -156,14 +149,14 @@ within_more es H x within i j at =
     ]
 
 pub indexed_after_call : (H : List Event) (calls fs : List (ℕ × ℕ)) (es : List (Option ℕ)) (docs : List (List ℕ × ℕ)) (ls : List (List ℕ)) (n h : ℕ) (d : List ℕ) (op : Op)
-    → AreIndexed H calls es docs ls → refusal_of H (Call n h d op) ≡ None → h < SHARDS → IsNotedAt n (length H) calls fs
+    → AreIndexed H calls es docs ls → refusal_of H (Call n h d op) ≡ None → h < most_shards → IsNotedAt n (length H) calls fs
     → AreIndexed (H ++ Call n h d op ∷ []) fs (es ++ None ∷ []) (with_document docs d h) (with_listed docs ls d (length H))
 indexed_after_call H calls fs es docs ls n h d op old accepted within updated =
     let first = chosen (is_some (place_of (is_call n) H)) SecondCall (if is_moved H d h then Some ShardMoved else when_full H) accepted in
     let second = chosen (is_moved H d h) ShardMoved (when_full H) first.1 in
-    let fresh : place_of (is_call n) H ≡ None = missing (place_of (is_call n) H) first.0 in
+    let fresh : place_of (is_call n) H ≡ None = none_from_is_some (place_of (is_call n) H) first.0 in
     let stays : (i m g : ℕ) (o : Op) → IsCallAt H i m g d o → g ≡ h = λ i m g o at.
-    eqb-true g h (not_false (g == h) (sym (ap (λ s. option_map_or (λ k. not (k == h)) s false) (shard_of-call H old.history i m g d o at)) ∙ second.0)) in
+    eqb-true g h (not-false (g == h) (sym (ap (λ s. option_map_or (λ k. not (k == h)) s false) (shard_of-call H old.history i m g d o at)) ∙ second.0)) in
     let distinct = subst AreDistinct (sym old.in_order) (documents_distinct H) in
     let lists = lists_after H n h d op docs ls old.lists_size distinct (λ none. no_calls H d (sym (old.shards_found d) ∙ none)) old.lists_found in
     record {
@@ -237,7 +230,7 @@ indexed_after_ending H (Reply n r) c calls es docs ls old ends accepted =
     let known = told (op_of H n) (λ op. when_ended H n (if fits op r then when_full H else Some Kind)) accepted in
     let first = chosen (is_some (place_of (is_ending n) H)) Ended (if fits known.0 r then when_full H else Some Kind) known.2 in
     let second = fitting (fits known.0 r) (when_full H) first.1 in
-    let fresh : place_of (is_ending n) H ≡ None = missing (place_of (is_ending n) H) first.0 in
+    let fresh : place_of (is_ending n) H ≡ None = none_from_is_some (place_of (is_ending n) H) first.0 in
     let call = op_of-call H n known.0 known.1 in
     after_ending H (Reply n r) n c calls es docs ls old ends fresh (λ m. refl) (λ m. refl) (λ d. refl) refl
     (history_after_reply H n call.0 call.1 call.2 known.0 r old.history call.3 (place_of-none (is_ending n) H fresh) second.0)
@@ -245,7 +238,7 @@ indexed_after_ending H (Reply n r) c calls es docs ls old ends accepted =
 indexed_after_ending H (Lost n) c calls es docs ls old ends accepted =
     let known = told (op_of H n) (λ op. when_ended H n (when_full H)) accepted in
     let first = chosen (is_some (place_of (is_ending n) H)) Ended (when_full H) known.2 in
-    let fresh : place_of (is_ending n) H ≡ None = missing (place_of (is_ending n) H) first.0 in
+    let fresh : place_of (is_ending n) H ≡ None = none_from_is_some (place_of (is_ending n) H) first.0 in
     let call = op_of-call H n known.0 known.1 in
     after_ending H (Lost n) n c calls es docs ls old ends fresh (λ m. refl) (λ m. refl) (λ d. refl) refl
     (history_after_lost H n call.0 call.1 call.2 known.0 old.history call.3 (place_of-none (is_ending n) H fresh))
@@ -270,7 +263,7 @@ indexed_alike H calls fs es docs ls old alike = record {
 
 pub indexed_by_call : (H : List Event) (calls : List (ℕ × ℕ)) (es : List (Option ℕ)) (docs : List (List ℕ × ℕ)) (ls : List (List ℕ)) (n h : ℕ) (d : List ℕ) (op : Op)
     (G : List Event) (fs : List (ℕ × ℕ)) (es' : List (Option ℕ)) (docs' : List (List ℕ × ℕ)) (ls' : List (List ℕ)) → AreIndexed H calls es docs ls
-    → refusal_of H (Call n h d op) ≡ None → h < SHARDS → IsNotedAt n (length H) calls fs → G ≡ H ++ Call n h d op ∷ [] → es' ≡ es ++ None ∷ []
+    → refusal_of H (Call n h d op) ≡ None → h < most_shards → IsNotedAt n (length H) calls fs → G ≡ H ++ Call n h d op ∷ [] → es' ≡ es ++ None ∷ []
     → docs' ≡ with_document docs d h → ls' ≡ with_listed docs ls d (length H) → AreIndexed G fs es' docs' ls'
 indexed_by_call H calls es docs ls n h d op G fs es' docs' ls' old accepted within updated grown ended documented listed =
     subst (λ x. AreIndexed x fs es' docs' ls') (sym grown)

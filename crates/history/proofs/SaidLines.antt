@@ -1,16 +1,16 @@
 -- What a line says by itself: the function that reads it gives what the line spells, and nothing else.
 use Rattle.std.proofs.Common.{ℕ, ◌≡◌, ◌<◌, ◌≤◌, ◌^◌, List, length, refl, sym, ap, subst, ◌∙◌, arith, Bool, true, false, Option, Some, None, ◌⊎◌, inl, inr, Result, Ok, Err}
-use Rattle.std.specs.Prelude.{codes, if◌then◌else◌, nat_le, nat_lt, ◌&&◌}
+use Rattle.std.specs.Prelude.{codes, if◌then◌else◌, nat_le, nat_lt}
 use Rattle.std.specs.Str.{bytes_eq}
 use Rattle.std.specs.Cmp.Lexicographic.{bytes_decides}
 use Rattle.std.proofs.lemmas.Bool.{le-leb, leb-true, lt-ltb, ltb-true}
-use Rattle.version_pair.specs.Id.{IsIdLength}
+use Rattle.version_pair.specs.Id.{IsIdLength, longest_id}
 use Rattle.version_pair.specs.declared.pair.Pair.{Pair}
 use Rattle.doc_register.specs.declared.op.Op.{Op}
 use Rattle.doc_register.specs.declared.op.Op.TheVariants.{Get, Index, Delete, Create}
 use Rattle.serde_json.specs.Data.{Data}
 use Rattle.api_lines.specs.Fields.{LineValues, line_values}
-use Rattle.api_lines.specs.HistoryLines.{below_limit, call_told, create_numbers, delete_numbers, index_numbers, line_told, lost_told, op_numbers, op_told, reply_told, shard_told, status_told}
+use Rattle.api_lines.specs.HistoryLines.{below_limit, call_told, create_numbers, delete_numbers, index_numbers, line_told, lost_told, most_shards, op_numbers, op_told, reply_told, shard_told, status_told}
 use Rattle.api_lines.specs.Ids.{id_told, is_id}
 use Rattle.api_lines.specs.Json.{FieldValue, absent, whole, not_whole, text, truth, other}
 use Rattle.api_lines.specs.Kinds.{optional_number, required_number, required_text}
@@ -19,15 +19,14 @@ use Rattle.api_lines.specs.declared.history_line.OpNumbers.{OpNumbers}
 use Rattle.api_lines.specs.declared.history_line.OpNumbers.TheVariants as numbers
 use Rattle.api_lines.specs.declared.history_line.LineSaid.{LineSaid}
 use Rattle.api_lines.specs.declared.history_line.LineSaid.TheVariants as said
-use Rattle.api_lines.specs.declared.history_line.TheConstants.{SHARDS}
 use Rattle.api_lines.specs.declared.number.Number.{Number}
 use Rattle.api_lines.specs.declared.number.Number.TheVariants.{Whole, NotWhole}
 use Rattle.api_lines.specs.declared.text_fault.TextCause.{TextCause}
 use Rattle.api_lines.specs.declared.text_fault.TextCause.TheVariants.{Id, Range, Shape}
-use Rattle.version_pair.specs.declared.doc_id.TheConstants.{LONGEST_ID}
 use Rattle.api_lines.proofs.PairLemmas.{pair_of-numbers, pair_of-some}
 use Rattle.api_lines.proofs.ReadingLemmas.{first_ok}
 use Rattle.history.specs.Text.{SpellsCall, SpellsCondition, SpellsOp}
+use Rattle.version_pair.proofs.TruthLemmas.{both}
 
 abbrev pub ok_of : {X : Type 0} → X → Result X TextCause
 ok_of x = Ok x
@@ -212,7 +211,7 @@ op_read l ns op read told =
 
 -- the field says the shard
 SaysShard : FieldValue → ℕ → Type 0
-SaysShard f h = ((f ≡ absent) × (h ≡ 0)) ⊎ ((f ≡ whole h) × (h < SHARDS))
+SaysShard f h = ((f ≡ absent) × (h ≡ 0)) ⊎ ((f ≡ whole h) × (h < most_shards))
 
 below_said : (limit n : ℕ) → n < limit → below_limit limit n ≡ Ok n
 below_said limit n below = rw (lt-ltb n limit below) refl
@@ -226,7 +225,7 @@ below_read limit n m is = by_test (nat_lt n limit) refl is where
 shard_said : (f : FieldValue) (h : ℕ) → SaysShard f h → (o : Option Number) × (optional_number f ≡ Ok o) × (shard_told o ≡ Ok h)
 unfolding SaysShard
 shard_said f h (inl is) = (None, ap optional_number is.0, ap ok_of (sym is.1))
-shard_said f h (inr is) = (Some (Whole h), ap optional_number is.0, below_said SHARDS h is.1)
+shard_said f h (inr is) = (Some (Whole h), ap optional_number is.0, below_said most_shards h is.1)
 
 shard_read : (f : FieldValue) (o : Option Number) (h : ℕ) → optional_number f ≡ Ok o → shard_told o ≡ Ok h → SaysShard f h
 unfolding SaysShard
@@ -235,8 +234,8 @@ shard_read absent o h read told =
     inl (refl, sym (same_ok 0 h (subst (λ x. shard_told x ≡ Ok h) (sym is) told)))
 shard_read (whole n) o h read told =
     let is : Some (Whole n) ≡ o = same_ok (Some (Whole n)) o read in
-    let below = below_read SHARDS n h (subst (λ x. shard_told x ≡ Ok h) (sym is) told) in
-    inr (ap (λ k. whole k) below.0, subst (λ k. k < SHARDS) below.0 below.1)
+    let below = below_read most_shards n h (subst (λ x. shard_told x ≡ Ok h) (sym is) told) in
+    inr (ap (λ k. whole k) below.0, subst (λ k. k < most_shards) below.0 below.1)
 shard_read not_whole o h read told =
     let is : Some NotWhole ≡ o = same_ok (Some NotWhole) o read in
     let none : shard_told (Some NotWhole) ≡ Ok h = subst (λ x. shard_told x ≡ Ok h) (sym is) told in absurd (cc)
@@ -245,19 +244,15 @@ shard_read (truth b) o h read told = absurd (cc)
 shard_read other o h read told = absurd (cc)
 
 id_said : (d : List ℕ) → IsIdLength (length d) → id_told d ≡ Ok d
-id_said d fits = rw (lt-ltb 0 (length d) fits.some, le-leb (length d) LONGEST_ID fits.within) refl
-
-both : (a b : Bool) → (a && b) ≡ true → (a ≡ true) × (b ≡ true)
-both true b is = (refl, is)
-both false b is = absurd (cc)
+id_said d fits = rw (lt-ltb 0 (length d) fits.some, le-leb (length d) longest_id fits.within) refl
 
 id_read : (d e : List ℕ) → id_told d ≡ Ok e → (d ≡ e) × IsIdLength (length d)
 id_read d e is = by_test (is_id d) refl is where
   by_test : (b : Bool) → is_id d ≡ b → (if b then ok_of d else Err Id) ≡ Ok e → (d ≡ e) × IsIdLength (length d)
   by_test true fits is =
-      let tests = both (nat_lt 0 (length d)) (nat_le (length d) LONGEST_ID) fits in
+      let tests = both (nat_lt 0 (length d)) (nat_le (length d) longest_id) fits in
       let some : 0 < length d = ltb-true 0 (length d) tests.0 in
-      let few : length d ≤ LONGEST_ID = leb-true (length d) LONGEST_ID tests.1 in
+      let few : length d ≤ longest_id = leb-true (length d) longest_id tests.1 in
       (same_ok d e is, record { some = some; within = few })
   by_test false fits is = absurd (cc)
 
@@ -399,9 +394,9 @@ spelled_call v n h d op is =
     (record { number = is.number; id = is.id; id_length = is.id_length; operation = op_of_value v op is.operation; shard = is.shard }))
 
 -- the shard of a call that is told is one of those that there are
-pub call_shard : (l : LineValues) (n h : ℕ) (d : List ℕ) (op : Op) → call_told l ≡ Ok (said.Call n h d op) → h < SHARDS
+pub call_shard : (l : LineValues) (n h : ℕ) (d : List ℕ) (op : Op) → call_told l ≡ Ok (said.Call n h d op) → h < most_shards
 unfolding SaysShard
 call_shard l n h d op told = by_shard (call_read l n h d op told).shard where
-  by_shard : ((l.shard ≡ absent) × (h ≡ 0)) ⊎ ((l.shard ≡ whole h) × (h < SHARDS)) → h < SHARDS
+  by_shard : ((l.shard ≡ absent) × (h ≡ 0)) ⊎ ((l.shard ≡ whole h) × (h < most_shards)) → h < most_shards
   by_shard (inl is) = let none : h ≡ 0 = is.1 in omega arith
   by_shard (inr is) = is.1

@@ -8,7 +8,7 @@ use Rattle.doc_register.specs.declared.reply.Reply.{Reply as Answer}
 use Rattle.serde_json.specs.Data.{Data}
 use Rattle.api_lines.specs.Faults.{IfTold, ◌>>=◌}
 use Rattle.api_lines.specs.Fields.{BodyValues, LineValues, body_of, body_values, line_values}
-use Rattle.api_lines.specs.HistoryLines.{call_told, line_told, lost_told, reply_told}
+use Rattle.api_lines.specs.HistoryLines.{call_told, line_told, lost_told, most_shards, reply_told}
 use Rattle.api_lines.specs.Json.{text, whole}
 use Rattle.api_lines.specs.Kinds.{required_text}
 use Rattle.api_lines.specs.ReplyTable.{IsHeard, IsStranger, heard}
@@ -17,7 +17,6 @@ use Rattle.api_lines.specs.declared.history_line.LineSaid.{LineSaid}
 use Rattle.api_lines.specs.declared.history_line.LineSaid.TheVariants as said
 use Rattle.api_lines.specs.declared.reply_table.Heard.{Heard}
 use Rattle.api_lines.specs.declared.reply_table.Heard.TheVariants as heard
-use Rattle.api_lines.specs.declared.history_line.TheConstants.{SHARDS}
 use Rattle.api_lines.specs.declared.text_fault.TextCause.{TextCause}
 use Rattle.api_lines.specs.declared.text_fault.TextCause.TheVariants.{Ended, Shape}
 use Rattle.api_lines.proofs.ReadingLemmas.{first_ok}
@@ -71,9 +70,9 @@ line_is l s told =
       by_call w field (inr on) = by_reply w field (named w (codes "reply") (reply_told l) _ s on)
 
 -- the shard of a call that a line tells is one of those that there are
-pub line_shard : (l : LineValues) (n h : ℕ) (d : List ℕ) (op : Op) → line_told l ≡ Ok (said.Call n h d op) → h < SHARDS
+pub line_shard : (l : LineValues) (n h : ℕ) (d : List ℕ) (op : Op) → line_told l ≡ Ok (said.Call n h d op) → h < most_shards
 line_shard l n h d op told = by_kind (line_is l (said.Call n h d op) told) where
-  by_kind : Kind l (said.Call n h d op) → h < SHARDS
+  by_kind : Kind l (said.Call n h d op) → h < most_shards
   by_kind (of_call kind read) = call_shard l n h d op read
   by_kind (of_reply kind read) = let reply = reply_read l (said.Call n h d op) read in let impossible : said.Call n h d op ≡ said.Reply reply.0 reply.1 = reply.2 in absurd (cc)
   by_kind (of_lost kind read) = let lost = lost_read l (said.Call n h d op) read in let impossible : said.Call n h d op ≡ said.Lost lost.0 = lost.1 in absurd (cc)

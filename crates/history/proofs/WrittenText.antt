@@ -3,7 +3,7 @@ use Rattle.std.proofs.Common.{ℕ, suc, ◌≡◌, ◌<◌, ◌≤◌, ◌+◌, 
 use Rattle.std.specs.Prelude.{◌==◌, filter, if◌then◌else◌, unwrap_or, option_and_then, IsSome, IsUtf8}
 use Rattle.std.proofs.Math.Seq.{take-length}
 use Rattle.std.proofs.lemmas.Grind.{flat_map-append}
-use Rattle.std.proofs.lemmas.List.{map-append}
+use Rattle.std.proofs.lemmas.List.{length-map, map-append}
 use Rattle.std.proofs.lemmas.List.Elements.{All-append, All-cons, All-head, All-map, All-nil, All-tail}
 use Rattle.std.proofs.lemmas.Bool.{eqb-true}
 use Rattle.json.specs.Print.{quoted}
@@ -19,7 +19,7 @@ use Rattle.doc_register.specs.declared.reply.Reply.{Reply as Answer}
 use Rattle.doc_register.specs.declared.reply.Reply.TheVariants.{Indexed, Deleted, Found, Missing, Conflict}
 use Rattle.api_lines.specs.Json.{HasNumber, Lacks}
 use Rattle.api_lines.specs.aids.JsonLines.{IsJsonLine}
-use Rattle.api_lines.specs.declared.history_line.TheConstants.{SHARDS}
+use Rattle.api_lines.specs.HistoryLines.{most_shards}
 use Rattle.api_lines.specs.Lines.{is_written, lines_of, longest_line, most_lines}
 use Rattle.api_lines.specs.Written.{id_and_pair, number_member, write_body, written_body, written_status}
 use Rattle.api_lines.proofs.WrittenLines.{decimal_length, no_line_feed-compact_text, one_line, quoted_length}
@@ -265,11 +265,11 @@ has_shard n h d (Delete None) = refl
 has_shard n h d (Delete (Some p)) = refl
 has_shard n h d (Create k) = refl
 
-spells_shard : (b : Bool) (n h : ℕ) (d : List ℕ) (op : Op) → (h == 0) ≡ b → h < SHARDS → SpellsShard (call_if b n h d op) h
+spells_shard : (b : Bool) (n h : ℕ) (d : List ℕ) (op : Op) → (h == 0) ≡ b → h < most_shards → SpellsShard (call_if b n h d op) h
 spells_shard true n h d op is within = inl (lacks_shard n h d op, eqb-true h 0 is)
 spells_shard false n h d op is within = inr (has_shard n h d op, within)
 
-spells_call : (n h : ℕ) (d : List ℕ) (op : Op) → IsIdLength (length d) → h < SHARDS → SpellsCall (call_value n h d op) n h d op
+spells_call : (n h : ℕ) (d : List ℕ) (op : Op) → IsIdLength (length d) → h < most_shards → SpellsCall (call_value n h d op) n h d op
 spells_call n h d op id within = record {
   kind = refl;
   number = spells_number (h == 0) n h d op;
@@ -379,10 +379,6 @@ spelled_lines H front (e ∷ es) history split readable =
       spelled_lines H (front ++ e ∷ []) es history (split ∙ sym (append_assoc front (e ∷ []) es)) (All-tail (IsReadable H) e es readable),
     )
 
-length_map : {X Y : Type 0} (f : X → Y) (xs : List X) → length (map f xs) ≡ length xs
-length_map f [] = refl
-length_map f (x ∷ xs) = ap suc (length_map f xs)
-
 few_lines : (a b : ℕ) → a ≡ b → b ≤ most_events → a ≤ most_lines
 few_lines a b same small =
     let below : b ≤ 1048576 = small in
@@ -391,7 +387,7 @@ few_lines a b same small =
 pub is_text : (H : List Event) (text : List ℕ) → IsHistory H → length H ≤ most_events → AreWritten H [] text H → IsHistoryText text H
 is_text H text history few written =
     let lines : lines_of text ≡ map (line_of H) H = ap lines_of written.added ∙ text_lines H H in
-    let count : length (lines_of text) ≡ length H = ap length lines ∙ length_map (line_of H) H in
+    let count : length (lines_of text) ≡ length H = ap length lines ∙ length-map H (line_of H) in
     record {
       history = history;
       events_fit = few;

@@ -4,7 +4,7 @@ use Rattle.std.specs.Cmp.Lexicographic.{pointwise}
 use Rattle.doc_register.specs.declared.op.Op.{Op}
 use Rattle.doc_register.specs.declared.reply.Reply.{Reply as Answer}
 use Rattle.doc_register.specs.Register.{fits}
-use Rattle.api_lines.specs.declared.history_line.TheConstants.{SHARDS}
+use Rattle.api_lines.specs.HistoryLines.{most_shards}
 use Rattle.history.specs.declared.event.Event.{Event}
 use Rattle.history.specs.declared.event.Event.TheVariants.{Call, Reply, Lost}
 use Rattle.history.specs.declared.record.Rec.{Rec}
@@ -52,7 +52,7 @@ is_any_call (Lost m) = false
 
 -- a call's shard is one of the 1,024 that there can be
 abbrev pub HasShard : Event → Type 0
-HasShard (Call n h d op) = h < SHARDS
+HasShard (Call n h d op) = h < most_shards
 HasShard (Reply n r) = Unit {0}
 HasShard (Lost n) = Unit {0}
 
@@ -69,7 +69,7 @@ pub record IsHistory (events : List Event) : Type 0 where
       → IsCallAt events j n h d op → fits op r ≡ true
   pub one_shard : (i j n m h g : ℕ) (d : List ℕ) (op o : Op) → IsCallAt events i n h d op → IsCallAt events j m g d o
       → h ≡ g
-  pub shards : (i n h : ℕ) (d : List ℕ) (op : Op) → IsCallAt events i n h d op → h < SHARDS
+  pub shards : (i n h : ℕ) (d : List ℕ) (op : Op) → IsCallAt events i n h d op → h < most_shards
 
 -- the call numbered a precedes the call numbered b: a's reply stands before b's call
 pub record Precedes (events : List Event) (a b : ℕ) : Type 0 where

@@ -30,9 +30,9 @@ known_before event r = record { no = r.no; op = r.op; call_at = r.call_at; heard
 
 -- a reply was heard, and it tells whether the write was performed: under Maybe a conflict doesn't
 abbrev pub IsTold : Conflicts → Option (ℕ × Reply) → Type 0
-IsTold mode None = ⊥
-IsTold mode (Some heard) = mode ≡ Maybe → heard.1 ≢ Conflict
+IsTold conflicts None = ⊥
+IsTold conflicts (Some heard) = conflicts ≡ Maybe → heard.1 ≢ Conflict
 
 -- the call is a get, or such a reply was heard
 abbrev pub IsSettled : Conflicts → Rec → Type 0
-IsSettled mode r = r.op ≢ Get → IsTold mode r.heard
+IsSettled conflicts r = r.op ≢ Get → IsTold conflicts r.heard

@@ -28,20 +28,20 @@ pub record PrecedenceIsStrict : Type 0 where
 
 -- a history whose answered calls are a legal run by place of reply is linearizable, whatever conflicts may mean
 abbrev pub PlainlyRightIsLinearizable : Type 0
-PlainlyRightIsLinearizable = (mode : Conflicts) (events : List Event) → IsHistory events → IsPlainlyRight events
-    → IsLinearizable mode events
+PlainlyRightIsLinearizable = (conflicts : Conflicts) (events : List Event) → IsHistory events → IsPlainlyRight events
+    → IsLinearizable conflicts events
 
 -- an order that explains a history explains it without a pending call that changes nothing
 abbrev pub UnansweredLeftOut : Type 0
-UnansweredLeftOut = (mode : Conflicts) (events : List Event) (front back : List Placed) (p : Placed)
-    → IsPending events p.no → ChangesNothing p.entry → Explains mode events (front ++ p ∷ back)
-    → Explains mode events (front ++ back)
+UnansweredLeftOut = (conflicts : Conflicts) (events : List Event) (front back : List Placed) (p : Placed)
+    → IsPending events p.no → ChangesNothing p.entry → Explains conflicts events (front ++ p ∷ back)
+    → Explains conflicts events (front ++ back)
 
 -- A prefix of a history is a history, and linearizable where the whole is: calls whose replies are cut off are pending.
 pub record PrefixesStay : Type 0 where
   pub history : (events : List Event) (n : ℕ) → IsHistory events → IsHistory (prefix events n)
-  pub linearizable : (mode : Conflicts) (events : List Event) (n : ℕ) → IsLinearizable mode events
-      → IsLinearizable mode (prefix events n)
+  pub linearizable : (conflicts : Conflicts) (events : List Event) (n : ℕ) → IsLinearizable conflicts events
+      → IsLinearizable conflicts (prefix events n)
 
 -- where no reply stands at the place n or later, a history is plainly right where its first n events are
 abbrev pub LateCallsChangeNothing : Type 0

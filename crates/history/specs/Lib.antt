@@ -10,3 +10,4 @@ pub mod Written
 pub mod BulkText
 pub mod Laws
 pub mod aids
+pub mod Keys

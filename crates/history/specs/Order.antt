@@ -22,12 +22,12 @@ IsOfCall events p = (i : ℕ) × IsCallAt events i p.no p.entry.shard p.entry.do
 
 -- An order of a history. A call stands in it at most once, an answered one just once and with its reply, a pending
 -- one with any reply or not at all. Under plain conflicts no reply hides a pair.
-pub record IsOrder (mode : Conflicts) (events : List Event) (order : List Placed) : Type 0 where
+pub record IsOrder (conflicts : Conflicts) (events : List Event) (order : List Placed) : Type 0 where
   pub calls : (i : ℕ) (p : Placed) → slice_get order i ≡ Some p → IsOfCall events p
   pub once : (i j : ℕ) (p q : Placed) → slice_get order i ≡ Some p → slice_get order j ≡ Some q → p.no ≡ q.no → i ≡ j
   pub answered : (k n : ℕ) (r : Answer) → IsReplyAt events k n r → (i : ℕ) × (p : Placed)
       × (slice_get order i ≡ Some p) × (p.no ≡ n) × (p.entry.reply ≡ r)
-  pub plain : mode ≡ Plain → (i : ℕ) (p : Placed) → slice_get order i ≡ Some p → p.entry.hidden ≡ None
+  pub plain : conflicts ≡ Plain → (i : ℕ) (p : Placed) → slice_get order i ≡ Some p → p.entry.hidden ≡ None
 
 -- where one call precedes another and both stand in the order, it stands first
 abbrev pub Respects : List Event → List Placed → Type 0
@@ -35,14 +35,14 @@ Respects events order = (i j : ℕ) (p q : Placed) → slice_get order i ≡ Som
     → Precedes events p.no q.no → i < j
 
 -- the order explains the history: it is an order of it, respects it, and is a legal run
-pub record Explains (mode : Conflicts) (events : List Event) (order : List Placed) : Type 0 where
-  pub is_order : IsOrder mode events order
+pub record Explains (conflicts : Conflicts) (events : List Event) (order : List Placed) : Type 0 where
+  pub is_order : IsOrder conflicts events order
   pub respects : Respects events order
   pub legal : IsLegalRun (run_of order)
 
 -- some order of all calls, over all documents, explains the history
 abbrev pub IsLinearizable : Conflicts → List Event → Type 0
-IsLinearizable mode events = (order : List Placed) × Explains mode events order
+IsLinearizable conflicts events = (order : List Placed) × Explains conflicts events order
 
 -- ---- the order of the replies
 

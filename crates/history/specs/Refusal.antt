@@ -5,14 +5,13 @@ use Rattle.doc_register.specs.declared.op.Op.{Op}
 use Rattle.doc_register.specs.Register.{fits}
 use Rattle.history.specs.declared.event.Event.{Event}
 use Rattle.history.specs.declared.event.Event.TheVariants.{Call, Reply, Lost}
-use Rattle.history.specs.declared.history.TheConstants.{MOST_EVENTS}
 use Rattle.history.specs.declared.fault.HistFault.{HistFault}
 use Rattle.history.specs.declared.fault.HistFault.TheVariants.{SecondCall, NoCall, Ended, Kind, Full, NoMemory, ShardMoved}
 use Rattle.history.specs.Events.{is_call, is_call_of, is_ending, place_of}
 
 -- the most events that a history is kept with, or read from a text
 abbrev pub most_events : ℕ
-most_events = MOST_EVENTS
+most_events = 1048576
 
 -- the first event that passes the test
 abbrev pub first_event : (Event → Bool) → List Event → Option Event

@@ -6,7 +6,7 @@ use Rattle.doc_register.specs.declared.op.Op.{Op}
 use Rattle.doc_register.specs.declared.op.Op.TheVariants.{Get, Index, Delete, Create}
 use Rattle.serde_json.specs.Data.{Data}
 use Rattle.serde_json.specs.Read.{read}
-use Rattle.api_lines.specs.declared.history_line.TheConstants.{SHARDS}
+use Rattle.api_lines.specs.HistoryLines.{most_shards}
 use Rattle.api_lines.specs.Fields.{body_of}
 use Rattle.api_lines.specs.Json.{HasNumber, HasText, Lacks}
 use Rattle.api_lines.specs.Lines.{is_written, lines_of, longest_line, most_lines}
@@ -31,7 +31,7 @@ SpellsOp v (Create k) = HasText (codes "op") (codes "create") v × HasNumber (co
 
 -- the shard of a call, 0 where it isn't named
 abbrev pub SpellsShard : Data → ℕ → Type 0
-SpellsShard v h = (Lacks (codes "shard") v × (h ≡ 0)) ⊎ (HasNumber (codes "shard") h v × (h < SHARDS))
+SpellsShard v h = (Lacks (codes "shard") v × (h ≡ 0)) ⊎ (HasNumber (codes "shard") h v × (h < most_shards))
 
 pub record SpellsCall (v : Data) (n h : ℕ) (d : List ℕ) (op : Op) : Type 0 where
   pub kind : HasText (codes "e") (codes "call") v

@@ -1,3 +1,6 @@
+ghost use Rattle.std.specs.Prelude.{◌≡◌};
+ghost use Rattle.history.specs.Keys.{hasher_of};
+
 use std::fmt::{self, Debug, Formatter};
 use std::hash::{BuildHasher, DefaultHasher, Hasher};
 
@@ -12,8 +15,10 @@ pub struct HashKeys {
 }
 
 impl HashKeys {
-    /// These keys.
-    pub fn new(first: u64, second: u64) -> HashKeys {
+    /// These keys: each hash begins with the two numbers.
+    pub fn new(first: u64, second: u64) -> HashKeys
+        ensures { result.start ≡ hasher_of first second }
+    {
         let mut start = DefaultHasher::new();
         start.write_u64(first);
         start.write_u64(second);
@@ -21,7 +26,9 @@ impl HashKeys {
     }
 
     /// Keys that everyone knows, for texts of whoever runs the program.
-    pub fn fixed() -> HashKeys {
+    pub fn fixed() -> HashKeys
+        ensures { result.start ≡ hasher_of 0 0 }
+    {
         HashKeys::new(0, 0)
     }
 }

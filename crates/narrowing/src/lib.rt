@@ -2,7 +2,7 @@
 //! all replies are halved.
 //!
 //! ```text
-//! let place = guessed(alloc, &history, Conflicts::Plain)?; // Option<usize>
+//! let place = guess(alloc, &history, Conflicts::Plain)?; // Option<usize>
 //! ```
 #![tactic(auto)]
 
@@ -11,4 +11,4 @@ mod suspicion;
 mod unordered;
 mod window;
 
-pub use unordered::guessed;
+pub use unordered::guess;

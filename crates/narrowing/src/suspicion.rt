@@ -107,7 +107,7 @@ fn first_given_twice(given: &[((u32, Pair), usize)]) -> Option<usize> {
 /// The place of the first reply, over all documents, that contradicts an earlier one by the pairs that both show: it shows a
 /// pair of its document below one that was shown before its call, or gives a pair of its shard for the second time. `None`
 /// where there is none. Nothing is promised of it.
-pub fn suspected(alloc: Global, history: &History) -> Result<Option<usize>, NoMemory> {
+pub fn first_contradiction(alloc: Global, history: &History) -> Result<Option<usize>, NoMemory> {
     let mut given = Vec::new(alloc);
     let mut first = None;
     for doc in 0..history.docs() {

@@ -2,7 +2,7 @@ ghost use Rattle.std.specs.Prelude.{◌<◌, length};
 ghost use Rattle.history.specs.Events.{documents_of};
 
 use crate::past::Past;
-use crate::suspicion::suspected;
+use crate::suspicion::first_contradiction;
 use crate::window::window_of;
 use doc_check::{DocAnswer, answer};
 use doc_register::Conflicts;
@@ -132,7 +132,7 @@ fn front_to(history: &History, place: Option<usize>) -> Front<'_> {
 // Each document is searched once, on the events before the place that the ones before it gave, and where it has no order its
 // replies are halved, on windows of its calls; all windows together cost about one search more. The only document of a
 // history is halved at once.
-fn narrowed(
+fn narrow(
     alloc: Global,
     history: &History,
     conflicts: Conflicts,
@@ -159,11 +159,11 @@ fn narrowed(
 /// A guess at the first reply at which the search finds no order of the events up to it, by its place: one that contradicts
 /// an earlier one by the pairs that both show, or one before that to which halving the replies of a document by itself leads.
 /// It may be `None`. Nothing is promised of the place: what came before a window of calls is only told in short.
-pub fn guessed(
+pub fn guess(
     alloc: Global,
     history: &History,
     conflicts: Conflicts,
 ) -> Result<Option<usize>, NoMemory> {
-    let suspect = suspected(alloc, history)?;
-    narrowed(alloc, history, conflicts, suspect)
+    let suspect = first_contradiction(alloc, history)?;
+    narrow(alloc, history, conflicts, suspect)
 }

@@ -6,6 +6,7 @@ use Rattle.repl_group.specs.declared.fault.CoreFault.{CoreFault}
 use Rattle.repl_group.specs.declared.fault.CoreFault.TheVariants as core
 use Rattle.recorded_runs.specs.Runs.{are_refused}
 use Rattle.recorded_runs.specs.aids.Recorded.{tells_copies}
+use Rattle.std.proofs.lemmas.Bool.{false_from_ne_true}
 
 refused_if : (copies : ℕ) → (copies ≡ 0) ⊎ (5 < copies) → are_refused copies ≡ true
 refused_if copies (inl none) = grind (arith, nat_tests)
@@ -14,18 +15,14 @@ refused_if copies (inr many) = grind (arith, nat_tests)
 refused_so : (copies : ℕ) → are_refused copies ≡ true → (copies ≡ 0) ⊎ (5 < copies)
 refused_so copies here = grind (arith, nat_tests)
 
-not_refused : (b : Bool) → (b ≡ true → ⊥) → b ≡ false
-not_refused true not = absurd (not refl)
-not_refused false not = refl
-
 -- that the number of copies is refused is told just where it is
 pub copies_told : {X : Type 0} (told : Result X CoreFault) (copies : ℕ) → (told ≡ Err core.Copies) ↔ ((copies ≡ 0) ⊎ (5 < copies))
     → tells_copies told ≡ are_refused copies
 copies_told (Ok x) copies just =
-    sym (not_refused (are_refused copies) (λ here. let e : Ok x ≡ Err core.Copies = just.1 (refused_so copies here) in cc))
+    sym (false_from_ne_true (are_refused copies) (λ here. let e : Ok x ≡ Err core.Copies = just.1 (refused_so copies here) in cc))
 copies_told (Err core.Copies) copies just = sym (refused_if copies (just.0 refl))
 copies_told (Err core.NoMemory) copies just =
-    sym (not_refused (are_refused copies) (λ here. let e : Err core.NoMemory ≡ Err core.Copies = just.1 (refused_so copies here) in cc))
+    sym (false_from_ne_true (are_refused copies) (λ here. let e : Err core.NoMemory ≡ Err core.Copies = just.1 (refused_so copies here) in cc))
 
 -- each of so many is mapped to the same
 pub map_replicate : {X Y : Type 0} (f : X → Y) (x : X) (count : ℕ) → map f (replicate count x) ≡ replicate count (f x)

@@ -10,13 +10,12 @@ use Rattle.workload.specs.declared.target.Progress.{Progress}
 use Rattle.workload.specs.declared.target.Ticket.{Ticket}
 use Rattle.workload.specs.declared.turn.Turn.{Turn}
 use Rattle.recorded_runs.specs.declared.run_setting.RunSetting.{RunSetting}
-use Rattle.recorded_runs.specs.declared.recorded_run.TheConstants.{RUN_POLLS}
 use Rattle.stream_io.specs.declared.stream_fault.StreamFault.{StreamFault}
 use Rattle.stream_io.specs.declared.stream_fault.StreamFault.TheVariants.{Read, Write, NoMemory, Worker, Recording, Setting}
 
 -- how often a client of a run polls a call at most
 abbrev pub run_polls : ℕ
-run_polls = RUN_POLLS
+run_polls = 1000
 
 -- so many copies are not 1 to 5
 abbrev pub are_refused : ℕ → Bool

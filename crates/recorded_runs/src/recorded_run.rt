@@ -66,7 +66,7 @@ fn plan_and_group(alloc: Global, setting: &RunSetting) -> Result<(Plan, Group), 
 }
 
 // What the clients of the plan record against the group, each on a thread of its own.
-fn recorded<T: Threads + Wait + Sync>(
+fn record_run<T: Threads + Wait + Sync>(
     rt: &T,
     alloc: Global,
     plan: &Plan,
@@ -103,7 +103,7 @@ fn run_text<T: Threads + Wait + Sync>(
     ensures told { IfErr result IsOfRun }
 {
     let (plan, group) = plan_and_group(alloc, setting)?;
-    let history = recorded(rt, alloc, &plan, &group)?;
+    let history = record_run(rt, alloc, &plan, &group)?;
     let text = write(alloc, &history)?;
     Ok(text)
 }

@@ -17,6 +17,7 @@ use Rattle.recorder.proofs.CountLemmas.{range_more}
 use Rattle.recorder.specs.declared.clock_view.ClockView.{ClockView}
 use Rattle.recorder.specs.declared.clock_view.ClockView.TheVariants.{Maker, Drew, Spent}
 use Rattle.recorder.specs.Clock.{most_pens, seat_with, numbers_in, numbers_below, is_past, is_spent, is_over, IsOfPen, one_if, how_many, nothing_drawn, Draws, split_once_more, with_joined, IsClock}
+use Rattle.version_pair.proofs.TruthLemmas.{or-true}
 
 -- ---- one view of several
 
@@ -120,13 +121,9 @@ all_below n = All-from_get_or (λ m. m < n) (numbers_below n) 0 (λ i within.
     let read : get_or (numbers_below n) i 0 ≡ 0 + i = get_or-range_with_len 0 n i 0 less in
     omega arith)
 
-or_true : (b : Bool) → (b || true) ≡ true
-or_true true = refl
-or_true false = refl
-
 -- a list with a number that is no event's at its end
 past_at_last : (drawn : List ℕ) (n : ℕ) → most_events ≤ n → list_any is_past (drawn ++ n ∷ []) ≡ true
-past_at_last drawn n up = list_any-append is_past drawn (n ∷ []) ∙ (ap (λ b. list_any is_past drawn || (b || false)) (by_test (nat_lt n most_events) refl) ∙ or_true (list_any is_past drawn)) where
+past_at_last drawn n up = list_any-append is_past drawn (n ∷ []) ∙ (ap (λ b. list_any is_past drawn || (b || false)) (by_test (nat_lt n most_events) refl) ∙ or-true (list_any is_past drawn)) where
   by_test : (b : Bool) → nat_lt n most_events ≡ b → not b ≡ true
   by_test true is = let less : n < most_events = ltb-true n most_events is in absurd (omega arith)
   by_test false is = refl

@@ -21,6 +21,7 @@ use Rattle.recorder.specs.declared.unnumbered.Unnumbered.{Unnumbered}
 use Rattle.recorder.specs.declared.unnumbered.Unnumbered.TheVariants as bare
 use Rattle.recorder.specs.Pens.{events_in, is_ended, refusal_of}
 use Rattle.recorder.specs.aids.Notes.{AreNoted, IsPenList, IsEntryAt, IsNotedAt, NotesEvent, numbered, own_call_of}
+use Rattle.version_pair.proofs.TruthLemmas.{or-true}
 
 -- ---- the operation of a call, entry by entry
 
@@ -163,10 +164,6 @@ never : (b : Bool) → (b || false) ≡ b
 never true = refl
 never false = refl
 
-always : (b : Bool) → (b || true) ≡ true
-always true = refl
-always false = refl
-
 found_after_call : (list : List (ℕ × Event)) (old new : List (ℕ × OwnCall)) (k : ℕ) (d : List ℕ) (op : Op)
     → AreNoted list old → AreBelow list k → IsNotedAt k (record { op = op; is_ended = false }) old new
     → (n : ℕ) → lookup (◌==◌ n) new ≡ own_call_of (list ++ (k, Call k 0 d op) ∷ []) n
@@ -202,7 +199,7 @@ found_after_ending list old new k m e op noted ends called at n =
       by_number true is =
           let number : m ≡ n = eqb-true m n is in
           let here : op_of (events_in list) n ≡ Some op = subst (λ q. op_of (events_in list) q ≡ Some op) number called in
-          sym (ap (λ o. own o (is_ended list n || true)) here ∙ ap (own (Some op)) (always (is_ended list n)))
+          sym (ap (λ o. own o (is_ended list n || true)) here ∙ ap (own (Some op)) (or-true (is_ended list n)))
       by_number false is = noted.found n ∙ ap (own (op_of (events_in list) n)) (sym (never (is_ended list n)))
 
 -- ---- all together

@@ -3,7 +3,7 @@ use Rattle.std.proofs.Common.{ℕ, zero, suc, ◌≡◌, ◌≢◌, ◌+◌, ◌
 use Rattle.std.specs.Prelude.{◌==◌, ◌||◌, Contains, if◌then◌else◌, is_some, nat_lt, not, option_and_then, option_map}
 use Rattle.std.specs.List.{enumerate_from, list_any, range_with_len, sum_by}
 use Rattle.std.specs.Option.{option_map_or}
-use Rattle.std.proofs.lemmas.Bool.{eqb-true, ltb-false, ltb-true}
+use Rattle.std.proofs.lemmas.Bool.{eqb-true, false_from_ne_true, ltb-false, ltb-true}
 use Rattle.std.proofs.lemmas.List.Elements.{All-take, Contains-append_left, Contains-append_right}
 use Rattle.std.proofs.lemmas.List.Sums.{sum_by-append}
 use Rattle.std.proofs.lemmas.List.Sorted.{sum_by-IsPermutation}
@@ -27,6 +27,7 @@ use Rattle.recorder.proofs.CountLemmas.{once_at_most, one_for, one_for_itself, s
 use Rattle.recorder.proofs.DenseLemmas.{StandsIn, stands_in, sum_of_list}
 use Rattle.recorder.proofs.NoteLemmas.{called_entry}
 use Rattle.recorder.proofs.RecordingLaws.{recordings_are_by_number}
+use Rattle.version_pair.proofs.TruthLemmas.{or-true}
 
 -- ---- the first place at which a test passes
 
@@ -147,10 +148,7 @@ ended_by [] m q x at ends = let impossible : None ≡ Some x = at in absurd (cc)
 ended_by (y ∷ ys) m zero x at ends =
     let same : y ≡ x = (let both : Some y ≡ Some x = at in cc) in
     ap (λ b. b || list_any (is_ending m) (pens.events_in ys)) (ap (λ (z : ℕ × Event). is_ending m z.1) same ∙ ends)
-ended_by (y ∷ ys) m (suc q) x at ends = ap (λ b. is_ending m y.1 || b) (ended_by ys m q x at ends) ∙ or_true (is_ending m y.1) where
-  or_true : (b : Bool) → (b || true) ≡ true
-  or_true true = refl
-  or_true false = refl
+ended_by (y ∷ ys) m (suc q) x at ends = ap (λ b. is_ending m y.1 || b) (ended_by ys m q x at ends) ∙ or-true (is_ending m y.1)
 
 -- in a rising list an entry with a lower number stands before one with a higher
 stands_before : (list : List (ℕ × Event)) (j k : ℕ) (x y : ℕ × Event) → IsRising list → slice_get list j ≡ Some x → slice_get list k ≡ Some y → x.0 < y.0 → j < k
@@ -248,11 +246,6 @@ shard_zero i d (Call n h c op) formed calls = ap (λ (k : ℕ). Some k) formed.1
 shard_zero i d (Reply n r) formed calls = let impossible : false ≡ true = calls in absurd (cc)
 shard_zero i d (Lost n) formed calls = let impossible : false ≡ true = calls in absurd (cc)
 
--- a test that would pass contradicts
-fails : (b : Bool) → (b ≡ true → ⊥) → b ≡ false
-fails true never = absurd (never refl)
-fails false never = refl
-
 module _ (lists : List (List (ℕ × Event))) (events : List Event) (recording_is : IsRecordingOf lists events) (kept : All IsPenList lists) where
   numbered_so : IsByNumber (entries_of lists) events
   numbered_so = recordings_are_by_number.by_number lists events recording_is
@@ -303,7 +296,7 @@ module _ (lists : List (List (ℕ × Event))) (events : List Event) (recording_i
 
   -- what is known of the ending at a place, by the list of its own pen
   no_ending_before : (i m : ℕ) (e : Event) (stands : StandsIn lists (i, e)) → Open (take stands.place stands.list) m → place_of (is_ending m) (take i events) ≡ None
-  no_ending_before i m e stands o = none_passing (is_ending m) (take i events) (λ q x at. fails (is_ending m x) (λ ends.
+  no_ending_before i m e stands o = none_passing (is_ending m) (take i events) (λ q x at. false_from_ne_true (is_ending m x) (λ ends.
       let mine = kept_at stands.which stands.list stands.of_which in
       let called = called_entry (take stands.place stands.list) m o.op (All-take (λ entry. IsEntryAt entry.0 entry.1) stands.place stands.list mine.formed) o.called in
       let call_here = (entries_from_take stands.list stands.place called.place (m, Call m 0 called.document o.op) called.here).1 in
@@ -326,7 +319,7 @@ module _ (lists : List (List (ℕ × Event))) (events : List Event) (recording_i
       let call_here = (entries_from_take stands.list stands.place called.place (m, Call m 0 called.document o.op) called.here).1 in
       let at = to_take events i m (Call m 0 called.document o.op) less (back stands.which stands.list called.place m (Call m 0 called.document o.op) stands.of_which call_here) in
       called_there (take i events) m called.document o.op at
-      (first_passing (is_call m) (take i events) m (Call m 0 called.document o.op) at (eq-eqb m m refl) (λ q x low there. fails (is_call m x) (λ calls.
+      (first_passing (is_call m) (take i events) m (Call m 0 called.document o.op) at (eq-eqb m m refl) (λ q x low there. false_from_ne_true (is_call m x) (λ calls.
       let before = from_take events i q x there in
       let number : m ≡ q = call_number q m x (formed_at q x before.1) calls in omega arith)))
 
@@ -341,7 +334,7 @@ module _ (lists : List (List (ℕ × Event))) (events : List Event) (recording_i
     by_event : (e : Event) → slice_get events i ≡ Some e → refusal_of (take i events) e ≡ None
     by_event (Call n h d op) at =
         let formed = formed_at i (Call n h d op) at in
-        let first : place_of (is_call n) (take i events) ≡ None = none_passing (is_call n) (take i events) (λ q x there. fails (is_call n x) (λ calls.
+        let first : place_of (is_call n) (take i events) ≡ None = none_passing (is_call n) (take i events) (λ q x there. false_from_ne_true (is_call n x) (λ calls.
         let before = from_take events i q x there in
         let number : n ≡ q = call_number q n x (formed_at q x before.1) calls in
         let mine : n ≡ i = formed.0 in

@@ -7,14 +7,13 @@ use Rattle.atomic_table.specs.Table.{Me, State, Step}
 use Rattle.history.specs.Refusal.{most_events}
 use Rattle.recorder.specs.declared.clock_view.ClockView.{ClockView}
 use Rattle.recorder.specs.declared.clock_view.ClockView.TheVariants.{Maker, Drew, Spent}
-use Rattle.recorder.specs.declared.recorder.TheConstants.{MOST_PENS}
 use Rattle.recorder.specs.Pens.{PenState, new_pen}
 
 -- ---- views
 
 -- the most pens that a recorder is started with
 abbrev pub most_pens : ℕ
-most_pens = MOST_PENS
+most_pens = 8
 
 -- a seat with a view, and no more: a seat of the clock word holds nothing else
 abbrev pub seat_with : ClockView → Me (Unit {0}) ClockView

@@ -11,7 +11,7 @@ ghost use Rattle.recorder.specs.aids.Notes.{IsPenList, numbered};
 
 use crate::clock::{Clock, ClockSeat};
 use crate::clock_pen::ClockPen;
-use crate::closing::{history_of, merged};
+use crate::closing::{history_of, merge};
 use crate::fault::{CloseFault, RecFault, StartFault};
 use crate::recorder::MOST_PENS;
 use crate::strand::Strand;
@@ -152,7 +152,7 @@ impl ClockRecorder {
         let Ok(strands) = self.gather(alloc, pens) else {
             return Err(CloseFault::NoMemory);
         };
-        let Ok(events) = merged(alloc, strands) else {
+        let Ok(events) = merge(alloc, strands) else {
             return Err(CloseFault::NoMemory);
         };
         match history_of(alloc, events) {

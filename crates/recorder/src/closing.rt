@@ -41,7 +41,7 @@ pub fn is_recording(strands: &mut Vec<Strand>, events: &[Event]) -> bool
 }
 
 /// The events of the strands in the order of their numbers.
-pub fn merged(alloc: Global, mut strands: Vec<Strand>) -> Result<Vec<Event>, NoMemory>
+pub fn merge(alloc: Global, mut strands: Vec<Strand>) -> Result<Vec<Event>, NoMemory>
     requires rising { All IsRising strands.items }
     requires dense { AreDense strands.items }
     requires few { length (entries_of strands.items) ≤ most_events }

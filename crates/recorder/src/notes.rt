@@ -118,7 +118,7 @@ impl Notes {
         ensures full { self.new.pen.is_full ≡ self.old.pen.is_full }
     {
         note_event(&mut self.calls, number, &event);
-        self.list.push_reserved((number, event.numbered(number)));
+        self.list.push_reserved((number, event.with_number(number)));
     }
 
     /// Adds the event where the recording of it was answered a number, and keeps that it was answered `Full`. The list

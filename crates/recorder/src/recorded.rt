@@ -69,7 +69,7 @@ impl Recorded {
         }
         self.events.reserve(1)?;
         let number = self.events.len() as u64;
-        self.events.push_reserved(event.numbered(number));
+        self.events.push_reserved(event.with_number(number));
         Ok(number)
     }
 

@@ -15,7 +15,7 @@ pub enum Unnumbered {
 
 impl Unnumbered {
     /// The event under this number. A call is numbered by it, on shard 0.
-    pub fn numbered(self, number: u64) -> Event
+    pub fn with_number(self, number: u64) -> Event
         ensures { result ≡ event_at self number }
     {
         match self {

@@ -9,8 +9,7 @@ use Rattle.repl_group.specs.declared.held_write.HeldWrite.{HeldWrite}
 use Rattle.repl_group.specs.declared.request.Request.{Request}
 use Rattle.repl_group.specs.declared.request.Stage.{Stage}
 use Rattle.repl_group.specs.declared.request.Stage.TheVariants.{Queued, InFlight, Answered, Lost}
-use Rattle.repl_group.specs.Copies.{ShardCopy}
-use Rattle.repl_group.specs.Copies.{holds, next_seq, with_write}
+use Rattle.repl_group.specs.Copies.{ShardCopy, holds, next_seq, with_write}
 use Rattle.repl_group.specs.Group.{copy_with, led_by, write_of}
 use Rattle.repl_group.specs.Honest.{pair_acknowledged, pair_given}
 use Rattle.repl_group.specs.Operations.{is_get}

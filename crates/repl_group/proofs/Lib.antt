@@ -8,3 +8,4 @@ mod MachineLemmas
 mod RequestLemmas
 mod RunLemmas
 mod WriteLemmas
+mod DueLemmas

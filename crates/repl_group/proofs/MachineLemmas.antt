@@ -3,16 +3,15 @@ use Rattle.std.proofs.Common.{ℕ, ◌≡◌, ◌<◌, ◌^◌, List, ◌∷◌,
 use Rattle.std.specs.Prelude.{◌==◌, MatchBool, nat_lt, not, slice_set}
 use Rattle.std.specs.Cmp.Lexicographic.{pointwise}
 use Rattle.std.specs.List.{position_or_len}
-use Rattle.std.proofs.lemmas.Bool.{ltb-true}
+use Rattle.std.proofs.lemmas.Bool.{ltb-true, not-false}
 use Rattle.indexmap.specs.IndexSet.{insert_key}
 use Rattle.version_pair.specs.declared.pair.Pair.{Pair}
 use Rattle.doc_register.specs.declared.op.Op.{Op}
 use Rattle.repl_group.specs.declared.request.Request.{Request}
 use Rattle.repl_group.specs.declared.request.Stage.TheVariants.{InFlight}
-use Rattle.repl_group.specs.Copies.{ShardCopy}
+use Rattle.repl_group.specs.Copies.{ShardCopy, document_in, next_seq}
 use Rattle.repl_group.specs.declared.step.Answer.TheVariants.{Ticket, Done}
 use Rattle.repl_group.specs.declared.step.Step.TheVariants as step
-use Rattle.repl_group.specs.Copies.{document_in, next_seq}
 use Rattle.repl_group.specs.Group.{Does, GroupState, Performs, Gives, copy_with, greatest, most_tickets, performed, submitted, write_of}
 use Rattle.repl_group.specs.Requests.{with_stage}
 use Rattle.repl_group.specs.aids.Tracking.{queued_request}
@@ -44,10 +43,6 @@ performs_done w v t x y q requests copies same term seq requests_are copies_are 
     (q, term, seq, (refl, leaves)) in
     subst P same (at_false _ _ (nat_lt greatest (next_seq y.writes)) (not_past (next_seq y.writes) number (nat_lt greatest (next_seq y.writes)) refl) gives)
 
-room_left : (b : Bool) → not b ≡ false → b ≡ true
-room_left true is = refl
-room_left false is = absurd (true≢false is)
-
 pub submits : (w v : GroupState) (id : List ℕ) (op : Op) (doc ticket : ℕ) (docs : List (List ℕ)) (requests : List Request)
     → v ≡ w → ticket ≡ length v.requests → not (nat_lt (length w.requests) most_tickets) ≡ false
     → docs ≡ insert_key (λ d e. pointwise ◌==◌ d e) v.docs id
@@ -62,4 +57,4 @@ submits w v id op doc ticket docs requests same ticket_is room docs_are doc_is r
     ∙ (ap (λ d. record v { docs = docs; requests = v.requests ++ queued_request d op ∷ [] }) doc_is
     ∙ ap (λ ds. record v { docs = ds; requests = (submitted v id op).requests }) docs_are) in
     let gives : (Ticket ticket ≡ Ticket (length v.requests)) × (record v { docs = docs; requests = requests } ≡ submitted v id op) = (ap Ticket ticket_is, leaves) in
-    subst P same (at_true _ _ (nat_lt (length v.requests) most_tickets) (room_left (nat_lt (length v.requests) most_tickets) less) gives)
+    subst P same (at_true _ _ (nat_lt (length v.requests) most_tickets) (not-false (nat_lt (length v.requests) most_tickets) less) gives)

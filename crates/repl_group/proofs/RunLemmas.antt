@@ -13,18 +13,16 @@ use Rattle.doc_register.specs.declared.op.Op.TheVariants.{Get, Index, Delete, Cr
 use Rattle.doc_register.specs.declared.reply.Reply.{Reply}
 use Rattle.doc_register.specs.declared.reply.Reply.TheVariants.{Conflict}
 use Rattle.doc_register.specs.declared.state.DocState.{DocState}
-use Rattle.doc_register.specs.declared.state.DocState.TheVariants.{Never, Gone, Here}
 use Rattle.repl_group.specs.declared.fault.Fault.{Fault}
 use Rattle.repl_group.specs.declared.fault.Fault.TheVariants as fault
 use Rattle.repl_group.specs.declared.held_write.HeldWrite.{HeldWrite}
 use Rattle.repl_group.specs.declared.request.Request.{Request}
 use Rattle.repl_group.specs.declared.request.Stage.{Stage}
 use Rattle.repl_group.specs.declared.request.Stage.TheVariants.{Queued, InFlight, Answered, Lost}
-use Rattle.repl_group.specs.Copies.{ShardCopy}
+use Rattle.repl_group.specs.Copies.{ShardCopy, document_in, holds, next_seq}
 use Rattle.repl_group.specs.declared.step.Answer.{Answer}
 use Rattle.repl_group.specs.declared.step.Step.{Step}
 use Rattle.repl_group.specs.declared.step.Step.TheVariants as step
-use Rattle.repl_group.specs.Copies.{document_in, holds, next_seq}
 use Rattle.repl_group.specs.Faults.{is_dirty, is_early, is_same_term, is_stale}
 use Rattle.repl_group.specs.Group.{Acknowledges, CopiesTo, Does, DoesWhere, GroupState, IsRun, Performs, Refuses, Serves, ServesGet, ServesWrite, Shows, Gives, Takes, Writes, answered, copy_with, document_at, greatest, healed, is_held, is_primary_cut, most_tickets, new_copy, promoted, start, with_copy, write_of, writes_at}
 use Rattle.repl_group.specs.Honest.{HonestGroups, IsHonest, IsHonestUnlessFaulty, pair_acknowledged, pair_given}
@@ -33,6 +31,8 @@ use Rattle.repl_group.specs.Requests.{flight_of, is_busy, is_queued}
 use Rattle.repl_group.specs.aids.Sound.{IsOwn, IsSound, IsSoundUnlessFaulty}
 use Rattle.repl_group.proofs.HonestLemmas.{from_with_write, held_found, nothing_found, performed_sound, promoted_sound, recopied, restaged, with_request, with_write-more}
 use Rattle.repl_group.proofs.ListLemmas.{same_some}
+use Rattle.doc_register.proofs.RunLemmas.{shown_takes_none}
+use Rattle.version_pair.proofs.TruthLemmas.{both}
 
 -- ---- which of two
 
@@ -47,10 +47,6 @@ by_there {X} {P} {R} {Q} o chosen none some = by_cases o refl chosen where
   by_cases : (k : Option X) → o ≡ k → MatchOption k P Q → R
   by_cases None is p = none p
   by_cases (Some x) is q = some x is q
-
-both : (a b : Bool) → (a && b) ≡ true → (a ≡ true) × (b ≡ true)
-both true b is = (refl, is)
-both false b is = absurd (true≢false (sym is))
 
 not_true : (a : Bool) → not a ≡ true → a ≡ false
 not_true true is = absurd (true≢false (sym is))
@@ -72,11 +68,6 @@ answered_sound : (w : GroupState) (t : ℕ) (x : Request) (r : Reply) → Sound 
 answered_sound w t x r sound at queued none =
     restaged w.term w.primary w.requests w.copies sound t x (Answered r) at (unanswered x.stage r queued none) refl (λ c y q there told sync. nothing_found (sym none ∙ told))
 
-shown_none : (s : DocState) → pair_taken (shown s) None ≡ None
-shown_none Never = refl
-shown_none (Gone p) = refl
-shown_none (Here p k) = refl
-
 -- a step that is refused, and one that is done where it may be
 module _ (w n : GroupState) (a : Answer) (sound : Sound w) where
   refused : {reason : Answer} → Refuses reason w a n → Sound n
@@ -97,7 +88,7 @@ module _ (w n : GroupState) (a : Answer) (sound : Sound w) where
       (λ reached rest'. by_test (is_busy w.requests x.doc && not (is_dirty w.fault)) rest' (λ busy is. refused is) (λ free shows. shows_sound w.primary shows))) where
         shows_sound : (c : ℕ) → Shows w t x c a n → Sound n
         shows_sound c shows =
-            done (answered w t x (shown (document_at w c x.doc))) (answered_sound w t x (shown (document_at w c x.doc)) sound at queued (shown_none (document_at w c x.doc))) shows
+            done (answered w t x (shown (document_at w c x.doc))) (answered_sound w t x (shown (document_at w c x.doc)) sound at queued (shown_takes_none (document_at w c x.doc))) shows
 
   serves_write : (t : ℕ) (x : Request) → slice_get w.requests t ≡ Some x → is_queued x.stage ≡ true → is_get x.op ≡ false → ServesWrite w t x a n → Sound n
   serves_write t x at queued writes serves =

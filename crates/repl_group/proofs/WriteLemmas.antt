@@ -1,5 +1,5 @@
 -- What is noted beside the writes of a copy stays right where a write is added.
-use Rattle.std.proofs.Common.{ℕ, ◌≡◌, ◌≤◌, ◌+◌, ◌^◌, ◌<◌, List, [], ◌∷◌, ◌++◌, refl, sym, ap, ◌∙◌, arith, Option, Some, None, true, false, max, is_some, true≢false}
+use Rattle.std.proofs.Common.{ℕ, ◌≡◌, ◌≤◌, ◌+◌, ◌^◌, ◌<◌, List, [], ◌∷◌, ◌++◌, sym, ap, ◌∙◌, arith, true, false, max}
 use Rattle.std.specs.Prelude.{◌==◌, if◌then◌else◌, nat_eq, unwrap_or}
 use Rattle.std.specs.Map.{lookup}
 use Rattle.std.proofs.lemmas.List.Sums.{fold-append}
@@ -10,16 +10,13 @@ use Rattle.doc_register.specs.declared.state.DocState.TheVariants.{Never}
 use Rattle.repl_group.specs.declared.held_write.HeldWrite.{HeldWrite}
 use Rattle.repl_group.specs.Copies.{document_after, document_in, holds, next_seq, with_write}
 use Rattle.repl_group.specs.aids.Tracking.{AreNoted}
-
-pub none_found : {X : Type 0} (o : Option X) → is_some o ≡ false → o ≡ None
-none_found None is = refl
-none_found (Some x) is = absurd (true≢false is)
+use Rattle.version_pair.proofs.TruthLemmas.{none_from_is_some}
 
 -- a write that is not held yet comes last
 pub entered_last : {S : Type 0} (old : List (ℕ × HeldWrite)) (m : IndexMap ℕ HeldWrite S) (new : List (ℕ × HeldWrite)) (t : ℕ) (write : HeldWrite)
     → m.entries ≡ old → holds old t ≡ false → new ≡ insert_entry nat_eq m.entries t write → new ≡ old ++ (t, write) ∷ []
 entered_last old m new t write same absent inserted =
-    inserted ∙ (insert_entry-new nat_eq m t write (ap (lookup (◌==◌ t)) same ∙ none_found (lookup (◌==◌ t) old) absent)
+    inserted ∙ (insert_entry-new nat_eq m t write (ap (lookup (◌==◌ t)) same ∙ none_from_is_some (lookup (◌==◌ t) old) absent)
     ∙ ap (λ es. es ++ (t, write) ∷ []) same)
 
 pub with_write-absent : (writes : List (ℕ × HeldWrite)) (t : ℕ) (write : HeldWrite) → holds writes t ≡ false → with_write writes t write ≡ writes ++ (t, write) ∷ []

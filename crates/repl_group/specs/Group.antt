@@ -235,6 +235,17 @@ Gives w (step.Promote c) a n =
 pub record Takes (w : GroupState) (s : Step) (a : Answer) (n : GroupState) : Type 0 where
   pub gives : Gives w s a n
 
+-- The table lets w take the step: a submission where a ticket is left, any other step where it is answered that it is done.
+abbrev pub MayTake : GroupState → Step → Type 0
+MayTake w (step.Submit id op) = length w.requests < most_tickets
+MayTake w (step.Serve t) = (n : GroupState) × Gives w (step.Serve t) Done n
+MayTake w (step.Copy t c) = (n : GroupState) × Gives w (step.Copy t c) Done n
+MayTake w (step.Ack t) = (n : GroupState) × Gives w (step.Ack t) Done n
+MayTake w (step.Cut c) = (n : GroupState) × Gives w (step.Cut c) Done n
+MayTake w (step.Heal c) = (n : GroupState) × Gives w (step.Heal c) Done n
+MayTake w (step.Drop c) = (n : GroupState) × Gives w (step.Drop c) Done n
+MayTake w (step.Promote c) = (n : GroupState) × Gives w (step.Promote c) Done n
+
 -- the steps are taken one after another, from w to n
 abbrev pub IsRun : GroupState → List Step → GroupState → Type 0
 IsRun w [] n = n ≡ w

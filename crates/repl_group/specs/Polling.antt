@@ -1,8 +1,8 @@
 -- What one submission and one poll do to a group.
-use Rattle.std.specs.Prelude.{◌≡◌, ℕ, ◌/◌, ◌%◌, ◌==◌, List, Option, Some, MatchOption, MatchResult, Result, Ok, if◌then◌else◌, length, nat_lt, option_map, slice_get}
+use Rattle.std.specs.Prelude.{◌≡◌, ◌<◌, ℕ, ◌/◌, ◌%◌, ◌==◌, List, Option, Some, MatchOption, MatchResult, Result, Ok, if◌then◌else◌, length, nat_lt, option_map, slice_get}
 use Rattle.std.specs.Option.{option_map_or}
-use Rattle.rand_pcg.specs.Lcg.{Lcg}
-use Rattle.rand_pcg.specs.Pcg.{pcg32}
+use Rattle.rand_pcg.specs.Lcg.{Lcg, increment_of, started}
+use Rattle.rand_pcg.specs.Pcg.{multiplier_64, pcg32}
 use Rattle.doc_register.specs.declared.op.Op.{Op}
 use Rattle.workload.specs.declared.target.Progress.{Progress}
 use Rattle.workload.specs.declared.target.Progress.TheVariants as progress
@@ -13,8 +13,12 @@ use Rattle.repl_group.specs.declared.step.Answer.{Answer}
 use Rattle.repl_group.specs.declared.step.Answer.TheVariants as answer
 use Rattle.repl_group.specs.declared.step.Step.{Step}
 use Rattle.repl_group.specs.declared.step.Step.TheVariants as step
-use Rattle.repl_group.specs.Group.{GroupState, Takes, result_of}
+use Rattle.repl_group.specs.Group.{GroupState, Takes, most_tickets, result_of}
 use Rattle.repl_group.specs.Requests.{in_flight_from}
+
+-- the generator of a group, by its seed
+abbrev pub generator_of : ℕ → Lcg
+generator_of seed = started 64 multiplier_64 seed (increment_of 64 55)
 
 -- the ticket in flight at y modulo their number, in rising order; none where none is in flight
 abbrev pub flight_drawn : GroupState → ℕ → Option ℕ
@@ -36,6 +40,12 @@ step_of_kind w t kind c y =
 abbrev pub step_drawn : GroupState → ℕ → ℕ → Option Step
 step_drawn w t word = step_of_kind w t (word % 64) (word / 64 % length w.copies) (word / 64 / length w.copies)
 
+-- it is not told that the outcome will never be known
+abbrev pub IsKnown : Progress → Type 0
+IsKnown progress.Waiting = Unit {0}
+IsKnown (progress.Done r) = Unit {0}
+IsKnown progress.Unknown = ⊥
+
 -- what is told of the ticket: its reply, or that it waits
 abbrev pub progress_of : GroupState → ℕ → Progress
 progress_of w t = option_map_or progress.Done (result_of w t) progress.Waiting
@@ -56,9 +66,10 @@ Polls w random t told n random' =
 
 abbrev pub RefusesSubmission : GroupState → List ℕ → Op → TargetFault → GroupState → Type 0
 RefusesSubmission w id op refusal.Full n = Takes w (step.Submit id op) answer.Full n
-RefusesSubmission w id op refusal.NoMemory n = n ≡ w
+RefusesSubmission w id op refusal.NoMemory n = (n ≡ w) × (length w.requests < most_tickets)
 
--- A submission makes the step Submit, and answers its ticket or Full; or it is refused memory, which changes nothing.
+-- A submission makes the step Submit, and answers its ticket or Full; or, where a ticket is left, it is refused memory, which
+-- changes nothing.
 abbrev pub Submits : GroupState → List ℕ → Op → Result Ticket TargetFault → GroupState → Type 0
 Submits w id op told n =
     MatchResult told (λ ticket. Takes w (step.Submit id op) (answer.Ticket ticket.0) n) (λ fault. RefusesSubmission w id op fault n)

@@ -1,4 +1,4 @@
-ghost use Rattle.std.specs.Prelude.{◌≡◌, ◌<◌, ◌⊎◌, ◌↔◌, Err};
+ghost use Rattle.std.specs.Prelude.{◌≡◌, ◌<◌, ◌⊎◌, ◌↔◌, Err, IfOk};
 
 use crate::fault::{CoreFault, Fault};
 use crate::group_core::Core;
@@ -35,7 +35,19 @@ impl Model for Locked {
 }
 
 impl Locked {
-    ghost use Rattle.repl_group.specs.Polling.{Polls, Submits};
+    ghost use Rattle.repl_group.specs.Group.{start};
+    ghost use Rattle.repl_group.specs.Polling.{Polls, Submits, generator_of};
+
+    // What a group of so many copies begins with, whose steps are drawn from the seed.
+    fn new(alloc: Global, copies: u32, fault: Fault, seed: u64) -> Result<Locked, CoreFault>
+        ensures core { IfOk result (λ locked. locked.0 ≡ start fault copies) }
+        ensures random { IfOk result (λ locked. locked.1 ≡ generator_of seed) }
+        ensures copies { (result ≡ Err CoreFault.Copies) ↔ ((copies ≡ 0) ⊎ (5 < copies)) }
+    {
+        let core = Core::new(alloc, copies, fault)?;
+        let random = Lcg64Xsh32::new(seed, STREAM);
+        Ok(Locked { core, random })
+    }
 
     fn submit(&mut self, id: &DocId, op: &Op) -> Result<Ticket, TargetFault>
         ensures submits { Submits self.old.0 id.now op.now result self.new.0 }
@@ -65,18 +77,23 @@ impl Group {
     pub fn new(alloc: Global, copies: u32, fault: Fault, seed: u64) -> Result<Group, CoreFault>
         ensures { (result ≡ Err CoreFault.Copies) ↔ ((copies ≡ 0) ⊎ (5 < copies)) }
     {
-        let core = Core::new(alloc, copies, fault)?;
-        let random = Lcg64Xsh32::new(seed, STREAM);
+        let locked = Locked::new(alloc, copies, fault, seed)?;
         Ok(Group {
-            locked: Mutex::new(Locked { core, random }),
+            locked: Mutex::new(locked),
         })
     }
 }
 
 impl Target for Group {
-    ghost issued = { λ _ _ _. Unit {0} };
+    ghost use Rattle.std.specs.Prelude.{◌<◌};
+    ghost use Rattle.repl_group.specs.Group.{most_tickets};
+    ghost use Rattle.repl_group.specs.Polling.{IsKnown};
 
-    ghost gave = { λ _ _. Unit {0} };
+    // Only tickets that a group has are issued.
+    ghost issued = { λ ticket _ _. ticket.0 < most_tickets };
+
+    // A group never tells that an outcome is unknown.
+    ghost gave = { λ _ progress. IsKnown progress };
 
     fn submit<R: Wait>(&self, rt: &R, id: &DocId, op: &Op) -> Result<Ticket, TargetFault> {
         self.locked.lock(rt).submit(id, op)

@@ -1,5 +1,5 @@
 ghost use Rattle.std.specs.Prelude.{◌≡◌, ◌<◌, ◌⊎◌, ◌↔◌, Err, IfOk, OnErr, length, nat_lt, not, slice_get};
-ghost use Rattle.repl_group.specs.Group.{IsCopyCount, Takes, is_in_sync, most_tickets, result_of, start};
+ghost use Rattle.repl_group.specs.Group.{IsCopyCount, MayTake, Takes, is_in_sync, most_tickets, result_of, start};
 ghost use Rattle.repl_group.specs.Honest.{IsHonestUnlessFaulty};
 ghost use Rattle.repl_group.specs.Requests.{in_flight_from};
 
@@ -51,7 +51,7 @@ impl Core {
         }
     }
 
-    /// Takes one step, or refuses it for want of memory.
+    /// Takes one step, or refuses it for want of memory: only one that the table lets the group take.
     ///
     /// Every answer but `Ticket` and `Done` leaves the group as it was, and so does a refusal. A step takes the time of
     /// looking its documents, tickets and copies up, and at most that of the tickets in flight; `Copy` and `Ack` also that
@@ -60,6 +60,7 @@ impl Core {
     pub fn step(&mut self, step: Step) -> Result<Answer, NoMemory>
         ensures ok { IfOk result (λ answer. Takes self.old step answer self.new) }
         ensures err { OnErr result (self.new ≡ self.old) }
+        ensures due { OnErr result (MayTake self.old step) }
         ensures honest { IsHonestUnlessFaulty self.new }
     {
         self.machine.step(step)

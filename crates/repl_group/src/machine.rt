@@ -1,9 +1,10 @@
 ghost use Rattle.std.specs.Prelude.{◌≡◌, ◌==◌, ◌&&◌, ◌||◌, Some, false, length, nat_lt, not, slice_get, true, IfOk, OnErr};
-ghost use Rattle.repl_group.specs.Group.{IsCopyCount, Performs, ServesGet, ServesWrite, Shows, Gives, document_at as document_seen, greatest, is_held as held, is_in_sync, is_primary_cut as primary_cut, most_tickets, op_read as read_of, result_of, start};
+ghost use Rattle.repl_group.specs.Group.{IsCopyCount, Performs, ServesGet, ServesWrite, Shows, Gives, GroupState, MayTake, document_at as document_seen, greatest, is_held as held, is_in_sync, is_primary_cut as primary_cut, most_tickets, op_read as read_of, result_of, start};
 ghost use Rattle.repl_group.specs.Copies.{document_in, next_seq};
 ghost use Rattle.repl_group.specs.Requests.{in_flight_from, is_busy as busy, is_queued as queued};
 ghost use Rattle.repl_group.specs.Copies.{ShardCopy as CopyState};
 ghost use Rattle.repl_group.specs.declared.step.Step.TheVariants as steps;
+ghost use Rattle.repl_group.specs.declared.step.Answer.TheVariants as answers;
 
 use crate::copies::Copies;
 use crate::fault::Fault;
@@ -140,6 +141,7 @@ impl Machine {
     fn submit(&mut self, id: DocId, op: Op) -> Result<Answer, NoMemory>
         ensures ok { IfOk result (λ answer. Gives self.old (steps.Submit id op) answer self.new) }
         ensures err { OnErr result (self.new ≡ self.old) }
+        ensures due { OnErr result (MayTake self.old (steps.Submit id op)) }
     {
         if self.is_full() {
             return Ok(Answer::Full);
@@ -202,6 +204,8 @@ impl Machine {
         ensures ok { IfOk result (λ answer. (y : CopyState) → slice_get self.old.copies self.old.primary ≡ Some y
             → Performs self.old ticket request y answer self.new) }
         ensures err { OnErr result (self.new ≡ self.old) }
+        ensures due { OnErr result ((y : CopyState) → slice_get self.old.copies self.old.primary ≡ Some y
+            → (n : GroupState) × Performs self.old ticket request y answers.Done n) }
     {
         let Some(pair) = Pair::new(self.term, seq) else {
             return Ok(Answer::NotNow);
@@ -219,6 +223,7 @@ impl Machine {
         requires is_queued { queued request.stage ≡ true }
         ensures ok { IfOk result (λ answer. ServesWrite self.old ticket request answer self.new) }
         ensures err { OnErr result (self.new ≡ self.old) }
+        ensures due { OnErr result ((n : GroupState) × ServesWrite self.old ticket request answers.Done n) }
     {
         let Some(primary) = self.copies.find(self.primary) else {
             return Ok(Answer::NotNow);
@@ -242,6 +247,7 @@ impl Machine {
     fn serve(&mut self, ticket: u64) -> Result<Answer, NoMemory>
         ensures ok { IfOk result (λ answer. Gives self.old (steps.Serve ticket) answer self.new) }
         ensures err { OnErr result (self.new ≡ self.old) }
+        ensures due { OnErr result (MayTake self.old (steps.Serve ticket)) }
     {
         let Some(request) = self.requests.get(ticket) else {
             return Ok(Answer::NotNow);
@@ -259,6 +265,7 @@ impl Machine {
     fn copy(&mut self, ticket: u64, copy: u32) -> Result<Answer, NoMemory>
         ensures ok { IfOk result (λ answer. Gives self.old (steps.Copy ticket copy) answer self.new) }
         ensures err { OnErr result (self.new ≡ self.old) }
+        ensures due { OnErr result (MayTake self.old (steps.Copy ticket copy)) }
     {
         let Some(request) = self.requests.get(ticket) else {
             return Ok(Answer::NotNow);
@@ -314,6 +321,7 @@ impl Machine {
     fn heal(&mut self, copy: u32) -> Result<Answer, NoMemory>
         ensures ok { IfOk result (λ answer. Gives self.old (steps.Heal copy) answer self.new) }
         ensures err { OnErr result (self.new ≡ self.old) }
+        ensures due { OnErr result (MayTake self.old (steps.Heal copy)) }
     {
         let Some(_) = self.copies.find(copy) else {
             return Ok(Answer::NotNow);
@@ -345,6 +353,7 @@ impl Machine {
     fn promote(&mut self, copy: u32) -> Result<Answer, NoMemory>
         ensures ok { IfOk result (λ answer. Gives self.old (steps.Promote copy) answer self.new) }
         ensures err { OnErr result (self.new ≡ self.old) }
+        ensures due { OnErr result (MayTake self.old (steps.Promote copy)) }
     {
         let Some(target) = self.copies.find(copy) else {
             return Ok(Answer::NotNow);
@@ -365,6 +374,7 @@ impl Machine {
     pub fn step(&mut self, step: Step) -> Result<Answer, NoMemory>
         ensures ok { IfOk result (λ answer. Gives self.old step answer self.new) }
         ensures err { OnErr result (self.new ≡ self.old) }
+        ensures due { OnErr result (MayTake self.old step) }
     {
         match step {
             Step::Submit(id, op) => self.submit(id, op),

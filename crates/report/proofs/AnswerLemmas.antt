@@ -28,29 +28,29 @@ use Rattle.report.proofs.WitnessLimits.{within_limits}
 
 -- ---- answers
 
-pub is_refusal : (mode : Conflicts) (input : List ℕ) (status : Status) (text : List ℕ) (told : TextFault) → status ≡ Refused → text ≡ refused_line told.line told.cause
-    → history_text input ≡ Err told → IsAnswer mode input status text
-is_refusal mode input status text told is line refused = subst (λ s. IsAnswer mode input s text) (sym is) (told, line, refused)
+pub is_refusal : (conflicts : Conflicts) (input : List ℕ) (status : Status) (text : List ℕ) (told : TextFault) → status ≡ Refused → text ≡ refused_line told.line told.cause
+    → history_text input ≡ Err told → IsAnswer conflicts input status text
+is_refusal conflicts input status text told is line refused = subst (λ s. IsAnswer conflicts input s text) (sym is) (told, line, refused)
 
-pub is_witness_refusal : (mode : Conflicts) (input : List ℕ) (status : Status) (text : List ℕ) (told : TextFault) → status ≡ Refused
-    → text ≡ refused_line told.line told.cause → history_text input ≡ Err told → IsWitnessAnswer mode input status text
-is_witness_refusal mode input status text told is line refused = subst (λ s. IsWitnessAnswer mode input s text) (sym is) (told, line, refused)
+pub is_witness_refusal : (conflicts : Conflicts) (input : List ℕ) (status : Status) (text : List ℕ) (told : TextFault) → status ≡ Refused
+    → text ≡ refused_line told.line told.cause → history_text input ≡ Err told → IsWitnessAnswer conflicts input status text
+is_witness_refusal conflicts input status text told is line refused = subst (λ s. IsWitnessAnswer conflicts input s text) (sym is) (told, line, refused)
 
-pub is_refuted : (mode : Conflicts) (input : List ℕ) (H : List Event) (status : Status) (text : List ℕ) (told : Evidence) (o : Offence) → status ≡ Refuted
-    → text ≡ refuted_line told o → IsHistoryText input H → HasNoOrderFound mode H → IsOffence mode H o → Holds mode H told → (IsLinearizable mode H → ⊥)
-    → IsAnswer mode input status text × IsWitnessAnswer mode input status text
-is_refuted mode input H status text told o is line is_text none_found offence holds no_order =
-    let unexplained : IsUnexplained mode input o = record { events = H; is_text = is_text; none_found = none_found; offence = offence } in
-    let by : IsRefutedBy mode input told o = record { unexplained = unexplained; holds = holds; no_order = no_order } in
-    (subst (λ s. IsAnswer mode input s text) (sym is) (told, o, line, by), subst (λ s. IsWitnessAnswer mode input s text) (sym is) (told, o, line, by))
+pub is_refuted : (conflicts : Conflicts) (input : List ℕ) (H : List Event) (status : Status) (text : List ℕ) (told : Evidence) (o : Offence) → status ≡ Refuted
+    → text ≡ refuted_line told o → IsHistoryText input H → HasNoOrderFound conflicts H → IsOffence conflicts H o → Holds conflicts H told → (IsLinearizable conflicts H → ⊥)
+    → IsAnswer conflicts input status text × IsWitnessAnswer conflicts input status text
+is_refuted conflicts input H status text told o is line is_text none_found offence holds no_order =
+    let unexplained : IsUnexplained conflicts input o = record { events = H; is_text = is_text; none_found = none_found; offence = offence } in
+    let by : IsRefutedBy conflicts input told o = record { unexplained = unexplained; holds = holds; no_order = no_order } in
+    (subst (λ s. IsAnswer conflicts input s text) (sym is) (told, o, line, by), subst (λ s. IsWitnessAnswer conflicts input s text) (sym is) (told, o, line, by))
 
-pub witnessed : (mode : Conflicts) (input : List ℕ) (H : List Event) (ws : List Witness) (text : List ℕ) → IsHistoryText input H → AreWitnesses mode H ws → IsLinearizable mode H
-    → (AreWithinLimits (map witness_places ws) → witness_text text ≡ Ok (map witness_places ws)) → IsWitnessed mode input text
-witnessed mode input H ws text is are explained reads = record {
+pub witnessed : (conflicts : Conflicts) (input : List ℕ) (H : List Event) (ws : List Witness) (text : List ℕ) → IsHistoryText input H → AreWitnesses conflicts H ws → IsLinearizable conflicts H
+    → (AreWithinLimits (map witness_places ws) → witness_text text ≡ Ok (map witness_places ws)) → IsWitnessed conflicts input text
+witnessed conflicts input H ws text is are explained reads = record {
   events = H;
   is_text = is;
   entries = map witness_places ws;
-  reads = reads (within_limits mode H ws is.history is.events_fit are);
+  reads = reads (within_limits conflicts H ws is.history is.events_fit are);
   cover = are.cover;
   explained = explained;
 }
@@ -69,21 +69,21 @@ if_any (Some bytes) all = all bytes
 
 -- ---- answers to both texts
 
-pub verify_refused_history : (mode : Conflicts) (history witness : List ℕ) (status : Status) (text : List ℕ) (told : TextFault) → status ≡ Refused
-    → text ≡ refused_file_line (codes "history") told.line told.cause → history_text history ≡ Err told → IsVerifyAnswer mode history witness status text
-verify_refused_history mode history witness status text told is line refused =
-    subst (λ s. IsVerifyAnswer mode history witness s text) (sym is) (inl (told, line, refused))
+pub verify_refused_history : (conflicts : Conflicts) (history witness : List ℕ) (status : Status) (text : List ℕ) (told : TextFault) → status ≡ Refused
+    → text ≡ refused_file_line (codes "history") told.line told.cause → history_text history ≡ Err told → IsVerifyAnswer conflicts history witness status text
+verify_refused_history conflicts history witness status text told is line refused =
+    subst (λ s. IsVerifyAnswer conflicts history witness s text) (sym is) (inl (told, line, refused))
 
-pub verify_refused_witness : (mode : Conflicts) (history witness : List ℕ) (status : Status) (text : List ℕ) (told : TextFault) → status ≡ Refused
-    → text ≡ refused_file_line (codes "witness") told.line told.cause → IsSomeHistory history → witness_text witness ≡ Err told → IsVerifyAnswer mode history witness status text
-verify_refused_witness mode history witness status text told is line some refused =
-    subst (λ s. IsVerifyAnswer mode history witness s text) (sym is) (inr (told, line, some, refused))
+pub verify_refused_witness : (conflicts : Conflicts) (history witness : List ℕ) (status : Status) (text : List ℕ) (told : TextFault) → status ≡ Refused
+    → text ≡ refused_file_line (codes "witness") told.line told.cause → IsSomeHistory history → witness_text witness ≡ Err told → IsVerifyAnswer conflicts history witness status text
+verify_refused_witness conflicts history witness status text told is line some refused =
+    subst (λ s. IsVerifyAnswer conflicts history witness s text) (sym is) (inr (told, line, some, refused))
 
-pub verify_no : (mode : Conflicts) (input witness : List ℕ) (H : List Event) (es : List (List ℕ × Vec Place Global)) (status : Status) (text : List ℕ) (told : VerifyFault)
+pub verify_no : (conflicts : Conflicts) (input witness : List ℕ) (H : List Event) (es : List (List ℕ × Vec Place Global)) (status : Status) (text : List ℕ) (told : VerifyFault)
     → status ≡ No → text ≡ broken_line told → IsHistoryText input H → witness_text witness ≡ Ok (map doc_places es)
-    → IsFirstVerifyFault mode H (map doc_places es) told → (AreCover mode H (map doc_places es) → ⊥) → IsVerifyAnswer mode input witness status text
-verify_no mode input witness H es status text told is line is_text reads first no_cover =
-    subst (λ s. IsVerifyAnswer mode input witness s text) (sym is) (
+    → IsFirstVerifyFault conflicts H (map doc_places es) told → (AreCover conflicts H (map doc_places es) → ⊥) → IsVerifyAnswer conflicts input witness status text
+verify_no conflicts input witness H es status text told is line is_text reads first no_cover =
+    subst (λ s. IsVerifyAnswer conflicts input witness s text) (sym is) (
       told,
       line,
       record { events = H; is_text = is_text; entries = map doc_places es; reads = reads; first = first; no_cover = no_cover },

@@ -62,8 +62,8 @@ numbered events (e ∷ es) known =
     let rest = numbered events es (λ i f at. known (suc i) f at) in
     (here.1.0 ∷ rest.0, ap suc rest.1, one_more events e es here.1.0 here.0 rest.0 here.1.1 rest.2)
 
-entries_within : (mode : Conflicts) (events : List Event) (es : List DocPlaces) → AreFine mode events es → length es ≤ length (documents_of events)
-entries_within mode events es fine =
+entries_within : (conflicts : Conflicts) (events : List Event) (es : List DocPlaces) → AreFine conflicts events es → length es ≤ length (documents_of events)
+entries_within conflicts events es fine =
     let ks = numbered events es fine.known in
     let few : length ks.0 ≤ length (documents_of events) = distinct_within ks.0 (length (documents_of events)) (once ks.0 ks.2) (below ks.0 ks.2) in
     let size : length ks.0 ≡ length es = ks.1 in
@@ -93,13 +93,13 @@ all_small [] each = All-nil AreSmall
 all_small (e ∷ es) each = All-cons AreSmall e es (each 0 e refl) (all_small es (λ i f at. each (suc i) f at))
 
 -- the text of witnesses that cover a history can hold them
-pub within_limits : (mode : Conflicts) (events : List Event) (ws : List Witness) → IsHistory events → length events ≤ most_events → AreWitnesses mode events ws
+pub within_limits : (conflicts : Conflicts) (events : List Event) (ws : List Witness) → IsHistory events → length events ≤ most_events → AreWitnesses conflicts events ws
     → AreWithinLimits (map witness_places ws)
-within_limits mode events ws history few are =
+within_limits conflicts events ws history few are =
     let items = items_counted (map witness_places ws) in
-    let entries = entries_within mode events (map witness_places ws) are.cover.fine in
+    let entries = entries_within conflicts events (map witness_places ws) are.cover.fine in
     let documents = documents_within events in
-    let places = places_within mode events ws history are in
+    let places = places_within conflicts events ws history are in
     let calls = calls_within events in
     record { few = omega arith; records = all_small (map witness_places ws) each } where
       each : (i : ℕ) (e : DocPlaces) → slice_get (map witness_places ws) i ≡ Some e → AreSmall e

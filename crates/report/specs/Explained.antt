@@ -8,8 +8,8 @@ use Rattle.stream_io.specs.declared.status.Status.{Status}
 
 -- The text begins with the line of a check, which is an answer to the bytes that the reader had; a story follows.
 abbrev pub ExplainsInput : Conflicts → Option (List ℕ) → Status → List ℕ → Type 0
-ExplainsInput mode input status text =
-    (line story : List ℕ) × (text ≡ line ++ story) × AnswersInput mode input status line
+ExplainsInput conflicts input status text =
+    (line story : List ℕ) × (text ≡ line ++ story) × AnswersInput conflicts input status line
 
 -- the writer holds a page beside what it held, or a front of one
 abbrev pub HasPageFront : Option (List ℕ) → Option (List ℕ) → Type 0

@@ -11,7 +11,7 @@ use Rattle.compose.specs.Counts.{calls_of}
 use Rattle.compose.specs.Covers.{AreCover}
 use Rattle.evidence.specs.Evidence.{Holds}
 use Rattle.evidence.specs.declared.refuted.Refuted.{Refuted as Evidence}
-use Rattle.compose.specs.Verdicts.{HasNoOrderFound, HasOrder}
+use Rattle.compose.specs.Verdicts.{AreCounts, HasNoOrderFound, HasOrder}
 use Rattle.compose.specs.VerifyFaults.{IsFirstVerifyFault}
 use Rattle.compose.specs.declared.verify_fault.VerifyFault.{VerifyFault}
 use Rattle.witness.specs.Text.{DocPlaces, witness_text}
@@ -24,29 +24,29 @@ use Rattle.stream_io.specs.declared.status.Status.TheVariants.{Yes, No, Refuted,
 
 -- The input is a text of a history with so many documents and so many calls, and there is an order that explains it, in
 -- which so many of its calls do not stand.
-pub record IsExplained (mode : Conflicts) (input : List ℕ) (docs calls left_out : ℕ) : Type 0 where
+pub record IsExplained (conflicts : Conflicts) (input : List ℕ) (docs calls left_out : ℕ) : Type 0 where
   pub events : List Event
   pub is_text : IsHistoryText input events
   pub documents : length (documents_of events) ≡ docs
   pub all_calls : calls_of events ≡ calls
   pub order : List Placed
-  pub explains : Explains mode events order
+  pub explains : Explains conflicts events order
   pub the_rest : length order + left_out ≡ calls
 
 -- The input is a text of a history for which no order was found: no entries without a given pair cover it, it is not plainly
 -- right, and where it is settled no order explains it; and the offence is one of that history.
-pub record IsUnexplained (mode : Conflicts) (input : List ℕ) (o : Offence) : Type 0 where
+pub record IsUnexplained (conflicts : Conflicts) (input : List ℕ) (o : Offence) : Type 0 where
   pub events : List Event
   pub is_text : IsHistoryText input events
-  pub none_found : HasNoOrderFound mode events
-  pub offence : IsOffence mode events o
+  pub none_found : HasNoOrderFound conflicts events
+  pub offence : IsOffence conflicts events o
 
 -- All that an unexplained input is, and beside it the evidence holds in the history that it is a text of. So no order of the calls
 -- explains that history, however those of unknown outcome are completed or left out.
-pub record IsRefutedBy (mode : Conflicts) (input : List ℕ) (told : Evidence) (o : Offence) : Type 0 where
-  pub unexplained : IsUnexplained mode input o
-  pub holds : Holds mode unexplained.events told
-  pub no_order : ¬ IsLinearizable mode unexplained.events
+pub record IsRefutedBy (conflicts : Conflicts) (input : List ℕ) (told : Evidence) (o : Offence) : Type 0 where
+  pub unexplained : IsUnexplained conflicts input o
+  pub holds : Holds conflicts unexplained.events told
+  pub no_order : ¬ IsLinearizable conflicts unexplained.events
 
 -- the input is a text of no history: the line tells the first of its lines that is refused, with its first cause
 abbrev pub IsRefused : List ℕ → List ℕ → Type 0
@@ -56,46 +56,47 @@ IsRefused input line = (told : TextFault) × (line ≡ refused_line told.line to
 -- is a text of, and at which reply the search first failed, `refuted` says that too and gives evidence that there is no order, and
 -- `refused` says that it is a text of no history.
 abbrev pub IsAnswer : Conflicts → List ℕ → Status → List ℕ → Type 0
-IsAnswer mode input Yes line = (docs calls left_out : ℕ) × (line ≡ yes_line docs calls left_out) × IsExplained mode input docs calls left_out
-IsAnswer mode input No line = (o : Offence) × (line ≡ no_line o) × IsUnexplained mode input o
-IsAnswer mode input Refuted line = (told : Evidence) × (o : Offence) × (line ≡ refuted_line told o) × IsRefutedBy mode input told o
-IsAnswer mode input Refused line = IsRefused input line
+IsAnswer conflicts input Yes line = (docs calls left_out : ℕ) × (line ≡ yes_line docs calls left_out) × IsExplained conflicts input docs calls left_out
+IsAnswer conflicts input No line = (o : Offence) × (line ≡ no_line o) × IsUnexplained conflicts input o
+IsAnswer conflicts input Refuted line = (told : Evidence) × (o : Offence) × (line ≡ refuted_line told o) × IsRefutedBy conflicts input told o
+IsAnswer conflicts input Refused line = IsRefused input line
 
 -- The input is a text of a history, and what is written reads as entries that cover it; so an order explains it.
-pub record IsWitnessed (mode : Conflicts) (input text : List ℕ) : Type 0 where
+pub record IsWitnessed (conflicts : Conflicts) (input text : List ℕ) : Type 0 where
   pub events : List Event
   pub is_text : IsHistoryText input events
   pub entries : List DocPlaces
   pub reads : witness_text text ≡ Ok entries
-  pub cover : AreCover mode events entries
-  pub explained : IsLinearizable mode events
+  pub cover : AreCover conflicts events entries
+  pub explained : IsLinearizable conflicts events
 
 -- what is written where a witness is asked for: the text of one, or the line of a check
 abbrev pub IsWitnessAnswer : Conflicts → List ℕ → Status → List ℕ → Type 0
-IsWitnessAnswer mode input Yes text = IsWitnessed mode input text
-IsWitnessAnswer mode input No text = (o : Offence) × (text ≡ no_line o) × IsUnexplained mode input o
-IsWitnessAnswer mode input Refuted text = (told : Evidence) × (o : Offence) × (text ≡ refuted_line told o) × IsRefutedBy mode input told o
-IsWitnessAnswer mode input Refused text = IsRefused input text
+IsWitnessAnswer conflicts input Yes text = IsWitnessed conflicts input text
+IsWitnessAnswer conflicts input No text = (o : Offence) × (text ≡ no_line o) × IsUnexplained conflicts input o
+IsWitnessAnswer conflicts input Refuted text = (told : Evidence) × (o : Offence) × (text ≡ refuted_line told o) × IsRefutedBy conflicts input told o
+IsWitnessAnswer conflicts input Refused text = IsRefused input text
 
--- The one input is a text of a history, and the other reads as entries that cover it; there is an order that explains it,
--- in which so many of its calls do not stand.
-pub record IsVerified (mode : Conflicts) (history witness : List ℕ) (docs calls left_out : ℕ) : Type 0 where
+-- The one input is a text of a history, and the other reads as entries that cover it, in no place of which so many of its
+-- calls stand; there is an order that explains it, of as many calls as the entries have places.
+pub record IsVerified (conflicts : Conflicts) (history witness : List ℕ) (docs calls left_out : ℕ) : Type 0 where
   pub events : List Event
   pub is_text : IsHistoryText history events
   pub entries : List DocPlaces
   pub reads : witness_text witness ≡ Ok entries
-  pub cover : AreCover mode events entries
-  pub explained : HasOrder mode events docs calls left_out
+  pub cover : AreCover conflicts events entries
+  pub counts : AreCounts events entries docs calls left_out
+  pub explained : HasOrder conflicts events docs calls left_out
 
 -- The one input is a text of a history, and the other reads as entries of which this is the first fault; so they do not cover
 -- it.
-pub record IsBroken (mode : Conflicts) (history witness : List ℕ) (fault : VerifyFault) : Type 0 where
+pub record IsBroken (conflicts : Conflicts) (history witness : List ℕ) (fault : VerifyFault) : Type 0 where
   pub events : List Event
   pub is_text : IsHistoryText history events
   pub entries : List DocPlaces
   pub reads : witness_text witness ≡ Ok entries
-  pub first : IsFirstVerifyFault mode events entries fault
-  pub no_cover : ¬ AreCover mode events entries
+  pub first : IsFirstVerifyFault conflicts events entries fault
+  pub no_cover : ¬ AreCover conflicts events entries
 
 -- the one input is a text of no history: the line tells the first of its lines that is refused, with its first cause
 abbrev pub IsRefusedHistory : List ℕ → List ℕ → Type 0
@@ -113,30 +114,30 @@ IsRefusedWitness history witness line =
 
 -- the line, and what it says of both inputs; a witness that does not cover a history is no evidence against that
 abbrev pub IsVerifyAnswer : Conflicts → List ℕ → List ℕ → Status → List ℕ → Type 0
-IsVerifyAnswer mode history witness Yes line =
-    (docs calls left_out : ℕ) × (line ≡ verified_line docs calls left_out) × IsVerified mode history witness docs calls left_out
-IsVerifyAnswer mode history witness No line = (fault : VerifyFault) × (line ≡ broken_line fault) × IsBroken mode history witness fault
-IsVerifyAnswer mode history witness Refuted line = ⊥
-IsVerifyAnswer mode history witness Refused line = IsRefusedHistory history line ⊎ IsRefusedWitness history witness line
+IsVerifyAnswer conflicts history witness Yes line =
+    (docs calls left_out : ℕ) × (line ≡ verified_line docs calls left_out) × IsVerified conflicts history witness docs calls left_out
+IsVerifyAnswer conflicts history witness No line = (fault : VerifyFault) × (line ≡ broken_line fault) × IsBroken conflicts history witness fault
+IsVerifyAnswer conflicts history witness Refuted line = ⊥
+IsVerifyAnswer conflicts history witness Refused line = IsRefusedHistory history line ⊎ IsRefusedWitness history witness line
 
 -- ---- what the writer holds
 
 -- an answer to the bytes that the reader had
 abbrev pub AnswersInput : Conflicts → Option (List ℕ) → Status → List ℕ → Type 0
-AnswersInput mode input status line = IfSome input (λ bytes. IsAnswer mode bytes status line)
+AnswersInput conflicts input status line = IfSome input (λ bytes. IsAnswer conflicts bytes status line)
 
 -- a witness of the history whose text the reader had, or the line of a check
 abbrev pub WitnessesInput : Conflicts → Option (List ℕ) → Status → List ℕ → Type 0
-WitnessesInput mode input status text = IfSome input (λ bytes. IsWitnessAnswer mode bytes status text)
+WitnessesInput conflicts input status text = IfSome input (λ bytes. IsWitnessAnswer conflicts bytes status text)
 
 -- an answer to the bytes that the two readers had
 abbrev pub VerifiesInputs : Conflicts → Option (List ℕ) → Option (List ℕ) → Status → List ℕ → Type 0
-VerifiesInputs mode history witness status line = IfSome history (λ h. IfSome witness (λ w. IsVerifyAnswer mode h w status line))
+VerifiesInputs conflicts history witness status line = IfSome history (λ h. IfSome witness (λ w. IsVerifyAnswer conflicts h w status line))
 
 -- The writer holds the line beside what it held, and the line is an answer to the bytes that the reader had.
 abbrev pub IsAnswered : Conflicts → Option (List ℕ) → Option (List ℕ) → Option (List ℕ) → Status → Type 0
-IsAnswered mode input old new status = HasAnswer (AnswersInput mode input status) old new
+IsAnswered conflicts input old new status = HasAnswer (AnswersInput conflicts input status) old new
 
 -- The writer holds a front of such a line beside what it held.
 abbrev pub IsCutOff : Conflicts → Option (List ℕ) → Option (List ℕ) → Option (List ℕ) → Type 0
-IsCutOff mode input old new = HasFront (AnswersInput mode input) old new
+IsCutOff conflicts input old new = HasFront (AnswersInput conflicts input) old new

@@ -1,5 +1,5 @@
 ghost use Rattle.std.specs.Prelude.{◌≡◌, ◌≤◌, IfErr, IfOk, ℕ, List, Err};
-ghost use Rattle.doc_register.specs.declared.state.Conflicts.{Conflicts as Mode};
+ghost use Rattle.doc_register.specs.declared.state.Conflicts.{Conflicts as Reading};
 ghost use Rattle.history.specs.Reading.{history_text};
 ghost use Rattle.history.specs.Text.{IsHistoryText};
 ghost use Rattle.compose.specs.Checked.{IsVerdictOn};
@@ -25,7 +25,7 @@ use stream_io::{Answer, Status, StreamFault, read_history};
 use version_pair::NoMemory;
 
 // The answer that an order explains the history.
-fn yes(alloc: Global, counts: Counts) -> Result<Answer, NoMemory>
+fn yes_answer(alloc: Global, counts: Counts) -> Result<Answer, NoMemory>
     ensures status { IfOk result (λ answer. answer.status ≡ Status.Yes) }
     ensures line { IfOk result (λ answer. answer.text.items
         ≡ told_yes counts.docs counts.calls counts.left_out) }
@@ -35,7 +35,7 @@ fn yes(alloc: Global, counts: Counts) -> Result<Answer, NoMemory>
 }
 
 // The answer that no order was found, and where the search first failed.
-fn no(alloc: Global, offence: Offence) -> Result<Answer, NoMemory>
+fn no_answer(alloc: Global, offence: Offence) -> Result<Answer, NoMemory>
     ensures status { IfOk result (λ answer. answer.status ≡ Status.No) }
     ensures line { IfOk result (λ answer. answer.text.items ≡ told_no offence) }
 {
@@ -44,7 +44,7 @@ fn no(alloc: Global, offence: Offence) -> Result<Answer, NoMemory>
 }
 
 // The answer that evidence holds in the history, and where the search first failed.
-fn refuted(alloc: Global, evidence: Refuted, offence: Offence) -> Result<Answer, NoMemory>
+fn refuted_answer(alloc: Global, evidence: Refuted, offence: Offence) -> Result<Answer, NoMemory>
     ensures status { IfOk result (λ answer. answer.status ≡ Status.Refuted) }
     ensures line { IfOk result (λ answer. answer.text.items ≡ told_refuted evidence offence) }
 {
@@ -68,11 +68,11 @@ pub fn case_answer(alloc: Global, case: &Case) -> Result<(Answer, Failing), NoMe
         Some(evidence) => {
             // What evidence says of a history is known from here on.
             evidence_refutes();
-            let answer = refuted(alloc, evidence, offence)?;
+            let answer = refuted_answer(alloc, evidence, offence)?;
             Ok((answer, failing))
         }
         None => {
-            let answer = no(alloc, offence)?;
+            let answer = no_answer(alloc, offence)?;
             Ok((answer, failing))
         }
     }
@@ -82,11 +82,11 @@ pub fn case_answer(alloc: Global, case: &Case) -> Result<(Answer, Failing), NoMe
 pub fn refusal(alloc: Global, fault: TextFault) -> Result<Answer, NoMemory>
     ensures status { IfOk result (λ answer. answer.status ≡ Status.Refused) }
     ensures line { IfOk result (λ answer. answer.text.items ≡ told_refused fault.line fault.cause) }
-    ensures answers { IfOk result (λ answer. (mode : Mode) (input : List ℕ)
-        → history_text input ≡ Err fault → IsAnswer mode input answer.status answer.text.items) }
-    ensures witness { IfOk result (λ answer. (mode : Mode) (input : List ℕ)
+    ensures answers { IfOk result (λ answer. (conflicts : Reading) (input : List ℕ)
+        → history_text input ≡ Err fault → IsAnswer conflicts input answer.status answer.text.items) }
+    ensures witness { IfOk result (λ answer. (conflicts : Reading) (input : List ℕ)
         → history_text input ≡ Err fault
-        → IsWitnessAnswer mode input answer.status answer.text.items) }
+        → IsWitnessAnswer conflicts input answer.status answer.text.items) }
 {
     let line = refused_line(alloc, fault)?;
     Ok(Answer::of(Status::Refused, line))
@@ -139,7 +139,7 @@ pub fn history_answer<R: Threads + Wait + Sync>(
 {
     match verdict_by(rt, alloc, history, workers, conflicts) {
         Ok(Verdict::Yes(proof)) => {
-            let answer = yes(alloc, Counts::of(&proof))?;
+            let answer = yes_answer(alloc, Counts::of(&proof))?;
             Ok((answer, Finding::Explained(proof)))
         }
         Ok(Verdict::No(case)) => {

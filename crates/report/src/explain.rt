@@ -50,7 +50,7 @@ fn story_of(alloc: Global, finding: &Finding, lines: &EventLines) -> Result<Stor
 }
 
 // The line of a check of the text of a reader, and what it means.
-fn explained<T: Threads + Wait + Sync, R: Read>(
+fn explain<T: Threads + Wait + Sync, R: Read>(
     rt: &T,
     alloc: Global,
     keys: HashKeys,
@@ -111,7 +111,7 @@ pub fn explained_text<T: Threads + Wait + Sync, R: Read>(
         told.text.items) }
     ensures told { IfErr result IsCheckFault }
 {
-    let (answer, story) = explained(rt, alloc, keys, reader, workers, conflicts)?;
+    let (answer, story) = explain(rt, alloc, keys, reader, workers, conflicts)?;
     let told = with_story(alloc, answer, &story)?;
     Ok(told)
 }
@@ -132,7 +132,7 @@ pub fn explained_page<T: Threads + Wait + Sync, R: Read>(
     ensures page { IfOk result (λ told. IsPage told.1.items) }
     ensures told { IfErr result IsCheckFault }
 {
-    let (answer, story) = explained(rt, alloc, keys, reader, workers, conflicts)?;
+    let (answer, story) = explain(rt, alloc, keys, reader, workers, conflicts)?;
     let page = page_of(alloc, line_of(&answer), &story)?;
     let told = with_story(alloc, answer, &story)?;
     Ok((told, page))

@@ -7,7 +7,7 @@ use history::laws::texts_are_read;
 use history::{HashKeys, History};
 use std::alloc::Global;
 use std::io::{BufReader, Read};
-use story::{EventLines, numbered};
+use story::{EventLines, read_numbered_from};
 use stream_io::CHUNK;
 
 /// The history, with these keys, whose text the reader has to its end, and on which lines its events stand; or the first line
@@ -26,7 +26,7 @@ pub fn read_numbered<R: Read>(
     // That what is read is a text of its history is known from here on.
     texts_are_read();
     match BufReader::with_capacity(alloc, CHUNK, reader) {
-        Ok(mut input) => numbered(alloc, keys, &mut input),
+        Ok(mut input) => read_numbered_from(alloc, keys, &mut input),
         Err(_) => Err(InputFault::NoMemory),
     }
 }

@@ -1,7 +1,7 @@
 ghost use Rattle.std.specs.Prelude.{◌≡◌, IfOk, ℕ, List, Ok, Err, codes, map};
 ghost use Rattle.witness.specs.Documents.{doc_places};
 ghost use Rattle.witness.specs.Text.{witness_text};
-ghost use Rattle.doc_register.specs.declared.state.Conflicts.{Conflicts as Mode};
+ghost use Rattle.doc_register.specs.declared.state.Conflicts.{Conflicts as Reading};
 ghost use Rattle.history.specs.Reading.{history_text};
 ghost use Rattle.history.specs.Text.{IsHistoryText};
 ghost use Rattle.result_lines.specs.Lines.{broken_line as told_broken, refused_file_line, verified_line as told_verified};
@@ -18,7 +18,7 @@ use version_pair::{DocId, NoMemory};
 use witness::Place;
 
 // The answer that a witness covers a history with these counts.
-fn verified(alloc: Global, counts: Counts) -> Result<Answer, NoMemory>
+fn verified_answer(alloc: Global, counts: Counts) -> Result<Answer, NoMemory>
     ensures status { IfOk result (λ answer. answer.status ≡ Status.Yes) }
     ensures line { IfOk result (λ answer. answer.text.items
         ≡ told_verified counts.docs counts.calls counts.left_out) }
@@ -28,7 +28,7 @@ fn verified(alloc: Global, counts: Counts) -> Result<Answer, NoMemory>
 }
 
 // The answer that a witness does not cover a history.
-fn broken(alloc: Global, fault: VerifyFault) -> Result<Answer, NoMemory>
+fn broken_answer(alloc: Global, fault: VerifyFault) -> Result<Answer, NoMemory>
     ensures status { IfOk result (λ answer. answer.status ≡ Status.No) }
     ensures line { IfOk result (λ answer. answer.text.items ≡ told_broken fault) }
 {
@@ -40,9 +40,9 @@ fn broken(alloc: Global, fault: VerifyFault) -> Result<Answer, NoMemory>
 pub fn refused_history(alloc: Global, fault: TextFault) -> Result<Answer, NoMemory>
     ensures line { IfOk result (λ answer. answer.text.items
         ≡ refused_file_line (codes "history") fault.line fault.cause) }
-    ensures answers { IfOk result (λ answer. (mode : Mode) (history witness : List ℕ)
+    ensures answers { IfOk result (λ answer. (conflicts : Reading) (history witness : List ℕ)
         → history_text history ≡ Err fault
-        → IsVerifyAnswer mode history witness answer.status answer.text.items) }
+        → IsVerifyAnswer conflicts history witness answer.status answer.text.items) }
 {
     let line = refused_history_line(alloc, fault)?;
     Ok(Answer::of(Status::Refused, line))
@@ -52,9 +52,9 @@ pub fn refused_history(alloc: Global, fault: TextFault) -> Result<Answer, NoMemo
 pub fn refused_witness(alloc: Global, fault: TextFault) -> Result<Answer, NoMemory>
     ensures line { IfOk result (λ answer. answer.text.items
         ≡ refused_file_line (codes "witness") fault.line fault.cause) }
-    ensures answers { IfOk result (λ answer. (mode : Mode) (history witness : List ℕ)
+    ensures answers { IfOk result (λ answer. (conflicts : Reading) (history witness : List ℕ)
         → IsSomeHistory history → witness_text witness ≡ Err fault
-        → IsVerifyAnswer mode history witness answer.status answer.text.items) }
+        → IsVerifyAnswer conflicts history witness answer.status answer.text.items) }
 {
     let line = refused_witness_line(alloc, fault)?;
     Ok(Answer::of(Status::Refused, line))
@@ -73,13 +73,13 @@ pub fn entries_answer(
 {
     match verify(alloc, history, entries, conflicts) {
         Ok(proof) => {
-            let answer = verified(alloc, Counts::of(&proof))?;
+            let answer = verified_answer(alloc, Counts::of(&proof))?;
             Ok(answer)
         }
         Err((fault, _)) => match fault {
             VerifyFault::NoMemory => Err(AllocError),
             told => {
-                let answer = broken(alloc, told)?;
+                let answer = broken_answer(alloc, told)?;
                 Ok(answer)
             }
         },

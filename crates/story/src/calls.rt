@@ -1,7 +1,7 @@
 use crate::event_lines::EventLines;
 use crate::parts::{CallTold, Mark};
 use crate::subject::Unexplained;
-use crate::words::{heard_words, listed, op_words, shown};
+use crate::words::{heard_words, list_of, op_words, shown};
 use doc_register::{Op, Reply};
 use evidence::Refuted;
 use history::{Event, History, Rec};
@@ -32,7 +32,7 @@ pub fn call_of(history: &History, no: u64) -> Option<Call<'_>> {
 
 impl Call<'_> {
     /// The place of the reply.
-    pub fn replied(&self) -> Option<usize> {
+    pub fn reply_place(&self) -> Option<usize> {
         self.record.heard.map(|heard| heard.0)
     }
 
@@ -51,8 +51,8 @@ impl Call<'_> {
 
     // Whether the two were open at the same time.
     fn is_open_with(&self, other: &Call<'_>) -> bool {
-        let other_ends = other.replied().unwrap_or(usize::MAX);
-        let ends = self.replied().unwrap_or(usize::MAX);
+        let other_ends = other.reply_place().unwrap_or(usize::MAX);
+        let ends = self.reply_place().unwrap_or(usize::MAX);
         self.record.call_at < other_ends && other.record.call_at < ends
     }
 }
@@ -166,7 +166,7 @@ pub fn id_words(alloc: Global, id: &DocId) -> Result<String, NoMemory> {
 // What was answered, and on which line.
 fn answered_words(alloc: Global, call: &Call<'_>, lines: &EventLines) -> Result<String, NoMemory> {
     let heard = heard_words(alloc, call.record.heard)?;
-    match call.replied() {
+    match call.reply_place() {
         Some(place) => {
             let line = lines.line(place);
             format!(in alloc; "line {line}: {heard}")
@@ -183,7 +183,7 @@ fn open_words(alloc: Global, call: &Call<'_>, calls: &[Call<'_>]) -> Result<Stri
             open.push(other.record.no)?;
         }
     }
-    listed(alloc, &open)
+    list_of(alloc, &open)
 }
 
 /// What was asked, with the document where there are several.

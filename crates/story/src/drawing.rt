@@ -82,7 +82,7 @@ fn places_of(alloc: Global, calls: &[Call<'_>]) -> Result<Vec<usize>, NoMemory> 
     let mut places = Vec::new(alloc);
     for call in calls {
         places.push(call.record.call_at)?;
-        if let Some(place) = call.replied() {
+        if let Some(place) = call.reply_place() {
             places.push(place)?;
         }
     }
@@ -125,7 +125,7 @@ fn bar_of(
 ) -> Result<Bar, NoMemory> {
     let words = bar_words(alloc, call, several)?;
     let x = x_of(places, call.record.call_at);
-    let end = match call.replied() {
+    let end = match call.reply_place() {
         Some(place) => x_of(places, place),
         None => RIGHT,
     };
@@ -137,7 +137,7 @@ fn bar_of(
     let lane = lanes.take(words_x.min(x), taken)? as u64;
     Ok(Bar {
         mark,
-        is_open: call.replied().is_none(),
+        is_open: call.reply_place().is_none(),
         x,
         y: TOP.saturating_add(lane.saturating_mul(LANE_HEIGHT)),
         width: end.saturating_sub(x).max(4),

@@ -9,7 +9,7 @@ use version_pair::{NoMemory, Pair};
 
 // The line of the reply to a call; of the call where there is none.
 fn reply_line(call: &Call<'_>, lines: &EventLines) -> u64 {
-    lines.line(call.replied().unwrap_or(call.record.call_at))
+    lines.line(call.reply_place().unwrap_or(call.record.call_at))
 }
 
 // Two writes with one version.

@@ -37,7 +37,7 @@ fn last_event(alloc: Global, unexplained: &Unexplained<'_>) -> Result<usize, NoM
     let mut last = unexplained.event;
     for no in evidence_calls(alloc, unexplained.evidence)?.iter() {
         if let Some(call) = call_of(history, *no) {
-            last = last.max(call.replied().unwrap_or(call.record.call_at));
+            last = last.max(call.reply_place().unwrap_or(call.record.call_at));
         }
     }
     Ok(last)
@@ -209,7 +209,7 @@ fn add_unanswered(
 }
 
 // What is kept of the calls of the documents, and an order of those of the first one before the broken reply.
-fn gathered<'h>(
+fn gather_calls<'h>(
     alloc: Global,
     unexplained: &Unexplained<'h>,
     named: &Named,
@@ -242,7 +242,7 @@ pub fn failing_story(
     let docs = subjects(alloc, unexplained)?;
     let named = Named::of(alloc, unexplained)?;
     let several = docs.len() > 1;
-    let (kept, order) = gathered(alloc, unexplained, &named, &docs)?;
+    let (kept, order) = gather_calls(alloc, unexplained, &named, &docs)?;
     let mut parts = Vec::new(alloc);
     add_sentences(alloc, unexplained, lines, &mut parts)?;
     add_told(alloc, &kept, &named, lines, several, &mut parts)?;

@@ -28,7 +28,7 @@ mod words;
 
 pub use event_lines::EventLines;
 pub use failing::failing_story;
-pub use numbered_input::numbered;
+pub use numbered_input::read_numbered_from;
 pub use page_pieces::page_of;
 pub use parts::Story;
 pub use plain::plain_text;

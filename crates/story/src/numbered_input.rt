@@ -35,7 +35,7 @@ impl LineReader for NumberedReader {
 
 /// The history, with these keys, whose text the input has to its end, and on which lines its events stand; or the first line
 /// that is refused. What comes after that line is not read. A fault of the input of any kind ends the reading.
-pub fn numbered<B: BufRead>(
+pub fn read_numbered_from<B: BufRead>(
     alloc: Global,
     keys: HashKeys,
     input: &mut B,

@@ -31,7 +31,7 @@ fn completed_words(
 }
 
 // The calls of unknown outcome that took effect in the order found: how many, and the first of them in words.
-fn completed(
+fn completed_calls(
     alloc: Global,
     witnesses: &[DocWitness],
     lines: &EventLines,
@@ -58,7 +58,7 @@ pub fn explained_story(
     lines: &EventLines,
 ) -> Result<Story, NoMemory> {
     let (docs, calls, left_out) = (explained.docs, explained.calls, explained.left_out);
-    let (count, told) = completed(alloc, explained.witnesses, lines)?;
+    let (count, told) = completed_calls(alloc, explained.witnesses, lines)?;
     let mut parts = Vec::new(alloc);
     parts.push(Part::Paragraph(format!(in alloc;
         "Documents: {docs}. Calls: {calls}. Calls of unknown outcome that took effect in the order that was found: {count}. Calls that stand in no place of it, so that they changed nothing: {left_out}."

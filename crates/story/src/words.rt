@@ -110,7 +110,7 @@ pub fn shown(alloc: Global, text: &str) -> Result<String, NoMemory> {
 }
 
 /// Numbers with commas between them: the first eight, and how many more there are.
-pub fn listed(alloc: Global, numbers: &[u64]) -> Result<String, NoMemory> {
+pub fn list_of(alloc: Global, numbers: &[u64]) -> Result<String, NoMemory> {
     let mut list = String::new(alloc);
     for number in numbers.iter().take(8) {
         let separator = if list.is_empty() { "" } else { ", " };

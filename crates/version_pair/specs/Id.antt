@@ -1,8 +1,11 @@
 -- Which texts are document ids.
 use Rattle.std.specs.Prelude.{ℕ, ◌<◌, ◌≤◌}
-use Rattle.version_pair.specs.declared.doc_id.TheConstants.{LONGEST_ID}
+
+-- the most bytes of a document id
+abbrev pub longest_id : ℕ
+longest_id = 512
 
 -- one byte to 512 bytes
 pub record IsIdLength (n : ℕ) : Type 0 where
   pub some : 0 < n
-  pub within : n ≤ LONGEST_ID
+  pub within : n ≤ longest_id

@@ -18,7 +18,6 @@ use Rattle.doc_register.specs.Run.{Entry, IsDocRun, pair_taken, part_of}
 use Rattle.doc_register.proofs.RunLemmas.{legal_of_one, same_id, step_kind}
 use Rattle.doc_register.proofs.RunLaws.{locality, pair_performs}
 use Rattle.history.specs.declared.event.Event.{Event}
-use Rattle.history.specs.declared.event.Event.TheVariants.{Call}
 use Rattle.history.specs.declared.record.Rec.{Rec}
 use Rattle.history.specs.Events.{IsCallAt, IsHistory, IsPending, IsReplyAt, PassesAt, Precedes, is_call, records_of}
 use Rattle.history.specs.Laws.{IsRecordAt, IsSplitByDocument}
@@ -29,6 +28,7 @@ use Rattle.history.proofs.RecordLaws.{split_by_document}
 use Rattle.witness.specs.declared.place.Place.{Place}
 use Rattle.witness.specs.Places.{AreRight, AreValid, GivesAsMay, IsHeardBefore, IsNamed, IsPlaceOf, IsPlaceRun, IsUnansweredGet, StepsAt}
 use Rattle.witness.specs.Laws.{AllChange, ArePlacedBy, ExplainsDocument, IsPlacedBy, PlacesAreOrders, TellsOf}
+use Rattle.history.proofs.EventLemmas.{same_call}
 
 -- ---- steps
 
@@ -54,37 +54,37 @@ completed_pair s (Delete c) q t not step = refl
 completed_pair s (Create k) q t not step = refl
 
 -- only a conflict hides a pair
-hides_as_may : (mode : Conflicts) (s : DocState) (op : Op) (at : ℕ) (reply : Answer) (hidden : Option Pair) (t : DocState) → (mode ≡ Plain → hidden ≡ None)
-    → WriteStep s op reply hidden t → GivesAsMay mode (Some (at, reply)) hidden
-hides_as_may mode s op at (Indexed q created) None t plain step = refl
-hides_as_may mode s op at (Indexed q created) (Some h) t plain step = absurd step
-hides_as_may mode s op at (Deleted q found) None t plain step = refl
-hides_as_may mode s op at (Deleted q found) (Some h) t plain step = absurd step
-hides_as_may mode s op at (Found q k) hidden t plain step = absurd step
-hides_as_may mode s op at Missing hidden t plain step = absurd step
-hides_as_may mode s op at Conflict hidden t plain step = plain
+hides_as_may : (conflicts : Conflicts) (s : DocState) (op : Op) (at : ℕ) (reply : Answer) (hidden : Option Pair) (t : DocState) → (conflicts ≡ Plain → hidden ≡ None)
+    → WriteStep s op reply hidden t → GivesAsMay conflicts (Some (at, reply)) hidden
+hides_as_may conflicts s op at (Indexed q created) None t plain step = refl
+hides_as_may conflicts s op at (Indexed q created) (Some h) t plain step = absurd step
+hides_as_may conflicts s op at (Deleted q found) None t plain step = refl
+hides_as_may conflicts s op at (Deleted q found) (Some h) t plain step = absurd step
+hides_as_may conflicts s op at (Found q k) hidden t plain step = absurd step
+hides_as_may conflicts s op at Missing hidden t plain step = absurd step
+hides_as_may conflicts s op at Conflict hidden t plain step = plain
 
-get_hides_none : (mode : Conflicts) (at : ℕ) (reply : Answer) (hidden : Option Pair) → hidden ≡ None → GivesAsMay mode (Some (at, reply)) hidden
-get_hides_none mode at (Indexed q created) hidden none = none
-get_hides_none mode at (Deleted q found) hidden none = none
-get_hides_none mode at (Found q k) hidden none = none
-get_hides_none mode at Missing hidden none = none
-get_hides_none mode at Conflict hidden none = λ plain. none
+get_hides_none : (conflicts : Conflicts) (at : ℕ) (reply : Answer) (hidden : Option Pair) → hidden ≡ None → GivesAsMay conflicts (Some (at, reply)) hidden
+get_hides_none conflicts at (Indexed q created) hidden none = none
+get_hides_none conflicts at (Deleted q found) hidden none = none
+get_hides_none conflicts at (Found q k) hidden none = none
+get_hides_none conflicts at Missing hidden none = none
+get_hides_none conflicts at Conflict hidden none = λ plain. none
 
-gives_as_may : (mode : Conflicts) (s : DocState) (op : Op) (at : ℕ) (reply : Answer) (hidden : Option Pair) (t : DocState) → (mode ≡ Plain → hidden ≡ None)
-    → DocStep s op reply hidden t → GivesAsMay mode (Some (at, reply)) hidden
-gives_as_may mode s Get at reply hidden t plain step = get_hides_none mode at reply hidden step.1
-gives_as_may mode s (Index k c) at reply hidden t plain step = hides_as_may mode s (Index k c) at reply hidden t plain step
-gives_as_may mode s (Delete c) at reply hidden t plain step = hides_as_may mode s (Delete c) at reply hidden t plain step
-gives_as_may mode s (Create k) at reply hidden t plain step = hides_as_may mode s (Create k) at reply hidden t plain step
+gives_as_may : (conflicts : Conflicts) (s : DocState) (op : Op) (at : ℕ) (reply : Answer) (hidden : Option Pair) (t : DocState) → (conflicts ≡ Plain → hidden ≡ None)
+    → DocStep s op reply hidden t → GivesAsMay conflicts (Some (at, reply)) hidden
+gives_as_may conflicts s Get at reply hidden t plain step = get_hides_none conflicts at reply hidden step.1
+gives_as_may conflicts s (Index k c) at reply hidden t plain step = hides_as_may conflicts s (Index k c) at reply hidden t plain step
+gives_as_may conflicts s (Delete c) at reply hidden t plain step = hides_as_may conflicts s (Delete c) at reply hidden t plain step
+gives_as_may conflicts s (Create k) at reply hidden t plain step = hides_as_may conflicts s (Create k) at reply hidden t plain step
 
 -- under plain conflicts no place gives a pair to an answered call
-plain_hides_none : (mode : Conflicts) (at : ℕ) (reply : Answer) (pair : Option Pair) → mode ≡ Plain → GivesAsMay mode (Some (at, reply)) pair → pair ≡ None
-plain_hides_none mode at (Indexed q created) pair plain gives = gives
-plain_hides_none mode at (Deleted q found) pair plain gives = gives
-plain_hides_none mode at (Found q k) pair plain gives = gives
-plain_hides_none mode at Missing pair plain gives = gives
-plain_hides_none mode at Conflict pair plain gives = gives plain
+plain_hides_none : (conflicts : Conflicts) (at : ℕ) (reply : Answer) (pair : Option Pair) → conflicts ≡ Plain → GivesAsMay conflicts (Some (at, reply)) pair → pair ≡ None
+plain_hides_none conflicts at (Indexed q created) pair plain gives = gives
+plain_hides_none conflicts at (Deleted q found) pair plain gives = gives
+plain_hides_none conflicts at (Found q k) pair plain gives = gives
+plain_hides_none conflicts at Missing pair plain gives = gives
+plain_hides_none conflicts at Conflict pair plain gives = gives plain
 
 -- ---- places and what stands in the order
 
@@ -98,7 +98,7 @@ told_by records (p ∷ ps) (u ∷ qs) zero q all at = (p, refl, subst (λ k. IsP
 told_by records (p ∷ ps) (u ∷ qs) (suc i) q all at = told_by records ps qs i q all.1 at
 
 -- a place tells of what stands there
-tells_of : (records : List Rec) (ps : List Place) (qs : List Placed) (i : ℕ) (p : Place) → ArePlacedBy records ps qs → slice_get ps i ≡ Some p
+pub tells_of : (records : List Rec) (ps : List Place) (qs : List Placed) (i : ℕ) (p : Place) → ArePlacedBy records ps qs → slice_get ps i ≡ Some p
     → (q : Placed) × (slice_get qs i ≡ Some q) × IsPlacedBy records p q
 tells_of records [] [] i p all at = absurd (none_is_not_some p at)
 tells_of records [] (u ∷ qs) i p all at = absurd all
@@ -107,11 +107,6 @@ tells_of records (v ∷ ps) (u ∷ qs) zero p all at = (u, refl, subst (λ k. Is
 tells_of records (v ∷ ps) (u ∷ qs) (suc i) p all at = tells_of records ps qs i p all.1 at
 
 -- ---- records
-
-same_call : (events : List Event) (i n m h g : ℕ) (d e : List ℕ) (op o : Op) → IsCallAt events i n h d op → IsCallAt events i m g e o → (n ≡ m) × (d ≡ e) × (op ≡ o)
-same_call events i n m h g d e op o at bt =
-    let same : Call n h d op ≡ Call m g e o = same_some (Call n h d op) (Call m g e o) (sym at ∙ bt) in
-    (cc, cc, cc)
 
 -- two records of a document with one number are one record
 same_number : (events : List Event) (d : List ℕ) → IsHistory events → IsSplitByDocument events → (j k : ℕ) (r s : Rec)
@@ -203,16 +198,16 @@ build events d split s t (p ∷ ps) known run =
     let rest = build events d split run.0 t ps (λ i q r at. known (suc i) q r at) run.4 in
     (record { no = run.1.no; entry = e.0 } ∷ rest.0, built_more events d s run.0 t p ps run.1 call.0 e.0 rest.0 run.2 call.1 e.1 rest.1)
 
-known_places : (mode : Conflicts) (records : List Rec) (places : List Place) → AreRight mode records places
+known_places : (conflicts : Conflicts) (records : List Rec) (places : List Place) → AreRight conflicts records places
     → (i : ℕ) (p : Place) (r : Rec) → slice_get places i ≡ Some p → IsPlaceOf records p r → IsUnansweredGet r → ⊥
-known_places mode records places right i p r at named get =
+known_places conflicts records places right i p r at named get =
     let known = right.known i p at in
     known.2 (subst (λ k. IsUnansweredGet k) (same_some r known.0 (sym named ∙ known.1)) get)
 
-built_once : (mode : Conflicts) (events : List Event) (d : List ℕ) → IsHistory events → IsSplitByDocument events → (places : List Place) (order : List Placed)
-    → AreRight mode (records_of events d) places → ArePlacedBy (records_of events d) places order
+built_once : (conflicts : Conflicts) (events : List Event) (d : List ℕ) → IsHistory events → IsSplitByDocument events → (places : List Place) (order : List Placed)
+    → AreRight conflicts (records_of events d) places → ArePlacedBy (records_of events d) places order
     → (i j : ℕ) (p q : Placed) → slice_get order i ≡ Some p → slice_get order j ≡ Some q → p.no ≡ q.no → i ≡ j
-built_once mode events d history split places order right placed i j p q at bt same =
+built_once conflicts events d history split places order right placed i j p q at bt same =
     let a = told_by (records_of events d) places order i p placed at in
     let b = told_by (records_of events d) places order j q placed bt in
     right.once i j a.0 b.0 a.1 b.1
@@ -225,11 +220,11 @@ tells_reply (Some x) pair e k r is tells = let same : x ≡ (k, r) = same_some x
 some_heard : (heard : Option (ℕ × Answer)) (k : ℕ) (r : Answer) → heard ≡ Some (k, r) → IsSome heard
 some_heard heard k r is = subst (λ o. IsSome o) (sym is) refl
 
-built_answered : (mode : Conflicts) (events : List Event) (d : List ℕ) → IsSplitByDocument events → (places : List Place) (order : List Placed)
-    → AreValid mode (records_of events d) places → ArePlacedBy (records_of events d) places order
+built_answered : (conflicts : Conflicts) (events : List Event) (d : List ℕ) → IsSplitByDocument events → (places : List Place) (order : List Placed)
+    → AreValid conflicts (records_of events d) places → ArePlacedBy (records_of events d) places order
     → (k j n h : ℕ) (op : Op) (r : Answer) → IsReplyAt events k n r → IsCallAt events j n h d op
     → (i : ℕ) × (p : Placed) × (slice_get order i ≡ Some p) × (p.no ≡ n) × (p.entry.reply ≡ r)
-built_answered mode events d split places order valid placed k j n h op r reply call =
+built_answered conflicts events d split places order valid placed k j n h op r reply call =
     let own = split.recorded j n h d op call in
     let of = split.of_call d own.0 own.1 own.2 in
     let number : own.1.no ≡ n = (same_call events j own.1.no n of.0 h d d own.1.op op (subst (λ c. IsCallAt events c own.1.no of.0 d own.1.op) own.3 of.1) call).0 in
@@ -248,10 +243,10 @@ precedes_heard events d split j k r s at bt first =
     let x = (split.precedes d j k r s at bt).0 first in
     heard_before r.heard x.0 s.call_at x.1 x.2 x.3
 
-built_respects : (mode : Conflicts) (events : List Event) (d : List ℕ) → IsSplitByDocument events → (places : List Place) (order : List Placed)
-    → AreRight mode (records_of events d) places → ArePlacedBy (records_of events d) places order
+built_respects : (conflicts : Conflicts) (events : List Event) (d : List ℕ) → IsSplitByDocument events → (places : List Place) (order : List Placed)
+    → AreRight conflicts (records_of events d) places → ArePlacedBy (records_of events d) places order
     → (i j : ℕ) (p q : Placed) → slice_get order i ≡ Some p → slice_get order j ≡ Some q → Precedes events p.no q.no → i < j
-built_respects mode events d split places order right placed i j p q at bt first =
+built_respects conflicts events d split places order right placed i j p q at bt first =
     let a = told_by (records_of events d) places order i p placed at in
     let b = told_by (records_of events d) places order j q placed bt in
     let before : IsHeardBefore a.2.named.heard b.2.named.call_at = precedes_heard events d split a.0.rec b.0.rec a.2.named b.2.named a.2.names b.2.names
@@ -261,31 +256,31 @@ built_respects mode events d split places order right placed i j p q at bt first
       | inr not ↦ absurd (right.in_time j i b.0 a.0 b.2.named a.2.named not b.1 a.1 b.2.names a.2.names before)
     ]
 
-plain_tells : (mode : Conflicts) (heard : Option (ℕ × Answer)) (pair : Option Pair) (e : Entry) → mode ≡ Plain → (heard ≡ None → e.hidden ≡ None) → GivesAsMay mode heard pair
+plain_tells : (conflicts : Conflicts) (heard : Option (ℕ × Answer)) (pair : Option Pair) (e : Entry) → conflicts ≡ Plain → (heard ≡ None → e.hidden ≡ None) → GivesAsMay conflicts heard pair
     → TellsOf heard pair e → e.hidden ≡ None
-plain_tells mode None pair e plain shown gives tells = shown refl
-plain_tells mode (Some x) pair e plain shown gives tells = tells.1 ∙ plain_hides_none mode x.0 x.1 pair plain gives
+plain_tells conflicts None pair e plain shown gives tells = shown refl
+plain_tells conflicts (Some x) pair e plain shown gives tells = tells.1 ∙ plain_hides_none conflicts x.0 x.1 pair plain gives
 
 entry_at : (ps : List Placed) (i : ℕ) (e : Entry) → slice_get (run_of ps) i ≡ Some e → (p : Placed) × (slice_get ps i ≡ Some p) × (p.entry ≡ e)
 entry_at [] i e at = absurd (none_is_not_some e at)
 entry_at (p ∷ ps) zero e at = (p, refl, same_some p.entry e at)
 entry_at (p ∷ ps) (suc i) e at = entry_at ps i e at
 
-explains : (mode : Conflicts) (events : List Event) (d : List ℕ) (places : List Place) → IsHistory events → AreValid mode (records_of events d) places
-    → (order : List Placed) × ExplainsDocument mode events d order × ArePlacedBy (records_of events d) places order
-explains mode events d places history valid =
+explains : (conflicts : Conflicts) (events : List Event) (d : List ℕ) (places : List Place) → IsHistory events → AreValid conflicts (records_of events d) places
+    → (order : List Placed) × ExplainsDocument conflicts events d order × ArePlacedBy (records_of events d) places order
+explains conflicts events d places history valid =
     let split = split_by_document events history in
-    let built = build events d split Never valid.right.legal.0 places (known_places mode (records_of events d) places valid.right) valid.right.legal.1 in (
+    let built = build events d split Never valid.right.legal.0 places (known_places conflicts (records_of events d) places valid.right) valid.right.legal.1 in (
       built.0,
       record {
         calls = built.1.calls;
-        once = built_once mode events d history split places built.0 valid.right built.1.placed;
-        answered = built_answered mode events d split places built.0 valid built.1.placed;
+        once = built_once conflicts events d history split places built.0 valid.right built.1.placed;
+        answered = built_answered conflicts events d split places built.0 valid built.1.placed;
         plain = λ plain i q at.
             let told = told_by (records_of events d) places built.0 i q built.1.placed at in
-            plain_tells mode told.2.named.heard told.0.pair q.entry plain (λ none. built.1.shown i told.0 q told.2.named told.1 at told.2.names none)
+            plain_tells conflicts told.2.named.heard told.0.pair q.entry plain (λ none. built.1.shown i told.0 q told.2.named told.1 at told.2.names none)
             (valid.right.pairs i told.0 told.2.named told.1 told.2.names) told.2.tells;
-        respects = built_respects mode events d split places built.0 valid.right built.1.placed;
+        respects = built_respects conflicts events d split places built.0 valid.right built.1.placed;
         legal = legal_of_one d (run_of built.0)
             (λ i e at. let p = entry_at built.0 i e at in ap (λ x. x.doc) (sym p.2) ∙ (built.1.calls i p.0 p.1).1)
             (valid.right.legal.0, built.1.run);
@@ -326,8 +321,8 @@ part_of_one d (q ∷ qs) docs =
     let rest : part_of d (run_of qs) ≡ run_of qs = part_of_one d qs (λ i u at. docs (suc i) u at) in
     ap (λ b. if b then q.entry ∷ part_of d (run_of qs) else part_of d (run_of qs)) kept ∙ ap (λ es. q.entry ∷ es) rest
 
-document_run : (mode : Conflicts) (events : List Event) (d : List ℕ) (order : List Placed) → ExplainsDocument mode events d order → (t : DocState) × IsDocRun Never (run_of order) t
-document_run mode events d order explained =
+document_run : (conflicts : Conflicts) (events : List Event) (d : List ℕ) (order : List Placed) → ExplainsDocument conflicts events d order → (t : DocState) × IsDocRun Never (run_of order) t
+document_run conflicts events d order explained =
     subst (λ es. (t : DocState) × IsDocRun Never es t) (part_of_one d order (λ i q at. (explained.calls i q at).1)) (((locality (run_of order)).0 explained.legal).0 d)
 
 unanswered_pending : (events : List Event) (d : List ℕ) → IsSplitByDocument events → (k : ℕ) (r : Rec) → IsRecordAt events d k r → r.heard ≡ None → IsPending events r.no
@@ -356,9 +351,9 @@ taken_by s e t step changes = by_operation e.op refl step where
   by_operation (Create k) is step = by_reply (Create k) e.reply e.hidden refl refl step
 
 -- the reply of an answered call in the order is the one that was heard
-answer_stands : (mode : Conflicts) (events : List Event) (d : List ℕ) (order : List Placed) → ExplainsDocument mode events d order → IsSplitByDocument events
+answer_stands : (conflicts : Conflicts) (events : List Event) (d : List ℕ) (order : List Placed) → ExplainsDocument conflicts events d order → IsSplitByDocument events
     → (i : ℕ) (q : Placed) (k : ℕ) (r : Rec) (x : ℕ × Answer) → slice_get order i ≡ Some q → IsRecordAt events d k r → q.no ≡ r.no → r.heard ≡ Some x → q.entry.reply ≡ x.1
-answer_stands mode events d order explained split i q k r x at named number heard =
+answer_stands conflicts events d order explained split i q k r x at named number heard =
     let call = split.of_call d k r named in
     let reply : IsReplyAt events x.0 r.no x.1 = (split.heard d k r named x.0 x.1).0 heard in
     let stands = explained.answered x.0 r.call_at r.no call.0 r.op x.1 reply call.1 in
@@ -366,9 +361,9 @@ answer_stands mode events d order explained split i q k r x at named number hear
     let one : stands.1 ≡ q = same_some stands.1 q (sym stands.2 ∙ (ap (λ j. slice_get order j) place ∙ at)) in
     ap (λ u. u.entry.reply) (sym one) ∙ stands.4
 
-record_of : (mode : Conflicts) (events : List Event) (d : List ℕ) (order : List Placed) → ExplainsDocument mode events d order → AllChange events order → IsSplitByDocument events
+record_of : (conflicts : Conflicts) (events : List Event) (d : List ℕ) (order : List Placed) → ExplainsDocument conflicts events d order → AllChange events order → IsSplitByDocument events
     → (i : ℕ) (q : Placed) → slice_get order i ≡ Some q → HasRecord events d q
-record_of mode events d order explained changes split i q at =
+record_of conflicts events d order explained changes split i q at =
     let call = explained.calls i q at in
     let own : IsCallAt events call.0.0 q.no q.entry.shard d q.entry.op = subst (λ c. IsCallAt events call.0.0 q.no q.entry.shard c q.entry.op) call.1 call.0.1 in
     let rec = split.recorded call.0.0 q.no q.entry.shard d q.entry.op own in
@@ -383,14 +378,14 @@ record_of mode events d order explained changes split i q at =
       tells = by_heard rec.0 rec.1 rec.2 same.0 rec.1.heard refl;
     } where
       run : (t : DocState) × IsDocRun Never (run_of order) t
-      run = document_run mode events d order explained
+      run = document_run conflicts events d order explained
 
       by_heard : (k : ℕ) (r : Rec) → IsRecordAt events d k r → q.no ≡ r.no → (heard : Option (ℕ × Answer)) → r.heard ≡ heard → TellsOf heard (given heard q.entry) q.entry
       by_heard k r named number None none =
           let pending : IsPending events q.no = subst (λ n. IsPending events n) (sym number) (unanswered_pending events d split k r named none) in
           let step = placed_step Never order run.0 run.1 i q at in
           (taken_by step.0 q.entry step.1 step.2 (changes i q at pending), refl)
-      by_heard k r named number (Some x) is = (answer_stands mode events d order explained split i q k r x at named number is, refl)
+      by_heard k r named number (Some x) is = (answer_stands conflicts events d order explained split i q k r x at named number is, refl)
 
 -- the step of a place, from that of the call in the order
 step_at : (s : DocState) (e : Entry) (m : DocState) (heard : Option (ℕ × Answer)) (pair : Option Pair) → TellsOf heard pair e → DocStep s e.op e.reply e.hidden m → StepsAt s e.op heard pair m
@@ -425,12 +420,12 @@ lay events d s (q ∷ qs) t records run =
       },
     )
 
-pairs_may : (mode : Conflicts) (s : DocState) (e : Entry) (t : DocState) (heard : Option (ℕ × Answer)) (pair : Option Pair) → (mode ≡ Plain → e.hidden ≡ None)
-    → DocStep s e.op e.reply e.hidden t → TellsOf heard pair e → GivesAsMay mode heard pair
-pairs_may mode s e t None pair plain step tells = tells.0
-pairs_may mode s e t (Some x) pair plain step tells =
-    subst (λ r. GivesAsMay mode (Some (x.0, r)) pair) tells.0
-    (subst (λ h. GivesAsMay mode (Some (x.0, e.reply)) h) tells.1 (gives_as_may mode s e.op x.0 e.reply e.hidden t plain step))
+pairs_may : (conflicts : Conflicts) (s : DocState) (e : Entry) (t : DocState) (heard : Option (ℕ × Answer)) (pair : Option Pair) → (conflicts ≡ Plain → e.hidden ≡ None)
+    → DocStep s e.op e.reply e.hidden t → TellsOf heard pair e → GivesAsMay conflicts heard pair
+pairs_may conflicts s e t None pair plain step tells = tells.0
+pairs_may conflicts s e t (Some x) pair plain step tells =
+    subst (λ r. GivesAsMay conflicts (Some (x.0, r)) pair) tells.0
+    (subst (λ h. GivesAsMay conflicts (Some (x.0, e.reply)) h) tells.1 (gives_as_may conflicts s e.op x.0 e.reply e.hidden t plain step))
 
 heard_precedes : (events : List Event) (d : List ℕ) → IsSplitByDocument events → (j k : ℕ) (r s : Rec) → IsRecordAt events d j r → IsRecordAt events d k s
     → IsHeardBefore r.heard s.call_at → Precedes events r.no s.no
@@ -443,10 +438,10 @@ heard_some : (heard : Option (ℕ × Answer)) → IsSome heard → (x : ℕ × A
 heard_some None some = let impossible : false ≡ true = some in absurd (cc)
 heard_some (Some x) some = (x, refl)
 
-laid_right : (mode : Conflicts) (events : List Event) (d : List ℕ) (order : List Placed) (places : List Place) (t : DocState) → IsHistory events → IsSplitByDocument events
-    → ExplainsDocument mode events d order → AllChange events order → IsDocRun Never (run_of order) t → IsLaid events d Never order t places
-    → AreRight mode (records_of events d) places
-laid_right mode events d order places t history split explained changes run laid = record {
+laid_right : (conflicts : Conflicts) (events : List Event) (d : List ℕ) (order : List Placed) (places : List Place) (t : DocState) → IsHistory events → IsSplitByDocument events
+    → ExplainsDocument conflicts events d order → AllChange events order → IsDocRun Never (run_of order) t → IsLaid events d Never order t places
+    → AreRight conflicts (records_of events d) places
+laid_right conflicts events d order places t history split explained changes run laid = record {
   known = λ i p at.
       let q = tells_of (records_of events d) places order i p laid.placed at in (
         q.2.named,
@@ -464,8 +459,8 @@ laid_right mode events d order places t history split explained changes run laid
       let q = tells_of (records_of events d) places order i p laid.placed at in
       let one : q.2.named ≡ r = same_some q.2.named r (sym q.2.names ∙ named) in
       let step = placed_step Never order t run i q.0 q.1 in
-      subst (λ o. GivesAsMay mode o.heard p.pair) one
-      (pairs_may mode step.0 q.0.entry step.1 q.2.named.heard p.pair (λ plain. explained.plain plain i q.0 q.1) step.2 q.2.tells);
+      subst (λ o. GivesAsMay conflicts o.heard p.pair) one
+      (pairs_may conflicts step.0 q.0.entry step.1 q.2.named.heard p.pair (λ plain. explained.plain plain i q.0 q.1) step.2 q.2.tells);
   in_time = λ i j p u r o less at bt named names before.
       let q = tells_of (records_of events d) places order i p laid.placed at in
       let v = tells_of (records_of events d) places order j u laid.placed bt in
@@ -478,10 +473,10 @@ laid_right mode events d order places t history split explained changes run laid
   legal = (t, laid.run);
 }
 
-laid_answered : (mode : Conflicts) (events : List Event) (d : List ℕ) (order : List Placed) (places : List Place) (t : DocState) → IsHistory events → IsSplitByDocument events
-    → ExplainsDocument mode events d order → IsLaid events d Never order t places
+laid_answered : (conflicts : Conflicts) (events : List Event) (d : List ℕ) (order : List Placed) (places : List Place) (t : DocState) → IsHistory events → IsSplitByDocument events
+    → ExplainsDocument conflicts events d order → IsLaid events d Never order t places
     → (k : ℕ) (r : Rec) → slice_get (records_of events d) k ≡ Some r → IsSome r.heard → IsNamed places k
-laid_answered mode events d order places t history split explained laid k r at heard =
+laid_answered conflicts events d order places t history split explained laid k r at heard =
     let x = heard_some r.heard heard in
     let call = split.of_call d k r at in
     let reply : IsReplyAt events x.0.0 r.no x.0.1 = (split.heard d k r at x.0.0 x.0.1).0 x.1 in
@@ -489,16 +484,16 @@ laid_answered mode events d order places t history split explained laid k r at h
     let told = told_by (records_of events d) places order stands.0 stands.1 laid.placed stands.2 in
     (stands.0, told.0, told.1, same_number events d history split told.0.rec k told.2.named r told.2.names at (sym told.2.number ∙ stands.3))
 
-valid : (mode : Conflicts) (events : List Event) (d : List ℕ) (order : List Placed) → IsHistory events → ExplainsDocument mode events d order → AllChange events order
-    → (places : List Place) × AreValid mode (records_of events d) places × ArePlacedBy (records_of events d) places order
-valid mode events d order history explained changes =
+valid : (conflicts : Conflicts) (events : List Event) (d : List ℕ) (order : List Placed) → IsHistory events → ExplainsDocument conflicts events d order → AllChange events order
+    → (places : List Place) × AreValid conflicts (records_of events d) places × ArePlacedBy (records_of events d) places order
+valid conflicts events d order history explained changes =
     let split = split_by_document events history in
-    let run = document_run mode events d order explained in
-    let laid = lay events d Never order run.0 (record_of mode events d order explained changes split) run.1 in (
+    let run = document_run conflicts events d order explained in
+    let laid = lay events d Never order run.0 (record_of conflicts events d order explained changes split) run.1 in (
       laid.0,
       record {
-        right = laid_right mode events d order laid.0 run.0 history split explained changes run.1 laid.1;
-        answered = laid_answered mode events d order laid.0 run.0 history split explained laid.1;
+        right = laid_right conflicts events d order laid.0 run.0 history split explained changes run.1 laid.1;
+        answered = laid_answered conflicts events d order laid.0 run.0 history split explained laid.1;
       },
       laid.1.placed,
     )

@@ -25,8 +25,8 @@ numbered : (places : List Place) (i k : ℕ) → slice_get (map rec_of places) i
 numbered places i k at = place_named (slice_get places i) k (sym (slice_get-map rec_of places i) ∙ at)
 
 -- right places are not more than the records
-pub fewer_places : (mode : Conflicts) (records : List Rec) (places : List Place) → AreRight mode records places → length places ≤ length records
-fewer_places mode records places right =
+pub fewer_places : (conflicts : Conflicts) (records : List Rec) (places : List Place) → AreRight conflicts records places → length places ≤ length records
+fewer_places conflicts records places right =
     let few = distinct_within (map rec_of places) (length records)
     (λ i j k at bt. let p = numbered places i k at in let q = numbered places j k bt in right.once i j p.0 q.0 p.1 q.1 (p.2 ∙ sym q.2))
     (λ i k at.

@@ -20,10 +20,9 @@ use Rattle.api_lines.proofs.ReadingLemmas.{given_value, lines_on}
 use Rattle.api_lines.proofs.WrittenLines.{decimal_length, no_line_feed-compact_text, one_line, quoted_length}
 use Rattle.witness.specs.aids.Lines.{HasId, IsReadable}
 use Rattle.witness.specs.declared.place.Place.{Place}
-use Rattle.witness.specs.declared.witness_line.TheConstants.{RECORDS}
+use Rattle.witness.specs.Text.{AreWithinLimits, DocPlaces, is_begun, items_in, most_items, most_records, place_value, said_by, says, takes, takes_value, value_of, with_said, witness_text, written}
 use Rattle.witness.specs.declared.witness_line.WitnessLine.{WitnessLine}
 use Rattle.witness.specs.declared.witness_line.WitnessLine.TheVariants as line
-use Rattle.witness.specs.Text.{AreWithinLimits, DocPlaces, items_in, is_begun, most_items, place_value, said_by, says, takes, takes_value, value_of, with_said, witness_text, written}
 use Rattle.witness.proofs.DocumentsLemmas.{items_in-append, takes_room}
 
 -- ---- lines
@@ -45,14 +44,14 @@ says_document_back begun d fits =
     (and_from (nat_lt 0 (length d)) (nat_le (length d) 512) (lt-ltb 0 (length d) fits.some) (le-leb (length d) 512 fits.within))
 
 record_back : (n : ℕ) (pair : Option Pair) → n < 2 ^ 32
-    → (below_limit RECORDS n >>= (λ r. Ok (line.Place (record { rec = r; pair = pair })))) ≡ Ok (line.Place (record { rec = n; pair = pair }))
+    → (below_limit most_records n >>= (λ r. Ok (line.Place (record { rec = r; pair = pair })))) ≡ Ok (line.Place (record { rec = n; pair = pair }))
 record_back n pair small =
     ap (λ b. (if b then Ok n else Err Range) >>= (λ r. Ok (line.Place (record { rec = r; pair = pair })))) (lt-ltb n (2 ^ 32) small)
 
 says_place_back : (n : ℕ) (pair : Option Pair) → n < 2 ^ 32 → says true (place_value n pair) ≡ Ok (line.Place (record { rec = n; pair = pair }))
 says_place_back n None small = record_back n None small
 says_place_back n (Some q) small =
-    ap (λ o. in_range o >>= (λ pair. below_limit RECORDS n >>= (λ r. Ok (line.Place (record { rec = r; pair = pair }))))) (pair_of-some q)
+    ap (λ o. in_range o >>= (λ pair. below_limit most_records n >>= (λ r. Ok (line.Place (record { rec = r; pair = pair }))))) (pair_of-some q)
     ∙ record_back n (Some q) small
 
 -- ---- how long a line is

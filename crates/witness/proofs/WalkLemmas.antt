@@ -33,18 +33,18 @@ not_before_start : (heard : Option (ℕ × Reply)) (a : ℕ) → a ≡ 0 → IsH
 not_before_start None a none before = before
 not_before_start (Some h) a none before = omega arith
 
-pub late_is : (mode : Conflicts) (records : List Rec) (places : List Place) (i : ℕ) (marks : List Bool) (latest : ℕ) (s : DocState) (r : Rec)
-    → IsWalked mode records (take i places) marks latest s → IsHeardBefore r.heard r.call_at ⊎ IsHeardBefore r.heard latest → IsLate records places i r
-late_is mode records places i marks latest s r walked (inl own) = inl own
-late_is mode records places i marks latest s r walked (inr before) = elim walked.reached as (λ _. IsLate records places i r) [
+pub late_is : (conflicts : Conflicts) (records : List Rec) (places : List Place) (i : ℕ) (marks : List Bool) (latest : ℕ) (s : DocState) (r : Rec)
+    → IsWalked conflicts records (take i places) marks latest s → IsHeardBefore r.heard r.call_at ⊎ IsHeardBefore r.heard latest → IsLate records places i r
+late_is conflicts records places i marks latest s r walked (inl own) = inl own
+late_is conflicts records places i marks latest s r walked (inr before) = elim walked.reached as (λ _. IsLate records places i r) [
   | inl none ↦ absurd (not_before_start r.heard latest none before)
   | inr some ↦ inr (some.0, some.1, some.2, some.3, some.4, heard_later r.heard latest some.2.call_at (let same = some.5 in omega arith) before)
 ]
 
-pub late_not : (mode : Conflicts) (records : List Rec) (places : List Place) (i : ℕ) (marks : List Bool) (latest : ℕ) (s : DocState) (r : Rec)
-    → IsWalked mode records (take i places) marks latest s → ((IsHeardBefore r.heard r.call_at ⊎ IsHeardBefore r.heard latest) → ⊥) → IsLate records places i r → ⊥
-late_not mode records places i marks latest s r walked not (inl own) = not (inl own)
-late_not mode records places i marks latest s r walked not (inr other) =
+pub late_not : (conflicts : Conflicts) (records : List Rec) (places : List Place) (i : ℕ) (marks : List Bool) (latest : ℕ) (s : DocState) (r : Rec)
+    → IsWalked conflicts records (take i places) marks latest s → ((IsHeardBefore r.heard r.call_at ⊎ IsHeardBefore r.heard latest) → ⊥) → IsLate records places i r → ⊥
+late_not conflicts records places i marks latest s r walked not (inl own) = not (inl own)
+late_not conflicts records places i marks latest s r walked not (inr other) =
     not (inr (heard_later r.heard other.2.call_at latest (walked.greatest other.0 other.1 other.2 other.3 other.4) other.5))
 
 -- ---- steps
@@ -68,15 +68,15 @@ stuck_along records front m r pair run stuck s t other step =
 
 -- ---- one place
 
-pub reached_at : (mode : Conflicts) (records : List Rec) (places : List Place) (i : ℕ) (p : Place) (marks : List Bool) (latest : ℕ) (s : DocState)
-    → slice_get places i ≡ Some p → IsWalked mode records (take i places) marks latest s → IsReached mode records places i p
-reached_at mode records places i p marks latest s here walked = record { here = here; right = walked.right }
+pub reached_at : (conflicts : Conflicts) (records : List Rec) (places : List Place) (i : ℕ) (p : Place) (marks : List Bool) (latest : ℕ) (s : DocState)
+    → slice_get places i ≡ Some p → IsWalked conflicts records (take i places) marks latest s → IsReached conflicts records places i p
+reached_at conflicts records places i p marks latest s here walked = record { here = here; right = walked.right }
 
-pub fresh_at : (mode : Conflicts) (records : List Rec) (places : List Place) (i : ℕ) (p : Place) (r : Rec) (marks : List Bool) (latest : ℕ) (s : DocState)
-    → slice_get places i ≡ Some p → IsWalked mode records (take i places) marks latest s → IsPlaceOf records p r → (IsUnansweredGet r → ⊥)
-    → slice_get marks p.rec ≡ Some false → IsFresh mode records places i p r
-fresh_at mode records places i p r marks latest s here walked names known unmarked = record {
-  reached = reached_at mode records places i p marks latest s here walked;
+pub fresh_at : (conflicts : Conflicts) (records : List Rec) (places : List Place) (i : ℕ) (p : Place) (r : Rec) (marks : List Bool) (latest : ℕ) (s : DocState)
+    → slice_get places i ≡ Some p → IsWalked conflicts records (take i places) marks latest s → IsPlaceOf records p r → (IsUnansweredGet r → ⊥)
+    → slice_get marks p.rec ≡ Some false → IsFresh conflicts records places i p r
+fresh_at conflicts records places i p r marks latest s here walked names known unmarked = record {
+  reached = reached_at conflicts records places i p marks latest s here walked;
   names = names;
   known = known;
   fresh = λ named.
@@ -85,15 +85,15 @@ fresh_at mode records places i p r marks latest s here walked names known unmark
       cc;
 }
 
-pub pair_fault_is : (mode : Conflicts) (records : List Rec) (places : List Place) (i : ℕ) (p : Place) (r : Rec) (heard : Option (ℕ × Reply)) (pair : Option Pair) (b : Broken)
-    → r.heard ≡ heard → p.pair ≡ pair → IsFresh mode records places i p r → (GivesAsMay mode r.heard p.pair → ⊥) → MatchOption heard (b ≡ PairMissing i) (λ _. b ≡ PairGiven i)
-    → IsFirstFault mode records places b
-pair_fault_is mode records places i p r None None b is pair_is fresh not fault =
-    subst (IsFirstFault mode records places) (sym fault) (p, r, fresh, is, pair_is)
-pair_fault_is mode records places i p r None (Some q) b is pair_is fresh not fault =
-    absurd (not (subst (λ h. GivesAsMay mode h p.pair) (sym is) (subst (λ o. IsSome o) (sym pair_is) refl)))
-pair_fault_is mode records places i p r (Some h) pair b is pair_is fresh not fault =
-    subst (IsFirstFault mode records places) (sym fault) (p, r, fresh, subst (λ o. IsSome o) (sym is) refl, not)
+pub pair_fault_is : (conflicts : Conflicts) (records : List Rec) (places : List Place) (i : ℕ) (p : Place) (r : Rec) (heard : Option (ℕ × Reply)) (pair : Option Pair) (b : Broken)
+    → r.heard ≡ heard → p.pair ≡ pair → IsFresh conflicts records places i p r → (GivesAsMay conflicts r.heard p.pair → ⊥) → MatchOption heard (b ≡ PairMissing i) (λ _. b ≡ PairGiven i)
+    → IsFirstFault conflicts records places b
+pair_fault_is conflicts records places i p r None None b is pair_is fresh not fault =
+    subst (IsFirstFault conflicts records places) (sym fault) (p, r, fresh, is, pair_is)
+pair_fault_is conflicts records places i p r None (Some q) b is pair_is fresh not fault =
+    absurd (not (subst (λ h. GivesAsMay conflicts h p.pair) (sym is) (subst (λ o. IsSome o) (sym pair_is) refl)))
+pair_fault_is conflicts records places i p r (Some h) pair b is pair_is fresh not fault =
+    subst (IsFirstFault conflicts records places) (sym fault) (p, r, fresh, subst (λ o. IsSome o) (sym is) refl, not)
 
 -- ---- lists
 
@@ -104,22 +104,22 @@ run_append records s m t [] qs a b = subst (λ k. IsPlaceRun records k qs t) a b
 run_append records s m t (p ∷ ps) qs a b = (a.0, a.1, a.2, a.3, run_append records a.0 m t ps qs a.4 b)
 
 -- what the next place brings: its record, which may be named and is not yet, with a pair as it may give, in time, and its step
-record IsNext (mode : Conflicts) (records : List Rec) (front : List Place) (p : Place) (r : Rec) (s t : DocState) : Type 0 where
+record IsNext (conflicts : Conflicts) (records : List Rec) (front : List Place) (p : Place) (r : Rec) (s t : DocState) : Type 0 where
   names : IsPlaceOf records p r
   known : IsUnansweredGet r → ⊥
   fresh : IsNamed front p.rec → ⊥
-  gives : GivesAsMay mode r.heard p.pair
+  gives : GivesAsMay conflicts r.heard p.pair
   own_in_time : IsHeardBefore r.heard r.call_at → ⊥
   in_time : (j : ℕ) (q : Place) (o : Rec) → slice_get front j ≡ Some q → IsPlaceOf records q o → IsHeardBefore r.heard o.call_at → ⊥
   steps : StepsAt s r.op r.heard p.pair t
 
-run_more : (mode : Conflicts) (records : List Rec) (front : List Place) (p : Place) (r : Rec) (s t : DocState)
-    → IsPlaceRun records Never front s → IsNext mode records front p r s t → IsPlaceRun records Never (front ++ p ∷ []) t
-run_more mode records front p r s t run next = run_append records Never s t front (p ∷ []) run (t, r, next.names, next.steps, refl)
+run_more : (conflicts : Conflicts) (records : List Rec) (front : List Place) (p : Place) (r : Rec) (s t : DocState)
+    → IsPlaceRun records Never front s → IsNext conflicts records front p r s t → IsPlaceRun records Never (front ++ p ∷ []) t
+run_more conflicts records front p r s t run next = run_append records Never s t front (p ∷ []) run (t, r, next.names, next.steps, refl)
 
-right_more : (mode : Conflicts) (records : List Rec) (front : List Place) (p : Place) (r : Rec) (s t : DocState)
-    → AreRight mode records front → IsPlaceRun records Never front s → IsNext mode records front p r s t → AreRight mode records (front ++ p ∷ [])
-right_more mode records front p r s t right run next = record {
+right_more : (conflicts : Conflicts) (records : List Rec) (front : List Place) (p : Place) (r : Rec) (s t : DocState)
+    → AreRight conflicts records front → IsPlaceRun records Never front s → IsNext conflicts records front p r s t → AreRight conflicts records (front ++ p ∷ [])
+right_more conflicts records front p r s t right run next = record {
   known = λ i q at. elim (get_snoc front p q i at) as (λ _. (o : Rec) × IsPlaceOf records q o × (IsUnansweredGet o → ⊥)) [
     | inl before ↦ right.known i q before
     | inr last ↦ (r, subst (λ o. IsPlaceOf records o r) last.1 next.names, next.known)
@@ -134,12 +134,12 @@ right_more mode records front p r s t right run next = record {
       | inr last ↦ end.0 ∙ sym last.0
     ]
   ];
-  pairs = λ i q o at names. elim (get_snoc front p q i at) as (λ _. GivesAsMay mode o.heard q.pair) [
+  pairs = λ i q o at names. elim (get_snoc front p q i at) as (λ _. GivesAsMay conflicts o.heard q.pair) [
     | inl before ↦ right.pairs i q o before names
     | inr last ↦
         let named : IsPlaceOf records p o = subst (λ u. IsPlaceOf records u o) (sym last.1) names in
         let same : r ≡ o = same_some r o (sym next.names ∙ named) in
-        subst (λ u. GivesAsMay mode o.heard u.pair) last.1 (subst (λ k. GivesAsMay mode k.heard p.pair) same next.gives)
+        subst (λ u. GivesAsMay conflicts o.heard u.pair) last.1 (subst (λ k. GivesAsMay conflicts k.heard p.pair) same next.gives)
   ];
   in_time = λ i j q u o v less at bt of_q of_u. elim (get_snoc front p u j bt) as (λ _. IsHeardBefore v.heard o.call_at → ⊥) [
     | inl first ↦ elim (get_snoc front p q i at) as (λ _. IsHeardBefore v.heard o.call_at → ⊥) [
@@ -157,7 +157,7 @@ right_more mode records front p r s t right run next = record {
               λ late. next.own_in_time (subst (λ k. IsHeardBefore r.heard k.call_at) (sym mine) (subst (λ k. IsHeardBefore k.heard o.call_at) (sym same) late))
         ]
   ];
-  legal = (t, run_more mode records front p r s t run next);
+  legal = (t, run_more conflicts records front p r s t run next);
 }
 
 named_before : (front : List Place) (p : Place) (k : ℕ) → IsNamed front k → IsNamed (front ++ p ∷ []) k
@@ -194,15 +194,15 @@ record IsLatest (old at new : ℕ) : Type 0 where
   within : at ≤ new
   one : (new ≡ old) ⊎ (new ≡ at)
 
-walked_more : (mode : Conflicts) (records : List Rec) (front : List Place) (marks : List Bool) (latest new : ℕ) (p : Place) (r : Rec) (s t : DocState)
-    → IsWalked mode records front marks latest s → IsNext mode records front p r s t → IsLatest latest r.call_at new
-    → IsWalked mode records (front ++ p ∷ []) (set marks p.rec true) new t
-walked_more mode records front marks latest new p r s t walked next later =
+walked_more : (conflicts : Conflicts) (records : List Rec) (front : List Place) (marks : List Bool) (latest new : ℕ) (p : Place) (r : Rec) (s t : DocState)
+    → IsWalked conflicts records front marks latest s → IsNext conflicts records front p r s t → IsLatest latest r.call_at new
+    → IsWalked conflicts records (front ++ p ∷ []) (set marks p.rec true) new t
+walked_more conflicts records front marks latest new p r s t walked next later =
     let size = walked.size in
     let named : p.rec < length records = slice_get_within records p.rec r next.names in
     record {
-      right = right_more mode records front p r s t walked.right walked.run next;
-      run = run_more mode records front p r s t walked.run next;
+      right = right_more conflicts records front p r s t walked.right walked.run next;
+      run = run_more conflicts records front p r s t walked.run next;
       size = length-set marks p.rec true ∙ size;
       marked = marked_more front p marks (omega arith) walked.marked;
       greatest = λ i q o at names. elim (get_snoc front p q i at) as (λ _. o.call_at ≤ new) [
@@ -220,9 +220,9 @@ walked_more mode records front marks latest new p r s t walked next later =
       ];
     }
 
-next_of_step : (mode : Conflicts) (records : List Rec) (places : List Place) (i : ℕ) (r : Rec) (s t : DocState) → (n : IsNextStep mode records places i r s t)
-    → IsNext mode records (take i places) n.place r s t
-next_of_step mode records places i r s t n = record {
+next_of_step : (conflicts : Conflicts) (records : List Rec) (places : List Place) (i : ℕ) (r : Rec) (s t : DocState) → (n : IsNextStep conflicts records places i r s t)
+    → IsNext conflicts records (take i places) n.place r s t
+next_of_step conflicts records places i r s t n = record {
   names = n.fresh.names;
   known = n.fresh.known;
   fresh = n.fresh.fresh;
@@ -233,21 +233,21 @@ next_of_step mode records places i r s t n = record {
 }
 
 -- the walk goes on over the place at i
-pub walked_next : (mode : Conflicts) (records : List Rec) (places : List Place) (i : ℕ) (marks news : List Bool) (latest new : ℕ) (p : Place) (r : Rec) (s t u : DocState)
-    → IsWalked mode records (take i places) marks latest s → IsNextStep mode records places i r s t → slice_get places i ≡ Some p → news ≡ set marks p.rec true
-    → u ≡ t → (latest ≤ new) × (r.call_at ≤ new) × ((new ≡ latest) ⊎ (new ≡ r.call_at)) → IsWalked mode records (take (suc i) places) news new u
-walked_next mode records places i marks news latest new p r s t u walked n at set_is state_is later =
+pub walked_next : (conflicts : Conflicts) (records : List Rec) (places : List Place) (i : ℕ) (marks news : List Bool) (latest new : ℕ) (p : Place) (r : Rec) (s t u : DocState)
+    → IsWalked conflicts records (take i places) marks latest s → IsNextStep conflicts records places i r s t → slice_get places i ≡ Some p → news ≡ set marks p.rec true
+    → u ≡ t → (latest ≤ new) × (r.call_at ≤ new) × ((new ≡ latest) ⊎ (new ≡ r.call_at)) → IsWalked conflicts records (take (suc i) places) news new u
+walked_next conflicts records places i marks news latest new p r s t u walked n at set_is state_is later =
     let same : n.place ≡ p = same_some n.place p (sym n.fresh.reached.here ∙ at) in
-    let next : IsNext mode records (take i places) p r s t = subst (λ q. IsNext mode records (take i places) q r s t) same (next_of_step mode records places i r s t n) in
-    subst (λ k. IsWalked mode records (take (suc i) places) news new k) (sym state_is)
-    (subst (λ ms. IsWalked mode records (take (suc i) places) ms new t) (sym set_is)
-    (subst (λ ps. IsWalked mode records ps (set marks p.rec true) new t) (sym (take_one_more places i p at))
-    (walked_more mode records (take i places) marks latest new p r s t walked next (record { grows = later.0; within = later.1; one = later.2 }))))
+    let next : IsNext conflicts records (take i places) p r s t = subst (λ q. IsNext conflicts records (take i places) q r s t) same (next_of_step conflicts records places i r s t n) in
+    subst (λ k. IsWalked conflicts records (take (suc i) places) news new k) (sym state_is)
+    (subst (λ ms. IsWalked conflicts records (take (suc i) places) ms new t) (sym set_is)
+    (subst (λ ps. IsWalked conflicts records ps (set marks p.rec true) new t) (sym (take_one_more places i p at))
+    (walked_more conflicts records (take i places) marks latest new p r s t walked next (record { grows = later.0; within = later.1; one = later.2 }))))
 
 -- the record of the next place has a mark to set
-pub within_marks : (mode : Conflicts) (records : List Rec) (places : List Place) (i : ℕ) (marks : List Bool) (latest : ℕ) (p : Place) (r : Rec) (s t : DocState)
-    → IsWalked mode records (take i places) marks latest s → IsNextStep mode records places i r s t → slice_get places i ≡ Some p → p.rec < length marks
-within_marks mode records places i marks latest p r s t walked n at =
+pub within_marks : (conflicts : Conflicts) (records : List Rec) (places : List Place) (i : ℕ) (marks : List Bool) (latest : ℕ) (p : Place) (r : Rec) (s t : DocState)
+    → IsWalked conflicts records (take i places) marks latest s → IsNextStep conflicts records places i r s t → slice_get places i ≡ Some p → p.rec < length marks
+within_marks conflicts records places i marks latest p r s t walked n at =
     let same : n.place ≡ p = same_some n.place p (sym n.fresh.reached.here ∙ at) in
     let named : p.rec < length records = slice_get_within records p.rec r (subst (λ q. IsPlaceOf records q r) same n.fresh.names) in
     let size = walked.size in
@@ -255,16 +255,16 @@ within_marks mode records places i marks latest p r s t walked n at =
 
 -- ---- the end of the walk
 
-pub all_valid : (mode : Conflicts) (records : List Rec) (places : List Place) (marks : List Bool) (latest : ℕ) (s : DocState)
-    → IsWalked mode records places marks latest s → AllNamedBelow records marks (length records) → AreValid mode records places
-all_valid mode records places marks latest s walked named = record {
+pub all_valid : (conflicts : Conflicts) (records : List Rec) (places : List Place) (marks : List Bool) (latest : ℕ) (s : DocState)
+    → IsWalked conflicts records places marks latest s → AllNamedBelow records marks (length records) → AreValid conflicts records places
+all_valid conflicts records places marks latest s walked named = record {
   right = walked.right;
   answered = λ k r at heard. (walked.marked k).0 (named k r (slice_get_within records k r at) at heard);
 }
 
-pub one_absent : (mode : Conflicts) (records : List Rec) (places : List Place) (marks : List Bool) (latest : ℕ) (s : DocState) (k : ℕ)
-    → IsWalked mode records places marks latest s → IsAbsent records marks k → AllNamedBelow records marks k → IsFirstFault mode records places (Absent k)
-one_absent mode records places marks latest s k walked missing named = (
+pub one_absent : (conflicts : Conflicts) (records : List Rec) (places : List Place) (marks : List Bool) (latest : ℕ) (s : DocState) (k : ℕ)
+    → IsWalked conflicts records places marks latest s → IsAbsent records marks k → AllNamedBelow records marks k → IsFirstFault conflicts records places (Absent k)
+one_absent conflicts records places marks latest s k walked missing named = (
   missing.0,
   walked.right,
   missing.1,
@@ -284,46 +284,46 @@ run_at records s t (q ∷ places) (suc i) p run at =
     let rest = run_at records run.0 t places i p run.4 at in
     (rest.0, rest.1, rest.2, (run.0, run.1, run.2, run.3, rest.3), rest.4, rest.5)
 
-missing_pair : (mode : Conflicts) (heard : Option (ℕ × Reply)) (pair : Option Pair) → heard ≡ None → pair ≡ None → GivesAsMay mode heard pair → ⊥
-missing_pair mode None None is none gives = let impossible : false ≡ true = gives in cc
-missing_pair mode None (Some q) is none gives = none_is_not_some q (sym none)
-missing_pair mode (Some h) pair is none gives = none_is_not_some h (sym is)
+missing_pair : (conflicts : Conflicts) (heard : Option (ℕ × Reply)) (pair : Option Pair) → heard ≡ None → pair ≡ None → GivesAsMay conflicts heard pair → ⊥
+missing_pair conflicts None None is none gives = let impossible : false ≡ true = gives in cc
+missing_pair conflicts None (Some q) is none gives = none_is_not_some q (sym none)
+missing_pair conflicts (Some h) pair is none gives = none_is_not_some h (sym is)
 
-late_not_valid : (mode : Conflicts) (records : List Rec) (places : List Place) (i : ℕ) (p : Place) (r : Rec) → AreRight mode records places
+late_not_valid : (conflicts : Conflicts) (records : List Rec) (places : List Place) (i : ℕ) (p : Place) (r : Rec) → AreRight conflicts records places
     → slice_get places i ≡ Some p → IsPlaceOf records p r → IsLate records places i r → ⊥
-late_not_valid mode records places i p r right at names (inl own) = right.in_time i i p p r r (omega arith) at at names names own
-late_not_valid mode records places i p r right at names (inr other) =
+late_not_valid conflicts records places i p r right at names (inl own) = right.in_time i i p p r r (omega arith) at at names names own
+late_not_valid conflicts records places i p r right at names (inr other) =
     let before = get_take places i other.0 other.1 other.3 in
     let less : other.0 < i = before.1 in
     right.in_time other.0 i other.1 p other.2 r (omega arith) before.0 at other.4 names other.5
 
-illegal_not_valid : (mode : Conflicts) (records : List Rec) (places : List Place) (i : ℕ) (p : Place) (r : Rec) → AreRight mode records places
+illegal_not_valid : (conflicts : Conflicts) (records : List Rec) (places : List Place) (i : ℕ) (p : Place) (r : Rec) → AreRight conflicts records places
     → slice_get places i ≡ Some p → IsPlaceOf records p r → ((s t : DocState) → IsPlaceRun records Never (take i places) s → StepsAt s r.op r.heard p.pair t → ⊥) → ⊥
-illegal_not_valid mode records places i p r right at names stuck =
+illegal_not_valid conflicts records places i p r right at names stuck =
     let here = run_at records Never right.legal.0 places i p right.legal.1 at in
     let same : here.2 ≡ r = same_some here.2 r (sym here.4 ∙ names) in
     stuck here.0 here.1 here.3 (subst (λ k. StepsAt here.0 k.op k.heard p.pair here.1) same here.5)
 
-pub fault_not_valid : (mode : Conflicts) (records : List Rec) (places : List Place) (b : Broken) → IsFirstFault mode records places b → AreValid mode records places → ⊥
-fault_not_valid mode records places (Stranger i) fault valid =
+pub fault_not_valid : (conflicts : Conflicts) (records : List Rec) (places : List Place) (b : Broken) → IsFirstFault conflicts records places b → AreValid conflicts records places → ⊥
+fault_not_valid conflicts records places (Stranger i) fault valid =
     let known = valid.right.known i fault.0 fault.1.here in known.2 (fault.2 known.0 known.1)
-fault_not_valid mode records places (Twice i) fault valid =
+fault_not_valid conflicts records places (Twice i) fault valid =
     let named = fault.5 in
     let before = get_take places i named.0 named.1 named.2 in
     let less : named.0 < i = before.1 in
     let same : named.0 ≡ i = valid.right.once named.0 i named.1 fault.0 before.0 fault.2.here named.3 in
     omega arith
-fault_not_valid mode records places (PairMissing i) fault valid =
-    missing_pair mode fault.1.heard fault.0.pair fault.3 fault.4 (valid.right.pairs i fault.0 fault.1 fault.2.reached.here fault.2.names)
-fault_not_valid mode records places (PairGiven i) fault valid = fault.4 (valid.right.pairs i fault.0 fault.1 fault.2.reached.here fault.2.names)
-fault_not_valid mode records places (Late i) fault valid = late_not_valid mode records places i fault.0 fault.1 valid.right fault.2.reached.here fault.2.names fault.4
-fault_not_valid mode records places (Illegal i) fault valid =
-    illegal_not_valid mode records places i fault.0 fault.1 valid.right fault.2.reached.here fault.2.names fault.5
-fault_not_valid mode records places (Absent k) fault valid = fault.4 (valid.answered k fault.0 fault.2 fault.3)
-fault_not_valid mode records places NoMemory fault valid = absurd fault
+fault_not_valid conflicts records places (PairMissing i) fault valid =
+    missing_pair conflicts fault.1.heard fault.0.pair fault.3 fault.4 (valid.right.pairs i fault.0 fault.1 fault.2.reached.here fault.2.names)
+fault_not_valid conflicts records places (PairGiven i) fault valid = fault.4 (valid.right.pairs i fault.0 fault.1 fault.2.reached.here fault.2.names)
+fault_not_valid conflicts records places (Late i) fault valid = late_not_valid conflicts records places i fault.0 fault.1 valid.right fault.2.reached.here fault.2.names fault.4
+fault_not_valid conflicts records places (Illegal i) fault valid =
+    illegal_not_valid conflicts records places i fault.0 fault.1 valid.right fault.2.reached.here fault.2.names fault.5
+fault_not_valid conflicts records places (Absent k) fault valid = fault.4 (valid.answered k fault.0 fault.2 fault.3)
+fault_not_valid conflicts records places NoMemory fault valid = absurd fault
 
 -- a walk to the end of the places is over them all
-pub walked_all : (mode : Conflicts) (records : List Rec) (places : List Place) (i : ℕ) (marks : List Bool) (latest : ℕ) (s : DocState)
-    → i ≡ length places → IsWalked mode records (take i places) marks latest s → IsWalked mode records places marks latest s
-walked_all mode records places i marks latest s end walked =
-    subst (λ front. IsWalked mode records front marks latest s) (ap (λ k. take k places) end ∙ take-length places) walked
+pub walked_all : (conflicts : Conflicts) (records : List Rec) (places : List Place) (i : ℕ) (marks : List Bool) (latest : ℕ) (s : DocState)
+    → i ≡ length places → IsWalked conflicts records (take i places) marks latest s → IsWalked conflicts records places marks latest s
+walked_all conflicts records places i marks latest s end walked =
+    subst (λ front. IsWalked conflicts records front marks latest s) (ap (λ k. take k places) end ∙ take-length places) walked

@@ -14,13 +14,13 @@ abbrev pub IsStranger : List Rec → Place → Type 0
 IsStranger records p = (r : Rec) → IsPlaceOf records p r → IsUnansweredGet r
 
 -- the place stands at i, and all places before it are right
-pub record IsReached (mode : Conflicts) (records : List Rec) (places : List Place) (i : ℕ) (p : Place) : Type 0 where
+pub record IsReached (conflicts : Conflicts) (records : List Rec) (places : List Place) (i : ℕ) (p : Place) : Type 0 where
   pub here : slice_get places i ≡ Some p
-  pub right : AreRight mode records (take i places)
+  pub right : AreRight conflicts records (take i places)
 
 -- it is reached, and it names a record that may be named and is not named before
-pub record IsFresh (mode : Conflicts) (records : List Rec) (places : List Place) (i : ℕ) (p : Place) (r : Rec) : Type 0 where
-  pub reached : IsReached mode records places i p
+pub record IsFresh (conflicts : Conflicts) (records : List Rec) (places : List Place) (i : ℕ) (p : Place) (r : Rec) : Type 0 where
+  pub reached : IsReached conflicts records places i p
   pub names : IsPlaceOf records p r
   pub known : ¬ IsUnansweredGet r
   pub fresh : ¬ IsNamed (take i places) p.rec
@@ -35,22 +35,22 @@ IsLate records places i r =
 -- The fault holds, and none that is told before it: place by place stranger, twice, pair missing, pair given, late,
 -- illegal; last the least answered record that is absent.
 abbrev pub IsFirstFault : Conflicts → List Rec → List Place → Broken → Type 0
-IsFirstFault mode records places (Stranger i) = (p : Place) × IsReached mode records places i p × IsStranger records p
-IsFirstFault mode records places (Twice i) =
-    (p : Place) × (r : Rec) × IsReached mode records places i p × IsPlaceOf records p r × (¬ IsUnansweredGet r)
+IsFirstFault conflicts records places (Stranger i) = (p : Place) × IsReached conflicts records places i p × IsStranger records p
+IsFirstFault conflicts records places (Twice i) =
+    (p : Place) × (r : Rec) × IsReached conflicts records places i p × IsPlaceOf records p r × (¬ IsUnansweredGet r)
     × IsNamed (take i places) p.rec
-IsFirstFault mode records places (PairMissing i) =
-    (p : Place) × (r : Rec) × IsFresh mode records places i p r × (r.heard ≡ None) × (p.pair ≡ None)
-IsFirstFault mode records places (PairGiven i) =
-    (p : Place) × (r : Rec) × IsFresh mode records places i p r × IsSome r.heard × (¬ GivesAsMay mode r.heard p.pair)
-IsFirstFault mode records places (Late i) =
-    (p : Place) × (r : Rec) × IsFresh mode records places i p r × GivesAsMay mode r.heard p.pair
+IsFirstFault conflicts records places (PairMissing i) =
+    (p : Place) × (r : Rec) × IsFresh conflicts records places i p r × (r.heard ≡ None) × (p.pair ≡ None)
+IsFirstFault conflicts records places (PairGiven i) =
+    (p : Place) × (r : Rec) × IsFresh conflicts records places i p r × IsSome r.heard × (¬ GivesAsMay conflicts r.heard p.pair)
+IsFirstFault conflicts records places (Late i) =
+    (p : Place) × (r : Rec) × IsFresh conflicts records places i p r × GivesAsMay conflicts r.heard p.pair
     × IsLate records places i r
-IsFirstFault mode records places (Illegal i) =
-    (p : Place) × (r : Rec) × IsFresh mode records places i p r × GivesAsMay mode r.heard p.pair
+IsFirstFault conflicts records places (Illegal i) =
+    (p : Place) × (r : Rec) × IsFresh conflicts records places i p r × GivesAsMay conflicts r.heard p.pair
     × (¬ IsLate records places i r)
     × ((s t : DocState) → IsPlaceRun records Never (take i places) s → ¬ StepsAt s r.op r.heard p.pair t)
-IsFirstFault mode records places (Absent k) =
-    (r : Rec) × AreRight mode records places × (slice_get records k ≡ Some r) × IsSome r.heard × (¬ IsNamed places k)
+IsFirstFault conflicts records places (Absent k) =
+    (r : Rec) × AreRight conflicts records places × (slice_get records k ≡ Some r) × IsSome r.heard × (¬ IsNamed places k)
     × ((j : ℕ) (s : Rec) → j < k → slice_get records j ≡ Some s → IsSome s.heard → IsNamed places j)
-IsFirstFault mode records places NoMemory = ⊥
+IsFirstFault conflicts records places NoMemory = ⊥

@@ -18,12 +18,12 @@ use Rattle.witness.specs.Text.{takes_value}
 
 -- The order explains the document of the history: it is an order of the document's calls, as one of the whole history
 -- would be, but of no other document's; it respects the history; and it is a legal run.
-pub record ExplainsDocument (mode : Conflicts) (events : List Event) (d : List ℕ) (order : List Placed) : Type 0 where
+pub record ExplainsDocument (conflicts : Conflicts) (events : List Event) (d : List ℕ) (order : List Placed) : Type 0 where
   pub calls : (i : ℕ) (p : Placed) → slice_get order i ≡ Some p → IsOfCall events p × (p.entry.doc ≡ d)
   pub once : (i j : ℕ) (p q : Placed) → slice_get order i ≡ Some p → slice_get order j ≡ Some q → p.no ≡ q.no → i ≡ j
   pub answered : (k j n h : ℕ) (op : Op) (r : Answer) → IsReplyAt events k n r → IsCallAt events j n h d op
       → (i : ℕ) × (p : Placed) × (slice_get order i ≡ Some p) × (p.no ≡ n) × (p.entry.reply ≡ r)
-  pub plain : mode ≡ Plain → (i : ℕ) (p : Placed) → slice_get order i ≡ Some p → p.entry.hidden ≡ None
+  pub plain : conflicts ≡ Plain → (i : ℕ) (p : Placed) → slice_get order i ≡ Some p → p.entry.hidden ≡ None
   pub respects : Respects events order
   pub legal : IsLegalRun (run_of order)
 
@@ -56,12 +56,12 @@ AllChange events order = (i : ℕ) (p : Placed) → slice_get order i ≡ Some p
 -- Valid places of a document's records are an order that explains the document; and an order that explains it, without
 -- unanswered calls that change nothing, is one of valid places.
 pub record PlacesAreOrders : Type 0 where
-  pub explains : (mode : Conflicts) (events : List Event) (d : List ℕ) (places : List Place) → IsHistory events
-      → AreValid mode (records_of events d) places
-      → (order : List Placed) × ExplainsDocument mode events d order × ArePlacedBy (records_of events d) places order
-  pub valid : (mode : Conflicts) (events : List Event) (d : List ℕ) (order : List Placed) → IsHistory events
-      → ExplainsDocument mode events d order → AllChange events order
-      → (places : List Place) × AreValid mode (records_of events d) places
+  pub explains : (conflicts : Conflicts) (events : List Event) (d : List ℕ) (places : List Place) → IsHistory events
+      → AreValid conflicts (records_of events d) places
+      → (order : List Placed) × ExplainsDocument conflicts events d order × ArePlacedBy (records_of events d) places order
+  pub valid : (conflicts : Conflicts) (events : List Event) (d : List ℕ) (order : List Placed) → IsHistory events
+      → ExplainsDocument conflicts events d order → AllChange events order
+      → (places : List Place) × AreValid conflicts (records_of events d) places
       × ArePlacedBy (records_of events d) places order
 
 -- Witnesses are read line by line: the reader that takes one line more tells what is read of the text with that line.

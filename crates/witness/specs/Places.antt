@@ -24,12 +24,12 @@ IsUnansweredGet r = (r.op ≡ Get) × (r.heard ≡ None)
 -- The place of an unanswered call gives a pair, and that of an answered one gives none, but that under Maybe the place
 -- of a conflict may give one.
 abbrev pub GivesAsMay : Conflicts → Option (ℕ × Reply) → Option Pair → Type 0
-GivesAsMay mode None pair = IsSome pair
-GivesAsMay mode (Some (at, Indexed q created)) pair = pair ≡ None
-GivesAsMay mode (Some (at, Deleted q found)) pair = pair ≡ None
-GivesAsMay mode (Some (at, Found q k)) pair = pair ≡ None
-GivesAsMay mode (Some (at, Missing)) pair = pair ≡ None
-GivesAsMay mode (Some (at, Conflict)) pair = mode ≡ Plain → pair ≡ None
+GivesAsMay conflicts None pair = IsSome pair
+GivesAsMay conflicts (Some (at, Indexed q created)) pair = pair ≡ None
+GivesAsMay conflicts (Some (at, Deleted q found)) pair = pair ≡ None
+GivesAsMay conflicts (Some (at, Found q k)) pair = pair ≡ None
+GivesAsMay conflicts (Some (at, Missing)) pair = pair ≡ None
+GivesAsMay conflicts (Some (at, Conflict)) pair = conflicts ≡ Plain → pair ≡ None
 
 -- The call of a place is a step: with the reply that was heard, a pair given to it being hidden; or, unanswered, with
 -- the reply of a performed write that takes the pair given.
@@ -52,13 +52,13 @@ IsPlaceRun records s (p ∷ ps) t = (m : DocState) × (r : Rec) × IsPlaceOf rec
 -- All that valid places have, but that each answered call stands in them: each names a record, none an unanswered get and
 -- none a record twice; pairs are given as they may be; no place's reply was heard before the call of its own or of an
 -- earlier place; and the calls are steps one after another, from a document that was never written.
-pub record AreRight (mode : Conflicts) (records : List Rec) (places : List Place) : Type 0 where
+pub record AreRight (conflicts : Conflicts) (records : List Rec) (places : List Place) : Type 0 where
   pub known : (i : ℕ) (p : Place) → slice_get places i ≡ Some p → (r : Rec) × IsPlaceOf records p r
       × (¬ IsUnansweredGet r)
   pub once : (i j : ℕ) (p q : Place) → slice_get places i ≡ Some p → slice_get places j ≡ Some q → p.rec ≡ q.rec
       → i ≡ j
   pub pairs : (i : ℕ) (p : Place) (r : Rec) → slice_get places i ≡ Some p → IsPlaceOf records p r
-      → GivesAsMay mode r.heard p.pair
+      → GivesAsMay conflicts r.heard p.pair
   pub in_time : (i j : ℕ) (p q : Place) (r s : Rec) → i ≤ j → slice_get places i ≡ Some p
       → slice_get places j ≡ Some q
       → IsPlaceOf records p r → IsPlaceOf records q s → ¬ IsHeardBefore s.heard r.call_at
@@ -69,6 +69,6 @@ abbrev pub IsNamed : List Place → ℕ → Type 0
 IsNamed places k = (i : ℕ) × (p : Place) × (slice_get places i ≡ Some p) × (p.rec ≡ k)
 
 -- The places are valid: they are right, and each answered record is named.
-pub record AreValid (mode : Conflicts) (records : List Rec) (places : List Place) : Type 0 where
-  pub right : AreRight mode records places
+pub record AreValid (conflicts : Conflicts) (records : List Rec) (places : List Place) : Type 0 where
+  pub right : AreRight conflicts records places
   pub answered : (k : ℕ) (r : Rec) → slice_get records k ≡ Some r → IsSome r.heard → IsNamed places k

@@ -15,8 +15,6 @@ use Rattle.api_lines.specs.declared.number.Number.{Number}
 use Rattle.api_lines.specs.declared.text_fault.TextCause.{TextCause}
 use Rattle.api_lines.specs.declared.text_fault.TextCause.TheVariants.{Shape, Full}
 use Rattle.api_lines.specs.declared.text_fault.TextFault.{TextFault}
-use Rattle.witness.specs.declared.documents.TheConstants.{MOST_ITEMS}
-use Rattle.witness.specs.declared.witness_line.TheConstants.{RECORDS}
 use Rattle.witness.specs.declared.witness_line.WitnessLine.{WitnessLine}
 use Rattle.witness.specs.declared.witness_line.WitnessLine.TheVariants as line
 use Rattle.witness.specs.declared.place.Place.{Place}
@@ -34,9 +32,13 @@ document_told doc = do
   d ← id_told doc
   Ok (line.Document d)
 
--- the record of a place, below 2^32
+-- the records that a place may name are below 2^32
+abbrev pub most_records : ℕ
+most_records = 4294967296
+
+-- the record of a place
 abbrev pub record_told : Number → Result ℕ TextCause
-record_told rec = whole_told rec >>= below_limit RECORDS
+record_told rec = whole_told rec >>= below_limit most_records
 
 -- a place by its numbers, after a document or before any
 abbrev pub place_numbered : Bool → Number → Option Number → Option Number → Result WitnessLine TextCause
@@ -74,7 +76,7 @@ items_in [] = 0
 items_in (d ∷ ds) = suc (length d.places) + items_in ds
 
 abbrev pub most_items : ℕ
-most_items = MOST_ITEMS
+most_items = 2097152
 
 abbrev pub is_begun : List DocPlaces → Bool
 is_begun [] = false
@@ -123,4 +125,4 @@ written lines = flat_map (λ said. compact_text (value_of said) ++ 10 ∷ []) li
 -- documents that a text can hold: not too many lines, and only records below 2^32
 pub record AreWithinLimits (ds : List DocPlaces) : Type 0 where
   pub few : items_in ds ≤ most_items
-  pub records : All (λ d. All (λ p. p.rec < RECORDS) d.places) ds
+  pub records : All (λ d. All (λ p. p.rec < most_records) d.places) ds

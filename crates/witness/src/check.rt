@@ -1,5 +1,5 @@
 ghost use Rattle.std.specs.Prelude.{◌≡◌, [], IfOk, IfSome, IfNone, length};
-ghost use Rattle.doc_register.specs.declared.state.Conflicts.{Conflicts as Mode};
+ghost use Rattle.doc_register.specs.declared.state.Conflicts.{Conflicts as Reading};
 ghost use Rattle.witness.specs.Places.{AreValid};
 ghost use Rattle.witness.specs.Faults.{IsFirstFault};
 ghost use Rattle.witness.specs.aids.Walks.{AllNamedBelow, IsAbsent, IsWalked};
@@ -15,8 +15,8 @@ use version_pair::NoMemory;
 /// The walk over no place.
 pub fn start(alloc: Global, records: &[Rec]) -> Result<Walk, NoMemory>
     ensures { IfOk result
-        (λ walk. (mode : Mode)
-        → IsWalked mode records.now [] walk.marks.items walk.latest walk.state) }
+        (λ walk. (conflicts : Reading)
+        → IsWalked conflicts records.now [] walk.marks.items walk.latest walk.state) }
 {
     let marks = vec![in alloc; false; records.len()]?;
     Ok(Walk {
@@ -48,8 +48,8 @@ pub fn first_fault(
     places: &[Place],
     conflicts: Conflicts,
 ) -> Option<Broken>
-    requires { (mode : Mode)
-        → IsWalked mode records.now [] start.marks.items start.latest start.state }
+    requires { (conflicts : Reading)
+        → IsWalked conflicts records.now [] start.marks.items start.latest start.state }
     ensures some { IfSome result (IsFirstFault conflicts records.now places.now) }
     ensures none { IfNone result (AreValid conflicts records.now places.now) }
 {

@@ -8,7 +8,7 @@ use history::Rec;
 use version_pair::Pair;
 
 /// The record that the place names.
-pub fn named(records: &[Rec], place: Place) -> Option<Rec>
+pub fn named_record(records: &[Rec], place: Place) -> Option<Rec>
     ensures { result ≡ slice_get records.now place.rec }
 {
     records.get(place.rec).copied()
@@ -27,7 +27,7 @@ pub fn gives_as_may(conflicts: Conflicts, heard: Option<(usize, Reply)>, pair: O
 }
 
 // The document after an unanswered write is performed with the pair.
-fn completed(state: DocState, op: &Op, pair: Pair) -> Option<DocState>
+fn complete(state: DocState, op: &Op, pair: Pair) -> Option<DocState>
     ensures some { IfSome result (StepsAt state op.now None (Some pair)) }
     ensures none { IfNone result ((after : State) → ¬ StepsAt state op.now None (Some pair) after) }
 {
@@ -42,7 +42,7 @@ pub fn step_at(state: DocState, found: Rec, pair: Option<Pair>) -> Option<DocSta
 {
     match (found.heard, pair) {
         (Some(heard), pair) => step(state, &found.op, &heard.1, pair),
-        (None, Some(pair)) => completed(state, &found.op, pair),
+        (None, Some(pair)) => complete(state, &found.op, pair),
         (None, None) => None,
     }
 }

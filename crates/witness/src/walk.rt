@@ -6,7 +6,7 @@ ghost use Rattle.witness.specs.aids.Walks.{IsNextStep, IsWalked};
 
 use crate::broken::Broken;
 use crate::place::Place;
-use crate::place_check::{gives_as_may, named, step_at};
+use crate::place_check::{gives_as_may, named_record, step_at};
 use doc_register::{Conflicts, DocState, Op, Reply};
 use history::Rec;
 
@@ -72,7 +72,7 @@ pub fn next_step(
         (IsFirstFault conflicts records.now places.now) }
 {
     let place = places[i];
-    let Some(found) = named(records, place) else {
+    let Some(found) = named_record(records, place) else {
         return Err(Broken::Stranger(i));
     };
     if is_unanswered_get(found) {

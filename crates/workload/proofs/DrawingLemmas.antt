@@ -7,8 +7,7 @@ use Rattle.std.proofs.lemmas.Bool.Decides.{nat_tests}
 use Rattle.std.proofs.lemmas.List.Sums.{sum_by-cons}
 use Rattle.rand_pcg.specs.Lcg.{Lcg}
 use Rattle.workload.specs.Drawing.{after_turn, after_turns, clients_drawn, turn_drawn, turns_drawn}
-use Rattle.workload.specs.Plans.{is_far, is_idle, refusal_of, turn_count}
-use Rattle.workload.specs.declared.plan.TheConstants.{MOST_CLIENTS, MOST_DOCS, MOST_TURNS}
+use Rattle.workload.specs.Plans.{is_far, is_idle, most_clients, most_docs, most_turns, refusal_of, turn_count}
 use Rattle.workload.proofs.PlanLemmas.{none_refused}
 
 -- the generator after the words of so many clients
@@ -70,15 +69,15 @@ length-clients_drawn docs calls zero g = refl
 length-clients_drawn docs calls (suc n) g = ap suc (length-clients_drawn docs calls n (after_turns calls g))
 
 -- a number modulo at most the most documents is no far document
-near : (docs x : ℕ) → 0 < docs → docs ≤ MOST_DOCS → nat_le MOST_DOCS (x % docs) ≡ false
+near : (docs x : ℕ) → 0 < docs → docs ≤ most_docs → nat_le most_docs (x % docs) ≡ false
 near docs x some few = grind (arith, nat_tests)
 
-turns_near : (docs n : ℕ) (g : Lcg) → 0 < docs → docs ≤ MOST_DOCS → list_any is_far (turns_drawn docs n g) ≡ false
+turns_near : (docs n : ℕ) (g : Lcg) → 0 < docs → docs ≤ most_docs → list_any is_far (turns_drawn docs n g) ≡ false
 unfolding turns_drawn turn_drawn
 turns_near docs zero g some few = refl
 turns_near docs (suc n) g some few = rw (near docs _ some few) (turns_near docs n (after_turn g) some few)
 
-clients_near : (docs calls n : ℕ) (g : Lcg) → 0 < docs → docs ≤ MOST_DOCS → list_any (list_any is_far) (clients_drawn docs calls n g) ≡ false
+clients_near : (docs calls n : ℕ) (g : Lcg) → 0 < docs → docs ≤ most_docs → list_any (list_any is_far) (clients_drawn docs calls n g) ≡ false
 unfolding clients_drawn
 clients_near docs calls zero g some few = refl
 clients_near docs calls (suc n) g some few =
@@ -103,12 +102,12 @@ turn_count-clients_drawn docs calls (suc n) g =
       turn_count-clients_drawn docs calls n (after_turns calls g),
     ) (omega arith)
 
-pub drawn_is_plan : (docs calls clients : ℕ) (g : Lcg) → 0 < clients → clients ≤ MOST_CLIENTS → 0 < calls → clients * calls ≤ MOST_TURNS
-    → 0 < docs → docs ≤ MOST_DOCS → refusal_of (clients_drawn docs calls clients g) ≡ None
+pub drawn_is_plan : (docs calls clients : ℕ) (g : Lcg) → 0 < clients → clients ≤ most_clients → 0 < calls → clients * calls ≤ most_turns
+    → 0 < docs → docs ≤ most_docs → refusal_of (clients_drawn docs calls clients g) ≡ None
 drawn_is_plan docs calls clients g some few busy short document near_all =
     none_refused (clients_drawn docs calls clients g)
     (rw (length-clients_drawn docs calls clients g) (not_zero clients some))
     (clients_busy docs calls clients g busy)
-    (rw (length-clients_drawn docs calls clients g) (le-ltb MOST_CLIENTS clients few))
-    (rw (turn_count-clients_drawn docs calls clients g) (le-ltb MOST_TURNS (clients * calls) short))
+    (rw (length-clients_drawn docs calls clients g) (le-ltb most_clients clients few))
+    (rw (turn_count-clients_drawn docs calls clients g) (le-ltb most_turns (clients * calls) short))
     (clients_near docs calls clients g document near_all)

@@ -1,17 +1,14 @@
 -- Which turns are a plan.
 use Rattle.std.proofs.Common.{ℕ, All, ◌≤◌, ◌<◌, ◌^◌, ◌∙◌, Some, arith, get_or, slice_get, sym, take, true, ◌≡◌, ◌+◌, ◌||◌, ◌==◌, Bool, Global, Vec, false, List, [], ◌∷◌, None, ap, length, map, refl}
 use Rattle.std.specs.Prelude.{if◌then◌else◌, nat_lt, sum_by}
-use Rattle.std.proofs.lemmas.Bool.{leb-false, ltb-false}
-use Rattle.std.proofs.lemmas.List.{take-map}
-use Rattle.std.proofs.lemmas.List.Folds.{list_any_at}
+use Rattle.std.proofs.lemmas.Bool.{false_from_ne_true, leb-false, ltb-false}
+use Rattle.std.proofs.lemmas.List.{length-map, take-map}
+use Rattle.std.proofs.lemmas.List.Folds.{fold-map, list_any_at}
 use Rattle.std.proofs.lemmas.List.Sums.{sum_by_more_le}
 use Rattle.std.proofs.lemmas.Option.{get_or_from_slice_get, slice_get_within}
 use Rattle.std.proofs.Math.Bool.{or-true}
 use Rattle.std.specs.List.{list_any}
-use Rattle.std.proofs.lemmas.List.{length-map}
-use Rattle.std.proofs.lemmas.List.Folds.{fold-map}
-use Rattle.workload.specs.Plans.{is_far, is_idle, is_too_large, lacks_turns, refusal_of, turn_count}
-use Rattle.workload.specs.declared.plan.TheConstants.{MOST_CLIENTS, MOST_DOCS, MOST_TURNS}
+use Rattle.workload.specs.Plans.{is_far, is_idle, is_too_large, lacks_turns, most_clients, most_docs, most_turns, refusal_of, turn_count}
 use Rattle.workload.specs.declared.plan_fault.PlanFault.TheVariants.{Zero, TooMany}
 use Rattle.workload.specs.declared.turn.Turn.{Turn}
 
@@ -32,7 +29,7 @@ lacks_turns_mapped clients =
     rw (length-map clients (λ (turns : Vec Turn Global). turns.items), list_any-map is_idle (λ (turns : Vec Turn Global). turns.items) clients) refl
 
 pub is_too_large_mapped : (clients : List (Vec Turn Global)) → is_too_large (map (λ turns. turns.items) clients)
-    ≡ (nat_lt MOST_CLIENTS (length clients) || nat_lt MOST_TURNS (sum_by (λ turns. length turns.items) clients)
+    ≡ (nat_lt most_clients (length clients) || nat_lt most_turns (sum_by (λ turns. length turns.items) clients)
     || list_any (λ turns. list_any is_far turns.items) clients)
 is_too_large_mapped clients =
     rw (
@@ -43,7 +40,7 @@ is_too_large_mapped clients =
 
 -- turns that fail each test are a plan
 pub none_refused : (clients : List (List Turn)) → (length clients == 0) ≡ false → list_any is_idle clients ≡ false
-    → nat_lt MOST_CLIENTS (length clients) ≡ false → nat_lt MOST_TURNS (turn_count clients) ≡ false
+    → nat_lt most_clients (length clients) ≡ false → nat_lt most_turns (turn_count clients) ≡ false
     → list_any (list_any is_far) clients ≡ false → refusal_of clients ≡ None
 none_refused clients some busy few short near = rw (some, busy, few, short, near) refl
 
@@ -67,29 +64,25 @@ is_small : (clients : List (List Turn)) → refusal_of clients ≡ None → is_t
 is_small clients plan = none_later (lacks_turns clients) (is_too_large clients) plan
 
 -- the turns of a plan are no more than there may be
-few_turns : (clients : List (List Turn)) → refusal_of clients ≡ None → turn_count clients ≤ MOST_TURNS
+few_turns : (clients : List (List Turn)) → refusal_of clients ≡ None → turn_count clients ≤ most_turns
 few_turns clients plan =
-    ltb-false MOST_TURNS (turn_count clients)
-    (second_false (nat_lt MOST_CLIENTS (length clients)) (nat_lt MOST_TURNS (turn_count clients)) (list_any (list_any is_far) clients)
+    ltb-false most_turns (turn_count clients)
+    (second_false (nat_lt most_clients (length clients)) (nat_lt most_turns (turn_count clients)) (list_any (list_any is_far) clients)
     (is_small clients plan))
 
-not_true : (b : Bool) → (b ≡ true → ⊥) → b ≡ false
-not_true true not = absurd (not refl)
-not_true false not = refl
-
 fails_at : {X : Type 0} (p : X → Bool) (xs : List X) (i : ℕ) (d : X) → i < length xs → list_any p xs ≡ false → p (get_or xs i d) ≡ false
-fails_at p xs i d within none = not_true (p (get_or xs i d)) (λ yes. let any = list_any_at p xs i d within yes in cc)
+fails_at p xs i d within none = false_from_ne_true (p (get_or xs i d)) (λ yes. let any = list_any_at p xs i d within yes in cc)
 
 -- the documents of a plan's turns are among those that there may be
 pub near_turns : (clients : List (Vec Turn Global)) (turns : List Turn) (i : ℕ) (d : Vec Turn Global)
     → refusal_of (map (λ v. v.items) clients) ≡ None → i < length clients → turns ≡ (get_or clients i d).items
-    → All (λ turn. turn.doc < MOST_DOCS) turns
+    → All (λ turn. turn.doc < most_docs) turns
 near_turns clients turns i d plan within is k e here =
     let near : list_any (list_any is_far) (map (λ (v : Vec Turn Global). v.items) clients) ≡ false =
-    third_false (nat_lt MOST_CLIENTS (length (lists_in clients))) (nat_lt MOST_TURNS (turn_count (lists_in clients))) _ (is_small (lists_in clients) plan) in
+    third_false (nat_lt most_clients (length (lists_in clients))) (nat_lt most_turns (turn_count (lists_in clients))) _ (is_small (lists_in clients) plan) in
     let each : list_any is_far (get_or clients i d).items ≡ false =
     fails_at (λ (v : Vec Turn Global). list_any is_far v.items) clients i d within (sym (list_any-map (list_any is_far) (λ (v : Vec Turn Global). v.items) clients) ∙ near) in
-    leb-false MOST_DOCS (get_or turns k e).doc (fails_at is_far turns k e here (ap (list_any is_far) is ∙ each))
+    leb-false most_docs (get_or turns k e).doc (fails_at is_far turns k e here (ap (list_any is_far) is ∙ each))
 
 -- the turns of the first clients, counted of the lists that hold them
 pub counted : (clients : List (Vec Turn Global)) (n : ℕ)
@@ -113,7 +106,7 @@ pub some_clients : (clients : List (List Turn)) → refusal_of clients ≡ None 
 some_clients [] plan = absurd (cc)
 some_clients (turns ∷ clients) plan = omega arith
 
-pub few_clients : (clients : List (List Turn)) → refusal_of clients ≡ None → length clients ≤ MOST_CLIENTS
+pub few_clients : (clients : List (List Turn)) → refusal_of clients ≡ None → length clients ≤ most_clients
 few_clients clients plan =
-    ltb-false MOST_CLIENTS (length clients)
-    (first_false (nat_lt MOST_CLIENTS (length clients)) _ (first_false (nat_lt MOST_CLIENTS (length clients) || nat_lt MOST_TURNS (turn_count clients)) (list_any (list_any is_far) clients) (is_small clients plan)))
+    ltb-false most_clients (length clients)
+    (first_false (nat_lt most_clients (length clients)) _ (first_false (nat_lt most_clients (length clients) || nat_lt most_turns (turn_count clients)) (list_any (list_any is_far) clients) (is_small clients plan)))

@@ -18,7 +18,8 @@ use Rattle.workload.specs.declared.target.Progress.{Progress}
 use Rattle.workload.specs.declared.target.Ticket.{Ticket}
 use Rattle.workload.specs.declared.turn.Turn.{Turn}
 use Rattle.workload.proofs.ClientLemmas.{front_at_start, run_at_end}
-use Rattle.workload.proofs.RunningLemmas.{longer_by_each, mapped}
+use Rattle.workload.proofs.RunningLemmas.{longer_by_each}
+use Rattle.history.proofs.ListLemmas.{mapped_from}
 
 module _ {X : Type 0} where
   -- an element after one was set is the one that was set, or as before
@@ -209,7 +210,7 @@ module _ (issued : Ticket → List ℕ → Op → Type 0) (gave : Ticket → Pro
   longer_when_done pens done seats seated all are =
       let count : length done ≡ length pens = ap length are ∙ length-map seats (λ (seat : Seat P). seat.pen) ∙ seated.count in
       longer_by_each issued gave polls state clients pens done count (λ i pen p at_pen at_done.
-      let found = mapped (λ (seat : Seat P). seat.pen) seats i p (ap (λ ps. slice_get ps i) (sym are) ∙ at_done) in
+      let found = mapped_from (λ (seat : Seat P). seat.pen) seats i p (ap (λ ps. slice_get ps i) (sym are) ∙ at_done) in
       let rested : IsDone clients found.0 =
       subst (IsDone clients) (get_or_from_slice_get seats i found.0 found.0 found.1) (all i found.0 (slice_get_within seats i found.0 found.1)) in
       subst (λ q. IsLongerByClient issued gave polls clients i (state pen).list (state q).list) found.2
@@ -219,6 +220,6 @@ module _ (issued : Ticket → List ℕ → Op → Type 0) (gave : Ticket → Pro
   pub pens_ours : (is_ours : P → Type 0) (done : List P) (seats : List (Seat P)) → All (λ seat. is_ours seat.pen) seats
       → done ≡ map (λ seat. seat.pen) seats → All is_ours done
   pens_ours is_ours done seats all are i d within =
-      let found = mapped (λ (seat : Seat P). seat.pen) seats i (get_or done i d) (ap (λ ps. slice_get ps i) (sym are) ∙ slice_get-get_or done i d within) in
+      let found = mapped_from (λ (seat : Seat P). seat.pen) seats i (get_or done i d) (ap (λ ps. slice_get ps i) (sym are) ∙ slice_get-get_or done i d within) in
       let ours : is_ours (get_or seats i found.0).pen = all i found.0 (slice_get_within seats i found.0 found.1) in
       subst is_ours found.2 (subst (λ (seat : Seat P). is_ours seat.pen) (get_or_from_slice_get seats i found.0 found.0 found.1) ours)

@@ -1,10 +1,10 @@
 -- The runs of all clients together.
-use Rattle.std.proofs.Common.{subst, None, option_map, suc, zero, zero-add, ◌≡◌, ℕ, ◌+◌, ◌<◌, ◌∙◌, All, List, [], ◌∷◌, ◌++◌, Ok, Err, Result, Some, ap, arith, get_or, inl, inr, length, refl, slice_get, sym}
+use Rattle.std.proofs.Common.{subst, suc, zero, zero-add, ◌≡◌, ℕ, ◌+◌, ◌<◌, ◌∙◌, All, List, [], ◌∷◌, ◌++◌, Ok, Err, Result, Some, ap, arith, get_or, inr, length, refl, slice_get, sym}
 use Rattle.std.specs.Prelude.{replicate, map}
 use Rattle.std.specs.List.{enumerate_from}
 use Rattle.std.proofs.lemmas.List.{get_or-map, get_or-replicate, length-map, length-replicate}
 use Rattle.std.proofs.lemmas.List.FromFn.{get_or-enumerate_from, length-enumerate_from}
-use Rattle.std.proofs.lemmas.Option.{get_or_from_slice_get, slice_get-get_or, slice_get-map, slice_get_cases, slice_get_within}
+use Rattle.std.proofs.lemmas.Option.{get_or_from_slice_get, slice_get-get_or, slice_get_within}
 use Rattle.doc_register.specs.declared.op.Op.{Op}
 use Rattle.history.specs.declared.event.Event.{Event}
 use Rattle.recorder.specs.Pens.{PenState, new_pen}
@@ -16,15 +16,7 @@ use Rattle.workload.specs.declared.run_fault.RunFault.{RunFault}
 use Rattle.workload.specs.declared.target.Progress.{Progress}
 use Rattle.workload.specs.declared.target.Ticket.{Ticket}
 use Rattle.workload.specs.declared.turn.Turn.{Turn}
-
--- what a list's element is mapped to
-pub mapped : {X Y : Type 0} (f : X → Y) (xs : List X) (i : ℕ) (y : Y) → slice_get (map f xs) i ≡ Some y
-    → (x : X) × (slice_get xs i ≡ Some x) × (f x ≡ y)
-mapped f xs i y at =
-    elim (slice_get_cases xs i).1 [
-      | inl found ↦ (found.0, found.2, (let e : Some (f found.0) ≡ Some y = sym (slice_get-map f xs i ∙ ap (option_map f) found.2) ∙ at in cc))
-      | inr past ↦ absurd (let e : None ≡ Some y = sym (slice_get-map f xs i ∙ ap (option_map f) past.1) ∙ at in cc)
-    ]
+use Rattle.history.proofs.ListLemmas.{mapped_from}
 
 -- ---- the fault of the least client
 
@@ -63,8 +55,8 @@ pub longer_by_each : (issued : Ticket → List ℕ → Op → Type 0) (gave : Ti
 longer_by_each issued gave polls state clients pens done same_count each = record {
   count = length-map done state ∙ same_count ∙ sym (length-map pens state);
   each = λ client before after at_old at_new.
-      let old = mapped state pens client before at_old in
-      let new = mapped state done client after at_new in
+      let old = mapped_from state pens client before at_old in
+      let new = mapped_from state done client after at_new in
       let ran = each client old.0 new.0 old.1 new.1 in
       (ran.entries, ap (λ (s : PenState). s.list) (sym new.2) ∙ ran.grows ∙ ap (λ (s : PenState). s.list ++ ran.entries) old.2, ran.run);
 }
@@ -113,7 +105,7 @@ pub runs_of_new : (issued : Ticket → List ℕ → Op → Type 0) (gave : Ticke
 runs_of_new issued gave polls clients old new are longer = record {
   count = length-map new (λ (pen : PenState). pen.list) ∙ longer.count ∙ ap length are ∙ length-replicate (length clients) new_pen;
   each = λ client list at.
-      let after = mapped (λ (pen : PenState). pen.list) new client list at in
+      let after = mapped_from (λ (pen : PenState). pen.list) new client list at in
       let within : client < length old = omega (arith, slice_get_within new client after.0 after.1, longer.count) in
       let before : slice_get old client ≡ Some new_pen =
       slice_get-get_or old client new_pen within ∙ ap (λ (pens : List PenState). Some (get_or pens client new_pen)) are

@@ -2,7 +2,7 @@
 use Rattle.std.specs.Prelude.{ℕ, zero, suc, ◌*◌, ◌%◌, ◌==◌, ◌||◌, List, [], ◌∷◌, Option, Some, None, if◌then◌else◌, nat_lt}
 use Rattle.rand_pcg.specs.Lcg.{Lcg, increment_of, started}
 use Rattle.rand_pcg.specs.Pcg.{multiplier_64, pcg32}
-use Rattle.workload.specs.declared.plan.TheConstants.{MOST_CLIENTS, MOST_DOCS, MOST_TURNS}
+use Rattle.workload.specs.Plans.{most_clients, most_docs, most_turns}
 use Rattle.workload.specs.declared.plan_fault.PlanFault.{PlanFault}
 use Rattle.workload.specs.declared.plan_fault.PlanFault.TheVariants.{Zero, TooMany}
 use Rattle.workload.specs.declared.turn.Kind.{Kind}
@@ -13,7 +13,7 @@ use Rattle.workload.specs.declared.turn.Turn.{Turn}
 abbrev pub draw_refusal : ℕ → ℕ → ℕ → Option PlanFault
 draw_refusal clients calls docs =
     if clients == 0 || calls == 0 || docs == 0 then Some Zero
-    else (if nat_lt MOST_CLIENTS clients || nat_lt MOST_TURNS (clients * calls) || nat_lt MOST_DOCS docs then Some TooMany else None)
+    else (if nat_lt most_clients clients || nat_lt most_turns (clients * calls) || nat_lt most_docs docs then Some TooMany else None)
 
 -- of eight kinds, three are gets, two puts if seen, and one each a put, a delete if seen and a delete
 abbrev pub kind_numbered : ℕ → Kind

@@ -1,10 +1,19 @@
 -- Plans: the turns of each client, and which lists of turns are no plan.
 use Rattle.std.specs.Prelude.{ℕ, ◌==◌, ◌||◌, Bool, List, Option, Some, None, Result, Ok, Err, if◌then◌else◌, length, nat_le, nat_lt, option_and_then, slice_get, sum_by}
 use Rattle.std.specs.List.{list_any}
-use Rattle.workload.specs.declared.plan.TheConstants.{MOST_CLIENTS, MOST_DOCS, MOST_TURNS}
 use Rattle.workload.specs.declared.plan_fault.PlanFault.{PlanFault}
 use Rattle.workload.specs.declared.plan_fault.PlanFault.TheVariants.{Zero, TooMany, NoMemory}
 use Rattle.workload.specs.declared.turn.Turn.{Turn}
+
+-- the most clients, turns of all clients together, and documents of a plan
+abbrev pub most_clients : ℕ
+most_clients = 8
+
+abbrev pub most_turns : ℕ
+most_turns = 524288
+
+abbrev pub most_docs : ℕ
+most_docs = 1024
 
 -- a client without turns
 abbrev pub is_idle : List Turn → Bool
@@ -12,7 +21,7 @@ is_idle turns = length turns == 0
 
 -- a turn of a document past the most that there may be
 abbrev pub is_far : Turn → Bool
-is_far turn = nat_le MOST_DOCS turn.doc
+is_far turn = nat_le most_docs turn.doc
 
 -- how many turns all clients have together
 abbrev pub turn_count : List (List Turn) → ℕ
@@ -25,7 +34,7 @@ lacks_turns clients = length clients == 0 || list_any is_idle clients
 -- there are more clients, turns or documents than there may be
 abbrev pub is_too_large : List (List Turn) → Bool
 is_too_large clients =
-    nat_lt MOST_CLIENTS (length clients) || nat_lt MOST_TURNS (turn_count clients) || list_any (list_any is_far) clients
+    nat_lt most_clients (length clients) || nat_lt most_turns (turn_count clients) || list_any (list_any is_far) clients
 
 -- the first reason to refuse these turns, each list being those of a client
 abbrev pub refusal_of : List (List Turn) → Option PlanFault

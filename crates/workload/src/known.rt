@@ -1,5 +1,6 @@
 ghost use Rattle.std.specs.Prelude.{◌≡◌, ◌<◌, IfOk};
 ghost use Rattle.workload.specs.ClientRuns.{after_reply, nothing_known};
+ghost use Rattle.workload.specs.Plans.{most_docs};
 ghost use Rattle.workload.specs.aids.Clients.{pair_in};
 
 use crate::plan::MOST_DOCS;
@@ -19,13 +20,13 @@ pub struct Known {
 impl Model for Known {
     ghost use Rattle.std.specs.Prelude.{◌≡◌, List, Option, length};
     ghost use Rattle.version_pair.specs.declared.pair.Pair.{Pair};
-    ghost use Rattle.workload.specs.declared.plan.TheConstants.{MOST_DOCS};
+    ghost use Rattle.workload.specs.Plans.{most_docs};
 
     ghost Value = { List (Option Pair) };
 
     ghost view = { λ k. k.pairs.items };
 
-    ghost invariant = { λ k. length k.pairs.items ≡ MOST_DOCS };
+    ghost invariant = { λ k. length k.pairs.items ≡ most_docs };
 }
 
 impl Known {
@@ -49,7 +50,7 @@ impl Known {
 
     /// From now on the document has the pair that the reply tells, or none.
     pub fn hear(&mut self, doc: u32, reply: &Reply)
-        requires { doc < MOST_DOCS }
+        requires { doc < most_docs }
         ensures { pair_in self.new ≡ after_reply (pair_in self.old) doc reply.now }
     {
         self.pairs[doc as usize] = reply.pair();

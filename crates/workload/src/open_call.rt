@@ -1,5 +1,5 @@
 ghost use Rattle.std.specs.Prelude.{◌<◌};
-ghost use Rattle.workload.specs.declared.plan.TheConstants.{MOST_DOCS};
+ghost use Rattle.workload.specs.Plans.{most_docs};
 
 use crate::target::Ticket;
 
@@ -11,5 +11,5 @@ pub struct OpenCall {
     /// The number of its document.
     pub doc: u32,
     pub ticket: Ticket,
-    ghost near: { doc < MOST_DOCS },
+    ghost near: { doc < most_docs },
 }

@@ -13,7 +13,7 @@ use std::alloc::{AllocError, Global};
 use std::sync::Wait;
 
 // The clients before their first turns, in the order of their pens.
-fn seated<P: Drop>(alloc: Global, pens: Vec<P>) -> Result<Vec<Seat<P>>, AllocError>
+fn seat_clients<P: Drop>(alloc: Global, pens: Vec<P>) -> Result<Vec<Seat<P>>, AllocError>
     ensures { IfOk result (λ seats. AreNew pens.items seats.items) }
 {
     let mut seats = Vec::with_capacity(alloc, pens.len())?;
@@ -90,7 +90,7 @@ where
         (lists_of (map X.pen_state done.items))) }
     ensures keeps { IfOk result (λ done. All (X.has_pen recorder.now) done.items) }
 {
-    let mut seats = seated(alloc, pens)?;
+    let mut seats = seat_clients(alloc, pens)?;
     'rounds: while visit_each(rt, alloc, plan, target, recorder, &mut seats, turns)? {}
     Ok(pens_of(alloc, seats)?)
 }

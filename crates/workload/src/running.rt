@@ -17,7 +17,7 @@ use std::thread;
 use std::thread::Threads;
 
 // Each pen with the number of its client.
-fn numbered<P: Drop>(alloc: Global, pens: Vec<P>) -> Result<Vec<(usize, P)>, AllocError>
+fn with_client_numbers<P: Drop>(alloc: Global, pens: Vec<P>) -> Result<Vec<(usize, P)>, AllocError>
     ensures { IfOk result (λ jobs. jobs.items ≡ enumerate_from 0 pens.items) }
 {
     let mut jobs = Vec::with_capacity(alloc, pens.len())?;
@@ -52,7 +52,10 @@ where
 }
 
 // The pens of all clients, in their order; or the fault of the least client that met one.
-fn gathered<P: Drop>(alloc: Global, results: Vec<Result<P, RunFault>>) -> Result<Vec<P>, RunFault>
+fn gather_pens<P: Drop>(
+    alloc: Global,
+    results: Vec<Result<P, RunFault>>,
+) -> Result<Vec<P>, RunFault>
     ensures ok { IfOk result (λ pens. results.items ≡ map Ok pens.items) }
     ensures fault { IfErr result (IsFaultOf results.items) }
 {
@@ -127,9 +130,9 @@ where
         (lists_of (map X.pen_state done.items))) }
     ensures keeps { IfOk result (λ done. All (X.has_pen recorder.now) done.items) }
 {
-    let jobs = numbered(alloc, pens)?;
+    let jobs = with_client_numbers(alloc, pens)?;
     let results = run_jobs(rt, alloc, plan, target, recorder, jobs, turns)?;
-    gathered(alloc, results)
+    gather_pens(alloc, results)
 }
 
 #[cfg(test)]

@@ -8,7 +8,7 @@ use std::alloc::Global;
 use version_pair::{NoMemory, Pair};
 
 // The performed answered writes by their numbers, each with its pair before it.
-fn performed(alloc: Global, records: &[Rec]) -> Result<Vec<(Pair, usize)>, NoMemory>
+fn performed_by_pair(alloc: Global, records: &[Rec]) -> Result<Vec<(Pair, usize)>, NoMemory>
     ensures { IfOk result (λ links. links.items ≡ performed_records 0 records.now) }
 {
     let mut links = Vec::new(alloc);
@@ -24,7 +24,7 @@ fn performed(alloc: Global, records: &[Rec]) -> Result<Vec<(Pair, usize)>, NoMem
 pub fn chain_of(alloc: Global, records: &[Rec]) -> Result<Vec<(Pair, usize)>, NoMemory>
     ensures { IfOk result (λ chain. IsChain records.now chain.items) }
 {
-    let mut links = performed(alloc, records)?;
+    let mut links = performed_by_pair(alloc, records)?;
     links.sort_unstable();
     Ok(links)
 }

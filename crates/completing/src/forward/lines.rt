@@ -16,7 +16,7 @@ pub struct Lines {
 }
 
 // The records that have a kind, by line and then by call.
-fn listed(
+fn records_by_line(
     alloc: Global,
     records: &[Rec],
     kinds: &[Option<Kind>],
@@ -42,7 +42,7 @@ impl Lines {
         let count = known
             .saturating_mul(Kind::OF_PAIR)
             .saturating_add(Kind::ALONE);
-        let listed = listed(alloc, records, kinds)?;
+        let listed = records_by_line(alloc, records, kinds)?;
         let mut lines = Lines {
             entries: Vec::with_capacity(alloc, listed.len())?,
             starts: Vec::with_capacity(alloc, count.saturating_add(1))?,

@@ -1,3 +1,4 @@
+use crate::earlier::earlier;
 use crate::forward::kind::Kind;
 use crate::forward::standing::Document;
 use crate::forward::walk::{Placed, Walk};
@@ -57,7 +58,7 @@ fn fitting(walk: &Walk, rec: usize) -> Option<usize> {
 
 // The first of the writes of the number, called there or later, that may have the next known pair; and the turn after
 // it.
-fn first_numbered(walk: &Walk, number: u64, from: usize) -> Option<(usize, usize)> {
+fn first_of_number(walk: &Walk, number: u64, from: usize) -> Option<(usize, usize)> {
     for (call_at, rec) in walk.numbers.waiting(number, from).iter().take(MOST_WAITING) {
         if fitting(walk, *rec).is_some() {
             return Some((*rec, call_at.saturating_add(1)));
@@ -120,18 +121,9 @@ fn performable(walk: &Walk, rec: usize, from: usize, deletes: bool) -> Option<us
     }
 }
 
-// The earlier one of two.
-fn earlier(a: Option<(usize, usize)>, b: Option<(usize, usize)>) -> Option<(usize, usize)> {
-    match (a, b) {
-        (Some(x), Some(y)) => Some(if y.0 < x.0 { y } else { x }),
-        (Some(x), None) => Some(x),
-        (None, b) => b,
-    }
-}
-
 // The first by reply of the conflicts that would be performed, with a reply there or behind.
 fn conflict(walk: &mut Walk, from: usize, deletes: bool) -> Option<(usize, usize)> {
-    if walk.reading == Conflicts::Plain {
+    if walk.conflicts == Conflicts::Plain {
         return None;
     }
     let free = first_conflict(walk, Kind::FreeConflict, from, deletes);
@@ -145,7 +137,7 @@ fn conflict(walk: &mut Walk, from: usize, deletes: bool) -> Option<(usize, usize
 
 // The writes that can have the next known pair, of which nothing is known but that some condition names it: one
 // unanswered write, then the conflicts.
-fn unnumbered(walk: &mut Walk, from: usize) -> Option<(usize, usize)> {
+fn write_of_any_number(walk: &mut Walk, from: usize) -> Option<(usize, usize)> {
     if from == 0 {
         if let Some(rec) = lost_index(walk) {
             return Some((rec, 1));
@@ -166,9 +158,9 @@ fn next_known(walk: &mut Walk, from: usize) -> Option<(usize, usize)> {
         (Some(_), _) => None,
         (None, Some(number)) => {
             walk.numbers.pass(number, &walk.placed);
-            first_numbered(walk, number, from)
+            first_of_number(walk, number, from)
         }
-        (None, None) => unnumbered(walk, from),
+        (None, None) => write_of_any_number(walk, from),
     }
 }
 
@@ -184,7 +176,7 @@ fn next_writer(walk: &Walk) -> Option<Rec> {
 
 // The last one that was placed of the conflicts of creates that may be writes after all, so many of what was placed last
 // left out; and how many to leave out then.
-fn turned(walk: &Walk, from: usize) -> Option<(usize, usize)> {
+fn last_turned(walk: &Walk, from: usize) -> Option<(usize, usize)> {
     for back in from..MOST_WAITING {
         let next = back.saturating_add(1);
         let at = walk.order.len().checked_sub(next)?;
@@ -239,7 +231,7 @@ fn may_insert(walk: &Walk) -> bool {
 }
 
 // An unanswered write to insert, a delete or a write of the document.
-fn inserted(walk: &mut Walk, delete: bool) -> Option<usize> {
+fn write_to_insert(walk: &mut Walk, delete: bool) -> Option<usize> {
     if !may_insert(walk) || !serves(walk, delete) {
         return None;
     }
@@ -252,15 +244,19 @@ fn inserted(walk: &mut Walk, delete: bool) -> Option<usize> {
 
 // A create's conflict that was placed as refused, to be performed here, and how many to leave out then.
 fn turn_back(walk: &mut Walk, from: usize) -> Option<(usize, usize)> {
-    let is_asked = walk.reading == Conflicts::Maybe
+    let is_asked = walk.conflicts == Conflicts::Maybe
         && !walk.standing.document.is_live()
         && may_insert(walk)
         && serves(walk, false);
-    if is_asked { turned(walk, from) } else { None }
+    if is_asked {
+        last_turned(walk, from)
+    } else {
+        None
+    }
 }
 
 // The write that is tried at a turn, where there is one, and the next turn.
-fn tried(walk: &mut Walk, turn: Turn) -> (Option<Placed>, Turn) {
+fn write_at_turn(walk: &mut Walk, turn: Turn) -> (Option<Placed>, Turn) {
     match turn {
         Turn::Next(from) => match next_known(walk, from) {
             Some((rec, next)) => (
@@ -269,9 +265,12 @@ fn tried(walk: &mut Walk, turn: Turn) -> (Option<Placed>, Turn) {
             ),
             None => (None, Turn::Delete),
         },
-        Turn::Delete => (inserted(walk, true).map(Placed::Inserted), Turn::Index),
+        Turn::Delete => (
+            write_to_insert(walk, true).map(Placed::Inserted),
+            Turn::Index,
+        ),
         Turn::Index => (
-            inserted(walk, false).map(Placed::Inserted),
+            write_to_insert(walk, false).map(Placed::Inserted),
             Turn::Conflict(0),
         ),
         Turn::Conflict(from) => match conflict(walk, from, true) {
@@ -292,7 +291,7 @@ fn tried(walk: &mut Walk, turn: Turn) -> (Option<Placed>, Turn) {
 /// The next write to try at a place, where one is left. The turn goes on.
 pub fn next_write(walk: &mut Walk, turn: &mut Turn) -> Option<Placed> {
     for _ in 0..5 {
-        let (write, next) = tried(walk, *turn);
+        let (write, next) = write_at_turn(walk, *turn);
         *turn = next;
         if write.is_some() {
             return write;

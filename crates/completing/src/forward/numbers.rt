@@ -15,14 +15,14 @@ pub struct Numbers {
 }
 
 // The writes by number, call and record.
-fn numbered(
+fn writes_by_number(
     alloc: Global,
     records: &[Rec],
-    reading: Conflicts,
+    conflicts: Conflicts,
 ) -> Result<Vec<(u64, usize, usize)>, NoMemory> {
     let mut writes = Vec::new(alloc);
     for rec in 0..records.len() {
-        if let Some(k) = number_of(records[rec], reading) {
+        if let Some(k) = number_of(records[rec], conflicts) {
             writes.push((k, records[rec].call_at, rec))?;
         }
     }
@@ -32,12 +32,12 @@ fn numbered(
 
 impl Numbers {
     /// The writes of a document by number.
-    pub fn of(alloc: Global, records: &[Rec], reading: Conflicts) -> Result<Numbers, NoMemory> {
+    pub fn of(alloc: Global, records: &[Rec], conflicts: Conflicts) -> Result<Numbers, NoMemory> {
         let mut numbers = Numbers {
             numbers: Vec::new(alloc),
             lines: Vec::new(alloc),
         };
-        for (k, call_at, rec) in &numbered(alloc, records, reading)? {
+        for (k, call_at, rec) in &writes_by_number(alloc, records, conflicts)? {
             numbers.add(alloc, *k, *call_at, *rec)?;
         }
         Ok(numbers)

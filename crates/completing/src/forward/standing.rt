@@ -38,7 +38,7 @@ pub struct Standing {
     /// Of the answered records by reply, how many are surely placed.
     pub replies: usize,
     /// Of the conflicts on pairs by call, how many were met.
-    pub conflicts: usize,
+    pub conflicts_met: usize,
     /// The latest call of what is placed.
     pub latest: usize,
     /// A number drawn from the records that are placed, whatever their order.
@@ -50,7 +50,7 @@ pub struct Standing {
 const MOST_COUNTED: u64 = 3;
 
 /// A number drawn from another one, so that they seldom go together.
-pub fn mixed(number: u64) -> u64 {
+pub fn mix(number: u64) -> u64 {
     let a = number.wrapping_add(0x9e37_79b9_7f4a_7c15);
     let b = (a ^ (a >> 30)).wrapping_mul(0xbf58_476d_1ce4_e5b9);
     let c = (b ^ (b >> 27)).wrapping_mul(0x94d0_49bb_1331_11eb);
@@ -59,7 +59,7 @@ pub fn mixed(number: u64) -> u64 {
 
 /// A number drawn from a record.
 pub fn mark_of(rec: usize) -> u64 {
-    mixed(u64::try_from(rec).unwrap_or(u64::MAX))
+    mix(u64::try_from(rec).unwrap_or(u64::MAX))
 }
 
 impl Standing {
@@ -71,7 +71,7 @@ impl Standing {
             inserted: 0,
             budget: 0,
             replies: 0,
-            conflicts: 0,
+            conflicts_met: 0,
             latest: 0,
             mark: 0,
         }
@@ -104,8 +104,8 @@ impl Standing {
     /// A number drawn from all that decides what can come after.
     pub fn key(self) -> u64 {
         let passed = u64::try_from(self.passed).unwrap_or(u64::MAX);
-        let place = mixed(mixed(passed) ^ self.document.number());
+        let place = mix(mix(passed) ^ self.document.number());
         let budget = if self.inserted == 0 { 0 } else { self.budget };
-        mixed(mixed(place ^ self.inserted) ^ budget) ^ self.mark
+        mix(mix(place ^ self.inserted) ^ budget) ^ self.mark
     }
 }

@@ -3,7 +3,7 @@ use crate::forward::kind::{Kind, kinds_of};
 use crate::forward::known::KnownPairs;
 use crate::forward::lines::Lines;
 use crate::forward::numbers::Numbers;
-use crate::forward::standing::{Document, Standing, mark_of, mixed};
+use crate::forward::standing::{Document, Standing, mark_of, mix};
 use crate::rules::by_number::number_of;
 use crate::rules::link::leaves_it;
 use crate::rules::queue::is_left;
@@ -41,7 +41,7 @@ impl Placed {
 #[derive(Drop)]
 pub struct Walk<'a> {
     pub records: &'a [Rec],
-    pub reading: Conflicts,
+    pub conflicts: Conflicts,
     pub known: KnownPairs,
     pub numbers: Numbers,
     pub lines: Lines,
@@ -51,7 +51,7 @@ pub struct Walk<'a> {
     // The answered records by place of reply.
     replies: Vec<(usize, usize)>,
     // The conflicts on pairs by place of call.
-    conflicts: Vec<(usize, usize)>,
+    conflicts_by_call: Vec<(usize, usize)>,
     pub placed: Vec<bool>,
     // The conflicts that were placed as refused and are writes after all.
     turned: Vec<bool>,
@@ -104,10 +104,10 @@ impl Walk<'_> {
     pub fn of<'a>(
         alloc: Global,
         records: &'a [Rec],
-        reading: Conflicts,
+        conflicts: Conflicts,
         used: &[Pair],
     ) -> Result<Option<Walk<'a>>, NoMemory> {
-        let numbers = Numbers::of(alloc, records, reading)?;
+        let numbers = Numbers::of(alloc, records, conflicts)?;
         let Some(known) = KnownPairs::of(alloc, records, &numbers)? else {
             return Ok(None);
         };
@@ -115,10 +115,10 @@ impl Walk<'_> {
         let rooms = rooms(alloc, &known, used)?;
         Ok(Some(Walk {
             records,
-            reading,
+            conflicts,
             lines: Lines::of(alloc, records, &kinds, known.len())?,
             replies: by_reply(alloc, records)?,
-            conflicts: conflicts_by_call(alloc, records, &kinds)?,
+            conflicts_by_call: conflicts_by_call(alloc, records, &kinds)?,
             placed: vec![in alloc; false; records.len()]?,
             turned: vec![in alloc; false; records.len()]?,
             order: Vec::with_capacity(alloc, records.len())?,
@@ -200,7 +200,7 @@ impl Walk<'_> {
     fn mark(&self, placed: Placed) -> u64 {
         let rec = placed.rec();
         match (placed, self.kinds.get(rec)) {
-            (Placed::Turned(_), _) => mixed(mark_of(rec)),
+            (Placed::Turned(_), _) => mix(mark_of(rec)),
             (_, Some(Some(Kind::LostDeleteOn(_) | Kind::LostIndexOn(_)))) => 0,
             _ => mark_of(rec),
         }
@@ -237,10 +237,10 @@ impl Walk<'_> {
     // Places the conflicts on other pairs than the document has that were not met before.
     fn place_conflicts(&mut self) -> Result<(), NoMemory> {
         let limit = self.limit();
-        for i in self.standing.conflicts..self.conflicts.len() {
-            match self.conflicts.get(i).copied() {
+        for i in self.standing.conflicts_met..self.conflicts_by_call.len() {
+            match self.conflicts_by_call.get(i).copied() {
                 Some((call_at, rec)) if call_at < limit => {
-                    self.standing.conflicts = i.saturating_add(1);
+                    self.standing.conflicts_met = i.saturating_add(1);
                     if is_left(&self.placed, rec) && !self.is_on_present(rec) {
                         self.place(Placed::Read(rec))?;
                     }
@@ -327,7 +327,7 @@ impl Walk<'_> {
         if let Some(Some(kind)) = self.kinds.get(rec) {
             self.lines.put_back(*kind, found.call_at, rec);
         }
-        if let Some(k) = number_of(found, self.reading) {
+        if let Some(k) = number_of(found, self.conflicts) {
             self.numbers.put_back(k, found.call_at, rec);
         }
     }

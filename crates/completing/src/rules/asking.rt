@@ -1,4 +1,4 @@
-use crate::rules::link::conflicts;
+use crate::rules::link::is_conflict;
 use crate::rules::lost::Lost;
 use crate::rules::performing::perform;
 use crate::rules::plan::{Plan, Side};
@@ -41,7 +41,7 @@ pub fn ask(
     plan: &mut Plan,
     stand: &Stand,
     lost: &mut Lost,
-    reading: Conflicts,
+    conflicts: Conflicts,
     bound: usize,
     rec: usize,
 ) -> Result<Option<usize>, NoMemory> {
@@ -57,13 +57,13 @@ pub fn ask(
     };
     if let Some(stretch) = stretch {
         // What is inserted there already may serve it: the next round tells.
-        if plan.inserted(stretch).is_some()
+        if plan.last_inserted(stretch).is_some()
             || serve(records, plan, lost, *found, heard.0, stretch)?
         {
             return Ok(Some(stretch));
         }
     }
-    if reading == Conflicts::Maybe && conflicts(*found) {
+    if conflicts == Conflicts::Maybe && is_conflict(*found) {
         perform(records, plan, stand, lost, *found, heard.0, rec)
     } else {
         Ok(None)

@@ -1,4 +1,4 @@
-use crate::rules::link::conflicts;
+use crate::rules::link::is_conflict;
 use crate::rules::queue::is_left;
 use doc_register::Conflicts;
 use history::Rec;
@@ -16,19 +16,19 @@ pub struct ByNumber {
 }
 
 /// The number of a write that may be completed.
-pub fn number_of(found: Rec, reading: Conflicts) -> Option<u64> {
-    let may_be = found.heard.is_none() || conflicts(found) && reading == Conflicts::Maybe;
+pub fn number_of(found: Rec, conflicts: Conflicts) -> Option<u64> {
+    let may_be = found.heard.is_none() || is_conflict(found) && conflicts == Conflicts::Maybe;
     if may_be { found.op.value() } else { None }
 }
 
 impl ByNumber {
     /// The writes of a document by number.
-    pub fn of(alloc: Global, records: &[Rec], reading: Conflicts) -> Result<ByNumber, NoMemory> {
+    pub fn of(alloc: Global, records: &[Rec], conflicts: Conflicts) -> Result<ByNumber, NoMemory> {
         let mut entries = Vec::new(alloc);
         let mut left = Vec::new(alloc);
         for rec in 0..records.len() {
             let found = records[rec];
-            if let Some(k) = number_of(found, reading) {
+            if let Some(k) = number_of(found, conflicts) {
                 left.push(entries.len())?;
                 entries.push((k, found.heard.is_some(), found.call_at, rec))?;
             }

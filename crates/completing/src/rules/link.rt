@@ -30,12 +30,12 @@ pub fn needs(found: Rec) -> Option<bool> {
 }
 
 /// Whether the record answers a conflict.
-pub fn conflicts(found: Rec) -> bool {
+pub fn is_conflict(found: Rec) -> bool {
     matches!(found.heard, Some((_, Reply::Conflict)))
 }
 
 /// Whether the record answers a conflict that no document refuses: an index or a delete without a condition, which has
 /// to be performed.
 pub fn is_free_conflict(found: Rec) -> bool {
-    conflicts(found) && found.op.condition().is_none() && !matches!(found.op, Op::Create { .. })
+    is_conflict(found) && found.op.condition().is_none() && !matches!(found.op, Op::Create { .. })
 }

@@ -1,3 +1,4 @@
+use crate::earlier::earlier;
 use crate::rules::queue::{Queue, is_left};
 use doc_register::Op;
 use history::Rec;
@@ -40,15 +41,6 @@ impl Ask {
             Op::Delete { .. } => self.delete,
             Op::Index { .. } | Op::Create { .. } => self.write,
         }
-    }
-}
-
-// The earlier call of two.
-fn earlier(a: Option<(usize, usize)>, b: Option<(usize, usize)>) -> Option<(usize, usize)> {
-    match (a, b) {
-        (Some(x), Some(y)) => Some(if y.0 < x.0 { y } else { x }),
-        (Some(x), None) => Some(x),
-        (None, b) => b,
     }
 }
 

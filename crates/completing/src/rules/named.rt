@@ -94,9 +94,9 @@ impl Naming {
         alloc: Global,
         records: &[Rec],
         lost: &mut Lost,
-        reading: Conflicts,
+        conflicts: Conflicts,
     ) -> Result<bool, NoMemory> {
-        let mut writes = ByNumber::of(alloc, records, reading)?;
+        let mut writes = ByNumber::of(alloc, records, conflicts)?;
         for (pair, k) in &shown(alloc, records)? {
             if !self.known.contains(pair) {
                 match writes.first(*k, lost.taken()) {
@@ -139,14 +139,14 @@ pub fn named_chain(
     alloc: Global,
     records: &[Rec],
     lost: &mut Lost,
-    reading: Conflicts,
+    conflicts: Conflicts,
 ) -> Result<Option<Vec<Link>>, NoMemory> {
     let chain = chain_of(alloc, records)?;
     if !rises(&chain) {
         return Ok(None);
     }
     let mut naming = Naming::of(alloc, records, &chain, lost)?;
-    if !naming.name_shown(alloc, records, lost, reading)?
+    if !naming.name_shown(alloc, records, lost, conflicts)?
         || !naming.name_asked(alloc, records, lost)?
     {
         return Ok(None);

@@ -46,7 +46,7 @@ impl NamedPairs {
     }
 
     // How many numbers of the term, from one on and below a pair, nothing names.
-    fn unnamed(&self, from: Pair, below: Pair) -> u64 {
+    fn count_unnamed(&self, from: Pair, below: Pair) -> u64 {
         let start = self.named.partition_point(|pair| *pair < from);
         let end = self.named.partition_point(|pair| *pair < below);
         let count = u64::try_from(end.saturating_sub(start)).unwrap_or(u64::MAX);
@@ -64,7 +64,7 @@ impl NamedPairs {
 
     /// The least pair from one on, below another of its term, that the write may take.
     pub fn least(&self, write: Invented, from: Pair, below: Pair) -> Option<Pair> {
-        let avoids = write.left <= self.unnamed(from, below);
+        let avoids = write.left <= self.count_unnamed(from, below);
         for seq in from.seq()..below.seq() {
             let pair = Pair::new(from.term(), seq)?;
             if self.may_take(write, avoids, pair) {

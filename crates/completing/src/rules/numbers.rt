@@ -66,7 +66,7 @@ fn behind_links(alloc: Global, links: &[Link]) -> Result<Vec<Behind>, NoMemory> 
 }
 
 // The records of the order, by stretch, its write first, then by place of reply.
-fn ordered(
+fn records_in_order(
     alloc: Global,
     records: &[Rec],
     links: &[Link],
@@ -116,7 +116,7 @@ impl Numbering {
     }
 
     // The pair of an invented write after the last pair and before the next, where there is one.
-    fn invented(&self, found: Rec, place: usize) -> Option<Pair> {
+    fn invented_pair(&self, found: Rec, place: usize) -> Option<Pair> {
         let behind = self.behind.get(self.next)?;
         let Some(next) = behind.pair else {
             return last_pair(self.seen, place, found.call_at);
@@ -141,7 +141,7 @@ impl Numbering {
         let own = links.get(self.next)?;
         self.last = match own.pair {
             Some(pair) => Some(pair),
-            None => self.invented(found, place),
+            None => self.invented_pair(found, place),
         };
         self.next = self.next.saturating_add(1);
         self.last
@@ -152,7 +152,7 @@ impl Numbering {
 /// greater term by a sequence number that was not seen, and between equal terms by the least number that is left, one
 /// that a condition names only where no other is.
 /// `None` where there is no such number.
-pub fn numbered(
+pub fn places_with_pairs(
     alloc: Global,
     records: &[Rec],
     links: &[Link],
@@ -160,7 +160,7 @@ pub fn numbered(
     seen: Seen,
 ) -> Result<Option<Vec<Place>>, NoMemory> {
     let mut numbering = Numbering::of(alloc, records, links, stretches, seen)?;
-    let standings = ordered(alloc, records, links, stretches)?;
+    let standings = records_in_order(alloc, records, links, stretches)?;
     let mut places = Vec::new(alloc);
     for place in 0..standings.len() {
         let (_, is_read, _, rec) = standings[place];

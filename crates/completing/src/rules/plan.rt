@@ -128,7 +128,7 @@ impl Plan {
     }
 
     /// What was inserted in the stretch last.
-    pub fn inserted(&self, stretch: usize) -> Option<usize> {
+    pub fn last_inserted(&self, stretch: usize) -> Option<usize> {
         match self.inserted.get(stretch) {
             Some(rec) => *rec,
             None => None,
@@ -137,7 +137,7 @@ impl Plan {
 
     /// Whether the document is there at the end of the stretch, with what is inserted.
     pub fn ends_live(&self, records: &[Rec], stretch: usize) -> bool {
-        match self.inserted(stretch) {
+        match self.last_inserted(stretch) {
             Some(rec) => match records.get(rec) {
                 Some(found) => leaves_it(found.op),
                 None => false,
@@ -175,7 +175,7 @@ impl Plan {
         write: bool,
         limit: usize,
     ) -> Ask {
-        let on = match self.inserted(stretch) {
+        let on = match self.last_inserted(stretch) {
             Some(_) => None,
             None => self.pairs.get(stretch).copied().unwrap_or(None),
         };
@@ -195,7 +195,7 @@ impl Plan {
     }
 
     /// The chain with all that is inserted.
-    pub fn merged(&mut self, alloc: Global) -> Result<Vec<Link>, NoMemory> {
+    pub fn merge(&mut self, alloc: Global) -> Result<Vec<Link>, NoMemory> {
         self.news.sort_unstable();
         let mut merged = Vec::new(alloc);
         let mut next = 0;

@@ -40,7 +40,7 @@ fn place_read(
     plan: &mut Plan,
     stand: &mut Stand,
     lost: &mut Lost,
-    reading: Conflicts,
+    conflicts: Conflicts,
     reply_at: usize,
     rec: usize,
 ) -> Result<bool, NoMemory> {
@@ -50,7 +50,7 @@ fn place_read(
     let bound = stand.bound(reply_at, plan.links.len());
     let stretch = match stand.latest(plan, *found, rec, bound) {
         Some(stretch) => Some(stretch),
-        None => ask(records, plan, stand, lost, reading, bound, rec)?,
+        None => ask(records, plan, stand, lost, conflicts, bound, rec)?,
     };
     match stretch {
         Some(stretch) => {
@@ -70,7 +70,7 @@ fn place_reads(
     plan: &mut Plan,
     stand: &mut Stand,
     lost: &mut Lost,
-    reading: Conflicts,
+    conflicts: Conflicts,
 ) -> Result<bool, NoMemory> {
     for (call_at, rec) in &falling_calls(alloc, records)? {
         if let Some(stretch) = stand.of_link(*rec) {
@@ -85,7 +85,7 @@ fn place_reads(
             continue;
         };
         if !is_free_conflict(*found)
-            && !place_read(records, plan, stand, lost, reading, heard.0, *rec)?
+            && !place_read(records, plan, stand, lost, conflicts, heard.0, *rec)?
         {
             return Ok(false);
         }
@@ -101,10 +101,10 @@ pub fn next_round(
     records: &[Rec],
     links: Vec<Link>,
     lost: &mut Lost,
-    reading: Conflicts,
+    conflicts: Conflicts,
 ) -> Result<Round, NoMemory> {
     let mut refused = Refused::of(alloc, records, lost.taken())?;
-    if reading == Conflicts::Plain && !refused.is_empty() {
+    if conflicts == Conflicts::Plain && !refused.is_empty() {
         return Ok(Round::Stuck);
     }
     let mut plan = Plan::of(alloc, records, links)?;
@@ -112,10 +112,10 @@ pub fn next_round(
         return Ok(Round::Stuck);
     }
     if !plan.is_done() {
-        return Ok(Round::More(plan.merged(alloc)?));
+        return Ok(Round::More(plan.merge(alloc)?));
     }
     let mut stand = Stand::of(alloc, records, &plan)?;
-    if !place_reads(alloc, records, &mut plan, &mut stand, lost, reading)? {
+    if !place_reads(alloc, records, &mut plan, &mut stand, lost, conflicts)? {
         return Ok(Round::Stuck);
     }
     if plan.is_done() && !perform_refused(records, &mut plan, lost, &mut refused)? {
@@ -124,6 +124,6 @@ pub fn next_round(
     if plan.is_done() {
         Ok(Round::Done(plan.links, stand.into_given()))
     } else {
-        Ok(Round::More(plan.merged(alloc)?))
+        Ok(Round::More(plan.merge(alloc)?))
     }
 }

@@ -77,7 +77,7 @@ impl Stand {
     fn note_floors(&mut self, records: &[Rec]) -> Result<(), NoMemory> {
         for rec in 0..records.len() {
             if let Some(heard) = records[rec].heard {
-                if let Some(stretch) = self.fixed(records[rec], rec) {
+                if let Some(stretch) = self.fixed_stretch(records[rec], rec) {
                     self.floors.push((heard.0, stretch))?;
                 }
             }
@@ -104,7 +104,7 @@ impl Stand {
     }
 
     // The stretch of a write of the chain, or of a get that found a pair.
-    fn fixed(&self, found: Rec, rec: usize) -> Option<usize> {
+    fn fixed_stretch(&self, found: Rec, rec: usize) -> Option<usize> {
         if let Some(stretch) = self.of_link(rec) {
             return Some(stretch);
         }
@@ -155,7 +155,7 @@ impl Stand {
     }
 
     // The latest stretch up to the bound that the state allows a missing or a conflict.
-    fn allowed(&self, plan: &Plan, found: Rec, bound: usize) -> Option<usize> {
+    fn latest_allowed(&self, plan: &Plan, found: Rec, bound: usize) -> Option<usize> {
         match found.op {
             Op::Get => self.absent.get(bound).copied()?,
             Op::Create { .. } => self.present.get(bound).copied()?,
@@ -174,9 +174,9 @@ impl Stand {
     /// and not too early, where there is one.
     pub fn latest(&self, plan: &Plan, found: Rec, rec: usize, bound: usize) -> Option<usize> {
         if let Some((_, Reply::Found { .. })) = found.heard {
-            return self.fixed(found, rec);
+            return self.fixed_stretch(found, rec);
         }
-        let latest = self.allowed(plan, found, bound)?;
+        let latest = self.latest_allowed(plan, found, bound)?;
         if latest < self.floor(found.call_at) {
             None
         } else {

@@ -12,7 +12,7 @@ use Rattle.compose.specs.declared.joined.Joined.TheVariants.{Cover, Open, Spent}
 -- Witnesses that cover the history. Where there are none, and the answers were the first that the search gave, no entries without
 -- a given pair cover it; answers that are given back are still about the documents.
 abbrev pub IsJoined : Conflicts → List Event → Bool → Joined → Type 0
-IsJoined mode events first (Cover ws) = AreWitnesses mode events ws.items
-IsJoined mode events first (Open answers) =
-    AreAnswersFor mode events false (documents_of events) answers.items × (first ≡ true → HasNoUnpairedCover mode events)
-IsJoined mode events first Spent = first ≡ true → HasNoUnpairedCover mode events
+IsJoined conflicts events first (Cover ws) = AreWitnesses conflicts events ws.items
+IsJoined conflicts events first (Open answers) =
+    AreAnswersFor conflicts events false (documents_of events) answers.items × (first ≡ true → HasNoUnpairedCover conflicts events)
+IsJoined conflicts events first Spent = first ≡ true → HasNoUnpairedCover conflicts events

@@ -17,37 +17,37 @@ use Rattle.compose.specs.Verdicts.{AreWitnesses}
 
 -- The witness is of the document: it has its records; and, where it is the first that the search gave, it gives no pair where any
 -- places without a given pair are valid for them.
-pub record IsSearched (mode : Conflicts) (events : List Event) (first : Bool) (d : List ℕ) (w : Witness) : Type 0 where
+pub record IsSearched (conflicts : Conflicts) (events : List Event) (first : Bool) (d : List ℕ) (w : Witness) : Type 0 where
   pub doc : w.doc ≡ d
   pub own : w.records ≡ records_of events d
-  pub read : w.conflicts ≡ mode
-  pub valid : AreValid mode (records_of events d) w.places
-  pub unpaired : first ≡ true → (places : List Place) → AreUnpaired places → AreValid mode (records_of events d) places → AreUnpaired w.places
+  pub read : w.conflicts ≡ conflicts
+  pub valid : AreValid conflicts (records_of events d) w.places
+  pub unpaired : first ≡ true → (places : List Place) → AreUnpaired places → AreValid conflicts (records_of events d) places → AreUnpaired w.places
 
 -- the witnesses are of these documents, one by one
 abbrev pub AreSearched : Conflicts → List Event → Bool → List (List ℕ × ℕ) → List Witness → Type 0
-AreSearched mode events first [] [] = Unit {0}
-AreSearched mode events first [] (w ∷ ws) = ⊥
-AreSearched mode events first (d ∷ ds) [] = ⊥
-AreSearched mode events first (d ∷ ds) (w ∷ ws) = IsSearched mode events first d.0 w × AreSearched mode events first ds ws
+AreSearched conflicts events first [] [] = Unit {0}
+AreSearched conflicts events first [] (w ∷ ws) = ⊥
+AreSearched conflicts events first (d ∷ ds) [] = ⊥
+AreSearched conflicts events first (d ∷ ds) (w ∷ ws) = IsSearched conflicts events first d.0 w × AreSearched conflicts events first ds ws
 
 -- the answer is about the document at this place
 abbrev pub AnswersDocument : Conflicts → List Event → ℕ → DocAnswer → Type 0
-AnswersDocument mode events k answer = (d : List ℕ × ℕ) → slice_get (documents_of events) k ≡ Some d
-    → IsAbout d.0 (records_of events d.0) mode answer × FindsUnpaired mode (records_of events d.0) answer
+AnswersDocument conflicts events k answer = (d : List ℕ × ℕ) → slice_get (documents_of events) k ≡ Some d
+    → IsAbout d.0 (records_of events d.0) conflicts answer × FindsUnpaired conflicts (records_of events d.0) answer
 
 -- What an answer says of a document: it is about it and its records; where it is the first that the search gave, such places are
 -- found where any places without a given pair are valid.
 abbrev pub IsAnswerFor : Conflicts → List Event → Bool → List ℕ → DocAnswer → Type 0
-IsAnswerFor mode events first d answer =
-    IsAbout d (records_of events d) mode answer × (first ≡ true → FindsUnpaired mode (records_of events d) answer)
+IsAnswerFor conflicts events first d answer =
+    IsAbout d (records_of events d) conflicts answer × (first ≡ true → FindsUnpaired conflicts (records_of events d) answer)
 
 -- the answers are for these documents, one by one
 abbrev pub AreAnswersFor : Conflicts → List Event → Bool → List (List ℕ × ℕ) → List DocAnswer → Type 0
-AreAnswersFor mode events first [] [] = Unit {0}
-AreAnswersFor mode events first [] (x ∷ xs) = ⊥
-AreAnswersFor mode events first (d ∷ ds) [] = ⊥
-AreAnswersFor mode events first (d ∷ ds) (x ∷ xs) = IsAnswerFor mode events first d.0 x × AreAnswersFor mode events first ds xs
+AreAnswersFor conflicts events first [] [] = Unit {0}
+AreAnswersFor conflicts events first [] (x ∷ xs) = ⊥
+AreAnswersFor conflicts events first (d ∷ ds) [] = ⊥
+AreAnswersFor conflicts events first (d ∷ ds) (x ∷ xs) = IsAnswerFor conflicts events first d.0 x × AreAnswersFor conflicts events first ds xs
 
 -- one of the answers has no order
 abbrev pub HasLost : List DocAnswer → Type 0
@@ -55,7 +55,7 @@ HasLost answers = (k : ℕ) × (n : Unordered) × (slice_get answers k ≡ Some 
 
 -- the other answer is about what the one is about
 abbrev pub Keeps : DocAnswer → DocAnswer → Type 0
-Keeps old new = (d : List ℕ) (records : List Rec) (mode : Conflicts) → IsAbout d records mode old → IsAbout d records mode new
+Keeps old new = (d : List ℕ) (records : List Rec) (conflicts : Conflicts) → IsAbout d records conflicts old → IsAbout d records conflicts new
 
 -- one by one
 abbrev pub AreKept : List DocAnswer → List DocAnswer → Type 0
@@ -66,8 +66,8 @@ AreKept (y ∷ ys) (x ∷ xs) = Keeps y x × AreKept ys xs
 
 -- the witnesses cover the history; where there are none, no entries without a given pair do
 abbrev pub IsCovering : Conflicts → List Event → Option (Vec Witness Global) → Type 0
-IsCovering mode events None = HasNoUnpairedCover mode events
-IsCovering mode events (Some ws) = AreWitnesses mode events ws.items
+IsCovering conflicts events None = HasNoUnpairedCover conflicts events
+IsCovering conflicts events (Some ws) = AreWitnesses conflicts events ws.items
 
 -- ---- other places for the same records
 

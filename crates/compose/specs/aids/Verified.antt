@@ -15,22 +15,22 @@ use Rattle.compose.specs.declared.verify_fault.VerifyFault.TheVariants as fault
 
 -- The entries are fine, the witnesses have their places and the records of their documents, and a mark tells of each document
 -- of the history whether it is entered.
-pub record AreVerified (mode : Conflicts) (events : List Event) (entries : List DocPlaces) (marks : List Bool) (ws : List Witness) : Type 0 where
-  pub fine : AreFine mode events entries
+pub record AreVerified (conflicts : Conflicts) (events : List Event) (entries : List DocPlaces) (marks : List Bool) (ws : List Witness) : Type 0 where
+  pub fine : AreFine conflicts events entries
   pub places : map witness_places ws ≡ entries
-  pub own : (i : ℕ) (w : Witness) → slice_get ws i ≡ Some w → (w.records ≡ records_of events w.doc) × (w.conflicts ≡ mode)
+  pub own : (i : ℕ) (w : Witness) → slice_get ws i ≡ Some w → (w.records ≡ records_of events w.doc) × (w.conflicts ≡ conflicts)
   pub size : length marks ≡ length (documents_of events)
   pub marked : (k : ℕ) (d : List ℕ × ℕ) → slice_get (documents_of events) k ≡ Some d → (slice_get marks k ≡ Some true) ↔ IsEntered entries d.0
 
 -- the first fault of an entry after those that are fine
 abbrev pub IsFaultOfEntry : Conflicts → List Event → List DocPlaces → DocPlaces → VerifyFault → Type 0
-IsFaultOfEntry mode events before e (fault.DocStranger i) = (i ≡ length before) × (¬ IsKnown events e)
-IsFaultOfEntry mode events before e (fault.DocTwice i) = (i ≡ length before) × IsKnown events e × IsEntered before e.doc
-IsFaultOfEntry mode events before e (fault.Broken i broken) =
-    (i ≡ length before) × IsKnown events e × (¬ IsEntered before e.doc) × IsFirstFault mode (records_of events e.doc) e.places broken
-IsFaultOfEntry mode events before e (fault.DocMissing k) = ⊥
-IsFaultOfEntry mode events before e (fault.PairTwice shard pair) = ⊥
-IsFaultOfEntry mode events before e fault.NoMemory = ⊥
+IsFaultOfEntry conflicts events before e (fault.DocStranger i) = (i ≡ length before) × (¬ IsKnown events e)
+IsFaultOfEntry conflicts events before e (fault.DocTwice i) = (i ≡ length before) × IsKnown events e × IsEntered before e.doc
+IsFaultOfEntry conflicts events before e (fault.Broken i broken) =
+    (i ≡ length before) × IsKnown events e × (¬ IsEntered before e.doc) × IsFirstFault conflicts (records_of events e.doc) e.places broken
+IsFaultOfEntry conflicts events before e (fault.DocMissing k) = ⊥
+IsFaultOfEntry conflicts events before e (fault.PairTwice shard pair) = ⊥
+IsFaultOfEntry conflicts events before e fault.NoMemory = ⊥
 
 -- ---- one entry
 
@@ -50,10 +50,10 @@ IsFaultOfDocument events marks entry d fault.NoMemory = ⊥
 
 -- the witness has these places, which are valid for the records of the document with this number
 abbrev pub IsWitnessAt : Conflicts → List Event → ℕ → DocPlaces → Witness → Type 0
-IsWitnessAt mode events k e w = (d : List ℕ × ℕ) → slice_get (documents_of events) k ≡ Some d
-    → (w ≡ record { doc = e.doc; records = records_of events d.0; places = e.places; conflicts = mode }) × AreValid mode (records_of events d.0) e.places
+IsWitnessAt conflicts events k e w = (d : List ℕ × ℕ) → slice_get (documents_of events) k ≡ Some d
+    → (w ≡ record { doc = e.doc; records = records_of events d.0; places = e.places; conflicts = conflicts }) × AreValid conflicts (records_of events d.0) e.places
 
 -- the places have this first fault, for the records of the document with this number
 abbrev pub IsFaultOfPlaces : Conflicts → List Event → ℕ → ℕ → DocPlaces → VerifyFault → Type 0
-IsFaultOfPlaces mode events k entry e told = (d : List ℕ × ℕ) → slice_get (documents_of events) k ≡ Some d
-    → (broken : Broken) × (told ≡ fault.Broken entry broken) × IsFirstFault mode (records_of events d.0) e.places broken
+IsFaultOfPlaces conflicts events k entry e told = (d : List ℕ × ℕ) → slice_get (documents_of events) k ≡ Some d
+    → (broken : Broken) × (told ≡ fault.Broken entry broken) × IsFirstFault conflicts (records_of events d.0) e.places broken

@@ -8,21 +8,21 @@ use Rattle.check_pool.specs.declared.pool_fault.PoolFault.{PoolFault}
 use Rattle.check_pool.specs.declared.pool_fault.PoolFault.TheVariants.{NoWorkers, TooMany, Lost, Double, Stranger, NoMemory}
 
 -- the job has the document's id, its records and this reading of conflicts
-pub record IsJobFor (mode : Conflicts) (events : List Event) (d : List ℕ) (job : DocJob) : Type 0 where
+pub record IsJobFor (conflicts : Conflicts) (events : List Event) (d : List ℕ) (job : DocJob) : Type 0 where
   pub id : job.id ≡ d
   pub own : job.recs.items ≡ records_of events d
-  pub read : job.conflicts ≡ mode
+  pub read : job.conflicts ≡ conflicts
 
 -- those of the document at this place
 abbrev pub IsJobOf : Conflicts → List Event → ℕ → DocJob → Type 0
-IsJobOf mode events k job = (d : List ℕ × ℕ) → slice_get (documents_of events) k ≡ Some d → IsJobFor mode events d.0 job
+IsJobOf conflicts events k job = (d : List ℕ × ℕ) → slice_get (documents_of events) k ≡ Some d → IsJobFor conflicts events d.0 job
 
 -- one by one
 abbrev pub AreJobsFor : Conflicts → List Event → List (List ℕ × ℕ) → List DocJob → Type 0
-AreJobsFor mode events [] [] = Unit {0}
-AreJobsFor mode events [] (job ∷ jobs) = ⊥
-AreJobsFor mode events (d ∷ ds) [] = ⊥
-AreJobsFor mode events (d ∷ ds) (job ∷ jobs) = IsJobFor mode events d.0 job × AreJobsFor mode events ds jobs
+AreJobsFor conflicts events [] [] = Unit {0}
+AreJobsFor conflicts events [] (job ∷ jobs) = ⊥
+AreJobsFor conflicts events (d ∷ ds) [] = ⊥
+AreJobsFor conflicts events (d ∷ ds) (job ∷ jobs) = IsJobFor conflicts events d.0 job × AreJobsFor conflicts events ds jobs
 
 -- a fault that workers can have whose number is right; one that names a job names a document of the history
 abbrev pub IsWorkersFault : List Event → PoolFault → Type 0

@@ -112,6 +112,6 @@ pub record IsStuck (records : List Rec) (chain : List (Pair × ℕ)) (given : Li
 -- ---- the order
 
 -- the places give no pair, and are valid where any such places are
-pub record IsOfSweep (mode : Conflicts) (records : List Rec) (places : List Place) : Type 0 where
+pub record IsOfSweep (conflicts : Conflicts) (records : List Rec) (places : List Place) : Type 0 where
   pub unpaired : AreUnpaired places
-  pub valid : (others : List Place) → AreUnpaired others → AreValid mode records others → AreValid mode records places
+  pub valid : (others : List Place) → AreUnpaired others → AreValid conflicts records others → AreValid conflicts records places

@@ -4,7 +4,7 @@ use Rattle.api_lines.specs.Faults.{◌>>=◌}
 use Rattle.api_lines.specs.Fields.{BodyValues}
 use Rattle.api_lines.specs.declared.history_line.LineSaid.{LineSaid}
 use Rattle.api_lines.specs.declared.history_line.LineSaid.TheVariants as said
-use Rattle.api_lines.specs.declared.history_line.TheConstants.{SHARDS}
+use Rattle.api_lines.specs.HistoryLines.{most_shards}
 use Rattle.api_lines.specs.declared.text_fault.LineFault.{LineFault}
 use Rattle.api_lines.specs.declared.text_fault.TextCause.{TextCause}
 use Rattle.history.specs.declared.event.Event.{Event}
@@ -22,7 +22,7 @@ takes_reply events n status body = takes_said events body (said.Reply n status)
 
 -- the shard of a call is one of those that there are
 abbrev pub HasSaidShard : LineSaid → Type 0
-HasSaidShard (said.Call n h d op) = h < SHARDS
+HasSaidShard (said.Call n h d op) = h < most_shards
 HasSaidShard (said.Reply n status) = Unit {0}
 HasSaidShard (said.Lost n) = Unit {0}
 

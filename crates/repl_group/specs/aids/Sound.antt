@@ -6,8 +6,7 @@ use Rattle.doc_register.specs.declared.state.DocState.{DocState}
 use Rattle.repl_group.specs.declared.fault.Fault.TheVariants as fault
 use Rattle.repl_group.specs.declared.held_write.HeldWrite.{HeldWrite}
 use Rattle.repl_group.specs.declared.request.Request.{Request}
-use Rattle.repl_group.specs.Copies.{ShardCopy}
-use Rattle.repl_group.specs.Copies.{holds}
+use Rattle.repl_group.specs.Copies.{ShardCopy, holds}
 use Rattle.repl_group.specs.Group.{GroupState, write_of}
 use Rattle.repl_group.specs.Honest.{pair_acknowledged, pair_given}
 use Rattle.repl_group.specs.Operations.{is_get}

@@ -8,7 +8,7 @@ use std::alloc::Global;
 use std::sync::Wait;
 use std::test::Fail;
 use std::thread::join;
-use version_pair::DocId;
+use version_pair::{DocId, Pair};
 use workload::{Progress, Target, Ticket};
 
 // The reply that was told.
@@ -70,18 +70,48 @@ fn polls_alike<R: Wait>(
     true
 }
 
-#[test]
-fn group_is_its_core_under_a_lock(rt: HostRuntime) -> Result<(), Fail> {
-    let alloc = rt.alloc();
-    let group = Group::new(alloc, 3, Fault::None, 9)?;
-    let mut core = Core::new(alloc, 3, Fault::None)?;
+// What is asked for as the k-th call: in turn a write without condition, one with, and a get.
+fn kth_call(k: u64) -> Op {
+    match k % 3 {
+        0 => Op::Index { k, cond: None },
+        1 => Op::Index {
+            k,
+            cond: Pair::new(1, 0),
+        },
+        _ => Op::Get,
+    }
+}
+
+// Whether a group answers twenty calls, each polled twenty times, as its core does with the generator of the seed.
+fn plays_alike<R: Wait>(rt: &R, alloc: Global, copies: u32, fault: Fault) -> Result<bool, Fail> {
+    let group = Group::new(alloc, copies, fault, 9)?;
+    let mut core = Core::new(alloc, copies, fault)?;
     let mut random = Lcg64Xsh32::new(9, 55);
     let id = document(alloc)?;
     for k in 0..20 {
-        let op = Op::Index { k, cond: None };
-        let ticket = group.submit(&rt, &id, &op)?;
-        assert_eq!(rt; submit_step(&mut core, &id, &op), Ok(ticket));
-        assert!(rt; polls_alike(&rt, &group, &mut core, &mut random, ticket));
+        let op = kth_call(k);
+        let ticket = group.submit(rt, &id, &op)?;
+        let is_alike = submit_step(&mut core, &id, &op) == Ok(ticket);
+        if !is_alike || !polls_alike(rt, &group, &mut core, &mut random, ticket) {
+            return Ok(false);
+        }
+    }
+    Ok(true)
+}
+
+#[test]
+fn group_is_its_core_under_a_lock(rt: HostRuntime) -> Result<(), Fail> {
+    for fault in [
+        Fault::None,
+        Fault::Dirty,
+        Fault::Early,
+        Fault::SameTerm,
+        Fault::Stale,
+        Fault::Blind,
+    ] {
+        for copies in [1, 2, 3, 5] {
+            assert!(rt; plays_alike(&rt, rt.alloc(), copies, fault)?);
+        }
     }
     Ok(())
 }

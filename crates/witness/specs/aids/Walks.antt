@@ -10,8 +10,8 @@ use Rattle.witness.specs.Faults.{IsFresh, IsLate}
 
 -- The places at the front are right and end in the state; the marks tell which records they name; and no call among
 -- theirs stands after the latest place.
-pub record IsWalked (mode : Conflicts) (records : List Rec) (front : List Place) (marks : List Bool) (latest : ℕ) (state : DocState) : Type 0 where
-  pub right : AreRight mode records front
+pub record IsWalked (conflicts : Conflicts) (records : List Rec) (front : List Place) (marks : List Bool) (latest : ℕ) (state : DocState) : Type 0 where
+  pub right : AreRight conflicts records front
   pub run : IsPlaceRun records Never front state
   pub size : length marks ≡ length records
   pub marked : (k : ℕ) → (slice_get marks k ≡ Some true) ↔ IsNamed front k
@@ -22,10 +22,10 @@ pub record IsWalked (mode : Conflicts) (records : List Rec) (front : List Place)
       × (r.call_at ≡ latest))
 
 -- the place at i can be walked: its record, and the state after it
-pub record IsNextStep (mode : Conflicts) (records : List Rec) (places : List Place) (i : ℕ) (r : Rec) (s t : DocState) : Type 0 where
+pub record IsNextStep (conflicts : Conflicts) (records : List Rec) (places : List Place) (i : ℕ) (r : Rec) (s t : DocState) : Type 0 where
   pub place : Place
-  pub fresh : IsFresh mode records places i place r
-  pub gives : GivesAsMay mode r.heard place.pair
+  pub fresh : IsFresh conflicts records places i place r
+  pub gives : GivesAsMay conflicts r.heard place.pair
   pub in_time : ¬ IsLate records places i r
   pub steps : StepsAt s r.op r.heard place.pair t
 

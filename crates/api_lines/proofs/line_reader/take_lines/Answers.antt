@@ -1,5 +1,5 @@
 use Rattle.std.proofs.Common.{arith, ℕ, ◌≡◌, ap, refl, subst, sym, Ok, Err, IfSome}
-use Rattle.api_lines.proofs.InputLemmas.{IsReadOn, feedless, next_counts, on_all, on_more, on_none, on_stop}
+use Rattle.api_lines.proofs.InputLemmas.{IsReadOn, next_counts, on_all, on_more, on_none, on_stop}
 use Rattle.api_lines.specs.Faults.{IfTextTold}
 use Rattle.api_lines.specs.Lines.{HasNoLineFeed}
 use Rattle.api_lines.specs.Texts.{next_line, so_far}
@@ -13,7 +13,7 @@ loop-line-init g c =
     (sym c.requires) (on_none g.L.LineReader.takes start.state (g.B.Read.remaining c.args.input.now))
 
 pub line-requires : goal.line-requires
-line-requires g c = subst HasNoLineFeed (sym c.deref.ensures.value) (feedless c.next_line.new.line.items c.in_ok-next_line.ensures.unfed)
+line-requires g c = subst HasNoLineFeed (sym c.deref.ensures.value) c.in_ok-next_line.ensures.unfed
 
 pub loop-line-preserved : goal.loop-line-preserved
 loop-line-preserved g c =

@@ -7,19 +7,19 @@ pub returns-in-check : goal.returns-in-check
 returns-in-check c =
     let file : option_map (λ f. f.now) c.get_str-file.result ≡ first_of (codes "history") (rows_of (found_of c.args.given.now)) =
     c.get_str-file.ensures ∙ first_value-rows (found_of c.args.given.now) (codes "history") in
-    let reading : option_map (λ t. t.now) c.get_str.result ≡ first_of (codes "conflicts") (rows_of (found_of c.args.given.now)) =
+    let conflicts : option_map (λ t. t.now) c.get_str.result ≡ first_of (codes "conflicts") (rows_of (found_of c.args.given.now)) =
     c.get_str.ensures ∙ first_value-rows (found_of c.args.given.now) (codes "conflicts") in
     let workers : option_map (λ t. t.now) c.get_str-in-check.result ≡ first_of (codes "workers") (rows_of (found_of c.args.given.now)) =
     c.get_str-in-check.ensures ∙ first_value-rows (found_of c.args.given.now) (codes "workers") in
-    rw (c.in-check.is, c.check_words.ensures, file, reading, workers) refl
+    rw (c.in-check.is, c.check_words.ensures, file, conflicts, workers) refl
 
 pub returns-in-witness : goal.returns-in-witness
 returns-in-witness c =
     let file : option_map (λ f. f.now) c.get_str-file.result ≡ first_of (codes "history") (rows_of (found_of c.args.given.now)) =
     c.get_str-file.ensures ∙ first_value-rows (found_of c.args.given.now) (codes "history") in
-    let reading : option_map (λ t. t.now) c.get_str-in-witness.result ≡ first_of (codes "conflicts") (rows_of (found_of c.args.given.now)) =
+    let conflicts : option_map (λ t. t.now) c.get_str-in-witness.result ≡ first_of (codes "conflicts") (rows_of (found_of c.args.given.now)) =
     c.get_str-in-witness.ensures ∙ first_value-rows (found_of c.args.given.now) (codes "conflicts") in
-    rw (c.in-witness.is, c.witness_words.ensures, file, reading) refl
+    rw (c.in-witness.is, c.witness_words.ensures, file, conflicts) refl
 
 pub returns-in-verify : goal.returns-in-verify
 returns-in-verify c =
@@ -27,9 +27,9 @@ returns-in-verify c =
     c.get_str-file.ensures ∙ first_value-rows (found_of c.args.given.now) (codes "history") in
     let witness : option_map (λ f. f.now) c.get_str-in-verify.result ≡ first_of (codes "witness") (rows_of (found_of c.args.given.now)) =
     c.get_str-in-verify.ensures ∙ first_value-rows (found_of c.args.given.now) (codes "witness") in
-    let reading : option_map (λ t. t.now) c.get_str-in-verify-2.result ≡ first_of (codes "conflicts") (rows_of (found_of c.args.given.now)) =
+    let conflicts : option_map (λ t. t.now) c.get_str-in-verify-2.result ≡ first_of (codes "conflicts") (rows_of (found_of c.args.given.now)) =
     c.get_str-in-verify-2.ensures ∙ first_value-rows (found_of c.args.given.now) (codes "conflicts") in
-    rw (c.in-verify.is, c.verify_words.ensures, history, witness, reading) refl
+    rw (c.in-verify.is, c.verify_words.ensures, history, witness, conflicts) refl
 
 pub returns-in-bulk : goal.returns-in-bulk
 returns-in-bulk c =
@@ -48,10 +48,10 @@ pub returns-in-explain : goal.returns-in-explain
 returns-in-explain c =
     let file : option_map (λ f. f.now) c.get_str-file.result ≡ first_of (codes "history") (rows_of (found_of c.args.given.now)) =
     c.get_str-file.ensures ∙ first_value-rows (found_of c.args.given.now) (codes "history") in
-    let reading : option_map (λ t. t.now) c.get_str-in-explain.result ≡ first_of (codes "conflicts") (rows_of (found_of c.args.given.now)) =
+    let conflicts : option_map (λ t. t.now) c.get_str-in-explain.result ≡ first_of (codes "conflicts") (rows_of (found_of c.args.given.now)) =
     c.get_str-in-explain.ensures ∙ first_value-rows (found_of c.args.given.now) (codes "conflicts") in
     let workers : option_map (λ t. t.now) c.get_str-in-explain-2.result ≡ first_of (codes "workers") (rows_of (found_of c.args.given.now)) =
     c.get_str-in-explain-2.ensures ∙ first_value-rows (found_of c.args.given.now) (codes "workers") in
     let page : option_map (λ t. t.now) c.get_str-in-explain-3.result ≡ first_of (codes "html") (rows_of (found_of c.args.given.now)) =
     c.get_str-in-explain-3.ensures ∙ first_value-rows (found_of c.args.given.now) (codes "html") in
-    rw (c.in-explain.is, c.explain_words.ensures, file, reading, workers, page) refl
+    rw (c.in-explain.is, c.explain_words.ensures, file, conflicts, workers, page) refl

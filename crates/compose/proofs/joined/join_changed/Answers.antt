@@ -6,8 +6,8 @@ use Rattle.compose.proofs.FoundLemmas.{alike_cover}
 use Rattle.compose.proofs.joined.join_changed.Goals as goal
 
 pub returns-in-None : goal.returns-in-None
-returns-in-None c = λ mode first are uncovered.
+returns-in-None c = λ conflicts first are uncovered.
     let alike = subst (λ o. IfSome o (λ ws. AreAlike c.args.witnesses.items ws.items)) c.in-Some.is c.in_ok-others.ensures in
-    alike_cover mode c.args.history.now first c.args.witnesses.items c.in-Some.others.items are alike
+    alike_cover conflicts c.args.history.now first c.args.witnesses.items c.in-Some.others.items are alike
     (subst (λ ws. IsLeastTwice (pairs_taken c.args.history.now ws) None) c.deref.ensures.value
     (subst (IsLeastTwice (pairs_taken c.args.history.now c.deref.result.now)) c.in-None.is c.in_ok-pair_twice.ensures))

@@ -7,9 +7,9 @@ use Rattle.report.proofs.check_answer.case_answer.Goals as goal
 pub returns-in_ok-answer-in-Some : goal.returns-in_ok-answer-in-Some
 returns-in_ok-answer-in-Some c = λ input is_text.
     let H = c.args.case.now.events in
-    let mode = c.args.case.now.conflicts in
+    let conflicts = c.args.case.now.conflicts in
     let told = c.in-Some.evidence in
-    let holds : Holds mode H told = subst (λ found. IfSome found (Holds mode H)) c.in-Some.is c.in_ok-evidence.ensures in
+    let holds : Holds conflicts H told = subst (λ found. IfSome found (Holds conflicts H)) c.in-Some.is c.in_ok-evidence.ensures in
     let answer = c.in_ok-answer-in-Some in
-    is_refuted mode input H answer.answer.status answer.answer.text.items told c.in_ok-offence.offence answer.ensures.status answer.ensures.line is_text c.history.ensures.none
-    c.in_ok-offence.ensures holds (c.evidence_refutes.ensures mode H told c.history.ensures.history holds)
+    is_refuted conflicts input H answer.answer.status answer.answer.text.items told c.in_ok-offence.offence answer.ensures.status answer.ensures.line is_text c.history.ensures.none
+    c.in_ok-offence.ensures holds (c.evidence_refutes.ensures conflicts H told c.history.ensures.history holds)

@@ -13,7 +13,7 @@ returns-then-not-gives_as_may c =
     pair_fault_is c.args.conflicts c.args.records.now c.args.places.now c.args.i c.index-places-i.result c.in-Some.found c.in-Some.found.heard
     c.index-places-i.result.pair c.pair_fault.result refl refl
     (fresh_at c.args.conflicts c.args.records.now c.args.places.now c.args.i c.index-places-i.result c.in-Some.found c.args.walk.now.marks.items
-    c.args.walk.now.latest c.args.walk.now.state here c.requires.walked (sym c.named.ensures ∙ c.in-Some.is) known c.if-is_marked.ensures)
+    c.args.walk.now.latest c.args.walk.now.state here c.requires.walked (sym c.named_record.ensures ∙ c.in-Some.is) known c.if-is_marked.ensures)
     may_not c.pair_fault.ensures
 
 pub returns-then-is_late : goal.returns-then-is_late
@@ -26,7 +26,7 @@ returns-then-is_late c =
       c.index-places-i.result,
       c.in-Some.found,
       fresh_at c.args.conflicts c.args.records.now c.args.places.now c.args.i c.index-places-i.result c.in-Some.found c.args.walk.now.marks.items
-          c.args.walk.now.latest c.args.walk.now.state here c.requires.walked (sym c.named.ensures ∙ c.in-Some.is) known c.if-is_marked.ensures,
+          c.args.walk.now.latest c.args.walk.now.state here c.requires.walked (sym c.named_record.ensures ∙ c.in-Some.is) known c.if-is_marked.ensures,
       gives,
       late_is c.args.conflicts c.args.records.now c.args.places.now c.args.i c.args.walk.now.marks.items c.args.walk.now.latest c.args.walk.now.state
           c.in-Some.found c.requires.walked late,
@@ -42,7 +42,7 @@ returns-in-Some-step_at c =
     record {
       place = c.index-places-i.result;
       fresh = fresh_at c.args.conflicts c.args.records.now c.args.places.now c.args.i c.index-places-i.result c.in-Some.found c.args.walk.now.marks.items
-          c.args.walk.now.latest c.args.walk.now.state here c.requires.walked (sym c.named.ensures ∙ c.in-Some.is) known c.if-is_marked.ensures;
+          c.args.walk.now.latest c.args.walk.now.state here c.requires.walked (sym c.named_record.ensures ∙ c.in-Some.is) known c.if-is_marked.ensures;
       gives = gives;
       in_time = late_not c.args.conflicts c.args.records.now c.args.places.now c.args.i c.args.walk.now.marks.items c.args.walk.now.latest
           c.args.walk.now.state c.in-Some.found c.requires.walked in_time;
@@ -59,7 +59,7 @@ returns-in-None c =
       c.index-places-i.result,
       c.in-Some.found,
       fresh_at c.args.conflicts c.args.records.now c.args.places.now c.args.i c.index-places-i.result c.in-Some.found c.args.walk.now.marks.items
-          c.args.walk.now.latest c.args.walk.now.state here c.requires.walked (sym c.named.ensures ∙ c.in-Some.is) known c.if-is_marked.ensures,
+          c.args.walk.now.latest c.args.walk.now.state here c.requires.walked (sym c.named_record.ensures ∙ c.in-Some.is) known c.if-is_marked.ensures,
       gives,
       late_not c.args.conflicts c.args.records.now c.args.places.now c.args.i c.args.walk.now.marks.items c.args.walk.now.latest
           c.args.walk.now.state c.in-Some.found c.requires.walked in_time,

@@ -11,17 +11,17 @@ returns-clause-runs g c =
     let run : AreRun g.T.Target.issued g.T.Target.gave c.args.turns g.X.Recording.pen_state (g.X.Recording.has_pen c.args.recorder.now) c.args.plan.now
     c.in_ok-jobs.jobs.items c.in_ok-results.results.items =
     record { count = c.in_ok-results.ensures.count; each = c.in_ok-results.ensures.each } in
-    IfOk-weaker c.gathered.result _ _ (λ done all. longer_by_runs g.T.Target.issued g.T.Target.gave c.args.turns g.X.Recording.pen_state (g.X.Recording.has_pen c.args.recorder.now)
-    c.args.plan.now c.args.pens.items done.items c.in_ok-jobs.jobs.items c.in_ok-results.results.items c.in_ok-jobs.ensures all run) c.gathered.ensures.ok
+    IfOk-weaker c.gather_pens.result _ _ (λ done all. longer_by_runs g.T.Target.issued g.T.Target.gave c.args.turns g.X.Recording.pen_state (g.X.Recording.has_pen c.args.recorder.now)
+    c.args.plan.now c.args.pens.items done.items c.in_ok-jobs.jobs.items c.in_ok-results.results.items c.in_ok-jobs.ensures all run) c.gather_pens.ensures.ok
 
 pub returns-clause-of_new_pens : goal.returns-clause-of_new_pens
 returns-clause-of_new_pens g c new =
-    IfOk-weaker c.gathered.result _ _ (λ done longer. runs_of_new g.T.Target.issued g.T.Target.gave c.args.turns c.args.plan.now _ _ new longer) (returns-clause-runs g c)
+    IfOk-weaker c.gather_pens.result _ _ (λ done longer. runs_of_new g.T.Target.issued g.T.Target.gave c.args.turns c.args.plan.now _ _ new longer) (returns-clause-runs g c)
 
 pub returns-clause-keeps : goal.returns-clause-keeps
 returns-clause-keeps g c =
     let run : AreRun g.T.Target.issued g.T.Target.gave c.args.turns g.X.Recording.pen_state (g.X.Recording.has_pen c.args.recorder.now) c.args.plan.now
     c.in_ok-jobs.jobs.items c.in_ok-results.results.items =
     record { count = c.in_ok-results.ensures.count; each = c.in_ok-results.ensures.each } in
-    IfOk-weaker c.gathered.result _ _ (λ done all. all_ours g.T.Target.issued g.T.Target.gave c.args.turns g.X.Recording.pen_state (g.X.Recording.has_pen c.args.recorder.now)
-    c.args.plan.now c.args.pens.items done.items c.in_ok-jobs.jobs.items c.in_ok-results.results.items c.in_ok-jobs.ensures all run) c.gathered.ensures.ok
+    IfOk-weaker c.gather_pens.result _ _ (λ done all. all_ours g.T.Target.issued g.T.Target.gave c.args.turns g.X.Recording.pen_state (g.X.Recording.has_pen c.args.recorder.now)
+    c.args.plan.now c.args.pens.items done.items c.in_ok-jobs.jobs.items c.in_ok-results.results.items c.in_ok-jobs.ensures all run) c.gather_pens.ensures.ok

@@ -6,12 +6,12 @@ use Rattle.recorder.proofs.UnrefusedLemmas.{merged_accepted}
 use Rattle.recorder.proofs.clock_recorder.ClockRecorder.close.Goals.{in-NoMemory, in_default-matches}
 use Rattle.recorder.proofs.clock_recorder.ClockRecorder.close.Goals as goal
 
-pub merged-requires-clause-rising : goal.merged-requires-clause-rising
-merged-requires-clause-rising c = All-weaker IsPenList IsRising (λ list kept. kept.rising) c.in-Ok.strands.items c.in-Ok.ensures.kept
+pub merge-requires-clause-rising : goal.merge-requires-clause-rising
+merge-requires-clause-rising c = All-weaker IsPenList IsRising (λ list kept. kept.rising) c.in-Ok.strands.items c.in-Ok.ensures.kept
 
 pub prove-unreachable-requires : goal.prove-unreachable-requires
 prove-unreachable-requires c =
-    let accepted = merged_accepted c.in-Ok.strands.items c.in-Ok-merged.events.items c.in-Ok-merged.ensures.recording c.in-Ok.ensures.kept c.in-Ok.ensures.dense.1 in
+    let accepted = merged_accepted c.in-Ok.strands.items c.in-Ok-merge.events.items c.in-Ok-merge.ensures.recording c.in-Ok.ensures.kept c.in-Ok.ensures.dense.1 in
     let memory : c.in-Err.fault ≡ NoMemory = c.in-Err.ensures.accepted accepted in
     elim c.match-matches.branch [
       | in-NoMemory w ↦ (let impossible : true ≡ false = sym w.matches-is ∙ c.if-prove.true in absurd (cc))

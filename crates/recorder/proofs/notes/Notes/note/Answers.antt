@@ -11,5 +11,5 @@ invariant_of-self c =
     subst (λ list. All (λ entry. entry.0 < c.args.number) list) (sym same) c.requires.above in
     let accepted : refusal_of c.self.inside.list.items (numbered c.args.event c.args.number) ≡ None =
     ap (λ list. refusal_of list (numbered c.args.event c.args.number)) same ∙ c.requires.accepted in
-    rw (c.push_reserved.ensures.items, c.numbered.ensures)
+    rw (c.push_reserved.ensures.items, c.with_number.ensures)
     (noted_after c.self.inside.list.items _ _ c.args.number c.args.event c.self.invariant below accepted c.note_event.ensures)

@@ -5,9 +5,9 @@ use Rattle.witness.proofs.WalkLemmas.{fault_not_valid}
 use Rattle.witness.proofs.doc_witness.DocWitness.check.Goals as goal
 
 pub first_fault-requires : goal.first_fault-requires
-first_fault-requires c = λ mode.
+first_fault-requires c = λ conflicts.
     let same : c.deref.result.now ≡ c.deref-2.result.now = search rules in
-    subst (λ records. IsWalked mode records [] c.in-Ok.walk.marks.items c.in-Ok.walk.latest c.in-Ok.walk.state) same (c.in-Ok.ensures mode)
+    subst (λ records. IsWalked conflicts records [] c.in-Ok.walk.marks.items c.in-Ok.walk.latest c.in-Ok.walk.state) same (c.in-Ok.ensures conflicts)
 
 pub returns-in-Some-clause-invalid : goal.returns-in-Some-clause-invalid
 returns-in-Some-clause-invalid c = λ other valid.

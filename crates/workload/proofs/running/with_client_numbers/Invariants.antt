@@ -1,8 +1,7 @@
-use Rattle.std.proofs.Common.{◌≡◌, ◌++◌}
+use Rattle.std.proofs.Common.{vec_len, ◌++◌, ◌≡◌}
 use Rattle.std.specs.List.{enumerate_from}
 use Rattle.std.specs.Vec.Iter.{into_iter_items}
-use Rattle.std.proofs.Common.{vec_len}
-use Rattle.workload.proofs.running.numbered.Given as goal
+use Rattle.workload.proofs.running.with_client_numbers.Given as goal
 
 -- the pens so far have their numbers
 abbrev pub invariant-loop-pen : goal.invariant-loop-pen

@@ -3,7 +3,7 @@ use Rattle.std.specs.Vec.Iter.{into_iter_items}
 use Rattle.std.proofs.lemmas.Result.{err_from_is_err_and}
 use Rattle.workload.specs.aids.Gathering.{IsFaultOf}
 use Rattle.workload.proofs.RunningLemmas.{fault_here}
-use Rattle.workload.proofs.running.gathered.Goals as goal
+use Rattle.workload.proofs.running.gather_pens.Goals as goal
 
 pub returns-in_err-result-clause-fault : goal.returns-in_err-result-clause-fault
 returns-in_err-result-clause-fault g c =

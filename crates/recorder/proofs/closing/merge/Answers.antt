@@ -6,7 +6,7 @@ use Rattle.history.specs.Events.{HasShard}
 use Rattle.recorder.specs.Recordings.{entries_of}
 use Rattle.recorder.proofs.DenseLemmas.{left_after_one, none_left, none_past_most}
 use Rattle.recorder.proofs.MergeLemmas.{all_met, merged_one_more}
-use Rattle.recorder.proofs.closing.merged.Goals as goal
+use Rattle.recorder.proofs.closing.merge.Goals as goal
 
 pub returns-in_default-clause-recording : goal.returns-in_default-clause-recording
 returns-in_default-clause-recording c =

@@ -3,7 +3,7 @@ use Rattle.std.specs.Vec.Iter.{into_iter_items}
 use Rattle.std.proofs.lemmas.List.{nil_from_length}
 use Rattle.workload.specs.aids.Seats.{IsNew}
 use Rattle.workload.proofs.RoundLemmas.{AreNewSoFar, new_after, new_at_end}
-use Rattle.workload.proofs.rounds.seated.Goals as goal
+use Rattle.workload.proofs.rounds.seat_clients.Goals as goal
 
 pub loop-pen-preserved : goal.loop-pen-preserved
 loop-pen-preserved g c =

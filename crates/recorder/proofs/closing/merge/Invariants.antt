@@ -5,7 +5,7 @@ use Rattle.history.specs.Events.{HasShard}
 use Rattle.recorder.specs.Recordings.{entries_of}
 use Rattle.recorder.specs.aids.Notes.{IsRising}
 use Rattle.recorder.proofs.DenseLemmas.{AreLeft}
-use Rattle.recorder.proofs.closing.merged.Given as goal
+use Rattle.recorder.proofs.closing.merge.Given as goal
 
 abbrev pub invariant-loop-number : goal.invariant-loop-number
 invariant-loop-number l = record {

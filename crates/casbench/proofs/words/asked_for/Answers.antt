@@ -3,7 +3,7 @@ use Rattle.std.specs.Box.{box_value}
 use Rattle.clap.specs.Words.{Row, Text, found_of, rows_of, subcommand_rows_of}
 use Rattle.clap.specs.declared.parser.matches.ArgMatches.TheViews.{out-ArgMatches, out-SubCommand}
 use Rattle.casbench.specs.Asked.{asked_of}
-use Rattle.casbench.proofs.words.asked.Goals as goal
+use Rattle.casbench.proofs.words.asked_for.Goals as goal
 
 -- a name and rows that are known apart are known together
 both_known : {X : Type 0} (name : X → Text) (rows : X → List Row) (found : Option X) (n : Text) (rs : List Row) → Some n ≡ option_map name found

@@ -6,7 +6,7 @@ use Rattle.recorder.specs.Recordings.{lists_of}
 use denote.Param.Send.{sendable}
 use Rattle.recorder.proofs.SharedLemmas.{clock_recorder_sync}
 use Rattle.recorded_runs.proofs.RunLemmas.{map_replicate}
-use Rattle.recorded_runs.proofs.recorded_run.recorded.Goals as goal
+use Rattle.recorded_runs.proofs.recorded_run.record_run.Goals as goal
 
 pub run_clients-requires-sync-X : goal.run_clients-requires-sync-X
 run_clients-requires-sync-X g c κs within = search (sendable, clock_recorder_sync) depth 20

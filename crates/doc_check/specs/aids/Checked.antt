@@ -1,0 +1,14 @@
+-- What the check says of places that were found.
+use Rattle.std.specs.Prelude.{◌≡◌, ℕ, List}
+use Rattle.doc_register.specs.declared.state.Conflicts.{Conflicts}
+use Rattle.history.specs.declared.record.Rec.{Rec}
+use Rattle.witness.specs.declared.place.Place.{Place}
+use Rattle.witness.specs.Places.{AreValid}
+use Rattle.doc_check.specs.declared.search.Checked.{Checked}
+use Rattle.doc_check.specs.declared.search.Checked.TheVariants.{Valid, Invalid}
+
+-- It is a witness with just these places, which are valid; or they aren't, and the id and the records are there again.
+abbrev pub IsChecked : List ℕ → List Rec → List Place → Conflicts → Checked → Type 0
+IsChecked doc records places conflicts (Valid w) =
+    (w.doc ≡ doc) × (w.records ≡ records) × (w.conflicts ≡ conflicts) × (w.places ≡ places) × AreValid conflicts records places
+IsChecked doc records places conflicts (Invalid again recs) = (again ≡ doc) × (recs.items ≡ records) × ¬ AreValid conflicts records places

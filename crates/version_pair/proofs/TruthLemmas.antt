@@ -1,0 +1,16 @@
+-- Truth values and options, as every crate above needs them.
+use Rattle.std.proofs.Common.{◌≡◌, Bool, true, false, Option, Some, None, refl}
+use Rattle.std.specs.Prelude.{◌&&◌, ◌||◌, is_some}
+
+-- both halves of a test
+pub both : (a b : Bool) → (a && b) ≡ true → (a ≡ true) × (b ≡ true)
+both true b is = (refl, is)
+both false b is = absurd (cc)
+
+pub or-true : (b : Bool) → (b || true) ≡ true
+or-true true = refl
+or-true false = refl
+
+pub none_from_is_some : {X : Type 0} (o : Option X) → is_some o ≡ false → o ≡ None
+none_from_is_some None is = refl
+none_from_is_some (Some x) is = let impossible : true ≡ false = is in cc
