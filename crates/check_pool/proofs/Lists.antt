@@ -1,7 +1,6 @@
 -- Elements of lists by their places.
 use Rattle.std.proofs.Common.{ℕ, zero, suc, ◌≡◌, ◌≢◌, ◌⊎◌, inl, inr, List, [], ◌∷◌, ◌++◌, length, refl, ap, arith, Some, slice_get, slice_set, take}
 use Rattle.std.proofs.Math.Seq.{take-append_seam}
-use Rattle.history.proofs.ListLemmas.{get_snoc}
 
 -- a list without elements
 pub empty-from_length : {X : Type 0} (xs : List X) → length xs ≡ 0 → xs ≡ []

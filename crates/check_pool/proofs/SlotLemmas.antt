@@ -1,6 +1,7 @@
 -- The collector's places: empty at the start, filled message by message, and read at the end.
-use Rattle.std.proofs.Common.{ℕ, ◌≡◌, ◌≢◌, ◌<◌, inl, inr, List, [], ◌∷◌, ◌++◌, length, refl, sym, ap, subst, ◌∙◌, arith, Bool, true, false, Option, None, Some, get_or, slice_get, slice_set, take, rules}
-use Rattle.std.specs.Prelude.{IsTrue, is_some, map}
+use Rattle.std.proofs.Common.{ℕ, zero, suc, ◌==◌, ◌≡◌, ◌≢◌, ◌<◌, ◌≤◌, ◌-◌, inl, inr, List, [], ◌∷◌, ◌++◌, length, refl, sym, ap, subst, ◌∙◌, arith, Bool, true, false, Option, None, Some, get_or, slice_get, slice_set, take, rules}
+use Rattle.std.specs.Prelude.{IsTrue, is_some, map, min}
+use Rattle.std.proofs.Math.Nat.{min-le_right}
 use Rattle.std.proofs.Math.Seq.{take-append_seam}
 use Rattle.std.proofs.lemmas.List.{length-map, length-set, take-append-le}
 use Rattle.std.proofs.lemmas.Option.{slice_get-get_or, slice_get-map, slice_get_cases, slice_get_within}
@@ -162,12 +163,13 @@ IsFaultOf-from_refused jobs messages rest slots m starved (Lost doc) filled refu
 IsFaultOf-from_refused jobs messages rest slots m starved (Double doc) filled refused = (
   length messages,
   m,
-  (get-last messages m rest, refused.0, rw take-append_seam filled.of_jobs),
+  (get-last messages m rest, rw take-append_seam filled.of_jobs),
+  refused.0,
   refused.1,
   rw take-append_seam (filled.full doc refused.2.0 refused.2.1),
 )
 IsFaultOf-from_refused jobs messages rest slots m starved (Stranger doc) filled refused =
-    (length messages, m, (get-last messages m rest, refused.0, rw take-append_seam filled.of_jobs), refused.1)
+    (length messages, m, (get-last messages m rest, rw take-append_seam filled.of_jobs), refused.0, refused.1)
 IsFaultOf-from_refused jobs messages rest slots m starved NoMemory filled refused = tt
 
 -- ---- the place of a message's job
@@ -188,13 +190,20 @@ some_at slots i slot within is = by_cases (get_or slots i slot) refl is where
   by_cases None at h = absurd (cc)
   by_cases (Some a) at h = (a, slice_get-get_or slots i slot within ∙ ap (λ (o : Option DocAnswer). Some o) at)
 
--- a job that is at fault
-pub NamesJob-from_fault : (jobs : List DocJob) (messages : List Sent) (starved : Bool) (fault : PoolFault) → IsFaultOf jobs messages starved fault
-    → NamesJob jobs fault
-NamesJob-from_fault jobs messages starved (Lost doc) is = is.2
-NamesJob-from_fault jobs messages starved (Double doc) is =
-    let job = is.3 in rw (is.2.1) at (slice_get_within jobs is.1.doc job.0 job.1)
-NamesJob-from_fault jobs messages starved (Stranger doc) is = tt
-NamesJob-from_fault jobs messages starved NoWorkers is = tt
-NamesJob-from_fault jobs messages starved TooMany is = tt
-NamesJob-from_fault jobs messages starved NoMemory is = tt
+pub some-from_not_empty : (n len : ℕ) (b : Bool) → b ≡ false → b ≡ (len == 0) → len ≡ n → 0 < n
+some-from_not_empty n zero b is test same = absurd (let e : false ≡ true = sym is ∙ test in cc)
+some-from_not_empty n (suc len) b is test same = omega (arith, same)
+
+-- a job that is at fault, where there are jobs
+pub NamesJob-from_fault : (jobs : List DocJob) (messages : List Sent) (starved : Bool) (fault : PoolFault) → 0 < length jobs
+    → IsFaultOf jobs messages starved fault → NamesJob jobs fault
+NamesJob-from_fault jobs messages starved (Lost doc) some is = is.2
+NamesJob-from_fault jobs messages starved (Double doc) some is =
+    let job = is.4 in rw (is.3) at (slice_get_within jobs is.1.doc job.0 job.1)
+NamesJob-from_fault jobs messages starved (Stranger doc) some is =
+    let least : min is.1.doc (length jobs - 1) ≤ length jobs - 1 = min-le_right is.1.doc (length jobs - 1) in
+    let same : min is.1.doc (length jobs - 1) ≡ doc = is.3 in
+    omega (arith, least, same, some)
+NamesJob-from_fault jobs messages starved NoWorkers some is = tt
+NamesJob-from_fault jobs messages starved TooMany some is = tt
+NamesJob-from_fault jobs messages starved NoMemory some is = tt

@@ -4,11 +4,11 @@ use Rattle.check_pool.specs.declared.doc_job.DocJob.{DocJob}
 use Rattle.check_pool.specs.declared.pool_fault.PoolFault.{PoolFault}
 use Rattle.check_pool.specs.declared.pool_fault.PoolFault.TheVariants.{NoWorkers, TooMany, Lost, Double, Stranger, NoMemory}
 
--- a job that is lost, or of which two messages came, is one of the jobs
+-- a job that is lost, of which two messages came, or to which an answer is none, is one of the jobs
 abbrev pub NamesJob : List DocJob → PoolFault → Type 0
 NamesJob jobs NoWorkers = Unit {0}
 NamesJob jobs TooMany = Unit {0}
 NamesJob jobs (Lost doc) = doc < length jobs
 NamesJob jobs (Double doc) = doc < length jobs
-NamesJob jobs (Stranger doc) = Unit {0}
+NamesJob jobs (Stranger doc) = doc < length jobs
 NamesJob jobs NoMemory = Unit {0}

@@ -1,7 +1,7 @@
 ghost use Rattle.std.specs.Prelude.{◌≡◌, false, length, map, vec_len, IfErr, IfOk, OnOk, None, Some, slice_get, slice_set};
 ghost use Rattle.check_pool.specs.Answers.{AreAnswers};
 ghost use Rattle.check_pool.specs.aids.Collected.{AreOfJobs, IsFaultOf};
-ghost use Rattle.check_pool.specs.aids.Messages.{IsOfJob, IsSearched};
+ghost use Rattle.check_pool.specs.aids.Messages.{IsOfJob, IsSearched, nearest_number};
 ghost use Rattle.check_pool.specs.aids.Slots.{AreEmpty, IsFirstEmpty, IsRefused};
 
 use crate::doc_job::DocJob;
@@ -22,6 +22,14 @@ fn empty_slots(alloc: Global, count: usize) -> Result<Vec<Option<DocAnswer>>, Al
     Ok(slots)
 }
 
+// The fault of a message that is of no job. It names a job: that of the message's number, or the last one where that number
+// is no job's.
+fn stranger(jobs: &[DocJob], doc: usize) -> PoolFault
+    ensures { result ≡ PoolFault.Stranger (nearest_number jobs.now doc) }
+{
+    PoolFault::Stranger(doc.min(jobs.len().saturating_sub(1)))
+}
+
 // Puts the message's answer at the place of its job.
 fn take(jobs: &[DocJob], slots: &mut [Option<DocAnswer>], message: Message) -> Result<(), PoolFault>
     requires { length slots.old ≡ length jobs.now }
@@ -33,10 +41,10 @@ fn take(jobs: &[DocJob], slots: &mut [Option<DocAnswer>], message: Message) -> R
 {
     let doc = message.doc();
     let Some(job) = jobs.get(doc) else {
-        return Err(PoolFault::Stranger(doc));
+        return Err(stranger(jobs, doc));
     };
     if !message.is_about(job) {
-        return Err(PoolFault::Stranger(doc));
+        return Err(stranger(jobs, doc));
     }
     if slots[doc].is_some() {
         return Err(PoolFault::Double(doc));

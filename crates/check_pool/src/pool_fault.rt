@@ -18,8 +18,8 @@ pub enum PoolFault {
     /// A second message came of this job.
     #[error("job {0} was answered twice")]
     Double(usize),
-    /// A message came whose number is no job's, or whose answer is about another id, other records or another reading
-    /// of conflicts than the job of this number.
+    /// A message came whose answer is about another id, other records or another reading of conflicts than the job of its
+    /// number, which is this one; or one whose number is no job's, and this is the last job.
     #[error("an answer came that is not to job {0}")]
     Stranger(usize),
     /// A growth was refused memory.

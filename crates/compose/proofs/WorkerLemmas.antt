@@ -68,5 +68,5 @@ workers_fault events jobs workers (Err NoWorkers) count some few none many named
 workers_fault events jobs workers (Err TooMany) count some few none many named = let over : 16 < workers = many refl in absurd (omega arith)
 workers_fault events jobs workers (Err (Lost doc)) count some few none many named = let within : doc < length jobs = named in omega arith
 workers_fault events jobs workers (Err (Double doc)) count some few none many named = let within : doc < length jobs = named in omega arith
-workers_fault events jobs workers (Err (Stranger doc)) count some few none many named = tt
+workers_fault events jobs workers (Err (Stranger doc)) count some few none many named = let within : doc < length jobs = named in omega arith
 workers_fault events jobs workers (Err NoMemory) count some few none many named = tt

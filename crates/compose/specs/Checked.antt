@@ -27,12 +27,12 @@ abbrev pub HandsBack : List Event → CheckFault → Type 0
 HandsBack events (check_fault.Pool fault back) = (back ≡ events) × (fault ≢ pool_fault.NoMemory)
 HandsBack events (check_fault.NoMemory back) = back ≡ events
 
--- a job that is lost, or of which two messages came, is that of a document of the history
+-- a job that is lost, of which two messages came, or to which an answer is none, is that of a document of the history
 abbrev pub NamesDocument : List Event → CheckFault → Type 0
 NamesDocument events (check_fault.Pool (pool_fault.Lost doc) back) = doc < length (documents_of events)
 NamesDocument events (check_fault.Pool (pool_fault.Double doc) back) = doc < length (documents_of events)
 NamesDocument events (check_fault.Pool pool_fault.NoWorkers back) = Unit {0}
 NamesDocument events (check_fault.Pool pool_fault.TooMany back) = Unit {0}
-NamesDocument events (check_fault.Pool (pool_fault.Stranger doc) back) = Unit {0}
+NamesDocument events (check_fault.Pool (pool_fault.Stranger doc) back) = doc < length (documents_of events)
 NamesDocument events (check_fault.Pool pool_fault.NoMemory back) = Unit {0}
 NamesDocument events (check_fault.NoMemory back) = Unit {0}

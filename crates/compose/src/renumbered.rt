@@ -185,9 +185,9 @@ pub fn changes_of(
     witnesses: &[DocWitness],
 ) -> Result<Option<Vec<Change>>, NoMemory> {
     let mut gaps = Gaps::new(alloc, history.keys());
-    let mut free = FreeNumbers::new(alloc, history.keys());
     for i in 0..witnesses.len() {
-        gaps.note(alloc, i, history, &witnesses[i], &mut free)?;
+        gaps.note(alloc, i, history, &witnesses[i])?;
     }
+    let free = FreeNumbers::without(alloc, history.keys(), &gaps.kept)?;
     changes_in(alloc, &gaps, free)
 }

@@ -1,7 +1,6 @@
 ghost use Rattle.std.specs.Prelude.{IfOk, IfSome};
 ghost use Rattle.compose.specs.aids.Searched.{AreKept, Keeps};
 
-use crate::renumbered::free_numbers::FreeNumbers;
 use crate::renumbered::gaps::Gaps;
 use crate::second_look::used_pairs::UsedPairs;
 use crate::taken::shard_of;
@@ -21,10 +20,9 @@ fn documents_again(
 ) -> Result<Option<Vec<bool>>, NoMemory> {
     let mut again = vec![in alloc; false; answers.len()]?;
     let mut gaps = Gaps::new(alloc, history.keys());
-    let mut free = FreeNumbers::new(alloc, history.keys());
     for doc in 0..answers.len() {
         match &answers[doc] {
-            DocAnswer::Found(witness) => gaps.note(alloc, doc, history, witness, &mut free)?,
+            DocAnswer::Found(witness) => gaps.note(alloc, doc, history, witness)?,
             DocAnswer::NotFound(none) => {
                 if is_settled(none.records(), none.conflicts()) {
                     return Ok(None);

@@ -1,5 +1,5 @@
 -- The messages of workers.
-use Rattle.std.specs.Prelude.{◌≡◌, ℕ, List, Some, slice_get}
+use Rattle.std.specs.Prelude.{◌≡◌, ℕ, ◌-◌, min, List, Some, length, slice_get}
 use Rattle.doc_check.specs.Search.{id_of, conflicts_of, records_of}
 use Rattle.doc_check.specs.declared.search.DocAnswer.{DocAnswer}
 use Rattle.check_pool.specs.declared.doc_job.DocJob.{DocJob}
@@ -23,3 +23,8 @@ pub record IsAboutJob (job : DocJob) (answer : DocAnswer) : Type 0 where
 -- the number is a job's, and the answer is about that job
 abbrev pub IsOfJob : List DocJob → Sent → Type 0
 IsOfJob jobs m = (job : DocJob) × (slice_get jobs m.doc ≡ Some job) × IsAboutJob job m.answer
+
+-- the number of the job that is named where a message of this number is of no job: the same, or the last job's where it is
+-- greater than that
+abbrev pub nearest_number : List DocJob → ℕ → ℕ
+nearest_number jobs n = min n (length jobs - 1)

@@ -6,7 +6,7 @@ use Rattle.check_pool.specs.declared.pool_fault.PoolFault.{PoolFault}
 use Rattle.check_pool.specs.declared.pool_fault.PoolFault.TheVariants.{NoWorkers, TooMany, Lost, Double, Stranger, NoMemory}
 use Rattle.check_pool.specs.Answers.{IsAnswerTo}
 use Rattle.check_pool.specs.aids.Collected.{AreOfJobs, Lacks}
-use Rattle.check_pool.specs.aids.Messages.{IsOfJob, Sent}
+use Rattle.check_pool.specs.aids.Messages.{IsOfJob, Sent, nearest_number}
 
 -- no place has an answer
 abbrev pub AreEmpty : List (Option DocAnswer) → Type 0
@@ -28,7 +28,7 @@ IsRefused jobs slots m NoWorkers = ⊥
 IsRefused jobs slots m TooMany = ⊥
 IsRefused jobs slots m (Lost doc) = ⊥
 IsRefused jobs slots m (Double doc) = (m.doc ≡ doc) × IsOfJob jobs m × ((answer : DocAnswer) × (slice_get slots doc ≡ Some (Some answer)))
-IsRefused jobs slots m (Stranger doc) = (m.doc ≡ doc) × (¬ IsOfJob jobs m)
+IsRefused jobs slots m (Stranger doc) = (nearest_number jobs m.doc ≡ doc) × (¬ IsOfJob jobs m)
 IsRefused jobs slots m NoMemory = ⊥
 
 -- the places after these messages, each of a job: the answer of each message is at its job's place, and is to that job; the

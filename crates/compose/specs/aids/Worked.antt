@@ -30,5 +30,5 @@ IsWorkersFault events NoWorkers = ⊥
 IsWorkersFault events TooMany = ⊥
 IsWorkersFault events (Lost doc) = doc < length (documents_of events)
 IsWorkersFault events (Double doc) = doc < length (documents_of events)
-IsWorkersFault events (Stranger doc) = Unit {0}
+IsWorkersFault events (Stranger doc) = doc < length (documents_of events)
 IsWorkersFault events NoMemory = Unit {0}

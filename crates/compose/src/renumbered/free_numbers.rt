@@ -11,11 +11,19 @@ pub struct FreeNumbers {
 }
 
 impl FreeNumbers {
-    /// All numbers are free. Those that are taken are found by hashes with these keys.
-    pub fn new(alloc: Global, keys: HashKeys) -> FreeNumbers {
-        FreeNumbers {
+    /// All numbers are free but these. Those that are taken are found by hashes with these keys.
+    pub fn without(
+        alloc: Global,
+        keys: HashKeys,
+        taken: &[(u32, Pair)],
+    ) -> Result<FreeNumbers, NoMemory> {
+        let mut free = FreeNumbers {
             next: IndexMap::with_hasher(alloc, keys),
+        };
+        for (shard, pair) in taken {
+            free.take(*shard, *pair)?;
         }
+        Ok(free)
     }
 
     /// Takes the pair.

@@ -1,4 +1,3 @@
-use crate::renumbered::free_numbers::FreeNumbers;
 use crate::taken::{pair_of_place, shard_of};
 use doc_register::Op;
 use history::{Front, HashKeys, Rec};
@@ -24,6 +23,8 @@ pub struct Gap {
 #[derive(Drop)]
 pub struct Gaps {
     pub list: Vec<Gap>,
+    /// The pairs of the places that stand in no gap, each with its shard.
+    pub kept: Vec<(u32, Pair)>,
     // The pairs that conditions and gets of a document name, each with the number of its witness.
     named: IndexSet<(usize, Pair), HashKeys>,
     // The pairs that no write may take since a write on that condition is refused directly behind it, each with the numbers
@@ -80,6 +81,7 @@ impl Gaps {
     pub fn new(alloc: Global, keys: HashKeys) -> Gaps {
         Gaps {
             list: Vec::new(alloc),
+            kept: Vec::new(alloc),
             named: IndexSet::with_hasher(alloc, keys),
             refused: IndexSet::with_hasher(alloc, keys),
         }
@@ -133,14 +135,13 @@ impl Gaps {
         }
     }
 
-    /// Notes the gaps of a witness, and takes all other pairs of its calls.
+    /// Notes the gaps of a witness, and all other pairs of its calls.
     pub fn note(
         &mut self,
         alloc: Global,
         number: usize,
         history: &Front<'_>,
         witness: &DocWitness,
-        free: &mut FreeNumbers,
     ) -> Result<(), NoMemory> {
         let Some(shard) = shard_of(history, witness.id()) else {
             return Ok(());
@@ -157,12 +158,17 @@ impl Gaps {
                 invented.push((i, pair))?;
                 continue;
             }
-            free.take(shard, pair)?;
-            self.close(alloc, shard, number, lower, pair, &mut invented, free)?;
+            self.kept.push((shard, pair))?;
+            self.close(alloc, shard, number, lower, pair, &mut invented)?;
             lower = Some(pair);
         }
-        for (_, pair) in &invented {
-            free.take(shard, *pair)?;
+        self.keep(shard, &invented)
+    }
+
+    // Notes that the places keep their pairs.
+    fn keep(&mut self, shard: u32, invented: &[(usize, Pair)]) -> Result<(), NoMemory> {
+        for (_, pair) in invented {
+            self.kept.push((shard, *pair))?;
         }
         Ok(())
     }
@@ -176,7 +182,6 @@ impl Gaps {
         lower: Option<Pair>,
         upper: Pair,
         invented: &mut Vec<(usize, Pair)>,
-        free: &mut FreeNumbers,
     ) -> Result<(), NoMemory> {
         match from_above(lower, upper) {
             Some(from) => {
@@ -194,11 +199,7 @@ impl Gaps {
                     })?;
                 }
             }
-            None => {
-                for (_, pair) in invented.iter() {
-                    free.take(shard, *pair)?;
-                }
-            }
+            None => self.keep(shard, invented)?,
         }
         invented.clear();
         Ok(())
