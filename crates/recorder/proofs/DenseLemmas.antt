@@ -13,10 +13,11 @@ use Rattle.std.proofs.lemmas.Option.{slice_get-get_or, slice_get_within}
 use Rattle.history.specs.declared.event.Event.{Event}
 use Rattle.history.specs.Refusal.{most_events}
 use Rattle.recorder.specs.Clock.{numbers_below}
+use Rattle.recorder.specs.Pens.{IsRising}
 use Rattle.recorder.specs.Recordings.{entries_of}
 use Rattle.recorder.specs.aids.Drawing.{numbers_of_events}
 use Rattle.recorder.specs.aids.Merging.{AreDense, next_number}
-use Rattle.recorder.specs.aids.Notes.{IsRising, numbers_of}
+use Rattle.recorder.specs.aids.Notes.{numbers_of}
 use Rattle.recorder.proofs.CountLemmas.{below_there, has_one, is_the_one, none_past, once_at_most, one_for, one_for_itself, range_more, range_split, sum_map, sum_of_one, sum_ones}
 use Rattle.recorder.proofs.DrawLemmas.{kept_under, none_under}
 

@@ -13,7 +13,7 @@ use Rattle.recorder.specs.declared.clock_view.ClockView.TheVariants.{Drew}
 use Rattle.recorder.specs.declared.fault.RecFault.{RecFault}
 use Rattle.recorder.specs.declared.fault.RecFault.TheVariants.{Full, Rewound}
 use Rattle.recorder.specs.Clock.{numbers_in, seat_with}
-use Rattle.recorder.specs.Pens.{PenState, Records, tells_full, told_by_list}
+use Rattle.recorder.specs.Pens.{IsUnused, PenState, Records, tells_full, told_by_list}
 use Rattle.recorder.specs.aids.Drawing.{HasDrawn, IsSeatFor, numbers_of_events}
 use Rattle.recorder.specs.aids.Notes.{numbers_of}
 
@@ -133,12 +133,13 @@ answered_above old seat n answer is drew open_ above =
 pub clock_recorded : (old new : PenState) (event : ℕ → Event) (seat : Me (Unit {0}) ClockView) (n : ℕ) (answer : Result ℕ RecFault)
     → answer ≡ (if nat_lt n most_events then Ok n else Err Full) → HasDrawn old seat → old.is_full ≡ false → All (λ m. m < n) (numbers_in seat.0)
     → IfOk answer (λ n. new.list ≡ old.list ++ (n, event n) ∷ []) → OnErr answer (new.list ≡ old.list) → new.is_full ≡ (old.is_full || tells_full answer)
-    → Records old None event answer new
-clock_recorded old new event seat n answer is drew open_ above ok err full = record {
+    → IfOk answer (λ n. IsUnused n old.list) → Records old None event answer new
+clock_recorded old new event seat n answer is drew open_ above ok err full unused = record {
   grows = ok;
   stays = err;
   above = answered_above old seat n answer is drew open_ above;
   below = subst (λ a. IfOk a (λ n. n < most_events)) (sym is) (below_most (nat_lt n most_events) refl);
+  unused = unused;
   by_list = ap told_by_list is ∙ no_reason (nat_lt n most_events);
   full = λ _ was. absurd (let impossible : true ≡ false = sym was ∙ open_ in cc);
   full_from_then = full;

@@ -2,9 +2,9 @@ ghost use Rattle.std.specs.Prelude.{◌≡◌, ◌≤◌, All, IfErr, IfOk, IsTr
 ghost use Rattle.history.specs.declared.fault.HistFault.TheVariants as refused;
 ghost use Rattle.history.specs.Events.{HasShard};
 ghost use Rattle.history.specs.Refusal.{most_events};
+ghost use Rattle.recorder.specs.Pens.{IsRising};
 ghost use Rattle.recorder.specs.Recordings.{IsRecordingOf, entries_of, lists_of};
 ghost use Rattle.recorder.specs.aids.Merging.{AreAccepted, AreDense};
-ghost use Rattle.recorder.specs.aids.Notes.{IsRising};
 
 use crate::pen::Pen;
 use crate::same_event::is_same_event;

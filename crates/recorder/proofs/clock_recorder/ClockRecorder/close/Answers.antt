@@ -1,7 +1,8 @@
 use Rattle.std.proofs.Common.{◌≡◌, ◌∙◌, false, sym, true}
 use Rattle.std.proofs.lemmas.List.Elements.{All-weaker}
 use Rattle.history.specs.declared.fault.HistFault.TheVariants.{NoMemory}
-use Rattle.recorder.specs.aids.Notes.{IsPenList, IsRising}
+use Rattle.recorder.specs.Pens.{IsRising}
+use Rattle.recorder.specs.aids.Notes.{IsPenList}
 use Rattle.recorder.proofs.UnrefusedLemmas.{merged_accepted}
 use Rattle.recorder.proofs.clock_recorder.ClockRecorder.close.Goals.{in-NoMemory, in_default-matches}
 use Rattle.recorder.proofs.clock_recorder.ClockRecorder.close.Goals as goal
