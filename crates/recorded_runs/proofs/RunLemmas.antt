@@ -1,5 +1,5 @@
 -- The setting of a run, and its recording.
-use Rattle.std.proofs.Common.{◌≡◌, ℕ, ◌<◌, ◌∷◌, Bool, Err, Ok, Result, true, false, ap, arith, inl, inr, refl, suc, sym, zero}
+use Rattle.std.proofs.Common.{◌≡◌, ℕ, ◌<◌, ◌∷◌, Err, Ok, Result, true, ap, arith, inl, inr, refl, suc, sym, zero}
 use Rattle.std.specs.Prelude.{◌↔◌, ◌⊎◌, map, replicate}
 use Rattle.std.proofs.lemmas.Bool.Decides.{nat_tests}
 use Rattle.repl_group.specs.declared.fault.CoreFault.{CoreFault}

@@ -87,7 +87,7 @@ fn record_run<T: Threads + Wait + Sync>(
     match recorder.close(pens) {
         Ok(history) => Ok(history),
         Err(CloseFault::NoMemory) => Err(StreamFault::NoMemory),
-        Err(CloseFault::PenMissing(_, _) | CloseFault::Mismatch) => Err(StreamFault::Recording),
+        Err(CloseFault::PenMissing(_, _) | CloseFault::Mismatch) => unreachable!(),
     }
 }
 

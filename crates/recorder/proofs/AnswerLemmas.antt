@@ -6,7 +6,7 @@ use Rattle.history.specs.declared.event.Event.{Event}
 use Rattle.history.specs.Refusal.{most_events}
 use Rattle.recorder.specs.declared.fault.RecFault.{RecFault}
 use Rattle.recorder.specs.declared.fault.RecFault.TheVariants.{NotMine, Ended, Kind, Full, NoMemory, Rewound}
-use Rattle.recorder.specs.Pens.{PenState, Records, tells_full, told_by_list}
+use Rattle.recorder.specs.Pens.{IsUnused, PenState, Records, tells_full, told_by_list}
 use Rattle.recorder.specs.aids.Appending.{append_refusal, append_told, when_full}
 
 -- a pen's numbers are below the answered one, where the last of them is
@@ -85,13 +85,14 @@ pub recorded_after : (old new : PenState) (event : ℕ → Event) (answer : Resu
     → ((n : ℕ) → IfSome last (λ l. l < n) → All (λ entry. entry.0 < n) old.list)
     → IfSome last (λ l. (n : ℕ) → n ≤ l → Any (λ entry. n ≤ entry.0) old.list)
     → IfOk answer (λ n. new.list ≡ old.list ++ (n, event n) ∷ []) → OnErr answer (new.list ≡ old.list)
-    → new.is_full ≡ (old.is_full || tells_full answer)
+    → new.is_full ≡ (old.is_full || tells_full answer) → IfOk answer (λ n. IsUnused n old.list)
     → Records old None event answer new
-recorded_after old new event answer locked last open_ told number above reached grows stays full = record {
+recorded_after old new event answer locked last open_ told number above reached grows stays full unused = record {
   grows = grows;
   stays = stays;
   above = answered_above old.list locked last answer told number above;
   below = below answer number;
+  unused = unused;
   by_list = told_nothing locked last answer told;
   full = λ _ was. absurd (both open_ was);
   full_from_then = full;

@@ -1,7 +1,7 @@
 -- Lists whose entries have together the numbers below how many they are: what of them is left while they are merged.
 use Rattle.std.proofs.Common.{ℕ, zero, suc, ◌≡◌, ◌≢◌, ◌⊎◌, inl, inr, ⊎_elim, ◌+◌, ◌-◌, ◌<◌, ◌≤◌, List, [], ◌∷◌, ◌++◌, length, refl, sym, ap, subst, ◌∙◌, arith, Some, None, slice_get, All, Bool, true, false, get_or}
-use Rattle.std.specs.Prelude.{cond, nat_lt}
-use Rattle.std.specs.List.{filter, range_with_len, sum_by}
+use Rattle.std.specs.Prelude.{◌||◌, cond, nat_lt, not}
+use Rattle.std.specs.List.{filter, list_any, range_with_len, sum_by}
 use Rattle.std.specs.List.Sorted.{IsPermutation}
 use Rattle.std.proofs.lemmas.Bool.{ltb-false, ltb-true}
 use Rattle.std.proofs.lemmas.List.{append-nil}
@@ -9,14 +9,15 @@ use Rattle.std.proofs.lemmas.List.Elements.{All-from_get_or, filter-append}
 use Rattle.std.proofs.lemmas.List.FromFn.{get_or-range_with_len, length-range_with_len}
 use Rattle.std.proofs.lemmas.List.Sums.{sum_by-cons, sum_by-append, sum_by_push}
 use Rattle.std.proofs.lemmas.List.Sorted.{IsPermutation-map, sum_by-IsPermutation}
-use Rattle.std.proofs.lemmas.Option.{slice_get-get_or, slice_get_within}
+use Rattle.std.proofs.lemmas.Option.{get_or_from_slice_get, slice_get-get_or, slice_get_within}
 use Rattle.history.specs.declared.event.Event.{Event}
 use Rattle.history.specs.Refusal.{most_events}
-use Rattle.recorder.specs.Clock.{numbers_below}
+use Rattle.recorder.specs.Clock.{is_past, numbers_below, one_if}
+use Rattle.recorder.specs.Pens.{IsRising}
 use Rattle.recorder.specs.Recordings.{entries_of}
 use Rattle.recorder.specs.aids.Drawing.{numbers_of_events}
 use Rattle.recorder.specs.aids.Merging.{AreDense, next_number}
-use Rattle.recorder.specs.aids.Notes.{IsRising, numbers_of}
+use Rattle.recorder.specs.aids.Notes.{numbers_of}
 use Rattle.recorder.proofs.CountLemmas.{below_there, has_one, is_the_one, none_past, once_at_most, one_for, one_for_itself, range_more, range_split, sum_map, sum_of_one, sum_ones}
 use Rattle.recorder.proofs.DrawLemmas.{kept_under, none_under}
 
@@ -160,10 +161,10 @@ range_from most a n up = All-from_get_or (λ m. most ≤ m) (range_with_len a n)
     omega arith)
 
 -- the numbers below the word that are below a bound: those below the word, or those below the bound
-cut_at : (most word : ℕ) → (n : ℕ) × (n ≤ most) × (filter (λ n. nat_lt n most) (numbers_below word) ≡ numbers_below n)
+cut_at : (most word : ℕ) → (n : ℕ) × (n ≤ most) × (filter (λ n. nat_lt n most) (numbers_below word) ≡ numbers_below n) × (most < word → n ≡ most)
 cut_at most word = by_test (nat_lt most word) refl where
-  by_test : (b : Bool) → nat_lt most word ≡ b → (n : ℕ) × (n ≤ most) × (filter (λ n. nat_lt n most) (numbers_below word) ≡ numbers_below n)
-  by_test false is = let up : word ≤ most = ltb-false most word is in (word, up, kept_under most (numbers_below word) (range_below most 0 word (omega arith)))
+  by_test : (b : Bool) → nat_lt most word ≡ b → (n : ℕ) × (n ≤ most) × (filter (λ n. nat_lt n most) (numbers_below word) ≡ numbers_below n) × (most < word → n ≡ most)
+  by_test false is = let up : word ≤ most = ltb-false most word is in (word, up, kept_under most (numbers_below word) (range_below most 0 word (omega arith)), λ more. absurd (omega arith))
   by_test true is =
       let less : most < word = ltb-true most word is in
       let rest = word - most in
@@ -176,6 +177,7 @@ cut_at most word = by_test (nat_lt most word) refl where
             ∙ (filter-append (λ n. nat_lt n most) (numbers_below most) (range_with_len (0 + most) rest)
             ∙ (ap (λ ns. filter (λ n. nat_lt n most) (numbers_below most) ++ ns) (none_under most (range_with_len (0 + most) rest) (range_from most (0 + most) rest (omega arith)))
             ∙ (append-nil (filter (λ n. nat_lt n most) (numbers_below most)) ∙ kept_under most (numbers_below most) (range_below most 0 most (omega arith)))))),
+        λ _. refl,
       )
 
 -- what is added up over the numbers that are events'
@@ -194,9 +196,10 @@ sum_of_events f (n ∷ ns) = by_test (nat_lt n most_events) (sum_of_events f ns)
   by_test true later = sum_by-cons f n (numbers_of_events ns) ∙ ap (λ k. f n + k) later
   by_test false later = later ∙ (let nothing : rest ≡ 0 + rest = omega arith in nothing)
 
-pub dense_after : (lists : List (List (ℕ × Event))) (gained : List ℕ) (word : ℕ) → IsPermutation gained (numbers_below word) → numbers_of_events gained ≡ numbers_of (entries_of lists)
-    → AreDense lists × (length (entries_of lists) ≤ most_events)
-dense_after lists gained word all same =
+-- the sums over the numbers of the entries are those over the numbers below how many there are
+counted : (lists : List (List (ℕ × Event))) (gained : List ℕ) (word : ℕ) → IsPermutation gained (numbers_below word) → numbers_of_events gained ≡ numbers_of (entries_of lists)
+    → ((f : ℕ → ℕ) → sum_by f (numbers_of (entries_of lists)) ≡ sum_by f (numbers_below (cut_at most_events word).0)) × (length (entries_of lists) ≡ (cut_at most_events word).0)
+counted lists gained word all same =
     let cut = cut_at most_events word in
     let n = cut.0 in
     let sums : (f : ℕ → ℕ) → sum_by f (numbers_of (entries_of lists)) ≡ sum_by f (numbers_below n) = λ f.
@@ -205,14 +208,46 @@ dense_after lists gained word all same =
     ∙ (sum_of_events f gained
     ∙ (sym (sum_by-IsPermutation w gained (numbers_below word) all)
     ∙ (sym (sum_of_events f (numbers_below word)) ∙ ap (sum_by f) cut.2))) in
-    let count : length (entries_of lists) ≡ n = (
     let ones = sums (λ _. 1) in
     let here = sum_map (λ _. 1) (λ (entry : ℕ × Event). entry.0) (entries_of lists) in
     let entries = sum_ones (entries_of lists) in
     let numbers = sum_ones (numbers_below n) in
-    let long = length-range_with_len 0 n in omega arith) in
+    let long = length-range_with_len 0 n in
+    (sums, omega arith)
+
+pub dense_after : (lists : List (List (ℕ × Event))) (gained : List ℕ) (word : ℕ) → IsPermutation gained (numbers_below word) → numbers_of_events gained ≡ numbers_of (entries_of lists)
+    → AreDense lists × (length (entries_of lists) ≤ most_events)
+dense_after lists gained word all same =
+    let cut = cut_at most_events word in
+    let all_counted = counted lists gained word all same in
+    let count = all_counted.1 in
     let up = cut.1 in
-    ((λ f. sums f ∙ ap (λ k. sum_by f (numbers_below k)) (sym count)), omega arith)
+    ((λ f. all_counted.0 f ∙ ap (λ k. sum_by f (numbers_below k)) (sym count)), omega arith)
+
+-- a number that is no event's counts as one
+past_counted : (ns : List ℕ) → list_any is_past ns ≡ true → 0 < sum_by (λ n. one_if (is_past n)) ns
+past_counted [] some = let impossible : false ≡ true = some in absurd (cc)
+past_counted (n ∷ ns) some = by_test (is_past n) refl (sum_by-cons (λ n. one_if (is_past n)) n ns) (past_counted ns) some where
+  by_test : (b : Bool) → is_past n ≡ b → sum_by (λ n. one_if (is_past n)) (n ∷ ns) ≡ one_if (is_past n) + sum_by (λ n. one_if (is_past n)) ns
+      → (list_any is_past ns ≡ true → 0 < sum_by (λ n. one_if (is_past n)) ns) → (b || list_any is_past ns) ≡ true → 0 < sum_by (λ n. one_if (is_past n)) (n ∷ ns)
+  by_test true is cons later some = let one : one_if (is_past n) ≡ 1 = ap one_if is in omega arith
+  by_test false is cons later some = let rest = later some in omega arith
+
+-- where a number was gained that is no event's, the entries are the most that there may be
+pub full_after : (lists : List (List (ℕ × Event))) (gained : List ℕ) (word : ℕ) → IsPermutation gained (numbers_below word) → numbers_of_events gained ≡ numbers_of (entries_of lists)
+    → list_any is_past gained ≡ true → length (entries_of lists) ≡ most_events
+full_after lists gained word all same past =
+    let moved = sum_by-IsPermutation (λ n. one_if (is_past n)) gained (numbers_below word) all in
+    let some = past_counted gained past in
+    let found = has_one (λ n. one_if (is_past n)) (numbers_below word) (let more : 0 < sum_by (λ n. one_if (is_past n)) (numbers_below word) = omega arith in more) in
+    let up : most_events ≤ found.1 = by_test (nat_lt found.1 most_events) refl found.3 in
+    let within : found.0 < length (numbers_below word) = slice_get_within (numbers_below word) found.0 found.1 found.2 in
+    let read : get_or (numbers_below word) found.0 found.1 ≡ found.1 = get_or_from_slice_get (numbers_below word) found.0 found.1 found.1 found.2 in
+    let below : get_or (numbers_below word) found.0 found.1 < word = range_below word 0 word (omega arith) found.0 found.1 within in
+    (counted lists gained word all same).1 ∙ (cut_at most_events word).3 (omega arith) where
+      by_test : {n : ℕ} (b : Bool) → nat_lt n most_events ≡ b → 0 < one_if (not b) → most_events ≤ n
+      by_test true is some = absurd (omega arith)
+      by_test {n} false is some = ltb-false n most_events is
 
 -- where no list has the next number first, nothing is left
 pub none_left : (lists : List (List (ℕ × Event))) (n total : ℕ) → All IsRising lists → AreLeft lists n total → All (λ list. next_number list ≢ Some n) lists → entries_of lists ≡ []

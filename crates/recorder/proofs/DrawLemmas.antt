@@ -1,10 +1,11 @@
 -- What the seat of a pen drew, after a recording and at the end.
 use Rattle.std.proofs.Common.{ℕ, ◌≡◌, ◌≢◌, ◌<◌, ◌≤◌, List, [], ◌∷◌, ◌++◌, refl, sym, ap, subst, ◌∙◌, arith, None, Result, Ok, Err, Bool, true, false, All, IfOk, OnErr}
-use Rattle.std.specs.Prelude.{cond, ◌||◌, if◌then◌else◌, nat_lt}
-use Rattle.std.specs.List.{filter}
+use Rattle.std.specs.Prelude.{cond, ◌||◌, if◌then◌else◌, nat_lt, not}
+use Rattle.std.specs.List.{filter, list_any}
 use Rattle.std.proofs.lemmas.Bool.{ltb-false, ltb-true}
 use Rattle.std.proofs.lemmas.List.{append-nil}
 use Rattle.std.proofs.lemmas.List.Elements.{All-cons, All-head, All-nil, All-push, All-tail, filter-append}
+use Rattle.std.proofs.lemmas.List.Folds.{list_any-append}
 use Rattle.atomic_table.specs.Table.{Me}
 use Rattle.history.specs.declared.event.Event.{Event}
 use Rattle.history.specs.Refusal.{most_events}
@@ -12,10 +13,11 @@ use Rattle.recorder.specs.declared.clock_view.ClockView.{ClockView}
 use Rattle.recorder.specs.declared.clock_view.ClockView.TheVariants.{Drew}
 use Rattle.recorder.specs.declared.fault.RecFault.{RecFault}
 use Rattle.recorder.specs.declared.fault.RecFault.TheVariants.{Full, Rewound}
-use Rattle.recorder.specs.Clock.{numbers_in, seat_with}
-use Rattle.recorder.specs.Pens.{PenState, Records, tells_full, told_by_list}
+use Rattle.recorder.specs.Clock.{is_past, numbers_in, seat_with}
+use Rattle.recorder.specs.Pens.{IsUnused, PenState, Records, tells_full, told_by_list}
 use Rattle.recorder.specs.aids.Drawing.{HasDrawn, IsSeatFor, numbers_of_events}
 use Rattle.recorder.specs.aids.Notes.{numbers_of}
+use Rattle.version_pair.proofs.TruthLemmas.{or-true}
 
 -- ---- numbers of events
 
@@ -40,13 +42,15 @@ numbers_push (y ∷ ys) x = ap (λ rest. y.0 ∷ rest) (numbers_push ys x)
 -- ---- the seat
 
 -- at the end: what the seat drew, but for what is no event's, are the numbers of the entries
-pub seat_for : (pen : PenState) (seat : Me (Unit {0}) ClockView) → HasDrawn pen seat → IsSeatFor pen.list seat
+pub seat_for : (pen : PenState) (seat : Me (Unit {0}) ClockView) → HasDrawn pen seat → IsSeatFor pen seat
 seat_for pen seat drew = (
   numbers_of pen.list ++ drew.past,
   drew.view,
   filter-append (λ n. nat_lt n most_events) (numbers_of pen.list) drew.past
       ∙ (ap (λ rest. numbers_of_events (numbers_of pen.list) ++ rest) (none_under most_events drew.past drew.no_events)
       ∙ (append-nil (numbers_of_events (numbers_of pen.list)) ∙ kept_under most_events (numbers_of pen.list) drew.events)),
+  λ full. list_any-append is_past (numbers_of pen.list) drew.past
+      ∙ (ap (λ b. list_any is_past (numbers_of pen.list) || b) (drew.when_full full) ∙ or-true (list_any is_past (numbers_of pen.list))),
 )
 
 -- a pen that was not answered Full drew numbers of events alone
@@ -97,6 +101,9 @@ drawn_after old new event seat after n answer is drew open_ view ok err full =
             events = subst (λ ns. All (λ n. n < most_events) ns) (sym grown) (All-push (λ n. n < most_events) (numbers_of old.list) n drew.events (ltb-true n most_events less));
             no_events = All-nil (λ n. most_events ≤ n);
             when_open = λ _. refl;
+            when_full = λ full. absurd (
+                let told : new.is_full ≡ false = settled.full ∙ ap (λ b. b || false) open_ in
+                let impossible : false ≡ true = sym told ∙ full in cc);
           }
       by_test false past settled =
           let same : numbers_of new.list ≡ numbers_of old.list = ap numbers_of settled.err in
@@ -108,6 +115,7 @@ drawn_after old new event seat after n answer is drew open_ view ok err full =
             when_open = λ open_again. absurd (
                 let told : new.is_full ≡ true = settled.full ∙ ap (λ b. b || true) open_ in
                 let impossible : true ≡ false = sym told ∙ open_again in cc);
+            when_full = λ _. ap (λ b. not b || false) past;
           }
 
 held_of : (old : PenState) (seat : Me (Unit {0}) ClockView) → HasDrawn old seat → old.is_full ≡ false → numbers_in seat.0 ≡ numbers_of old.list
@@ -133,12 +141,13 @@ answered_above old seat n answer is drew open_ above =
 pub clock_recorded : (old new : PenState) (event : ℕ → Event) (seat : Me (Unit {0}) ClockView) (n : ℕ) (answer : Result ℕ RecFault)
     → answer ≡ (if nat_lt n most_events then Ok n else Err Full) → HasDrawn old seat → old.is_full ≡ false → All (λ m. m < n) (numbers_in seat.0)
     → IfOk answer (λ n. new.list ≡ old.list ++ (n, event n) ∷ []) → OnErr answer (new.list ≡ old.list) → new.is_full ≡ (old.is_full || tells_full answer)
-    → Records old None event answer new
-clock_recorded old new event seat n answer is drew open_ above ok err full = record {
+    → IfOk answer (λ n. IsUnused n old.list) → Records old None event answer new
+clock_recorded old new event seat n answer is drew open_ above ok err full unused = record {
   grows = ok;
   stays = err;
   above = answered_above old seat n answer is drew open_ above;
   below = subst (λ a. IfOk a (λ n. n < most_events)) (sym is) (below_most (nat_lt n most_events) refl);
+  unused = unused;
   by_list = ap told_by_list is ∙ no_reason (nat_lt n most_events);
   full = λ _ was. absurd (let impossible : true ≡ false = sym was ∙ open_ in cc);
   full_from_then = full;

@@ -1,17 +1,21 @@
 -- What the maker's seat and the strands are after one more pen was joined.
-use Rattle.std.proofs.Common.{ℕ, ◌≡◌, ◌+◌, List, [], ◌∷◌, ◌++◌, length, refl, sym, ap, ◌∙◌, length-append}
-use Rattle.std.specs.Prelude.{nat_lt}
+use Rattle.std.proofs.Common.{ℕ, ◌≡◌, ◌+◌, List, [], ◌∷◌, ◌++◌, length, refl, sym, ap, ◌∙◌, length-append, Bool, true, false}
+use Rattle.std.specs.Prelude.{◌||◌, nat_lt}
+use Rattle.std.specs.List.{list_any}
 use Rattle.std.proofs.lemmas.List.{append-nil}
 use Rattle.std.proofs.lemmas.List.Elements.{filter-append}
+use Rattle.std.proofs.lemmas.List.Folds.{list_any-append}
 use Rattle.atomic_table.specs.Table.{Me}
 use Rattle.history.specs.declared.event.Event.{Event}
 use Rattle.history.specs.Refusal.{most_events}
 use Rattle.recorder.specs.declared.clock_view.ClockView.{ClockView}
 use Rattle.recorder.specs.declared.clock_view.ClockView.TheVariants.{Drew, Maker}
-use Rattle.recorder.specs.Clock.{ClockPenState, pens_of, seat_with, with_joined}
+use Rattle.recorder.specs.Clock.{ClockPenState, is_past, pens_of, seat_with, with_joined}
+use Rattle.recorder.specs.Closing.{has_full}
 use Rattle.recorder.specs.Recordings.{entries_of, lists_of}
 use Rattle.recorder.specs.aids.Drawing.{numbers_of_events}
 use Rattle.recorder.specs.aids.Notes.{numbers_of}
+use Rattle.version_pair.proofs.TruthLemmas.{or-true}
 
 pub lists_push : (pens : List ClockPenState) (pen : ClockPenState) → lists_of (pens_of (pens ++ pen ∷ [])) ≡ lists_of (pens_of pens) ++ pen.pen.list ∷ []
 lists_push [] pen = refl
@@ -38,6 +42,27 @@ gained_more lists list gained drawn had has =
     ∙ (ap (λ ns. ns ++ numbers_of_events drawn) had
     ∙ (ap (λ ns. numbers_of (entries_of lists) ++ ns) has
     ∙ (sym (numbers_append (entries_of lists) list) ∙ ap numbers_of (sym (entries_push lists list)))))
+
+full_push : (pens : List ClockPenState) (pen : ClockPenState) → has_full (pens_of (pens ++ pen ∷ [])) ≡ (has_full (pens_of pens) || pen.pen.is_full)
+full_push [] pen = or_false pen.pen.is_full where
+  or_false : (b : Bool) → (b || false) ≡ b
+  or_false true = refl
+  or_false false = refl
+full_push (p ∷ ps) pen = ap (λ b. p.pen.is_full || b) (full_push ps pen) ∙ or_assoc p.pen.is_full (has_full (pens_of ps)) pen.pen.is_full where
+  or_assoc : (a b c : Bool) → (a || (b || c)) ≡ ((a || b) || c)
+  or_assoc true b c = refl
+  or_assoc false b c = refl
+
+-- where a pen was answered that the recording is full, a number that is no event's was gained
+pub past_gained : (pens : List ClockPenState) (pen : ClockPenState) (gained drawn : List ℕ)
+    → (has_full (pens_of pens) ≡ true → list_any is_past gained ≡ true) → (pen.pen.is_full ≡ true → list_any is_past drawn ≡ true)
+    → has_full (pens_of (pens ++ pen ∷ [])) ≡ true → list_any is_past (gained ++ drawn) ≡ true
+past_gained pens pen gained drawn had has full =
+    list_any-append is_past gained drawn
+    ∙ by_test (has_full (pens_of pens)) pen.pen.is_full (list_any is_past gained) (list_any is_past drawn) had has (sym (full_push pens pen) ∙ full) where
+      by_test : (a b c d : Bool) → (a ≡ true → c ≡ true) → (b ≡ true → d ≡ true) → (a || b) ≡ true → (c || d) ≡ true
+      by_test true b c d first second some = ap (λ e. e || d) (first refl)
+      by_test false b c d first second some = ap (λ e. c || e) (second some) ∙ or-true c
 
 -- the maker's seat after it joined one more
 pub joined_one_more : (k : ℕ) (pens : List ClockPenState) (pen : ClockPenState) (gained drawn : List ℕ) (maker seat after : Me (Unit {0}) ClockView)

@@ -9,4 +9,5 @@ mod DenseLemmas
 mod UnrefusedLemmas
 mod GatherLemmas
 mod RefusalLemmas
+pub mod PenLemmas
 pub mod SharedLemmas

@@ -10,8 +10,8 @@ use Rattle.std.proofs.lemmas.Option.{slice_get-get_or, slice_get_within}
 use Rattle.std.proofs.lemmas.List.Sorted.{IsPermutation-append_right, IsPermutation-middle, IsPermutation-pop_more, IsPermutation-refl, IsPermutation-trans}
 use Rattle.history.specs.declared.event.Event.{Event}
 use Rattle.history.specs.Events.{HasShard}
+use Rattle.recorder.specs.Pens.{IsRising}
 use Rattle.recorder.specs.Recordings.{IsRecordingOf, entries_of}
-use Rattle.recorder.specs.aids.Notes.{IsRising}
 
 -- one strand's first entry is taken out of all
 pub entries_taken : (lists : List (List (ℕ × Event))) (i : ℕ) (x : ℕ × Event) (rest : List (ℕ × Event)) → slice_get lists i ≡ Some (x ∷ rest)

@@ -1,6 +1,6 @@
 -- What a pen notes stays right where an entry is added.
 use Rattle.std.proofs.Common.{ℕ, zero, suc, ◌⊎◌, inl, inr, ⊎_elim, take, ◌≡◌, ◌<◌, ◌≤◌, List, [], ◌∷◌, ◌++◌, refl, sym, ap, subst, ◌∙◌, arith, Option, Some, None, slice_get, All, Bool, true, false}
-use Rattle.std.specs.Prelude.{◌==◌, ◌||◌, AllPairs, cond, if◌then◌else◌, option_and_then, option_map}
+use Rattle.std.specs.Prelude.{◌==◌, ◌||◌, cond, if◌then◌else◌, option_and_then, option_map}
 use Rattle.std.specs.List.{list_any}
 use Rattle.std.specs.Map.{lookup}
 use Rattle.std.specs.Option.{option_map_or}
@@ -19,19 +19,19 @@ use Rattle.recorder.specs.declared.fault.RecFault.TheVariants.{NotMine, Ended, K
 use Rattle.recorder.specs.declared.own_call.OwnCall.{OwnCall}
 use Rattle.recorder.specs.declared.unnumbered.Unnumbered.{Unnumbered}
 use Rattle.recorder.specs.declared.unnumbered.Unnumbered.TheVariants as bare
-use Rattle.recorder.specs.Pens.{events_in, is_ended, refusal_of}
+use Rattle.recorder.specs.Pens.{IsRising, IsUnused, events_in, is_ended, refusal_of}
 use Rattle.recorder.specs.aids.Notes.{AreNoted, IsPenList, IsEntryAt, IsNotedAt, NotesEvent, numbered, own_call_of}
 use Rattle.version_pair.proofs.TruthLemmas.{or-true}
 
 -- ---- the operation of a call, entry by entry
 
 -- the first of two values that is there
-abbrev first_of_two : Option Op → Option Op → Option Op
+abbrev pub first_of_two : Option Op → Option Op → Option Op
 first_of_two None o = o
 first_of_two (Some op) o = Some op
 
 -- the operation of the call numbered n, where the event is that call
-abbrev op_if : ℕ → Event → Option Op
+abbrev pub op_if : ℕ → Event → Option Op
 op_if n e = if is_call n e then op_named e else None
 
 op_of-cons : (e : Event) (es : List Event) (n : ℕ) → op_of (e ∷ es) n ≡ first_of_two (op_if n e) (op_of es n)
@@ -61,7 +61,7 @@ first_assoc : (a b c : Option Op) → first_of_two a (first_of_two b c) ≡ firs
 first_assoc None b c = refl
 first_assoc (Some op) b c = refl
 
-op_of-snoc : (list : List (ℕ × Event)) (x : ℕ × Event) (n : ℕ) → op_of (events_in (list ++ x ∷ [])) n ≡ first_of_two (op_of (events_in list) n) (op_if n x.1)
+pub op_of-snoc : (list : List (ℕ × Event)) (x : ℕ × Event) (n : ℕ) → op_of (events_in (list ++ x ∷ [])) n ≡ first_of_two (op_of (events_in list) n) (op_if n x.1)
 op_of-snoc [] x n = op_of-cons x.1 [] n ∙ last (op_if n x.1) where
   last : (o : Option Op) → first_of_two o None ≡ o
   last None = refl
@@ -76,7 +76,7 @@ events_in-snoc : (list : List (ℕ × Event)) (x : ℕ × Event) → events_in (
 events_in-snoc [] x = refl
 events_in-snoc (e ∷ es) x = ap (λ es. e.1 ∷ es) (events_in-snoc es x)
 
-is_ended-snoc : (list : List (ℕ × Event)) (x : ℕ × Event) (n : ℕ) → is_ended (list ++ x ∷ []) n ≡ (is_ended list n || is_ending n x.1)
+pub is_ended-snoc : (list : List (ℕ × Event)) (x : ℕ × Event) (n : ℕ) → is_ended (list ++ x ∷ []) n ≡ (is_ended list n || is_ending n x.1)
 is_ended-snoc list x n =
     ap (list_any (is_ending n)) (events_in-snoc list x)
     ∙ (list_any-append (is_ending n) (events_in list) (x.1 ∷ []) ∙ ap (λ b. is_ended list n || b) (or_false (is_ending n x.1))) where
@@ -122,6 +122,10 @@ unended (e ∷ es) k formed below =
     let here : is_ending k e.1 ≡ false = no_ending e.0 k e.1 (All-head (λ entry. IsEntryAt entry.0 entry.1) e es formed) (All-head (λ entry. entry.0 < k) e es below) in
     ap (λ b. b || is_ended es k) here
     ∙ unended es k (All-tail (λ entry. IsEntryAt entry.0 entry.1) e es formed) (All-tail (λ entry. entry.0 < k) e es below)
+
+-- a number above all in a pen's list is that of no call in it
+pub unused_above : (list : List (ℕ × Event)) (k : ℕ) → IsPenList list → AreBelow list k → IsUnused k list
+unused_above list k kept below = (uncalled list k kept.formed below, unended list k kept.formed below)
 
 -- a call in the list has a number below one that is above all
 called_below : (list : List (ℕ × Event)) (k m : ℕ) (op : Op) → AreFormed list → AreBelow list k → op_of (events_in list) m ≡ Some op → m < k
@@ -204,7 +208,7 @@ found_after_ending list old new k m e op noted ends called at n =
 
 -- ---- all together
 
-rising_more : (list : List (ℕ × Event)) (k : ℕ) (e : Event) → AllPairs (λ x y. x.0 < y.0) list → AreBelow list k → AllPairs (λ x y. x.0 < y.0) (list ++ (k, e) ∷ [])
+rising_more : (list : List (ℕ × Event)) (k : ℕ) (e : Event) → IsRising list → AreBelow list k → IsRising (list ++ (k, e) ∷ [])
 rising_more list k e rising below = all_pairs_push (λ (x y : ℕ × Event). x.0 < y.0) list (k, e) rising below
 
 -- what stands at a place of a list with one more at its end

@@ -19,10 +19,11 @@ use Rattle.history.specs.Refusal.{is_moved, most_events, op_named, op_of, refusa
 use Rattle.recorder.specs.declared.fault.RecFault.{RecFault}
 use Rattle.recorder.specs.declared.fault.RecFault.TheVariants as recording
 use Rattle.recorder.specs.Pens as pens
+use Rattle.recorder.specs.Pens.{IsRising}
 use Rattle.recorder.specs.Recordings.{IsRecordingOf, entries_of}
 use Rattle.recorder.specs.Laws.{IsByNumber}
 use Rattle.recorder.specs.aids.Merging.{AreAccepted}
-use Rattle.recorder.specs.aids.Notes.{IsEntryAt, IsPenList, IsRising, numbers_of}
+use Rattle.recorder.specs.aids.Notes.{IsEntryAt, IsPenList, numbers_of}
 use Rattle.recorder.proofs.CountLemmas.{once_at_most, one_for, one_for_itself, sum_map, sum_of_one}
 use Rattle.recorder.proofs.DenseLemmas.{StandsIn, stands_in, sum_of_list}
 use Rattle.recorder.proofs.NoteLemmas.{called_entry}

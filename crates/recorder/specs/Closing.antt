@@ -1,7 +1,13 @@
 -- What closing a recorder tells.
-use Rattle.std.specs.Prelude.{Result, Ok, Err}
+use Rattle.std.specs.Prelude.{Bool, List, Result, Ok, Err}
+use Rattle.std.specs.List.{list_any}
+use Rattle.recorder.specs.Pens.{PenState}
 use Rattle.recorder.specs.declared.fault.CloseFault.{CloseFault}
 use Rattle.recorder.specs.declared.fault.CloseFault.TheVariants.{PenMissing, Mismatch, NoMemory}
+
+-- a recording through one of the pens was answered that the recording is full
+abbrev pub has_full : List PenState → Bool
+has_full pens = list_any (λ pen. pen.is_full) pens
 
 -- the answer is that pens are missing
 abbrev pub IsPenMissing : {X R P : Type 0} → Result X (CloseFault R P) → Type 0

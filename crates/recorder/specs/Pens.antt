@@ -1,5 +1,5 @@
 -- Pens: what was recorded through a pen, what its list refuses, and what a recording tells.
-use Rattle.std.specs.Prelude.{◌≡◌, ℕ, ◌<◌, ◌≤◌, ◌||◌, Bool, true, false, List, [], ◌∷◌, ◌++◌, Option, Some, None, Result, Ok, Err, IfOk, OnErr, All, Any, if◌then◌else◌, map}
+use Rattle.std.specs.Prelude.{◌≡◌, ℕ, ◌<◌, ◌≤◌, ◌||◌, Bool, true, false, List, [], ◌∷◌, ◌++◌, Option, Some, None, Result, Ok, Err, IfOk, OnErr, All, AllPairs, Any, if◌then◌else◌, map}
 use Rattle.std.specs.List.{list_any}
 use Rattle.std.specs.Option.{option_map_or}
 use Rattle.doc_register.specs.Register.{fits}
@@ -24,11 +24,19 @@ new_pen = record { list = []; is_full = false }
 abbrev pub events_in : List (ℕ × Event) → List Event
 events_in list = map (λ entry. entry.1) list
 
+-- the numbers rise
+abbrev pub IsRising : List (ℕ × Event) → Type 0
+IsRising list = AllPairs (λ x y. x.0 < y.0) list
+
 -- ---- what a pen's list refuses
 
 -- the call numbered n has its ending in the list
 abbrev pub is_ended : List (ℕ × Event) → ℕ → Bool
 is_ended list n = list_any (is_ending n) (events_in list)
+
+-- no call in the list has the number n, and no ending in it is of such a call
+abbrev pub IsUnused : ℕ → List (ℕ × Event) → Type 0
+IsUnused n list = (op_of (events_in list) n ≡ None) × (is_ended list n ≡ false)
 
 -- the first reason that a pen's list has to refuse an event: for an ending that its call isn't in the list, that it was
 -- ended, that the reply doesn't fit its operation
@@ -70,6 +78,8 @@ pub record Records (old : PenState) (reason : Option RecFault) (recorded : ℕ �
   -- the number is above all in the list, and below the most events that there are
   pub above : IfOk answer (λ n. All (λ entry. entry.0 < n) old.list)
   pub below : IfOk answer (λ n. n < most_events)
+  -- it is the number of no call in the list
+  pub unused : IfOk answer (λ n. IsUnused n old.list)
   -- a reason by the list is told just where the list has it
   pub by_list : told_by_list answer ≡ reason
   -- a pen that was answered Full is full from then on, and is answered so where its list refuses nothing

@@ -78,7 +78,7 @@ impl ClockPen {
     /// The list as a strand, and the seat.
     pub(crate) fn into_parts(self) -> (Strand, ClockSeat)
         ensures list { (result.0 ≡ self.pen.list) × IsPenList self.pen.list }
-        ensures seat { (result.1.table_id ≡ self.clock) × IsSeatFor self.pen.list result.1.me }
+        ensures seat { (result.1.table_id ≡ self.clock) × IsSeatFor self.pen result.1.me }
     {
         let ClockPen { notes, seat } = self;
         (notes.into_strand(), seat)

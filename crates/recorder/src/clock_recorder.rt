@@ -1,9 +1,9 @@
-ghost use Rattle.std.specs.Prelude.{◌≡◌, ◌≢◌, ℕ, ◌<◌, ◌≤◌, ◌⊎◌, ◌↔◌, All, Err, IfOk, None, length, replicate, vec_len};
+ghost use Rattle.std.specs.Prelude.{◌≡◌, ◌≢◌, ℕ, ◌<◌, ◌≤◌, ◌⊎◌, ◌↔◌, All, Err, IfOk, None, length, replicate, true, vec_len};
 ghost use Rattle.history.specs.declared.event.Event.TheVariants.{Call, Reply as Answered, Lost as Missed};
 ghost use Rattle.history.specs.Refusal.{most_events};
 ghost use Rattle.recorder.specs.declared.fault.RecFault.TheVariants as recording;
 ghost use Rattle.recorder.specs.Clock.{new_clock_pen, pens_of};
-ghost use Rattle.recorder.specs.Closing.{IsPenMissing};
+ghost use Rattle.recorder.specs.Closing.{IsPenMissing, has_full};
 ghost use Rattle.recorder.specs.Pens.{Records, refusal_of};
 ghost use Rattle.recorder.specs.Recordings.{IsRecordingOf, entries_of, lists_of};
 ghost use Rattle.recorder.specs.aids.Merging.{AreDense};
@@ -120,6 +120,8 @@ impl ClockRecorder {
         ensures kept { IfOk result (λ strands. All IsPenList strands.items) }
         ensures dense { IfOk result (λ strands. AreDense strands.items
             × (length (entries_of strands.items) ≤ most_events)) }
+        ensures full { IfOk result (λ strands. has_full (pens_of pens.items) ≡ true
+            → length (entries_of strands.items) ≡ most_events) }
     {
         let ClockRecorder {
             clock,
@@ -144,6 +146,8 @@ impl ClockRecorder {
         ensures missing { IsPenMissing result ↔ (vec_len pens < self.pens) }
         ensures handed_back { IsPenMissing result → result ≡ Err (CloseFault.PenMissing self pens) }
         ensures agreed { result ≢ Err CloseFault.Mismatch }
+        // A pen is answered `Full` only where so many events are recorded.
+        ensures full { has_full (pens_of pens.items) ≡ true → IfOk result (λ history. length history ≡ most_events) }
     {
         if pens.len() < self.pens {
             return Err(CloseFault::PenMissing(self, pens));

@@ -2,9 +2,10 @@ ghost use Rattle.std.specs.Prelude.{◌≡◌, ◌≤◌, All, IfErr, IfOk, IsTr
 ghost use Rattle.history.specs.declared.fault.HistFault.TheVariants as refused;
 ghost use Rattle.history.specs.Events.{HasShard};
 ghost use Rattle.history.specs.Refusal.{most_events};
+ghost use Rattle.recorder.specs.Closing.{has_full};
+ghost use Rattle.recorder.specs.Pens.{IsRising};
 ghost use Rattle.recorder.specs.Recordings.{IsRecordingOf, entries_of, lists_of};
 ghost use Rattle.recorder.specs.aids.Merging.{AreAccepted, AreDense};
-ghost use Rattle.recorder.specs.aids.Notes.{IsRising};
 
 use crate::pen::Pen;
 use crate::same_event::is_same_event;
@@ -22,6 +23,13 @@ pub fn strands_of(alloc: Global, pens: Vec<Pen>) -> Result<Vec<Strand>, NoMemory
         strands.push(pen.into_strand())?;
     }
     Ok(strands)
+}
+
+/// Whether a recording through one of the pens was answered that the recording is full.
+pub fn is_any_full(pens: &[Pen]) -> bool
+    ensures { result ≡ has_full pens.now }
+{
+    pens.iter().any(|pen| pen.notes.is_full())
 }
 
 /// Whether these events are the recording of the strands. The entries that were met are taken from the strands.

@@ -2,7 +2,7 @@ ghost use Rattle.std.specs.Prelude.{◌≡◌, ℕ, ◌<◌, ◌≤◌, ◌==◌
 ghost use Rattle.std.specs.Map.{lookup};
 ghost use Rattle.history.specs.declared.event.Event.TheVariants.{Reply as Answered, Lost};
 ghost use Rattle.indexmap.specs.IndexMap.{spare};
-ghost use Rattle.recorder.specs.Pens.{new_pen, refusal_of, tells_full};
+ghost use Rattle.recorder.specs.Pens.{IsUnused, new_pen, refusal_of, tells_full};
 ghost use Rattle.recorder.specs.declared.own_call.OwnCall.{OwnCall};
 ghost use Rattle.recorder.specs.aids.Notes.{IsNotedAt, IsPenList, NotesEvent, numbered};
 
@@ -116,6 +116,7 @@ impl Notes {
         requires accepted { refusal_of self.old.pen.list (numbered event number) ≡ None }
         ensures list { self.new.pen.list ≡ self.old.pen.list ++ (number, numbered event number) ∷ [] }
         ensures full { self.new.pen.is_full ≡ self.old.pen.is_full }
+        ensures unused { IsUnused number self.old.pen.list }
     {
         note_event(&mut self.calls, number, &event);
         self.list.push_reserved((number, event.with_number(number)));
@@ -130,6 +131,7 @@ impl Notes {
         ensures ok { IfOk answer (λ n. self.new.pen.list ≡ self.old.pen.list ++ (n, numbered event n) ∷ []) }
         ensures err { OnErr answer (self.new.pen.list ≡ self.old.pen.list) }
         ensures full { self.new.pen.is_full ≡ (self.old.pen.is_full || tells_full answer) }
+        ensures unused { IfOk answer (λ n. IsUnused n self.old.pen.list) }
     {
         match answer {
             Ok(number) => self.note(number, event),

@@ -1,17 +1,18 @@
-ghost use Rattle.std.specs.Prelude.{◌≡◌, ℕ, ◌<◌, ◌⊎◌, ◌↔◌, Err, IfOk, None, replicate, vec_len};
+ghost use Rattle.std.specs.Prelude.{◌≡◌, ℕ, ◌<◌, ◌⊎◌, ◌↔◌, Err, IfOk, None, length, replicate, true, vec_len};
 ghost use Rattle.history.specs.declared.event.Event.TheVariants.{Call, Reply as Answered, Lost as Missed};
-ghost use Rattle.recorder.specs.Closing.{IsPenMissing};
+ghost use Rattle.history.specs.Refusal.{most_events};
+ghost use Rattle.recorder.specs.Closing.{IsPenMissing, has_full};
 ghost use Rattle.recorder.specs.Pens.{Records, new_pen, refusal_of};
 ghost use Rattle.recorder.specs.Recordings.{IsRecordingOf, lists_of};
 ghost use Rattle.recorder.specs.aids.Notes.{numbered};
 
-use crate::closing::{history_of, is_recording, strands_of};
+use crate::closing::{history_of, is_any_full, is_recording, strands_of};
 use crate::fault::{CloseFault, RecFault, StartFault};
 use crate::pen::Pen;
 use crate::recorded::Recorded;
 use crate::unnumbered::Unnumbered;
 use doc_register::{Op, Reply};
-use history::{HistFault, History};
+use history::{HistFault, History, MOST_EVENTS};
 use std::alloc::Global;
 use std::marker::Model;
 use std::sync::{Mutex, Wait};
@@ -124,16 +125,22 @@ impl Recorder {
         ensures recording { IfOk result (λ history. IsRecordingOf (lists_of pens.items) history) }
         ensures missing { IsPenMissing result ↔ (vec_len pens < self) }
         ensures handed_back { IsPenMissing result → result ≡ Err (CloseFault.PenMissing self pens) }
+        // A pen is answered `Full` only where so many events are recorded.
+        ensures full { has_full pens.items ≡ true → IfOk result (λ history. length history ≡ most_events) }
     {
         if pens.len() < self.pens {
             return Err(CloseFault::PenMissing(self, pens));
         }
         let alloc = *pens.allocator();
+        let was_full = is_any_full(&pens);
         let Ok(mut strands) = strands_of(alloc, pens) else {
             return Err(CloseFault::NoMemory);
         };
         let Recorder { recorded, .. } = self;
         let events = recorded.into_inner().into_events();
+        if was_full && events.len() != MOST_EVENTS {
+            return Err(CloseFault::Mismatch);
+        }
         if !is_recording(&mut strands, &events) {
             return Err(CloseFault::Mismatch);
         }

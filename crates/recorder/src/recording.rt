@@ -1,5 +1,6 @@
-ghost use Rattle.std.specs.Prelude.{◌≡◌, None};
+ghost use Rattle.std.specs.Prelude.{◌≡◌, ℕ, Err, None};
 ghost use Rattle.history.specs.declared.event.Event.TheVariants.{Call, Reply as Answered, Lost as Missed};
+ghost use Rattle.recorder.specs.declared.fault.RecFault.TheVariants as recording;
 ghost use Rattle.recorder.specs.Pens.{PenState, Records, refusal_of};
 
 use crate::clock_pen::ClockPen;
@@ -21,6 +22,9 @@ pub trait Recording {
     /// Whether a pen is this recorder's.
     ghost has_pen: { Self → Self.Pen → Type 0 };
 
+    /// Whether this recorder may tell `Rewound`.
+    ghost may_rewind: { Self → Type 0 };
+
     /// Records that an operation on a document is called, and answers the event's number, which is the call's; or
     /// refuses it: `Full` where the pen was answered so before, `NoMemory` of the pen's list, `Rewound`, `Full`,
     /// `NoMemory` of what the pens share.
@@ -29,7 +33,8 @@ pub trait Recording {
     fn call<R: Wait>(&self, rt: &R, pen: &mut Self::Pen, id: DocId, op: Op) -> Result<u64, RecFault>
         requires { has_pen self.now pen.old }
         ensures records { Records (pen_state pen.old) None (λ n. Call n 0 id op) result (pen_state pen.new) }
-        ensures keeps { has_pen self.now pen.new };
+        ensures keeps { has_pen self.now pen.new }
+        ensures forward { (n : ℕ) → result ≡ Err (recording.Rewound n) → may_rewind self.now };
 
     /// Records the reply to the call numbered `no` of this pen, and answers the event's number; or refuses it:
     /// `NotMine`, `Ended`, `Kind`, then as `call` does.
@@ -43,7 +48,8 @@ pub trait Recording {
         requires { has_pen self.now pen.old }
         ensures records { Records (pen_state pen.old) (refusal_of (pen_state pen.old).list (Answered no reply))
             (λ _. Answered no reply) result (pen_state pen.new) }
-        ensures keeps { has_pen self.now pen.new };
+        ensures keeps { has_pen self.now pen.new }
+        ensures forward { (n : ℕ) → result ≡ Err (recording.Rewound n) → may_rewind self.now };
 
     /// Records that the outcome of the call numbered `no` of this pen will never be known, and answers the event's
     /// number; or refuses it: `NotMine`, `Ended`, then as `call` does.
@@ -51,7 +57,8 @@ pub trait Recording {
         requires { has_pen self.now pen.old }
         ensures records { Records (pen_state pen.old) (refusal_of (pen_state pen.old).list (Missed no))
             (λ _. Missed no) result (pen_state pen.new) }
-        ensures keeps { has_pen self.now pen.new };
+        ensures keeps { has_pen self.now pen.new }
+        ensures forward { (n : ℕ) → result ≡ Err (recording.Rewound n) → may_rewind self.now };
 }
 
 impl Recording for Recorder {
@@ -60,6 +67,8 @@ impl Recording for Recorder {
     ghost pen_state = { λ pen. pen };
 
     ghost has_pen = { λ _ _. Unit {0} };
+
+    ghost may_rewind = { λ _. Unit {0} };
 
     fn call<R: Wait>(&self, rt: &R, pen: &mut Pen, id: DocId, op: Op) -> Result<u64, RecFault> {
         Recorder::call(self, rt, pen, id, op)
@@ -87,6 +96,8 @@ impl Recording for ClockRecorder {
     ghost pen_state = { λ pen. pen.pen };
 
     ghost has_pen = { λ recorder pen. pen.clock ≡ recorder.clock };
+
+    ghost may_rewind = { λ _. ⊥ };
 
     fn call<R: Wait>(
         &self,

@@ -1,8 +1,9 @@
 ghost use Rattle.std.specs.Prelude.{◌≡◌, ◌≢◌, ◌↔◌, ◌∷◌, [], All, IfNone, IfSome, IsTrue, Some};
 ghost use Rattle.std.specs.List.Sorted.{IsPermutation};
 ghost use Rattle.history.specs.Events.{HasShard};
+ghost use Rattle.recorder.specs.Pens.{IsRising};
 ghost use Rattle.recorder.specs.Recordings.{entries_of};
-ghost use Rattle.recorder.specs.aids.Notes.{IsEntryAt, IsRising};
+ghost use Rattle.recorder.specs.aids.Notes.{IsEntryAt};
 ghost use Rattle.recorder.specs.aids.Merging.{next_number};
 
 use history::Event;

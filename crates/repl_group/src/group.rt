@@ -1,4 +1,4 @@
-ghost use Rattle.std.specs.Prelude.{◌≡◌, ◌<◌, ◌⊎◌, ◌↔◌, Err, IfOk};
+ghost use Rattle.std.specs.Prelude.{◌≡◌, ◌<◌, ◌⊎◌, ◌↔◌, Err, IfErr, IfOk};
 
 use crate::fault::{CoreFault, Fault};
 use crate::group_core::Core;
@@ -57,7 +57,8 @@ impl Locked {
     }
 
     fn poll(&mut self, ticket: Ticket) -> Result<Progress, TargetFault>
-        ensures { Polls self.old.0 self.old.1 ticket.0 result self.new.0 self.new.1 }
+        ensures polls { Polls self.old.0 self.old.1 ticket.0 result self.new.0 self.new.1 }
+        ensures refused { IfErr result (λ fault. fault ≡ TargetFault.NoMemory) }
     {
         poll_step(&mut self.core, &mut self.random, ticket)
     }
@@ -91,6 +92,9 @@ impl Target for Group {
 
     // Only tickets that a group has are issued.
     ghost issued = { λ ticket _ _. ticket.0 < most_tickets };
+
+    // Of a group nothing is known through its lock where it has given all its tickets.
+    ghost all_given = { Unit {0} };
 
     // A group never tells that an outcome is unknown.
     ghost gave = { λ _ progress. IsKnown progress };

@@ -1,4 +1,4 @@
-ghost use Rattle.std.specs.Prelude.{◌≡◌};
+ghost use Rattle.std.specs.Prelude.{◌≡◌, IfErr};
 ghost use Rattle.repl_group.specs.Honest.{IsHonestUnlessFaulty};
 ghost use Rattle.repl_group.specs.Polling.{Polls, Submits, flight_drawn as flight_by, progress_of, step_drawn as step_by, step_of_kind as step_by_kind};
 
@@ -96,6 +96,7 @@ pub fn poll_step(
     ticket: Ticket,
 ) -> Result<Progress, TargetFault>
     ensures polls { Polls core.old random.old ticket.0 result core.new random.new }
+    ensures refused { IfErr result (λ fault. fault ≡ TargetFault.NoMemory) }
     ensures honest { IsHonestUnlessFaulty core.new }
 {
     if let Some(reply) = core.result(ticket.0) {

@@ -1,18 +1,73 @@
 -- Runs of a client, turn by turn.
-use Rattle.std.proofs.Common.{◌≡◌, ℕ, ◌+◌, ◌∙◌, suc, List, [], ◌∷◌, ◌++◌, add-zero, ap, append_assoc, append-nil, arith, drop, subst, sym}
+use Rattle.std.proofs.Common.{◌≡◌, ℕ, ◌+◌, ◌<◌, ◌∙◌, suc, All, List, None, Option, Some, [], ◌∷◌, ◌++◌, add-zero, ap, append_assoc, append-nil, arith, drop, refl, subst, sym}
+use Rattle.std.proofs.lemmas.List.Elements.{All-head, All-push, All-tail, All-weaker}
+use Rattle.std.proofs.lemmas.List.Quantifiers.{all_pairs_push}
 use Rattle.doc_register.specs.declared.op.Op.{Op}
+use Rattle.doc_register.specs.declared.reply.Reply.{Reply as Answer}
 use Rattle.history.specs.declared.event.Event.{Event}
-use Rattle.workload.specs.ClientRuns.{IsRunFrom, IsTurn, Known, after_ending, nothing_known}
-use Rattle.workload.specs.aids.Clients.{IsFront, IsLongerByFront, IsLongerByRun, TakesTurn}
+use Rattle.history.specs.declared.event.Event.TheVariants.{Call}
+use Rattle.recorder.specs.Pens.{IsRising}
+use Rattle.workload.specs.ClientRuns.{Ends, IsRunFrom, IsTurn, Known, after_ending, doc_name, nothing_known, op_of}
+use Rattle.workload.specs.aids.Clients.{BeginsTurn, EndsTurn, IsFront, IsHeard, IsLongerByFront, IsLongerByRun, TakesTurn, ending_of}
+use Rattle.workload.specs.declared.open_call.OpenCall.{OpenCall}
 use Rattle.workload.specs.declared.target.Progress.{Progress}
 use Rattle.workload.specs.declared.target.Ticket.{Ticket}
 use Rattle.workload.specs.declared.turn.Turn.{Turn}
 
+-- what holds of each entry of two lists together holds of each of the second
+all_of_second : (P : ℕ × Event → Type 0) (xs ys : List (ℕ × Event)) → All P (xs ++ ys) → All P ys
+all_of_second P [] ys all = all
+all_of_second P (x ∷ xs) ys all = all_of_second P xs ys (All-tail P x (xs ++ ys) all)
+
+none_rising : IsRising []
+none_rising i j d less within = absurd (omega arith)
+
+-- a list whose numbers rise is longer by a call and its ending, numbered above all in it
+rising_by_turn : (list : List (ℕ × Event)) (call ending : ℕ × Event) → IsRising list → All (λ entry. entry.0 < call.0) list → call.0 < ending.0
+    → IsRising (list ++ call ∷ ending ∷ [])
+rising_by_turn list call ending rising above later =
+    let with_call : IsRising (list ++ call ∷ []) = all_pairs_push (λ (x y : ℕ × Event). x.0 < y.0) list call rising above in
+    let below : All (λ entry. entry.0 < ending.0) (list ++ call ∷ []) =
+    All-push (λ entry. entry.0 < ending.0) list call (All-weaker (λ entry. entry.0 < call.0) (λ entry. entry.0 < ending.0) (λ entry less. omega arith) list above) later in
+    subst IsRising (append_assoc list (call ∷ []) (ending ∷ []))
+    (all_pairs_push (λ (x y : ℕ × Event). x.0 < y.0) (list ++ call ∷ []) ending with_call below)
+
+module _ (issued : Ticket → List ℕ → Op → Type 0) (gave : Ticket → Progress → Type 0) (polls : ℕ) where
+  -- a turn that was begun, heard of and ended was taken
+  pub turn_taken : (known after : Known) (k : ℕ) (turn : Turn) (old list new : List (ℕ × Event)) (call : OpenCall) (heard : Option Answer)
+      → BeginsTurn issued known k turn old list call → IsHeard issued gave polls call.ticket heard
+      → EndsTurn call heard known list new after → TakesTurn issued gave polls known k turn old new after
+  turn_taken known after k turn old list new call heard begins hears ends = record {
+    call = (call.no, Call call.no 0 (doc_name turn.doc) (op_of turn.kind (known turn.doc) k));
+    ending = (ends.number, ending_of call.no heard);
+    grows = ends.grows ∙ ap (λ xs. xs ++ (ends.number, ending_of call.no heard) ∷ []) begins.grows ∙ append_assoc old _ _;
+    above = begins.above;
+    later = All-head (λ entry. entry.0 < ends.number) (call.no, Call call.no 0 (doc_name turn.doc) (op_of turn.kind (known turn.doc) k)) []
+        (all_of_second (λ entry. entry.0 < ends.number) old _ (subst (λ xs. All (λ (entry : ℕ × Event). entry.0 < ends.number) xs) begins.grows ends.above));
+    is_turn = record { called = refl; ended = ended heard hears };
+    knows = ends.knows ∙ ap (λ doc. after_ending known doc (ending_of call.no heard)) begins.is_of;
+  }
+    where
+      ended : (h : Option Answer) → IsHeard issued gave polls call.ticket h
+          → Ends issued gave polls call.no (doc_name turn.doc) (op_of turn.kind (known turn.doc) k) (ending_of call.no h)
+      ended None none = (refl, record { ticket = call.ticket; was_issued = begins.was_issued; was_given = none })
+      ended (Some r) given = (refl, record { ticket = call.ticket; was_issued = begins.was_issued; was_given = given })
+
 module _ (issued : Ticket → List ℕ → Op → Type 0) (gave : Ticket → Progress → Type 0) (polls : ℕ) (first : ℕ) (turns : List Turn) where
   -- before the first turn
-  pub front_at_start : IsFront issued gave polls first turns 0 nothing_known []
+  front_at_start : IsFront issued gave polls first turns 0 nothing_known []
   front_at_start = record {
     onward = λ rest run. subst (λ k. IsRunFrom issued gave polls nothing_known k turns rest) (add-zero first) run;
+  }
+
+  -- the list of a pen before the first turn
+  pub longer_at_start : (list : List (ℕ × Event)) → IsLongerByFront issued gave polls first turns 0 nothing_known list list
+  longer_at_start list = record {
+    entries = [];
+    grows = sym (append-nil list);
+    front = front_at_start;
+    rising = none_rising;
+    rises = λ rose. rose;
   }
 
   -- one turn more
@@ -48,6 +103,10 @@ module _ (issued : Ticket → List ℕ → Op → Type 0) (gave : Ticket → Pro
         subst (λ now. IsFront issued gave polls first turns (i + 1) now (longer.entries ++ taken.call ∷ taken.ending ∷ [])) (sym taken.knows)
         (front_after i known turn longer.entries taken.call taken.ending next longer.front
         (subst (λ n. IsTurn issued gave polls known n turn taken.call taken.ending) number taken.is_turn));
+    rising =
+        rising_by_turn longer.entries taken.call taken.ending longer.rising
+        (all_of_second (λ entry. entry.0 < taken.call.0) old longer.entries (subst (λ xs. All (λ entry. entry.0 < taken.call.0) xs) longer.grows taken.above)) taken.later;
+    rises = λ rose. subst IsRising (sym taken.grows) (rising_by_turn list taken.call taken.ending (longer.rises rose) taken.above taken.later);
   }
 
   -- after the last turn
@@ -62,4 +121,6 @@ module _ (issued : Ticket → List ℕ → Op → Type 0) (gave : Ticket → Pro
         subst (λ ts. IsRunFrom issued gave polls known (first + i) ts []) (sym none) tt in
         subst (λ es. IsRunFrom issued gave polls nothing_known first turns es) (append-nil longer.entries)
         (longer.front.onward [] nothing_left);
+    rising = longer.rising;
+    rises = longer.rises;
   }

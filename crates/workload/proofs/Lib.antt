@@ -1,4 +1,5 @@
 mod ClientLemmas
+mod CauseLemmas
 mod DrawingLemmas
 mod PlanLemmas
 mod RoundLemmas

@@ -1,5 +1,5 @@
 -- Rounds over all clients.
-use Rattle.std.proofs.Common.{◌≡◌, ◌∙◌, ◌⊎◌, ◌≤◌, ℕ, ◌+◌, ◌-◌, ◌<◌, ◌++◌, ◌∷◌, [], All, Bool, List, None, Some, ap, append-nil, arith, drop, false, get_or, inl, inr, length, map, refl, slice_get, subst, suc, sym, take, true, zero}
+use Rattle.std.proofs.Common.{◌≡◌, ◌∙◌, ◌⊎◌, ◌≤◌, ℕ, ◌+◌, ◌-◌, ◌<◌, ◌++◌, ◌∷◌, [], All, Bool, List, None, Some, ap, arith, drop, false, get_or, inl, inr, length, map, refl, slice_get, subst, suc, sym, take, true, zero}
 use Rattle.std.specs.Prelude.{option_and_then, sum_by}
 use Rattle.std.proofs.Math.ListN.{set}
 use Rattle.std.proofs.lemmas.Bool.{cases_eq}
@@ -12,12 +12,12 @@ use Rattle.recorder.specs.Pens.{PenState}
 use Rattle.workload.specs.ClientRuns.{AreLongerByRuns, nothing_known}
 use Rattle.workload.specs.Plans.{turn_at, turn_count}
 use Rattle.workload.specs.aids.Clients.{IsLongerByClient, IsLongerByFront, pair_in}
-use Rattle.workload.specs.aids.Seats.{AreNew, AreSeated, IsDone, IsLongerSoFar, IsNew, IsSeated, Visits, visits_left}
+use Rattle.workload.specs.aids.Seats.{AreNew, AreSeated, IsDone, IsLongerSoFar, IsOpenIfAny, IsNew, IsSeated, Visits, visits_left}
 use Rattle.workload.specs.declared.seat.Seat.{Seat}
 use Rattle.workload.specs.declared.target.Progress.{Progress}
 use Rattle.workload.specs.declared.target.Ticket.{Ticket}
 use Rattle.workload.specs.declared.turn.Turn.{Turn}
-use Rattle.workload.proofs.ClientLemmas.{front_at_start, run_at_end}
+use Rattle.workload.proofs.ClientLemmas.{longer_at_start, run_at_end}
 use Rattle.workload.proofs.RunningLemmas.{longer_by_each}
 use Rattle.history.proofs.ListLemmas.{mapped_from}
 
@@ -89,6 +89,13 @@ module _ {P : Type 0} where
       let here : i < length pens = omega (arith, new.count) in
       let fresh = new.each i (get_or pens i d.pen) (get_or seats i d) (slice_get-get_or pens i d.pen here) (slice_get-get_or seats i d within) in
       omega (arith, fresh.client_is)
+
+  pub new_idle : (issued : Ticket → List ℕ → Op → Type 0) (state : P → PenState) (pens : List P) (seats : List (Seat P)) → AreNew pens seats
+      → All (λ seat. IsOpenIfAny issued (state seat.pen).list seat.open_call) seats
+  new_idle issued state pens seats new i d within =
+      let here : i < length pens = omega (arith, new.count) in
+      let fresh = new.each i (get_or pens i d.pen) (get_or seats i d) (slice_get-get_or pens i d.pen here) (slice_get-get_or seats i d within) in
+      subst (IsOpenIfAny issued (state (get_or seats i d).pen).list) (sym fresh.is_idle) tt
 
   pub new_pens : (is_ours : P → Type 0) (pens : List P) (seats : List (Seat P)) → AreNew pens seats → All is_ours pens
       → All (λ seat. is_ours seat.pen) seats
@@ -178,7 +185,7 @@ module _ (issued : Ticket → List ℕ → Op → Type 0) (gave : Ticket → Pro
         let first = 1 + turn_count (take i clients) in
         let turns = get_or clients i [] in
         let none : IsLongerByFront issued gave polls first turns 0 nothing_known (state pen).list (state pen).list =
-        record { entries = []; grows = sym (append-nil (state pen).list); front = front_at_start issued gave polls first turns } in
+        longer_at_start issued gave polls first turns (state pen).list in
         let known : IsLongerByFront issued gave polls first turns 0 (pair_in seat.known) (state pen).list (state pen).list =
         subst (λ k. IsLongerByFront issued gave polls first turns 0 k (state pen).list (state pen).list) (sym fresh.knows) none in
         record {
@@ -202,7 +209,12 @@ module _ (issued : Ticket → List ℕ → Op → Type 0) (gave : Ticket → Pro
       let none : slice_get seated.turns seat.begun ≡ None =
       sym (ap (option_and_then (λ ts. slice_get ts seat.begun)) seated.turns_are) ∙ ap (λ c. turn_at clients c seat.begun) (sym seated.client_is) ∙ done.is_at_end in
       let run = run_at_end issued gave polls first seated.turns seat.begun (pair_in seat.known) list (state seat.pen).list (none_past seated.turns seat.begun none) front in
-      record { entries = run.entries; grows = run.grows; run = record { turns = seated.turns; turns_are = seated.turns_are; run = run.run } }
+      record {
+        entries = run.entries;
+        grows = run.grows;
+        run = record { turns = seated.turns; turns_are = seated.turns_are; run = run.run; rising = run.rising };
+        rises = run.rises;
+      }
 
   -- where all are done, the lists of their pens are longer by the clients' runs
   pub longer_when_done : (pens done : List P) (seats : List (Seat P)) → AreSeated issued gave polls state clients pens seats → All (IsDone clients) seats

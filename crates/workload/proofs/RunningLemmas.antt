@@ -1,18 +1,19 @@
 -- The runs of all clients together.
-use Rattle.std.proofs.Common.{subst, suc, zero, zero-add, ◌≡◌, ℕ, ◌+◌, ◌<◌, ◌∙◌, All, List, [], ◌∷◌, ◌++◌, Ok, Err, Result, Some, ap, arith, get_or, inr, length, refl, slice_get, sym}
-use Rattle.std.specs.Prelude.{replicate, map}
+use Rattle.std.proofs.Common.{subst, suc, zero, zero-add, ◌≡◌, ℕ, ◌+◌, ◌<◌, ◌∙◌, All, List, [], ◌∷◌, ◌++◌, Ok, Err, Result, Some, ap, arith, get_or, inl, inr, length, refl, slice_get, sym}
+use Rattle.std.specs.Prelude.{IfErr, map, replicate}
 use Rattle.std.specs.List.{enumerate_from}
 use Rattle.std.proofs.lemmas.List.{get_or-map, get_or-replicate, length-map, length-replicate}
 use Rattle.std.proofs.lemmas.List.FromFn.{get_or-enumerate_from, length-enumerate_from}
-use Rattle.std.proofs.lemmas.Option.{get_or_from_slice_get, slice_get-get_or, slice_get_within}
+use Rattle.std.proofs.lemmas.Option.{get_or_from_slice_get, slice_get-get_or, slice_get_cases, slice_get_within}
 use Rattle.doc_register.specs.declared.op.Op.{Op}
 use Rattle.history.specs.declared.event.Event.{Event}
-use Rattle.recorder.specs.Pens.{PenState, new_pen}
+use Rattle.recorder.specs.Pens.{IsRising, PenState, new_pen}
 use Rattle.recorder.specs.Recordings.{lists_of}
 use Rattle.workload.specs.ClientRuns.{AreClientRuns, AreLongerByRuns, IsClientRun}
 use Rattle.workload.specs.aids.Clients.{IsLongerByClient, RunsJob}
 use Rattle.workload.specs.aids.Gathering.{IsFaultOf}
 use Rattle.workload.specs.declared.run_fault.RunFault.{RunFault}
+use Rattle.workload.specs.declared.run_fault.RunFault.TheVariants.{NoMemory}
 use Rattle.workload.specs.declared.target.Progress.{Progress}
 use Rattle.workload.specs.declared.target.Ticket.{Ticket}
 use Rattle.workload.specs.declared.turn.Turn.{Turn}
@@ -57,16 +58,33 @@ longer_by_each issued gave polls state clients pens done same_count each = recor
   each = λ client before after at_old at_new.
       let old = mapped_from state pens client before at_old in
       let new = mapped_from state done client after at_new in
-      let ran = each client old.0 new.0 old.1 new.1 in
-      (ran.entries, ap (λ (s : PenState). s.list) (sym new.2) ∙ ran.grows ∙ ap (λ (s : PenState). s.list ++ ran.entries) old.2, ran.run);
+      let ran = each client old.0 new.0 old.1 new.1 in (
+        ran.entries,
+        ap (λ (s : PenState). s.list) (sym new.2) ∙ ran.grows ∙ ap (λ (s : PenState). s.list ++ ran.entries) old.2,
+        ran.run,
+        λ rose. subst (λ (s : PenState). IsRising s.list) new.2 (ran.rises (subst (λ (s : PenState). IsRising s.list) (sym old.2) rose)),
+      );
 }
 
-module _ (issued : Ticket → List ℕ → Op → Type 0) (gave : Ticket → Progress → Type 0) (polls : ℕ) {P : Type 0} (state : P → PenState) (is_ours : P → Type 0) (clients : List (List Turn)) where
+module _ (issued : Ticket → List ℕ → Op → Type 0) (gave : Ticket → Progress → Type 0) (polls : ℕ) {P : Type 0} (state : P → PenState) (is_ours : P → Type 0) (has_cause : RunFault → Type 0) (clients : List (List Turn)) where
   -- each job gave what it should
   pub record AreRun (jobs : List (ℕ × P)) (results : List (Result P RunFault)) : Type 0 where
     pub count : length results ≡ length jobs
     pub each : (i : ℕ) (d : ℕ × P) (e : Result P RunFault) → i < length jobs
-        → RunsJob issued gave polls state is_ours clients (get_or jobs i d) (get_or results i e)
+        → RunsJob issued gave polls state is_ours has_cause clients (get_or jobs i d) (get_or results i e)
+
+  -- the fault of the least client, or want of memory, has a cause
+  pub fault_caused : (jobs : List (ℕ × P)) (results : List (Result P RunFault)) (fault : RunFault) → AreRun jobs results → has_cause NoMemory
+      → IsFaultOf results fault → has_cause fault
+  fault_caused jobs results fault run memory (inl none) = subst has_cause (sym none) memory
+  fault_caused jobs results fault run memory (inr found) =
+      let within : found.0 < length results = slice_get_within results found.0 (Err fault) found.1 in
+      let here : found.0 < length jobs = omega (arith, run.count) in
+      let result : get_or results found.0 (Err fault) ≡ Err fault = get_or_from_slice_get results found.0 (Err fault) (Err fault) found.1 in
+      let job : ℕ × P = elim (slice_get_cases jobs found.0).1 [ inl job ↦ job.0 | inr past ↦ absurd (omega (arith, past.0)) ] in
+      let ran = (run.each found.0 job (Err fault) here).cause in
+      let told : IfErr {T = P} (Err fault) has_cause = rw result at ran in
+      told
 
   module _ (pens done : List P) (jobs : List (ℕ × P)) (results : List (Result P RunFault)) (are : jobs ≡ enumerate_from 0 pens) (all : results ≡ map (λ pen. Ok pen) done) (run : AreRun jobs results) where
     same_count : length done ≡ length pens
@@ -86,8 +104,8 @@ module _ (issued : Ticket → List ℕ → Op → Type 0) (gave : Ticket → Pro
         ap (λ rs. get_or rs i (Ok p)) all ∙ get_or-map (λ (q : P). Ok q) done i p (Ok p) (slice_get_within done i p at_new)
         ∙ ap (λ (q : P). Ok q) (get_or_from_slice_get done i p p at_new) in
         let ran = run.each i (i, pen) (Ok p) within in
-        let told : RunsJob issued gave polls state is_ours clients (i, pen) (Ok p) = rw (job, result) at ran in
-        told
+        let told : RunsJob issued gave polls state is_ours has_cause clients (i, pen) (Ok p) = rw (job, result) at ran in
+        told.runs
 
     -- where each job was run and gave a pen, these pens' lists are longer by the clients' runs
     pub longer_by_runs : AreLongerByRuns issued gave polls clients (map state pens) (map state done)

@@ -1,17 +1,14 @@
 -- What a visit makes of a client.
-use Rattle.std.proofs.Common.{◌≡◌, ◌∙◌, ℕ, ◌+◌, ◌-◌, ◌*◌, ◌<◌, ◌++◌, ◌∷◌, [], List, Option, Some, None, ap, append_assoc, arith, drop, inl, length, refl, slice_get, subst, suc, sym, take, true, zero}
+use Rattle.std.proofs.Common.{◌≡◌, ◌∙◌, ℕ, ◌+◌, ◌-◌, ◌*◌, ◌<◌, ◌∷◌, [], List, Option, Some, None, ap, arith, drop, inl, length, refl, slice_get, subst, suc, sym, take, true, zero}
 use Rattle.std.specs.Prelude.{option_and_then, unwrap_or}
 use Rattle.std.proofs.lemmas.List.{drop_more}
 use Rattle.std.proofs.lemmas.Option.{get_or_from_slice_get, slice_get_within}
 use Rattle.version_pair.specs.declared.pair.Pair.{Pair}
 use Rattle.doc_register.specs.declared.op.Op.{Op}
 use Rattle.doc_register.specs.declared.reply.Reply.{Reply as Answer}
-use Rattle.history.specs.declared.event.Event.{Event}
-use Rattle.history.specs.declared.event.Event.TheVariants.{Call}
 use Rattle.recorder.specs.Pens.{PenState}
-use Rattle.workload.specs.ClientRuns.{Ends, Known, after_ending, doc_name, op_of}
 use Rattle.workload.specs.Plans.{turn_at, turn_count}
-use Rattle.workload.specs.aids.Clients.{BeginsTurn, EndsTurn, IsHeard, IsLongerByFront, TakesTurn, ending_of, pair_in}
+use Rattle.workload.specs.aids.Clients.{BeginsTurn, EndsTurn, IsHeard, IsLongerByFront, pair_in}
 use Rattle.workload.specs.aids.Seats.{IsLongerByOpen, IsLongerSoFar, Visits, turns_of}
 use Rattle.workload.specs.declared.open_call.OpenCall.{OpenCall}
 use Rattle.workload.specs.declared.polled_call.PolledCall.{PolledCall}
@@ -20,7 +17,7 @@ use Rattle.workload.specs.declared.target.Progress.{Progress}
 use Rattle.workload.specs.declared.target.Progress.TheVariants.{Waiting}
 use Rattle.workload.specs.declared.target.Ticket.{Ticket}
 use Rattle.workload.specs.declared.turn.Turn.{Turn}
-use Rattle.workload.proofs.ClientLemmas.{longer_after}
+use Rattle.workload.proofs.ClientLemmas.{longer_after, turn_taken}
 
 -- ---- turns of a plan
 
@@ -44,23 +41,6 @@ fewer_begun count begun polls within =
     rw one (omega arith)
 
 module _ (issued : Ticket → List ℕ → Op → Type 0) (gave : Ticket → Progress → Type 0) (polls : ℕ) where
-  -- a turn that was begun, heard of and ended was taken
-  turn_taken : (known after : Known) (k : ℕ) (turn : Turn) (old list new : List (ℕ × Event)) (call : OpenCall) (heard : Option Answer)
-      → BeginsTurn issued known k turn old list call → IsHeard issued gave polls call.ticket heard
-      → EndsTurn call heard known list new after → TakesTurn issued gave polls known k turn old new after
-  turn_taken known after k turn old list new call heard begins hears ends = record {
-    call = (call.no, Call call.no 0 (doc_name turn.doc) (op_of turn.kind (known turn.doc) k));
-    ending = (ends.number, ending_of call.no heard);
-    grows = ends.grows ∙ ap (λ xs. xs ++ (ends.number, ending_of call.no heard) ∷ []) begins.grows ∙ append_assoc old _ _;
-    is_turn = record { called = refl; ended = ended heard hears };
-    knows = ends.knows ∙ ap (λ doc. after_ending known doc (ending_of call.no heard)) begins.is_of;
-  }
-    where
-      ended : (h : Option Answer) → IsHeard issued gave polls call.ticket h
-          → Ends issued gave polls call.no (doc_name turn.doc) (op_of turn.kind (known turn.doc) k) (ending_of call.no h)
-      ended None none = (refl, record { ticket = call.ticket; was_issued = begins.was_issued; was_given = none })
-      ended (Some r) given = (refl, record { ticket = call.ticket; was_issued = begins.was_issued; was_given = given })
-
   -- what the last poll tells is what the polls tell
   heard_at_last : (left : ℕ) (ticket : Ticket) (heard : Option Answer) → (left < polls → gave ticket Waiting)
       → IsHeard issued gave left ticket heard → IsHeard issued gave polls ticket heard
@@ -116,7 +96,7 @@ module _ (issued : Ticket → List ℕ → Op → Type 0) (gave : Ticket → Pro
           let first = 1 + turn_count (take client clients) in
           let before : IsLongerByOpen issued gave polls first seated.turns seat.begun (pair_in seat.known) list (state seat.pen).list polled =
           subst (λ o. IsLongerSoFar issued gave polls first seated.turns seat.begun (pair_in seat.known) list (state seat.pen).list o) is_open seated.longer in
-          let taken = turn_taken (pair_in seat.known) (pair_in known) (first + before.place) before.turn before.between (state seat.pen).list (state pen).list polled.call heard before.begins
+          let taken = turn_taken issued gave polls (pair_in seat.known) (pair_in known) (first + before.place) before.turn before.between (state seat.pen).list (state pen).list polled.call heard before.begins
           (heard_at_last polled.polls_left polled.call.ticket heard before.waited told) ends in
           record {
             client_is = seated.client_is;

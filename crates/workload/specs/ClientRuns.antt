@@ -7,7 +7,7 @@ use Rattle.doc_register.specs.declared.reply.Reply.{Reply as Answer}
 use Rattle.doc_register.specs.Register.{pair_of_reply}
 use Rattle.history.specs.declared.event.Event.{Event}
 use Rattle.history.specs.declared.event.Event.TheVariants.{Call, Reply, Lost}
-use Rattle.recorder.specs.Pens.{PenState}
+use Rattle.recorder.specs.Pens.{IsRising, PenState}
 use Rattle.workload.specs.Plans.{turn_count}
 use Rattle.workload.specs.declared.target.Progress.{Progress}
 use Rattle.workload.specs.declared.target.Progress.TheVariants.{Waiting, Done, Unknown}
@@ -89,18 +89,20 @@ module _ (issued : Ticket → List ℕ → Op → Type 0) (gave : Ticket → Pro
   IsRunFrom known k (turn ∷ turns) (call ∷ ending ∷ entries) =
       IsTurn known k turn call ending × IsRunFrom (after_ending known turn.doc ending.1) (suc k) turns entries
 
-  -- The run of the client of that number: it takes its turns, knowing nothing before them. Numbers that are written count all
-  -- turns of the plan, those of earlier clients first, from 1.
+  -- The run of the client of that number: it takes its turns, knowing nothing before them, and its events come one after the
+  -- other. Numbers that are written count all turns of the plan, those of earlier clients first, from 1.
   pub record IsClientRun (clients : List (List Turn)) (client : ℕ) (entries : List (ℕ × Event)) : Type 0 where
     pub turns : List Turn
     pub turns_are : slice_get clients client ≡ Some turns
     pub run : IsRunFrom nothing_known (1 + turn_count (take client clients)) turns entries
+    pub rising : IsRising entries
 
-  -- Each pen's list is longer by the run of the client of its number.
+  -- Each pen's list is longer by the run of the client of its number; where it rose, it rises still.
   pub record AreLongerByRuns (clients : List (List Turn)) (old new : List PenState) : Type 0 where
     pub count : length new ≡ length old
     pub each : (client : ℕ) (before after : PenState) → slice_get old client ≡ Some before → slice_get new client ≡ Some after
         → (entries : List (ℕ × Event)) × (after.list ≡ before.list ++ entries) × IsClientRun clients client entries
+        × (IsRising before.list → IsRising after.list)
 
   -- The lists are, one for each client and in their order, the runs of the clients.
   pub record AreClientRuns (clients : List (List Turn)) (lists : List (List (ℕ × Event))) : Type 0 where

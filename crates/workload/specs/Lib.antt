@@ -1,4 +1,5 @@
 pub mod Plans
 pub mod Drawing
 pub mod ClientRuns
+pub mod RunFaults
 pub mod aids

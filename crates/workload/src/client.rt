@@ -1,5 +1,10 @@
-ghost use Rattle.std.specs.Prelude.{◌≡◌, ◌+◌, ◌<◌, ◌^◌, ◌++◌, ◌∷◌, [], All, IfOk, length};
-ghost use Rattle.workload.specs.aids.Clients.{BeginsTurn, EndsTurn, IsHeard, IsLongerByRun, TakesTurn, ending_of, pair_in};
+ghost use Rattle.std.specs.Prelude.{◌≡◌, ℕ, ◌+◌, ◌<◌, ◌^◌, All, Err, IfErr, IfOk, Some, false, length};
+ghost use Rattle.doc_register.specs.declared.op.Op.{Op as Asked};
+ghost use Rattle.history.specs.Refusal.{op_of};
+ghost use Rattle.recorder.specs.declared.fault.RecFault.TheVariants as recording;
+ghost use Rattle.recorder.specs.Pens.{Records, events_in, is_ended, refusal_of};
+ghost use Rattle.workload.specs.RunFaults.{HasCause, IsMisfit};
+ghost use Rattle.workload.specs.aids.Clients.{BeginsTurn, EndsTurn, IsHeard, IsLongerByRun, IsMisheard, IsOpenIn, TakesTurn, ending_of, pair_in};
 
 use crate::asked::doc_name;
 use crate::known::Known;
@@ -20,7 +25,8 @@ fn hear<R: Wait, T: Target>(
     ticket: Ticket,
     polls: u32,
 ) -> Result<Option<Reply>, TargetFault>
-    ensures { IfOk result (IsHeard T.issued T.gave polls ticket) }
+    ensures heard { IfOk result (IsHeard T.issued T.gave polls ticket) }
+    ensures refused { IfErr result (λ fault. fault ≡ TargetFault.NoMemory) }
 {
     for _ in 0..polls {
         match target.poll(rt, ticket)? {
@@ -41,9 +47,10 @@ fn record_ending<R: Wait, X: Recording>(
     heard: Option<Reply>,
 ) -> Result<u64, RecFault>
     requires { X.has_pen recorder.now pen.old }
-    ensures grows { IfOk result (λ n. (X.pen_state pen.new).list
-        ≡ (X.pen_state pen.old).list ++ (n, ending_of no heard) ∷ []) }
+    ensures records { Records (X.pen_state pen.old) (refusal_of (X.pen_state pen.old).list (ending_of no heard))
+        (λ _. ending_of no heard) result (X.pen_state pen.new) }
     ensures keeps { X.has_pen recorder.now pen.new }
+    ensures forward { (n : ℕ) → result ≡ Err (recording.Rewound n) → X.may_rewind recorder.now }
 {
     match heard {
         Some(reply) => recorder.reply(rt, pen, no, reply),
@@ -66,7 +73,10 @@ pub fn begin_turn<R: Wait, T: Target, X: Recording>(
     requires document { turn.doc < MOST_DOCS }
     ensures begins { IfOk result (BeginsTurn T.issued (pair_in known.now) k turn
         (X.pen_state pen.old).list (X.pen_state pen.new).list) }
+    ensures opens { IfOk result (IsOpenIn T.issued (X.pen_state pen.new).list) }
     ensures keeps { X.has_pen recorder.now pen.new }
+    ensures cause { IfErr result (HasCause (IsMisfit T.issued T.gave) T.all_given (X.may_rewind recorder.now)
+        X.pen_state (X.has_pen recorder.now)) }
 {
     let op = turn.operation(known.pair(turn.doc), k);
     let id = doc_name(alloc, turn.doc)?;
@@ -89,10 +99,14 @@ pub fn end_turn<R: Wait, X: Recording>(
     call: OpenCall,
     heard: Option<Reply>,
 ) -> Result<(), RunFault>
-    requires { X.has_pen recorder.now pen.old }
+    requires pen { X.has_pen recorder.now pen.old }
+    requires called { (op : Asked) × (op_of (events_in (X.pen_state pen.old).list) call.no ≡ Some op) }
+    requires unended { is_ended (X.pen_state pen.old).list call.no ≡ false }
     ensures ends { IfOk result (λ _. EndsTurn call heard (pair_in known.old)
         (X.pen_state pen.old).list (X.pen_state pen.new).list (pair_in known.new)) }
     ensures keeps { X.has_pen recorder.now pen.new }
+    ensures cause { IfErr result (HasCause (IsMisheard (X.pen_state pen.old).list call.no heard) ⊥
+        (X.may_rewind recorder.now) X.pen_state (X.has_pen recorder.now)) }
 {
     record_ending(rt, recorder, pen, call.no, heard)?;
     if let Some(reply) = heard {
@@ -118,6 +132,8 @@ pub fn take_turn<R: Wait, T: Target, X: Recording>(
     ensures takes { IfOk result (λ _. TakesTurn T.issued T.gave polls (pair_in known.old) k turn
         (X.pen_state pen.old).list (X.pen_state pen.new).list (pair_in known.new)) }
     ensures keeps { X.has_pen recorder.now pen.new }
+    ensures cause { IfErr result (HasCause (IsMisfit T.issued T.gave) T.all_given (X.may_rewind recorder.now)
+        X.pen_state (X.has_pen recorder.now)) }
 {
     let call = begin_turn(rt, alloc, target, recorder, pen, known, turn, k)?;
     let heard = hear(rt, target, call.ticket, polls)?;
@@ -144,6 +160,8 @@ where
     ensures run { IfOk result (λ done. IsLongerByRun T.issued T.gave polls first turns.now
         (X.pen_state pen).list (X.pen_state done).list) }
     ensures keeps { IfOk result (λ done. X.has_pen recorder.now done) }
+    ensures cause { IfErr result (HasCause (IsMisfit T.issued T.gave) T.all_given (X.may_rewind recorder.now)
+        X.pen_state (X.has_pen recorder.now)) }
 {
     let mut known = Known::nothing(alloc)?;
     let mut k = first;

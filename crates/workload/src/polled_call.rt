@@ -1,4 +1,4 @@
-ghost use Rattle.std.specs.Prelude.{IfOk};
+ghost use Rattle.std.specs.Prelude.{◌≡◌, IfErr, IfOk};
 ghost use Rattle.workload.specs.aids.Seats.{IsPolled};
 
 use crate::open_call::OpenCall;
@@ -25,7 +25,8 @@ pub enum Polled {
 impl PolledCall {
     /// Polls the call once; one that may not be polled ends unpolled.
     pub fn poll<R: Wait, T: Target>(self, rt: &R, target: &T) -> Result<Polled, TargetFault>
-        ensures { IfOk result (IsPolled T.issued T.gave self) }
+        ensures polled { IfOk result (IsPolled T.issued T.gave self) }
+        ensures refused { IfErr result (λ fault. fault ≡ TargetFault.NoMemory) }
     {
         if self.polls_left == 0 {
             return Ok(Polled::Ends(None));

@@ -1,8 +1,9 @@
-ghost use Rattle.std.specs.Prelude.{◌≡◌, ◌<◌, All, IfOk, length, map, replicate};
+ghost use Rattle.std.specs.Prelude.{◌≡◌, ◌<◌, All, IfErr, IfOk, length, map, replicate};
 ghost use Rattle.recorder.specs.Pens.{new_pen};
 ghost use Rattle.recorder.specs.Recordings.{lists_of};
 ghost use Rattle.workload.specs.ClientRuns.{AreClientRuns, AreLongerByRuns};
-ghost use Rattle.workload.specs.aids.Seats.{AreNew, VisitsEach};
+ghost use Rattle.workload.specs.RunFaults.{HasCause, IsMisfit};
+ghost use Rattle.workload.specs.aids.Seats.{AreNew, IsOpenIfAny, VisitsEach};
 
 use crate::plan::Plan;
 use crate::run_fault::RunFault;
@@ -35,10 +36,15 @@ fn visit_each<R: Wait, T: Target, X: Recording>(
 ) -> Result<bool, RunFault>
     requires clients { All (λ seat. seat.client < length plan.now) seats.old.items }
     requires pens { All (λ seat. X.has_pen recorder.now seat.pen) seats.old.items }
+    requires calls { All (λ seat. IsOpenIfAny T.issued (X.pen_state seat.pen).list seat.open_call) seats.old.items }
     ensures visits { IfOk result (VisitsEach T.issued T.gave polls X.pen_state plan.now
         seats.old.items seats.new.items) }
     ensures clients { IfOk result (λ _. All (λ seat. seat.client < length plan.now) seats.new.items) }
     ensures pens { IfOk result (λ _. All (λ seat. X.has_pen recorder.now seat.pen) seats.new.items) }
+    ensures calls { IfOk result (λ _. All (λ seat. IsOpenIfAny T.issued (X.pen_state seat.pen).list seat.open_call)
+        seats.new.items) }
+    ensures cause { IfErr result (HasCause (IsMisfit T.issued T.gave) T.all_given (X.may_rewind recorder.now)
+        X.pen_state (X.has_pen recorder.now)) }
 {
     let mut acted = false;
     for seat in seats.iter_mut() {
@@ -89,6 +95,9 @@ where
         → IfOk result (λ done. AreClientRuns T.issued T.gave turns plan.now
         (lists_of (map X.pen_state done.items))) }
     ensures keeps { IfOk result (λ done. All (X.has_pen recorder.now) done.items) }
+    // As of `run_clients`.
+    ensures cause { IfErr result (HasCause (IsMisfit T.issued T.gave) T.all_given (X.may_rewind recorder.now)
+        X.pen_state (X.has_pen recorder.now)) }
 {
     let mut seats = seat_clients(alloc, pens)?;
     'rounds: while visit_each(rt, alloc, plan, target, recorder, &mut seats, turns)? {}

@@ -1,6 +1,7 @@
 ghost use Rattle.std.specs.Prelude.{◌≡◌, ◌<◌, All, IfErr, IfOk, Ok, ℕ, length, map, replicate, slice_index_or};
 ghost use Rattle.std.specs.List.{enumerate_from};
 ghost use Rattle.workload.specs.ClientRuns.{AreClientRuns, AreLongerByRuns};
+ghost use Rattle.workload.specs.RunFaults.{HasCause, IsMisfit};
 ghost use Rattle.recorder.specs.Pens.{new_pen};
 ghost use Rattle.recorder.specs.Recordings.{lists_of};
 ghost use Rattle.workload.specs.aids.Clients.{IsLongerByClient, RunsJob};
@@ -45,6 +46,8 @@ where
     ensures run { IfOk result (λ done. IsLongerByClient T.issued T.gave polls plan.now client
         (X.pen_state pen).list (X.pen_state done).list) }
     ensures keeps { IfOk result (λ done. X.has_pen recorder.now done) }
+    ensures cause { IfErr result (HasCause (IsMisfit T.issued T.gave) T.all_given (X.may_rewind recorder.now)
+        X.pen_state (X.has_pen recorder.now)) }
 {
     let turns = plan.turns(client);
     let first = plan.first_number(client);
@@ -83,16 +86,18 @@ where
     requires { All (λ job. (job.0 < length plan.now) × X.has_pen recorder.now job.1) jobs.items }
     ensures count { IfOk result (λ results. length results.items ≡ length jobs.items) }
     ensures each { IfOk result (λ results. (i : ℕ) (d : _) (e : _) → i < length jobs.items
-        → RunsJob T.issued T.gave polls X.pen_state (X.has_pen recorder.now) plan.now
-        (slice_index_or jobs.items i d) (slice_index_or results.items i e)) }
+        → RunsJob T.issued T.gave polls X.pen_state (X.has_pen recorder.now)
+        (HasCause (IsMisfit T.issued T.gave) T.all_given (X.may_rewind recorder.now) X.pen_state (X.has_pen recorder.now))
+        plan.now (slice_index_or jobs.items i d) (slice_index_or results.items i e)) }
 {
     thread::map_vec(
         rt,
         jobs,
         &|job: (usize, X::Pen)| -> Result<X::Pen, RunFault>
             requires { (job.0 < length plan.now) × X.has_pen recorder.now job.1 }
-            ensures { RunsJob T.issued T.gave polls X.pen_state (X.has_pen recorder.entry.now) plan.entry.now
-                job result }
+            ensures { RunsJob T.issued T.gave polls X.pen_state (X.has_pen recorder.entry.now)
+                (HasCause (IsMisfit T.issued T.gave) T.all_given (X.may_rewind recorder.entry.now) X.pen_state
+                (X.has_pen recorder.entry.now)) plan.entry.now job result }
         {
             let (client, pen) = job;
             run_one(rt, alloc, plan, target, recorder, client, pen, polls)
@@ -129,6 +134,10 @@ where
         → IfOk result (λ done. AreClientRuns T.issued T.gave turns plan.now
         (lists_of (map X.pen_state done.items))) }
     ensures keeps { IfOk result (λ done. All (X.has_pen recorder.now) done.items) }
+    // No event is refused as a stranger's or as one of an ended call. One is refused as misfitting only where the target gave such
+    // a reply, and as too many only where a pen of the recorder is full.
+    ensures cause { IfErr result (HasCause (IsMisfit T.issued T.gave) T.all_given (X.may_rewind recorder.now)
+        X.pen_state (X.has_pen recorder.now)) }
 {
     let jobs = with_client_numbers(alloc, pens)?;
     let results = run_jobs(rt, alloc, plan, target, recorder, jobs, turns)?;

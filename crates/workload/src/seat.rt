@@ -1,5 +1,6 @@
-ghost use Rattle.std.specs.Prelude.{◌≡◌, ◌<◌, ℕ, IfOk, List, length, true};
-ghost use Rattle.workload.specs.aids.Seats.{IsNew, Visits};
+ghost use Rattle.std.specs.Prelude.{◌≡◌, ◌<◌, ℕ, IfErr, IfOk, List, length, true};
+ghost use Rattle.workload.specs.RunFaults.{HasCause, IsMisfit};
+ghost use Rattle.workload.specs.aids.Seats.{IsNew, IsOpenIfAny, Visits};
 ghost use Rattle.workload.specs.declared.turn.Turn.{Turn};
 
 use crate::client::{begin_turn, end_turn};
@@ -55,6 +56,9 @@ fn begin_next<R: Wait, T: Target, X: Recording>(
     requires idle { seat.old.open_call ≡ None }
     ensures visits { IfOk result (Visits T.issued T.gave polls X.pen_state plan.now seat.old seat.new) }
     ensures keeps { IfOk result (λ _. X.has_pen recorder.now seat.new.pen) }
+    ensures opens { IfOk result (λ _. IsOpenIfAny T.issued (X.pen_state seat.new.pen).list seat.new.open_call) }
+    ensures cause { IfErr result (HasCause (IsMisfit T.issued T.gave) T.all_given (X.may_rewind recorder.now)
+        X.pen_state (X.has_pen recorder.now)) }
 {
     let Some((turn, k)) = plan.numbered_turn(seat.client, seat.begun) else {
         return Ok(false);
@@ -87,9 +91,13 @@ fn poll_open<R: Wait, T: Target, X: Recording>(
 ) -> Result<(), RunFault>
     requires pen { X.has_pen recorder.now seat.old.pen }
     requires call { seat.old.open_call ≡ Some polled }
+    requires opened { IsOpenIfAny T.issued (X.pen_state seat.old.pen).list seat.old.open_call }
     ensures visits { IfOk result (λ _. (polls : ℕ) (clients : List (List Turn))
         → Visits T.issued T.gave polls X.pen_state clients seat.old seat.new true) }
     ensures keeps { IfOk result (λ _. X.has_pen recorder.now seat.new.pen) }
+    ensures opens { IfOk result (λ _. IsOpenIfAny T.issued (X.pen_state seat.new.pen).list seat.new.open_call) }
+    ensures cause { IfErr result (HasCause (IsMisfit T.issued T.gave) T.all_given (X.may_rewind recorder.now)
+        X.pen_state (X.has_pen recorder.now)) }
 {
     match polled.poll(rt, target)? {
         Polled::Waits => {
@@ -128,8 +136,12 @@ pub fn visit<R: Wait, T: Target, X: Recording>(
 ) -> Result<bool, RunFault>
     requires client { seat.old.client < length plan.now }
     requires pen { X.has_pen recorder.now seat.old.pen }
+    requires opened { IsOpenIfAny T.issued (X.pen_state seat.old.pen).list seat.old.open_call }
     ensures visits { IfOk result (Visits T.issued T.gave polls X.pen_state plan.now seat.old seat.new) }
     ensures keeps { IfOk result (λ _. X.has_pen recorder.now seat.new.pen) }
+    ensures opens { IfOk result (λ _. IsOpenIfAny T.issued (X.pen_state seat.new.pen).list seat.new.open_call) }
+    ensures cause { IfErr result (HasCause (IsMisfit T.issued T.gave) T.all_given (X.may_rewind recorder.now)
+        X.pen_state (X.has_pen recorder.now)) }
 {
     match seat.open_call {
         Some(polled) => {

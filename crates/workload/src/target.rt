@@ -42,17 +42,22 @@ pub trait Target {
     /// What this target may tell of a ticket.
     ghost gave: { Ticket → Progress → Type 0 };
 
-    ghost use Rattle.std.specs.Prelude.{IfOk};
+    /// What is so where this target has given all its tickets.
+    ghost all_given: { Type 0 } = { Unit {0} };
+
+    ghost use Rattle.std.specs.Prelude.{◌≡◌, Err, IfErr, IfOk};
 
     /// Submits an operation on a document, and answers its ticket; or refuses it: `Full`, `NoMemory`.
     ///
     /// It may wait.
     fn submit<R: Wait>(&self, rt: &R, id: &DocId, op: &Op) -> Result<Ticket, TargetFault>
-        ensures { IfOk result (λ ticket. issued ticket id.now op.now) };
+        ensures ticket { IfOk result (λ ticket. issued ticket id.now op.now) }
+        ensures full { result ≡ Err TargetFault.Full → all_given };
 
     /// Tells what has become of a submitted operation, or that memory was refused.
     ///
     /// It may wait.
     fn poll<R: Wait>(&self, rt: &R, ticket: Ticket) -> Result<Progress, TargetFault>
-        ensures { IfOk result (λ progress. gave ticket progress) };
+        ensures progress { IfOk result (λ progress. gave ticket progress) }
+        ensures refused { IfErr result (λ fault. fault ≡ TargetFault.NoMemory) };
 }

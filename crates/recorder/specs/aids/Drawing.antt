@@ -1,12 +1,11 @@
 -- What the seat of a pen drew.
-use Rattle.std.specs.Prelude.{◌≡◌, ℕ, ◌<◌, ◌≤◌, ◌++◌, false, List, [], All, nat_lt}
-use Rattle.std.specs.List.{filter}
+use Rattle.std.specs.Prelude.{◌≡◌, ℕ, ◌<◌, ◌≤◌, ◌++◌, false, true, List, [], All, nat_lt}
+use Rattle.std.specs.List.{filter, list_any}
 use Rattle.atomic_table.specs.Table.{Me}
 use Rattle.history.specs.Refusal.{most_events}
-use Rattle.history.specs.declared.event.Event.{Event}
 use Rattle.recorder.specs.declared.clock_view.ClockView.{ClockView}
 use Rattle.recorder.specs.declared.clock_view.ClockView.TheVariants.{Drew}
-use Rattle.recorder.specs.Clock.{seat_with}
+use Rattle.recorder.specs.Clock.{is_past, seat_with}
 use Rattle.recorder.specs.Pens.{PenState}
 use Rattle.recorder.specs.aids.Notes.{numbers_of}
 
@@ -14,19 +13,22 @@ use Rattle.recorder.specs.aids.Notes.{numbers_of}
 abbrev pub numbers_of_events : List ℕ → List ℕ
 numbers_of_events numbers = filter (λ n. nat_lt n most_events) numbers
 
--- The seat drew the numbers of the pen's entries, and no more, unless the pen was answered that the recording is full:
--- then also one that is no event's.
+-- The seat drew the numbers of the pen's entries, and just where the pen was answered that the recording is full also one that
+-- is no event's.
 pub record HasDrawn (pen : PenState) (seat : Me (Unit {0}) ClockView) : Type 0 where
   pub past : List ℕ
   pub view : seat ≡ seat_with (Drew (numbers_of pen.list ++ past))
   pub events : All (λ n. n < most_events) (numbers_of pen.list)
   pub no_events : All (λ n. most_events ≤ n) past
   pub when_open : pen.is_full ≡ false → past ≡ []
+  pub when_full : pen.is_full ≡ true → list_any is_past past ≡ true
 
 -- the seat drew these numbers
 abbrev pub IsSeatOf : List ℕ → Me (Unit {0}) ClockView → Type 0
 IsSeatOf drawn seat = seat ≡ seat_with (Drew drawn)
 
--- the seat drew the numbers of the list's entries, and of others only such that are no events'
-abbrev pub IsSeatFor : List (ℕ × Event) → Me (Unit {0}) ClockView → Type 0
-IsSeatFor list seat = (drawn : List ℕ) × (seat ≡ seat_with (Drew drawn)) × (numbers_of_events drawn ≡ numbers_of list)
+-- the seat drew the numbers of the entries in the pen's list, and of others only such that are no events': one of these where the
+-- pen was answered that the recording is full
+abbrev pub IsSeatFor : PenState → Me (Unit {0}) ClockView → Type 0
+IsSeatFor pen seat = (drawn : List ℕ) × (seat ≡ seat_with (Drew drawn)) × (numbers_of_events drawn ≡ numbers_of pen.list)
+    × (pen.is_full ≡ true → list_any is_past drawn ≡ true)

@@ -1,5 +1,5 @@
 -- What a pen notes beside its list, and what that says of the list.
-use Rattle.std.specs.Prelude.{◌≡◌, ℕ, ◌<◌, ◌==◌, Bool, false, true, List, Option, Some, None, All, AllPairs, cond, map, option_map, slice_get, take}
+use Rattle.std.specs.Prelude.{◌≡◌, ℕ, ◌<◌, ◌==◌, Bool, false, true, List, Option, Some, None, All, cond, map, option_map, slice_get, take}
 use Rattle.std.specs.Map.{lookup}
 use Rattle.history.specs.declared.event.Event.{Event}
 use Rattle.history.specs.declared.event.Event.TheVariants.{Call, Reply, Lost}
@@ -7,7 +7,7 @@ use Rattle.history.specs.Refusal.{op_of}
 use Rattle.recorder.specs.declared.own_call.OwnCall.{OwnCall}
 use Rattle.recorder.specs.declared.unnumbered.Unnumbered.{Unnumbered}
 use Rattle.recorder.specs.declared.unnumbered.Unnumbered.TheVariants as bare
-use Rattle.recorder.specs.Pens.{PenState, events_in, is_ended, refusal_of}
+use Rattle.recorder.specs.Pens.{IsRising, PenState, events_in, is_ended, refusal_of}
 
 -- the event under its number; a call is numbered by it, on shard 0
 abbrev pub numbered : Unnumbered → ℕ → Event
@@ -43,10 +43,6 @@ NotesEvent (bare.Lost m) n old new = (call : OwnCall) → lookup (◌==◌ m) ol
 -- the numbers of the entries
 abbrev pub numbers_of : List (ℕ × Event) → List ℕ
 numbers_of list = map (λ entry. entry.0) list
-
--- the numbers rise
-abbrev pub IsRising : List (ℕ × Event) → Type 0
-IsRising list = AllPairs (λ x y. x.0 < y.0) list
 
 -- A pen's list: the numbers rise, each entry is formed as recording forms it, and those before it did not refuse it.
 pub record IsPenList (list : List (ℕ × Event)) : Type 0 where

@@ -5,7 +5,7 @@ use Rattle.history.specs.declared.event.Event.{Event}
 use Rattle.recorder.specs.Pens.{PenState}
 use Rattle.workload.specs.ClientRuns.{Known, nothing_known}
 use Rattle.workload.specs.Plans.{turn_at, turn_count}
-use Rattle.workload.specs.aids.Clients.{BeginsTurn, IsHeard, IsLongerByFront, pair_in}
+use Rattle.workload.specs.aids.Clients.{BeginsTurn, IsHeard, IsLongerByFront, IsOpenIn, pair_in}
 use Rattle.workload.specs.declared.polled_call.PolledCall.{PolledCall}
 use Rattle.workload.specs.declared.polled_call.Polled.{Polled}
 use Rattle.workload.specs.declared.polled_call.Polled.TheVariants.{Ends, Waits}
@@ -45,6 +45,11 @@ visits_for (Some polled) = polled.polls_left + 1
 -- the visits that a client takes at most: for each turn that isn't begun one that begins it, and those of its call
 abbrev pub visits_left : {P : Type 0} → List (List Turn) → ℕ → Seat P → ℕ
 visits_left clients polls seat = (length (turns_of clients seat.client) - seat.begun) * (polls + 2) + visits_for seat.open_call
+
+-- where a call is open, the list has it
+abbrev pub IsOpenIfAny : (Ticket → List ℕ → Op → Type 0) → List (ℕ × Event) → Option PolledCall → Type 0
+IsOpenIfAny issued list None = Unit {0}
+IsOpenIfAny issued list (Some polled) = IsOpenIn issued list polled.call
 
 module _ (issued : Ticket → List ℕ → Op → Type 0) (gave : Ticket → Progress → Type 0) where
   -- What a poll tells of a call that may be polled so often yet: that it waits and may be polled again, or what was heard of it.

@@ -2,8 +2,8 @@ use Rattle.std.proofs.Common.{◌≡◌, ◌++◌, All, length}
 use Rattle.std.specs.List.{enumerate_from}
 use Rattle.std.specs.List.Sorted.{IsPermutation}
 use Rattle.history.specs.Events.{HasShard}
+use Rattle.recorder.specs.Pens.{IsRising}
 use Rattle.recorder.specs.Recordings.{entries_of}
-use Rattle.recorder.specs.aids.Notes.{IsRising}
 use Rattle.recorder.proofs.DenseLemmas.{AreLeft}
 use Rattle.recorder.proofs.closing.merge.Given as goal
 

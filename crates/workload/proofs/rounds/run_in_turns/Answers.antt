@@ -1,6 +1,6 @@
 use Rattle.std.proofs.Common.{All, subst, sym}
 use Rattle.workload.specs.aids.Seats.{IsDone}
-use Rattle.workload.proofs.RoundLemmas.{longer_when_done, new_clients, new_pens, pens_ours, seated_at_start}
+use Rattle.workload.proofs.RoundLemmas.{longer_when_done, new_clients, new_idle, new_pens, pens_ours, seated_at_start}
 use Rattle.workload.proofs.RunningLemmas.{runs_of_new}
 use Rattle.workload.proofs.rounds.run_in_turns.Goals as goal
 
@@ -13,6 +13,7 @@ rounds-init g c =
       seated = seated_at_start g.T.Target.issued g.T.Target.gave c.args.turns g.X.Recording.pen_state c.args.plan.now pens seats c.requires.count new;
       clients = new_clients pens seats _ new c.requires.count;
       pens = new_pens (g.X.Recording.has_pen c.args.recorder.now) pens seats new c.requires.pens;
+      calls = new_idle g.T.Target.issued g.X.Recording.pen_state pens seats new;
     }
 
 pub returns-clause-runs : goal.returns-clause-runs

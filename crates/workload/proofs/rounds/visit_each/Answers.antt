@@ -1,5 +1,6 @@
 use Rattle.std.proofs.Common.{◌<◌, ◌≡◌, arith, inl, inr, length}
 use Rattle.std.proofs.lemmas.List.Elements.{All-set}
+use Rattle.workload.specs.aids.Seats.{IsOpenIfAny}
 use Rattle.workload.proofs.RoundLemmas.{lent_back, round_after}
 use Rattle.workload.proofs.rounds.visit_each.Goals as goal
 use Rattle.workload.proofs.rounds.visit_each.Goals.{then-branch, else-branch}
@@ -12,6 +13,9 @@ visit-requires-clause-client g c = c.loop-seat.invariant.clients c.loop-seat.sea
 
 pub visit-requires-clause-pen : goal.visit-requires-clause-pen
 visit-requires-clause-pen g c = c.loop-seat.invariant.pens c.loop-seat.seat-index c.seat-item.result (within g c)
+
+pub visit-requires-clause-opened : goal.visit-requires-clause-opened
+visit-requires-clause-opened g c = c.loop-seat.invariant.calls c.loop-seat.seat-index c.seat-item.result (within g c)
 
 pub loop-seat-preserved : goal.loop-seat-preserved
 loop-seat-preserved g c = record {
@@ -28,6 +32,9 @@ loop-seat-preserved g c = record {
   pens =
       All-set (λ seat. g.X.Recording.has_pen c.args.recorder.now seat.pen) c.loop-seat.seat-items c.loop-seat.seat-index c.visit.new.seat
       c.in_ok-visit.ensures.keeps c.loop-seat.invariant.pens;
+  calls =
+      All-set (λ seat. IsOpenIfAny g.T.Target.issued (g.X.Recording.pen_state seat.pen).list seat.open_call) c.loop-seat.seat-items c.loop-seat.seat-index
+      c.visit.new.seat c.in_ok-visit.ensures.opens c.loop-seat.invariant.calls;
 }
 
 pub returns : goal.returns
@@ -42,4 +49,6 @@ returns g c =
       };
       clients = c.loop-seat.invariant.clients;
       pens = c.loop-seat.invariant.pens;
+      calls = c.loop-seat.invariant.calls;
+      cause = tt;
     })

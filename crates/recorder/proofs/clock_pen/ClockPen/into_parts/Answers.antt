@@ -6,5 +6,5 @@ use Rattle.recorder.proofs.clock_pen.ClockPen.into_parts.Goals as goal
 pub returns-clause-seat : goal.returns-clause-seat
 returns-clause-seat c = (
   ap (λ p. p.clock) c.self.view_is,
-  subst (λ list. IsSeatFor list c.self.inside.seat.me) (ap (λ p. p.pen.list) c.self.view_is) (seat_for c.self.inside.notes.pen c.self.inside.seat.me c.self.invariant),
+  subst (λ pen. IsSeatFor pen c.self.inside.seat.me) (ap (λ p. p.pen) c.self.view_is) (seat_for c.self.inside.notes.pen c.self.inside.seat.me c.self.invariant),
 )

@@ -22,4 +22,4 @@ returns-clause-records c =
     subst P (same ∙ ap (λ p. p.pen) c.self.view_is)
     (clock_recorded c.reserve.new.self.pen c.settle.new.self.pen (numbered c.args.event) seat c.draw.result c.number_of_event-answer.result c.number_of_event-answer.ensures
     (subst (λ pen. HasDrawn pen seat) (sym same) c.self.invariant) is_open c.draw.ensures.above
-    c.settle.ensures.ok c.settle.ensures.err c.settle.ensures.full)
+    c.settle.ensures.ok c.settle.ensures.err c.settle.ensures.full c.settle.ensures.unused)

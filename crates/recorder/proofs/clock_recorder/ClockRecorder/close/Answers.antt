@@ -1,7 +1,9 @@
-use Rattle.std.proofs.Common.{◌≡◌, ◌∙◌, false, sym, true}
+use Rattle.std.proofs.Common.{◌≡◌, ◌∙◌, ap, false, length, sym, true}
 use Rattle.std.proofs.lemmas.List.Elements.{All-weaker}
 use Rattle.history.specs.declared.fault.HistFault.TheVariants.{NoMemory}
-use Rattle.recorder.specs.aids.Notes.{IsPenList, IsRising}
+use Rattle.recorder.specs.Pens.{IsRising}
+use Rattle.recorder.specs.aids.Notes.{IsPenList}
+use Rattle.recorder.proofs.RecordingLaws.{recordings_are_by_number}
 use Rattle.recorder.proofs.UnrefusedLemmas.{merged_accepted}
 use Rattle.recorder.proofs.clock_recorder.ClockRecorder.close.Goals.{in-NoMemory, in_default-matches}
 use Rattle.recorder.proofs.clock_recorder.ClockRecorder.close.Goals as goal
@@ -17,3 +19,9 @@ prove-unreachable-requires c =
       | in-NoMemory w ↦ (let impossible : true ≡ false = sym w.matches-is ∙ c.if-prove.true in absurd (cc))
       | in_default-matches w ↦ absurd (w.in_default-matches.not-NoMemory memory)
     ]
+
+pub returns-in-Ok-history_of-clause-full : goal.returns-in-Ok-history_of-clause-full
+returns-in-Ok-history_of-clause-full c full =
+    ap length c.in-Ok-history_of.ensures.history
+    ∙ sym (recordings_are_by_number.by_number c.in-Ok.strands.items c.in-Ok-merge.events.items c.in-Ok-merge.ensures.recording).count
+    ∙ c.in-Ok.ensures.full full

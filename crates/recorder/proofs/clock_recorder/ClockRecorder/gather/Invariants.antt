@@ -1,6 +1,8 @@
-use Rattle.std.proofs.Common.{◌≡◌, ℕ, List, All, length}
+use Rattle.std.proofs.Common.{◌≡◌, ℕ, List, All, length, true}
+use Rattle.std.specs.List.{list_any}
 use Rattle.recorder.specs.declared.clock_view.ClockView.TheVariants.{Maker}
-use Rattle.recorder.specs.Clock.{pens_of, seat_with}
+use Rattle.recorder.specs.Clock.{is_past, pens_of, seat_with}
+use Rattle.recorder.specs.Closing.{has_full}
 use Rattle.recorder.specs.Recordings.{entries_of, lists_of}
 use Rattle.recorder.specs.aids.Drawing.{numbers_of_events}
 use Rattle.recorder.specs.aids.Notes.{IsPenList, numbers_of}
@@ -12,5 +14,6 @@ invariant-loop-pen l = record {
   kept : All IsPenList l.strands.items;
   of_clock : l.maker.table_id ≡ l.fn.self.clock;
   view : (gained : List ℕ) × (l.maker.me ≡ seat_with (Maker l.fn.self.pens (length l.yielded) gained))
-      × (numbers_of_events gained ≡ numbers_of (entries_of l.strands.items));
+      × (numbers_of_events gained ≡ numbers_of (entries_of l.strands.items))
+      × (has_full (pens_of l.yielded) ≡ true → list_any is_past gained ≡ true);
 }

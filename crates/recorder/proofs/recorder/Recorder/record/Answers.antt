@@ -14,4 +14,4 @@ returns g c =
     (recorded_after c.reserve.new.self.pen c.settle.new.self.pen (numbered c.args.event) c.append-answer.result c.deref_mut.result.now c.last_number-last.result
     is_open c.append-answer.ensures.reason c.append-answer.ensures.number
     c.last_number-last.ensures.above c.last_number-last.ensures.reached
-    c.settle.ensures.ok c.settle.ensures.err c.settle.ensures.full)
+    c.settle.ensures.ok c.settle.ensures.err c.settle.ensures.full c.settle.ensures.unused)

@@ -1,0 +1,19 @@
+-- What a pen's list says of a call that was recorded last.
+use Rattle.std.proofs.Common.{ℕ, ◌≡◌, ◌∙◌, List, [], ◌∷◌, ◌++◌, None, Some, ap, eq-eqb, false, refl}
+use Rattle.std.specs.Prelude.{◌==◌, ◌||◌, if◌then◌else◌}
+use Rattle.doc_register.specs.declared.op.Op.{Op}
+use Rattle.history.specs.declared.event.Event.{Event}
+use Rattle.history.specs.declared.event.Event.TheVariants.{Call}
+use Rattle.history.specs.Refusal.{op_of}
+use Rattle.recorder.specs.Pens.{IsUnused, events_in, is_ended}
+use Rattle.recorder.proofs.NoteLemmas.{first_of_two, is_ended-snoc, op_of-snoc}
+
+-- the list has the call under its number, and no ending of it
+pub called_last : (list : List (ℕ × Event)) (n : ℕ) (d : List ℕ) (op : Op) → IsUnused n list
+    → (op_of (events_in (list ++ (n, Call n 0 d op) ∷ [])) n ≡ Some op) × (is_ended (list ++ (n, Call n 0 d op) ∷ []) n ≡ false)
+called_last list n d op unused = (
+  op_of-snoc list (n, Call n 0 d op) n
+      ∙ ap (λ o. first_of_two o (if n == n then Some op else None)) unused.0
+      ∙ ap (λ b. if b then Some op else None) (eq-eqb n n refl),
+  is_ended-snoc list (n, Call n 0 d op) n ∙ ap (λ b. b || false) unused.1,
+)
