@@ -10,6 +10,7 @@ pub mod WrittenReplies
 pub mod WrittenLines
 pub mod ReadingLemmas
 pub mod LineByLine
+pub mod TakenLemmas
 pub mod InputLemmas
 pub mod TokenLemmas
 pub mod MemberLemmas

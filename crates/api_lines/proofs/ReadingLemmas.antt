@@ -1,11 +1,11 @@
 -- Texts that are read line by line: a line, and the lines after it.
 use Rattle.std.proofs.Common.{ℕ, suc, ◌≡◌, ◌<◌, ◌≤◌, ◌+◌, List, [], ◌∷◌, length, refl, sym, ap, ◌∙◌, arith, Bool, true, false, Option, Some, None, Ok, Err, Result, add-one, zero, take, ◌⊎◌, inl, inr}
-use Rattle.std.specs.Prelude.{if◌then◌else◌, nat_lt}
+use Rattle.std.specs.Prelude.{◌==◌, IfErr, if◌then◌else◌, nat_lt}
 use Rattle.std.proofs.lemmas.Bool.{le-ltb, ltb-false}
 use Rattle.serde_json.specs.Data.{Data}
 use Rattle.api_lines.specs.Faults.{IfTextTold, IfTold, text_fault, ◌>>=◌}
 use Rattle.api_lines.specs.Json.{json_value}
-use Rattle.api_lines.specs.Lines.{is_blank, lines_of, longest_line, most_lines}
+use Rattle.api_lines.specs.Lines.{is_blank, lines_of, longest_line, most_lines, onto_first}
 use Rattle.api_lines.specs.Texts.{line_given, read_line, read_lines, read_on, value_given}
 use Rattle.api_lines.specs.declared.text_fault.LineFault.{LineFault}
 use Rattle.api_lines.specs.declared.text_fault.LineFault.TheVariants.{Told, NoMemory}
@@ -40,6 +40,30 @@ lines_on takes n s t line lines read = ap (λ r. read_on n r (λ u. read_lines t
 pub lines_stop : {S : Type 0} (takes : S → Data → Result S TextCause) (n : ℕ) (s : S) (line : List ℕ) (lines : List (List ℕ)) (cause : TextCause)
     → read_line takes n s line ≡ Err cause → read_lines takes n s (line ∷ lines) ≡ Err (record { line = n; cause = cause })
 lines_stop takes n s line lines cause read = ap (λ r. read_on n r (λ u. read_lines takes (suc n) u lines)) read
+
+same_err : {S : Type 0} (x y : TextFault) → (let r : Result S TextFault = Err x in r) ≡ Err y → x ≡ y
+same_err x y is = cc
+
+-- the line that is refused is the first one or a later one
+pub refused_from : {S : Type 0} (takes : S → Data → Result S TextCause) (k : ℕ) (s : S) (lines : List (List ℕ)) (told : TextFault)
+    → read_lines takes k s lines ≡ Err told → k ≤ told.line
+refused_from takes k s [] told stop = absurd (cc)
+refused_from {S} takes k s (line ∷ lines) told stop = by_read (read_line takes k s line) (λ t rest. refused_from takes (suc k) t lines told rest) stop where
+  by_read : (r : Result S TextCause) → ((t : S) → read_lines takes (suc k) t lines ≡ Err told → suc k ≤ told.line) → read_on k r (λ t. read_lines takes (suc k) t lines) ≡ Err told
+      → k ≤ told.line
+  by_read (Ok t) rest stop = let later : suc k ≤ told.line = rest t stop in omega arith
+  by_read (Err cause) rest stop =
+      let is : record { line = k; cause = cause } ≡ told = same_err (record { line = k; cause = cause }) told stop in
+      let here : k ≡ told.line = ap (λ (x : TextFault). x.line) is in omega arith
+
+-- a text that is not empty has a line
+no_lines : (text : List ℕ) → 0 < length text → lines_of text ≡ [] → ⊥
+no_lines [] some none = absurd (omega arith)
+no_lines (b ∷ text) some none = by_feed (b == 10) (lines_of text) none where
+  by_feed : (t : Bool) (lines : List (List ℕ)) → (if t then [] ∷ lines else onto_first b lines) ≡ [] → ⊥
+  by_feed true lines none = absurd (cc)
+  by_feed false [] none = absurd (cc)
+  by_feed false (line ∷ lines) none = absurd (cc)
 
 -- ---- a text up to a rest of it
 
@@ -83,6 +107,24 @@ pub read_all : {S : Type 0} (takes : S → Data → Result S TextCause) (start :
 unfolding IsReadUpTo
 read_all takes start text [] n s so_far end = so_far.0
 read_all takes start text (b ∷ rest) n s so_far end = absurd (omega arith)
+
+-- no line up to the rest is refused
+pub read_later : {S : Type 0} (takes : S → Data → Result S TextCause) (start : S) (text rest : List ℕ) (n : ℕ) (s : S)
+    → IsReadUpTo takes start text rest n s → IfErr (read_lines takes 1 start (lines_of text)) (λ told. suc n ≤ told.line)
+unfolding IsReadUpTo
+read_later {S} takes start text rest n s so_far = by_read (read_lines takes 1 start (lines_of text)) refl where
+  by_read : (r : Result S TextFault) → read_lines takes 1 start (lines_of text) ≡ r → IfErr r (λ told. suc n ≤ told.line)
+  by_read (Ok t) is = tt
+  by_read (Err told) is = refused_from takes (suc n) s (lines_of rest) told (sym so_far.0 ∙ is)
+
+-- behind the most lines there is none that is taken
+pub read_past_last : {S : Type 0} (takes : S → Data → Result S TextCause) (start : S) (text rest : List ℕ) (s : S)
+    → IsReadUpTo takes start text rest most_lines s → 0 < length rest → read_lines takes 1 start (lines_of text) ≡ Err (record { line = 4194305; cause = Lines })
+unfolding IsReadUpTo
+read_past_last {S} takes start text rest s so_far more = by_lines (lines_of rest) refl where
+  by_lines : (lines : List (List ℕ)) → lines_of rest ≡ lines → read_lines takes 1 start (lines_of text) ≡ Err (record { line = 4194305; cause = Lines })
+  by_lines [] is = absurd (no_lines rest more is)
+  by_lines (line ∷ lines) is = so_far.0 ∙ ap (read_lines takes 4194305 s) is
 
 pub read_few : {S : Type 0} (takes : S → Data → Result S TextCause) (start : S) (text rest : List ℕ) (n : ℕ) (s : S)
     → IsReadUpTo takes start text rest n s → n ≤ 4194304
@@ -132,24 +174,12 @@ given_value n line v few short written json =
 
 -- ---- the first line that is refused
 
-same_err : {S : Type 0} (x y : TextFault) → (let r : Result S TextFault = Err x in r) ≡ Err y → x ≡ y
-same_err x y is = cc
-
 -- The lines before the one that is refused are read, and with it they are refused so.
 pub read_front : {S : Type 0} (takes : S → Data → Result S TextCause) (k : ℕ) (s : S) (lines : List (List ℕ)) (told : TextFault)
     → read_lines takes k s lines ≡ Err told → (n : ℕ)
     → (k + n ≤ told.line → (t : S) × (read_lines takes k s (take n lines) ≡ Ok t)) × (told.line < k + n → read_lines takes k s (take n lines) ≡ Err told)
 read_front takes k s [] told stop n = absurd (cc)
-read_front {S} takes k s (line ∷ lines) told stop zero = (λ _. (s, refl), λ below. let least = at_least takes k s (line ∷ lines) told stop in absurd (omega arith)) where
-  at_least : (takes : S → Data → Result S TextCause) (k : ℕ) (s : S) (lines : List (List ℕ)) (told : TextFault) → read_lines takes k s lines ≡ Err told → k ≤ told.line
-  at_least takes k s [] told stop = absurd (cc)
-  at_least takes k s (line ∷ lines) told stop = by_read (read_line takes k s line) (λ t rest. at_least takes (suc k) t lines told rest) stop where
-    by_read : (r : Result S TextCause) → ((t : S) → read_lines takes (suc k) t lines ≡ Err told → suc k ≤ told.line) → read_on k r (λ t. read_lines takes (suc k) t lines) ≡ Err told
-        → k ≤ told.line
-    by_read (Ok t) rest stop = let later : suc k ≤ told.line = rest t stop in omega arith
-    by_read (Err cause) rest stop =
-        let is : record { line = k; cause = cause } ≡ told = same_err (record { line = k; cause = cause }) told stop in
-        let here : k ≡ told.line = ap (λ (x : TextFault). x.line) is in omega arith
+read_front takes k s (line ∷ lines) told stop zero = (λ _. (s, refl), λ below. let least = refused_from takes k s (line ∷ lines) told stop in absurd (omega arith))
 read_front {S} takes k s (line ∷ lines) told stop (suc n) = by_read (read_line takes k s line) refl (λ t rest. read_front takes (suc k) t lines told rest n) stop where
   by_read : (r : Result S TextCause) → read_line takes k s line ≡ r
       → ((t : S) → read_lines takes (suc k) t lines ≡ Err told

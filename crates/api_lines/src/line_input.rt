@@ -1,12 +1,13 @@
 ghost use Rattle.std.specs.Prelude.{◌≡◌, ◌≤◌, [], IfOk, OnErr, Ok, false, true, length};
-ghost use Rattle.std.specs.Io.KnownBytes.{Consumes, IsAtEnd};
+ghost use Rattle.std.specs.Io.KnownBytes.{Consumes, IsAtEnd, Keeps, prepend_known};
 ghost use Rattle.api_lines.specs.Lines.{HasNoLineFeed};
-ghost use Rattle.api_lines.specs.Sources.{EndsLine, IsPart, most_held};
+ghost use Rattle.api_lines.specs.Sources.{EndsLine, IsPart, most_brought, most_held};
 
+use crate::chunk::Chunk;
 use crate::lines::LONGEST_LINE;
 use memchr::memchr;
 use std::alloc::AllocError;
-use std::io::BufRead;
+use std::io::Read;
 use thiserror::Error;
 
 /// Why the bytes of a reader are not had.
@@ -26,7 +27,7 @@ impl From<AllocError> for InputFault {
     }
 }
 
-// What the bytes that a reader has at hand are to a line.
+// What the bytes at hand are to a line.
 #[derive(Clone, Copy, PartialEq, Eq)]
 enum Part {
     // A part of it.
@@ -37,64 +38,75 @@ enum Part {
     End,
 }
 
-// Adds to a line the bytes that the reader has at hand, up to a line feed, and no more than it may have.
-fn take_part<B: BufRead>(reader: &mut B, line: &mut Vec<u8>) -> Result<Part, InputFault>
+// Adds to a line the bytes that are at hand, up to a line feed, and no more than it may have.
+fn take_part<R: Read>(
+    reader: &mut R,
+    chunk: &mut Chunk,
+    line: &mut Vec<u8>,
+) -> Result<Part, InputFault>
     requires { length line.now.items ≤ 65536 }
-    ensures part { IfOk result (λ part. IsPart part (B.remaining reader.old) (B.remaining reader.new)
-        line.old.items line.new.items) }
+    ensures part { IfOk result (λ part. IsPart part (prepend_known chunk.old (R.remaining reader.old))
+        (prepend_known chunk.new (R.remaining reader.new)) line.old.items line.new.items) }
     ensures few { IfOk result (λ _. length line.new.items ≤ most_held) }
-    ensures err { OnErr result (Consumes (B.remaining reader.old) (B.remaining reader.new) []
+    ensures err { OnErr result (Consumes (prepend_known chunk.old (R.remaining reader.old))
+        (prepend_known chunk.new (R.remaining reader.new)) []
         × (line.new.items ≡ line.old.items)) }
+    ensures brought { length chunk.new ≤ most_brought }
 {
-    let bytes = match reader.fill_buf() {
-        Ok(bytes) => bytes,
-        Err(_) => return Err(InputFault::Read),
-    };
+    chunk.fill(reader)?;
+    let bytes = chunk.bytes();
     if bytes.is_empty() {
         return Ok(Part::End);
     }
     let room = LONGEST_LINE + 1 - line.len();
     match memchr(b'\n', bytes) {
-        Some(end) if end <= room => {
+        Some(end) if end < room => {
             line.extend_from_slice(&bytes[..end])?;
-            reader.consume(end + 1);
+            chunk.consume(end + 1);
             Ok(Part::Last)
         }
         Some(_) => {
             line.extend_from_slice(&bytes[..room])?;
-            reader.consume(room);
+            chunk.consume(room);
             Ok(Part::More)
         }
         None => {
             let taken = bytes.len().min(room);
             line.extend_from_slice(&bytes[..taken])?;
-            reader.consume(taken);
+            chunk.consume(taken);
             Ok(Part::More)
         }
     }
 }
 
-/// The next line of a reader, without its line feed, put in place of what `line` had; or false at the end of its bytes. Of a
-/// line with more bytes than a line may have only a front is taken, of 65,537 bytes.
+/// The next line of a chunk and the reader behind it, without its line feed, put in place of what `line` had; or false at the
+/// end of their bytes. Of a line with more bytes than a line may have only a front is taken, of 65,537 bytes.
 ///
 /// A fault of the reader of any kind is `Read`, an interruption too; `NoMemory` is told where a growth was refused. After
-/// either, `line` has the bytes of the line that were taken from the reader.
-pub fn next_line<B: BufRead>(reader: &mut B, line: &mut Vec<u8>) -> Result<bool, InputFault>
-    ensures unfed { IfOk result (λ _. HasNoLineFeed line.new.items) }
-    ensures few { IfOk result (λ _. length line.new.items ≤ most_held) }
-    ensures more { result ≡ Ok true
-        → EndsLine (B.remaining reader.old) (B.remaining reader.new) line.new.items }
-    ensures end { result ≡ Ok false → IsAtEnd (B.remaining reader.old) }
-    ensures err { OnErr result (Consumes (B.remaining reader.old) (B.remaining reader.new) line.new.items) }
+/// either, `line` has the bytes of the line that were taken.
+pub fn next_line<R: Read>(
+    reader: &mut R,
+    chunk: &mut Chunk,
+    line: &mut Vec<u8>,
+) -> Result<bool, InputFault>
+    ensures unfed { HasNoLineFeed line.new.items }
+    ensures few { length line.new.items ≤ most_held }
+    ensures more { result ≡ Ok true → EndsLine (prepend_known chunk.old (R.remaining reader.old))
+        (prepend_known chunk.new (R.remaining reader.new)) line.new.items }
+    ensures end { result ≡ Ok false → IsAtEnd (prepend_known chunk.old (R.remaining reader.old))
+        × Keeps (prepend_known chunk.old (R.remaining reader.old))
+        (prepend_known chunk.new (R.remaining reader.new)) }
+    ensures err { OnErr result (Consumes (prepend_known chunk.old (R.remaining reader.old))
+        (prepend_known chunk.new (R.remaining reader.new)) line.new.items) }
+    ensures brought { length chunk.new ≤ most_brought }
 {
     line.clear();
-    while line.len() <= LONGEST_LINE {
-        match take_part(reader, line)? {
+    loop {
+        match take_part(reader, chunk, line)? {
+            Part::More if line.len() > LONGEST_LINE => return Ok(true),
             Part::More => {}
             Part::Last => return Ok(true),
-            Part::End if line.is_empty() => return Ok(false),
-            Part::End => return Ok(true),
+            Part::End => return Ok(!line.is_empty()),
         }
     }
-    Ok(true)
 }

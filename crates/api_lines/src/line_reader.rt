@@ -1,15 +1,19 @@
-ghost use Rattle.std.specs.Prelude.{◌≡◌, ◌≤◌, Err, IfErr, IfOk, IfSome, MatchResult, Ok, OnOk, Result as Outcome};
+ghost use Rattle.std.specs.Prelude.{◌≡◌, ◌<◌, ◌≤◌, Err, IfErr, IfOk, IfSome, MatchResult, Ok, OnOk, OnSome, Result as Outcome, length};
+ghost use Rattle.std.specs.Io.KnownBytes.{IsAtEnd, Keeps, prepend_known};
 ghost use Rattle.serde_json.specs.Data.{Data};
 ghost use Rattle.api_lines.specs.Faults.{IfTextTold};
 ghost use Rattle.api_lines.specs.Lines.{HasNoLineFeed, lines_of, most_lines};
+ghost use Rattle.api_lines.specs.Sources.{IsTakenFor, most_brought};
 ghost use Rattle.api_lines.specs.Texts.{SoFar, next_line as after_next, read_lines};
 ghost use Rattle.api_lines.specs.declared.text_fault.TextCause.{TextCause as Cause};
 
+use crate::chunk::Chunk;
 use crate::line_input::{InputFault, next_line};
-use crate::lines::first_line;
-use crate::text_fault::{ReadFault, TextFault};
+use crate::lines::{MOST_LINES, first_line};
+use crate::text_fault::{ReadFault, TextCause, TextFault};
+use memchr::memchr;
 use std::alloc::Global;
-use std::io::BufRead;
+use std::io::Read;
 
 /// What reads a text line by line.
 pub trait LineReader {
@@ -36,7 +40,8 @@ pub trait LineReader {
 #[derive(Debug, Drop)]
 pub struct RefusedLine {
     pub fault: TextFault,
-    /// Its bytes without the line feed, or a front of 65,537 where it has more.
+    /// Its bytes without the line feed; a front of 65,537 where it has more; of the 4,194,305th line of a text what the last
+    /// read brought.
     pub line: Vec<u8>,
 }
 
@@ -58,28 +63,73 @@ pub fn take_text<L: LineReader>(reader: &mut L, text: &[u8]) -> Result<(), ReadF
     Ok(())
 }
 
+// Looks whether the bytes go on behind the most lines that a text may have: then the line there is refused. Nothing of it is
+// taken; it comes with what is at hand of it, in place of what `line` had.
+fn end_of_lines<R: Read>(
+    input: &mut R,
+    chunk: &mut Chunk,
+    mut line: Vec<u8>,
+) -> Result<Result<(), RefusedLine>, InputFault>
+    ensures kept { Keeps (prepend_known chunk.old (R.remaining input.old))
+        (prepend_known chunk.new (R.remaining input.new)) }
+    ensures end { IfOk result (λ told. OnOk told (IsAtEnd (prepend_known chunk.old (R.remaining input.old)))) }
+    ensures past { IfOk result (λ told. IfErr told (λ refused.
+        (refused.fault ≡ record { line = 4194305; cause = TextCause.Lines }) × IfSome (prepend_known chunk.old (R.remaining input.old))
+        (λ bytes. 0 < length bytes))) }
+    ensures brought { length chunk.new ≤ most_brought }
+{
+    chunk.fill(input)?;
+    let bytes = chunk.bytes();
+    if bytes.is_empty() {
+        return Ok(Ok(()));
+    }
+    let at_hand = match memchr(b'\n', bytes) {
+        Some(end) => &bytes[..end],
+        None => bytes,
+    };
+    line.clear();
+    line.extend_from_slice(at_hand)?;
+    let fault = TextFault {
+        line: MOST_LINES + 1,
+        cause: TextCause::Lines,
+    };
+    Ok(Err(RefusedLine { fault, line }))
+}
+
 /// Has the reader, which took no line yet, take the lines of the text that an input has to its end; or tells the first line
-/// that is refused. What comes after that line is not read.
+/// that is refused.
+///
+/// The input is asked for 32,768 bytes at a time, and where a line is refused for none behind it, so that nothing after that
+/// line is taken but what the last read brought (`taken`). Of a line that is too long 65,537 bytes are taken, and of the
+/// 4,194,305th none.
 ///
 /// A line at most is held, and no more than 65,537 bytes of one. `Read` is told where the input failed, `NoMemory` where a
-/// growth was refused: how far it has read is then not said.
-pub fn take_lines<L: LineReader, B: BufRead>(
+/// growth was refused: then the lines before the one at which it stopped are taken, and maybe a front of that one.
+pub fn take_lines<L: LineReader, R: Read>(
     alloc: Global,
     reader: &mut L,
-    input: &mut B,
+    input: &mut R,
 ) -> Result<Result<(), RefusedLine>, InputFault>
     requires { (L.reached reader.old).lines ≡ 0 }
-    ensures { IfOk result (λ told. IfSome (B.remaining input.old) (λ text. MatchResult told
+    ensures told { IfOk result (λ told. IfSome (R.remaining input.old) (λ text. MatchResult told
         (λ _. read_lines L.takes 1 (L.reached reader.old).state (lines_of text) ≡ Ok (L.reached reader.new).state)
         (λ refused. read_lines L.takes 1 (L.reached reader.old).state (lines_of text) ≡ Err refused.fault))) }
+    ensures taken { IsTakenFor (λ text. read_lines L.takes 1 (L.reached reader.old).state (lines_of text))
+        (R.remaining input.old) (R.remaining input.new) }
+    ensures end { IfOk result (λ told. OnOk told (OnSome (R.remaining input.old)
+        (IsAtEnd (R.remaining input.new)))) }
 {
+    let mut chunk = Chunk::new(alloc)?;
     let mut line = Vec::new(alloc);
-    while next_line(input, &mut line)? {
+    for _ in 0..MOST_LINES {
+        if !next_line(input, &mut chunk, &mut line)? {
+            return Ok(Ok(()));
+        }
         match reader.line(&line) {
             Ok(()) => {}
             Err(ReadFault::Text(fault)) => return Ok(Err(RefusedLine { fault, line })),
             Err(ReadFault::NoMemory) => return Err(InputFault::NoMemory),
         }
     }
-    Ok(Ok(()))
+    end_of_lines(input, &mut chunk, line)
 }

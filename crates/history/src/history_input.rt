@@ -1,4 +1,6 @@
-ghost use Rattle.std.specs.Prelude.{◌≡◌, Err, IfOk, IfSome, MatchResult, Ok};
+ghost use Rattle.std.specs.Prelude.{◌≡◌, Err, IfOk, IfSome, MatchResult, Ok, OnOk, OnSome};
+ghost use Rattle.std.specs.Io.KnownBytes.{IsAtEnd};
+ghost use Rattle.api_lines.specs.Sources.{IsTakenFor};
 ghost use Rattle.history.specs.Reading.{history_text};
 ghost use Rattle.history.specs.Text.{IsHistoryText};
 
@@ -7,23 +9,30 @@ use crate::history::History;
 use crate::reader::HistoryReader;
 use api_lines::{InputFault, TextFault, take_lines};
 use std::alloc::Global;
-use std::io::BufRead;
+use std::io::Read;
 
 /// The history whose text a reader has to its end; or the first line that is refused, with its first cause, as `read` tells
-/// them of the text. What comes after that line is not read.
+/// them of the text.
+///
+/// The reader is asked for 32,768 bytes at a time, and for none behind the line that is refused: nothing after that line is
+/// taken but what the last read brought. Of a line that is too long 65,537 bytes are taken, and of the 4,194,305th none.
 ///
 /// The history has these keys. A line at most is held, and no more than 65,537 bytes of one. `Read` is told where the reader
-/// failed, `NoMemory` where a growth was refused: how far it has read is then not said.
-pub fn read_from<B: BufRead>(
+/// failed, an interruption too, `NoMemory` where a growth was refused: then the lines before the one at which it stopped are
+/// taken, and maybe a front of that one.
+pub fn read_from<R: Read>(
     alloc: Global,
     keys: HashKeys,
-    input: &mut B,
+    input: &mut R,
 ) -> Result<Result<History, TextFault>, InputFault>
-    ensures told { IfOk result (λ told. IfSome (B.remaining input.old) (λ text. MatchResult told
+    ensures told { IfOk result (λ told. IfSome (R.remaining input.old) (λ text. MatchResult told
         (λ history. history_text text ≡ Ok history)
         (λ fault. history_text text ≡ Err fault))) }
-    ensures text { IfOk result (λ told. IfSome (B.remaining input.old)
+    ensures text { IfOk result (λ told. IfSome (R.remaining input.old)
         (λ text. IfOk told (IsHistoryText text))) }
+    ensures taken { IsTakenFor history_text (R.remaining input.old) (R.remaining input.new) }
+    ensures end { IfOk result (λ told. OnOk told (OnSome (R.remaining input.old)
+        (IsAtEnd (R.remaining input.new)))) }
 {
     let mut reader = HistoryReader::with_keys(alloc, keys);
     match take_lines(alloc, &mut reader, input)? {

@@ -1,2 +1,3 @@
 mod PieceLemmas
+pub mod TakenLemmas
 pub mod WrittenLemmas

@@ -1,21 +1,21 @@
-ghost use Rattle.std.specs.Prelude.{◌≡◌, Err, IfOk, IfSome, MatchResult, Ok, map};
+ghost use Rattle.std.specs.Prelude.{◌≡◌, ℕ, Err, IfOk, IfSome, List, MatchResult, Ok, OnErr, OnOk, OnSome, map};
+ghost use Rattle.std.specs.Io.KnownBytes.{Consumes, IsAtEnd};
 ghost use Rattle.history.specs.Reading.{history_text};
 ghost use Rattle.history.specs.Text.{IsHistoryText};
+ghost use Rattle.stream_io.specs.Taken.{TakesHistory, TakesWitness};
 ghost use Rattle.witness.specs.Documents.{doc_places};
 ghost use Rattle.witness.specs.Text.{witness_text};
 
-use api_lines::{InputFault, TextFault};
+use api_lines::{CHUNK, InputFault, TextFault};
 use history::{HashKeys, History, read_from};
 use std::alloc::Global;
-use std::io::{BufReader, Read};
+use std::io::Read;
 use version_pair::DocId;
 use witness::{Place, read_witness_from};
 
-/// How many bytes are asked for at once.
-pub const CHUNK: usize = 32_768;
-
-/// The history, with these keys, whose text the reader has to its end; or the first line that is refused. What comes after that line is not
-/// read. A fault of the reader of any kind, an interruption too, ends the reading.
+/// The history, with these keys, whose text the reader has to its end; or the first line that is refused. Nothing after that line
+/// is taken but what the last read brought, which is asked for 32,768 bytes. A fault of the reader of any kind, an interruption
+/// too, ends the reading.
 pub fn read_history<R: Read>(
     alloc: Global,
     keys: HashKeys,
@@ -26,32 +26,36 @@ pub fn read_history<R: Read>(
     ensures told { IfOk result (λ told. IfSome (R.remaining reader.old) (λ text. MatchResult told
         (λ history. history_text text ≡ Ok history)
         (λ fault. history_text text ≡ Err fault))) }
+    ensures taken { TakesHistory (R.remaining reader.old) (R.remaining reader.new) }
+    ensures end { IfOk result (λ told. OnOk told (OnSome (R.remaining reader.old)
+        (IsAtEnd (R.remaining reader.new)))) }
 {
-    match BufReader::with_capacity(alloc, CHUNK, reader) {
-        Ok(mut input) => read_from(alloc, keys, &mut input),
-        Err(_) => Err(InputFault::NoMemory),
-    }
+    read_from(alloc, keys, reader)
 }
 
-/// The entries of the witness text that the reader has to its end; or the first line that is refused. What comes after that
-/// line is not read. A fault of the reader of any kind, an interruption too, ends the reading.
+/// The entries of the witness text that the reader has to its end; or the first line that is refused. Nothing after that line is
+/// taken but what the last read brought, which is asked for 32,768 bytes. A fault of the reader of any kind, an interruption
+/// too, ends the reading.
 pub fn read_entries<R: Read>(
     alloc: Global,
     reader: &mut R,
 ) -> Result<Result<Vec<(DocId, Vec<Place>)>, TextFault>, InputFault>
-    ensures { IfOk result (λ told. IfSome (R.remaining reader.old) (λ text. MatchResult told
+    ensures told { IfOk result (λ told. IfSome (R.remaining reader.old) (λ text. MatchResult told
         (λ entries. witness_text text ≡ Ok (map doc_places entries.items))
         (λ fault. witness_text text ≡ Err fault))) }
+    ensures taken { TakesWitness (R.remaining reader.old) (R.remaining reader.new) }
+    ensures end { IfOk result (λ told. OnOk told (OnSome (R.remaining reader.old)
+        (IsAtEnd (R.remaining reader.new)))) }
 {
-    match BufReader::with_capacity(alloc, CHUNK, reader) {
-        Ok(mut input) => read_witness_from(alloc, &mut input),
-        Err(_) => Err(InputFault::NoMemory),
-    }
+    read_witness_from(alloc, reader)
 }
 
-/// All bytes of the reader to its end. A fault of the reader of any kind, an interruption too, ends the reading.
+/// All bytes of the reader to its end, of which 32,768 are asked for at once. A fault of the reader of any kind, an interruption
+/// too, ends the reading: then some front of them is taken.
 pub fn read_all<R: Read>(alloc: Global, reader: &mut R) -> Result<Vec<u8>, InputFault>
-    ensures { IfOk result (λ bytes. IfSome (R.remaining reader.old) (λ input. bytes.items ≡ input)) }
+    ensures all { IfOk result (λ bytes. IfSome (R.remaining reader.old) (λ input. bytes.items ≡ input)) }
+    ensures end { OnOk result (OnSome (R.remaining reader.old) (IsAtEnd (R.remaining reader.new))) }
+    ensures left { OnErr result ((front : List ℕ) × Consumes (R.remaining reader.old) (R.remaining reader.new) front) }
 {
     let mut chunk = [0u8; CHUNK];
     let mut bytes = Vec::new(alloc);

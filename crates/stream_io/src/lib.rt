@@ -14,7 +14,8 @@ mod status;
 mod stream_fault;
 
 pub use answer::Answer;
-pub use input::{CHUNK, read_all, read_entries, read_history};
+pub use api_lines::CHUNK;
+pub use input::{read_all, read_entries, read_history};
 pub use output::{write_answer, write_text};
 pub use status::Status;
 pub use stream_fault::StreamFault;

@@ -1,4 +1,6 @@
-ghost use Rattle.std.specs.Prelude.{◌≡◌, Err, IfOk, IfSome, MatchResult, Ok, map};
+ghost use Rattle.std.specs.Prelude.{◌≡◌, Err, IfOk, IfSome, MatchResult, Ok, OnOk, OnSome, map};
+ghost use Rattle.std.specs.Io.KnownBytes.{IsAtEnd};
+ghost use Rattle.api_lines.specs.Sources.{IsTakenFor};
 ghost use Rattle.witness.specs.Documents.{doc_places};
 ghost use Rattle.witness.specs.Text.{witness_text};
 
@@ -6,21 +8,28 @@ use crate::place::Place;
 use crate::witness_reader::WitnessReader;
 use api_lines::{InputFault, TextFault, take_lines};
 use std::alloc::Global;
-use std::io::BufRead;
+use std::io::Read;
 use version_pair::DocId;
 
 /// The documents of the witness text that a reader has to its end, each with its places; or the first line that is refused,
-/// with its first cause, as `read_witness` tells them of the text. What comes after that line is not read.
+/// with its first cause, as `read_witness` tells them of the text.
 ///
-/// A line at most is held, and no more than 65,537 bytes of one. `Read` is told where the reader failed, `NoMemory` where a growth
-/// was refused: how far it has read is then not said.
-pub fn read_witness_from<B: BufRead>(
+/// The reader is asked for 32,768 bytes at a time, and for none behind the line that is refused: nothing after that line is
+/// taken but what the last read brought. Of a line that is too long 65,537 bytes are taken, and of the 4,194,305th none.
+///
+/// A line at most is held, and no more than 65,537 bytes of one. `Read` is told where the reader failed, an interruption too,
+/// `NoMemory` where a growth was refused: then the lines before the one at which it stopped are taken, and maybe a front of
+/// that one.
+pub fn read_witness_from<R: Read>(
     alloc: Global,
-    input: &mut B,
+    input: &mut R,
 ) -> Result<Result<Vec<(DocId, Vec<Place>)>, TextFault>, InputFault>
-    ensures { IfOk result (λ told. IfSome (B.remaining input.old) (λ text. MatchResult told
+    ensures told { IfOk result (λ told. IfSome (R.remaining input.old) (λ text. MatchResult told
         (λ documents. witness_text text ≡ Ok (map doc_places documents.items))
         (λ fault. witness_text text ≡ Err fault))) }
+    ensures taken { IsTakenFor witness_text (R.remaining input.old) (R.remaining input.new) }
+    ensures end { IfOk result (λ told. OnOk told (OnSome (R.remaining input.old)
+        (IsAtEnd (R.remaining input.new)))) }
 {
     let mut reader = WitnessReader::new(alloc);
     match take_lines(alloc, &mut reader, input)? {

@@ -1,45 +1,136 @@
-use Rattle.std.proofs.Common.{arith, ℕ, ◌≡◌, ap, refl, subst, sym, Ok, Err, IfSome}
-use Rattle.api_lines.proofs.InputLemmas.{IsReadOn, next_counts, on_all, on_more, on_none, on_stop}
+use Rattle.std.proofs.Common.{arith, rules, ℕ, List, Option, Result, ◌≡◌, ◌<◌, ◌+◌, ◌∙◌, [], ap, inl, inr, length, subst, sym, Ok, Err, IfOk, IfSome, OnOk}
+use Rattle.std.specs.Prelude.{IfErr, MatchResult, OnSome}
+use Rattle.std.specs.Io.KnownBytes.{IsAtEnd, Keeps, prepend_known}
+use Rattle.std.proofs.KnownBytes.{prepend_known-nil}
+use Rattle.serde_json.specs.Data.{Data}
+use Rattle.api_lines.proofs.InputLemmas.{IsReadOn, next_counts, none_taken, on_all, on_end, on_kept, on_line, on_more, on_none, on_past_last, on_stop, on_stopped}
 use Rattle.api_lines.specs.Faults.{IfTextTold}
-use Rattle.api_lines.specs.Lines.{HasNoLineFeed}
-use Rattle.api_lines.specs.Texts.{next_line, so_far}
+use Rattle.api_lines.specs.Lines.{HasNoLineFeed, lines_of, most_lines}
+use Rattle.api_lines.specs.Texts.{SoFar, next_line, read_lines, so_far}
+use Rattle.api_lines.specs.declared.line_reader.RefusedLine.{RefusedLine}
 use Rattle.api_lines.specs.declared.text_fault.ReadFault.TheVariants as refusal
+use Rattle.api_lines.specs.declared.text_fault.TextCause.{TextCause}
+use Rattle.api_lines.specs.declared.text_fault.TextCause.TheVariants.{Lines}
 use Rattle.api_lines.proofs.line_reader.take_lines.Goals as goal
 
-pub loop-line-init : goal.loop-line-init
-loop-line-init g c =
-    let start = g.L.LineReader.reached c.args.reader.now in
-    subst (λ n. IsReadOn g.L.LineReader.takes start.state (g.B.Read.remaining c.args.input.now) (g.B.Read.remaining c.args.input.now) (so_far start.state n))
-    (sym c.requires) (on_none g.L.LineReader.takes start.state (g.B.Read.remaining c.args.input.now))
+pub returns-in_err-chunk-clause-taken : goal.returns-in_err-chunk-clause-taken
+returns-in_err-chunk-clause-taken g c = none_taken g.L.LineReader.takes (g.L.LineReader.reached c.args.reader.now).state (g.R.Read.remaining c.args.input.now)
+
+-- before the first line
+begins : {S : Type 0} (takes : S → Data → Result S TextCause) (input : Option (List ℕ)) (chunk : List ℕ) (r : SoFar S)
+    → chunk ≡ [] → r.lines ≡ 0 → IsReadOn takes r.state input (prepend_known chunk input) r
+begins takes input chunk r empty none =
+    subst (λ old. IsReadOn takes r.state input old r) (sym (ap (λ l. prepend_known l input) empty ∙ prepend_known-nil input))
+    (subst (λ n. IsReadOn takes r.state input input (so_far r.state n)) (sym none) (on_none takes r.state input))
+
+pub loop-init : goal.loop-init
+loop-init g c = record {
+  read = begins g.L.LineReader.takes (g.R.Read.remaining c.args.input.now) c.in_ok-chunk.chunk (g.L.LineReader.reached c.args.reader.now) c.in_ok-chunk.ensures c.requires;
+  count = c.requires;
+}
+
+pub returns-in_err-next_line-clause-taken : goal.returns-in_err-next_line-clause-taken
+returns-in_err-next_line-clause-taken g c =
+    on_stopped g.L.LineReader.takes (g.L.LineReader.reached c.args.reader.now).state (g.R.Read.remaining c.args.input.now)
+    (prepend_known c.loop.chunk (g.R.Read.remaining c.loop.input)) (g.R.Read.remaining c.next_line.new.reader) c.next_line.new.chunk c.next_line.new.line.items
+    (g.L.LineReader.reached c.loop.reader) c.loop.invariant.read c.in_err-next_line.ensures.err (inl c.in_err-next_line.ensures.unfed)
+    c.in_err-next_line.ensures.few (inr (omega (arith, c.loop-test.true, c.loop.invariant.count))) c.in_err-next_line.ensures.brought
+
+pub returns-then-not-branch-clause-told : goal.returns-then-not-branch-clause-told
+returns-then-not-branch-clause-told g c =
+    on_all g.L.LineReader.takes (g.L.LineReader.reached c.args.reader.now).state (g.R.Read.remaining c.args.input.now)
+    (prepend_known c.loop.chunk (g.R.Read.remaining c.loop.input)) (g.L.LineReader.reached c.loop.reader) c.loop.invariant.read
+    (c.in_ok-next_line.ensures.end (ap (λ b. Ok b) c.if-not-branch.true)).0
+
+pub returns-then-not-branch-clause-taken : goal.returns-then-not-branch-clause-taken
+returns-then-not-branch-clause-taken g c =
+    on_kept g.L.LineReader.takes (g.L.LineReader.reached c.args.reader.now).state (g.R.Read.remaining c.args.input.now)
+    (prepend_known c.loop.chunk (g.R.Read.remaining c.loop.input)) (g.R.Read.remaining c.next_line.new.reader) c.next_line.new.chunk
+    (g.L.LineReader.reached c.loop.reader) c.loop.invariant.read (c.in_ok-next_line.ensures.end (ap (λ b. Ok b) c.if-not-branch.true)).1 c.in_ok-next_line.ensures.brought
+
+pub returns-then-not-branch-clause-end : goal.returns-then-not-branch-clause-end
+returns-then-not-branch-clause-end g c =
+    let ended = c.in_ok-next_line.ensures.end (ap (λ b. Ok b) c.if-not-branch.true) in
+    on_end g.L.LineReader.takes (g.L.LineReader.reached c.args.reader.now).state (g.R.Read.remaining c.args.input.now)
+    (prepend_known c.loop.chunk (g.R.Read.remaining c.loop.input)) (g.R.Read.remaining c.next_line.new.reader) c.next_line.new.chunk
+    (g.L.LineReader.reached c.loop.reader) c.loop.invariant.read ended.0 ended.1
 
 pub line-requires : goal.line-requires
 line-requires g c = subst HasNoLineFeed (sym c.deref.ensures.value) c.in_ok-next_line.ensures.unfed
 
-pub loop-line-preserved : goal.loop-line-preserved
-loop-line-preserved g c =
-    on_more g.L.LineReader.takes (g.L.LineReader.reached c.args.reader.now).state (g.B.Read.remaining c.args.input.now) (g.B.Read.remaining c.loop-line.input)
-    (g.B.Read.remaining c.next_line.new.reader) c.next_line.new.line.items
-    (g.L.LineReader.reached c.loop-line.reader) (g.L.LineReader.reached c.line.new.self) c.loop-line.invariant c.in_ok-next_line.ensures.unfed
-    (c.in_ok-next_line.ensures.more (ap (λ b. Ok b) c.if-branch.true))
-    (subst (λ l. next_line g.L.LineReader.takes (g.L.LineReader.reached c.loop-line.reader) l ≡ Ok (g.L.LineReader.reached c.line.new.self)) c.deref.ensures.value
-    c.in-Ok.ensures.ok) c.in-Ok.ensures.within
+pub returns-in-Err-Text-clause-told : goal.returns-in-Err-Text-clause-told
+returns-in-Err-Text-clause-told g c =
+    let told : IfSome (g.R.Read.remaining c.args.input.now) (λ text. read_lines g.L.LineReader.takes 1 (g.L.LineReader.reached c.args.reader.now).state (lines_of text) ≡ Err c.in-Err-Text.fault) =
+    on_stop g.L.LineReader.takes (g.L.LineReader.reached c.args.reader.now).state (g.R.Read.remaining c.args.input.now)
+    (prepend_known c.loop.chunk (g.R.Read.remaining c.loop.input)) (prepend_known c.next_line.new.chunk (g.R.Read.remaining c.next_line.new.reader))
+    c.next_line.new.line.items (g.L.LineReader.reached c.loop.reader) (refusal.Text c.in-Err-Text.fault) c.loop.invariant.read c.in_ok-next_line.ensures.unfed
+    (c.in_ok-next_line.ensures.more (ap (λ b. Ok b) c.if-not-branch.false))
+    (subst (λ l. next_line g.L.LineReader.takes (g.L.LineReader.reached c.loop.reader) l ≡ Err c.in-Err-Text.fault) c.deref.ensures.value
+    (subst (λ f. IfTextTold f (λ told. next_line g.L.LineReader.takes (g.L.LineReader.reached c.loop.reader) c.deref.result.now ≡ Err told))
+    c.in-Err-Text.field-0-is c.in-Err-Text.ensures.fault)) in
+    search (rules, c.in-Err-Text.fault-is)
 
-pub returns-in-Err-Text : goal.returns-in-Err-Text
-returns-in-Err-Text g c =
-    on_stop g.L.LineReader.takes (g.L.LineReader.reached c.args.reader.now).state (g.B.Read.remaining c.args.input.now) (g.B.Read.remaining c.loop-line.input)
-    (g.B.Read.remaining c.next_line.new.reader) c.next_line.new.line.items
-    (g.L.LineReader.reached c.loop-line.reader) (refusal.Text c.in-Err-Text.fault) c.loop-line.invariant c.in_ok-next_line.ensures.unfed
-    (c.in_ok-next_line.ensures.more (ap (λ b. Ok b) c.if-branch.true))
-    (subst (λ l. next_line g.L.LineReader.takes (g.L.LineReader.reached c.loop-line.reader) l ≡ Err c.in-Err-Text.fault) c.deref.ensures.value
-    (subst (λ f. IfTextTold f (λ told. next_line g.L.LineReader.takes (g.L.LineReader.reached c.loop-line.reader) c.deref.result.now ≡ Err told))
-    c.in-Err-Text.field-0-is c.in-Err-Text.ensures.fault))
+pub returns-in-Err-Text-clause-taken : goal.returns-in-Err-Text-clause-taken
+returns-in-Err-Text-clause-taken g c =
+    on_line g.L.LineReader.takes (g.L.LineReader.reached c.args.reader.now).state (g.R.Read.remaining c.args.input.now)
+    (prepend_known c.loop.chunk (g.R.Read.remaining c.loop.input)) (g.R.Read.remaining c.next_line.new.reader) c.next_line.new.chunk c.next_line.new.line.items
+    (g.L.LineReader.reached c.loop.reader) c.loop.invariant.read (c.in_ok-next_line.ensures.more (ap (λ b. Ok b) c.if-not-branch.false))
+    c.in_ok-next_line.ensures.unfed c.in_ok-next_line.ensures.few (omega (arith, c.loop-test.true, c.loop.invariant.count)) c.in_ok-next_line.ensures.brought
 
-pub returns : goal.returns
-returns g c =
-    on_all g.L.LineReader.takes (g.L.LineReader.reached c.args.reader.now).state (g.B.Read.remaining c.args.input.now) (g.B.Read.remaining c.loop-line.input)
-    (g.L.LineReader.reached c.loop-line.reader) c.loop-line.invariant (c.in_ok-next_line.ensures.end (ap (λ b. Ok b) c.if-branch.false))
+pub returns-in-Err-NoMemory-clause-taken : goal.returns-in-Err-NoMemory-clause-taken
+returns-in-Err-NoMemory-clause-taken g c =
+    on_line g.L.LineReader.takes (g.L.LineReader.reached c.args.reader.now).state (g.R.Read.remaining c.args.input.now)
+    (prepend_known c.loop.chunk (g.R.Read.remaining c.loop.input)) (g.R.Read.remaining c.next_line.new.reader) c.next_line.new.chunk c.next_line.new.line.items
+    (g.L.LineReader.reached c.loop.reader) c.loop.invariant.read (c.in_ok-next_line.ensures.more (ap (λ b. Ok b) c.if-not-branch.false))
+    c.in_ok-next_line.ensures.unfed c.in_ok-next_line.ensures.few (omega (arith, c.loop-test.true, c.loop.invariant.count)) c.in_ok-next_line.ensures.brought
 
-pub loop-line-smaller : goal.loop-line-smaller
-loop-line-smaller g c =
-    let one = next_counts g.L.LineReader.takes (g.L.LineReader.reached c.loop-line.reader) (g.L.LineReader.reached c.line.new.self) c.deref.result.now c.in-Ok.ensures.ok in
-    omega (arith, one, c.in-Ok.ensures.within)
+pub loop-preserved : goal.loop-preserved
+loop-preserved g c =
+    let next : next_line g.L.LineReader.takes (g.L.LineReader.reached c.loop.reader) c.next_line.new.line.items ≡ Ok (g.L.LineReader.reached c.line.new.self) =
+    subst (λ l. next_line g.L.LineReader.takes (g.L.LineReader.reached c.loop.reader) l ≡ Ok (g.L.LineReader.reached c.line.new.self)) c.deref.ensures.value
+    c.in-Ok.ensures.ok in
+    record {
+      read =
+          on_more g.L.LineReader.takes (g.L.LineReader.reached c.args.reader.now).state (g.R.Read.remaining c.args.input.now)
+          (prepend_known c.loop.chunk (g.R.Read.remaining c.loop.input)) (prepend_known c.next_line.new.chunk (g.R.Read.remaining c.next_line.new.reader))
+          c.next_line.new.line.items (g.L.LineReader.reached c.loop.reader) (g.L.LineReader.reached c.line.new.self) c.loop.invariant.read
+          c.in_ok-next_line.ensures.unfed (c.in_ok-next_line.ensures.more (ap (λ b. Ok b) c.if-not-branch.false)) next c.in-Ok.ensures.within;
+      count =
+          next_counts g.L.LineReader.takes (g.L.LineReader.reached c.loop.reader) (g.L.LineReader.reached c.line.new.self) c.next_line.new.line.items next
+          ∙ ap (λ n. n + 1) c.loop.invariant.count;
+    }
+
+-- what is told behind the most lines
+ends : {S U E : Type 0} (takes : S → Data → Result S TextCause) (start : S) (input old : Option (List ℕ)) (r : SoFar S) (told : Result (Result U RefusedLine) E)
+    → IsReadOn takes start input old r → r.lines ≡ most_lines → IfOk told (λ t. OnOk t (IsAtEnd old))
+    → IfOk told (λ t. IfErr t (λ refused. (refused.fault ≡ record { line = 4194305; cause = Lines }) × IfSome old (λ bytes. 0 < length bytes)))
+    → IfOk told (λ t. IfSome input (λ text. MatchResult t (λ _. read_lines takes 1 start (lines_of text) ≡ Ok r.state)
+    (λ refused. read_lines takes 1 start (lines_of text) ≡ Err refused.fault)))
+ends takes start input old r (Ok (Ok u)) before all end past = on_all takes start input old r before end
+ends takes start input old r (Ok (Err refused)) before all end past = on_past_last takes start input old r refused.fault before all past.0 past.1
+ends takes start input old r (Err fault) before all end past = tt
+
+ends_empty : {S U E : Type 0} (takes : S → Data → Result S TextCause) (start : S) (input old rest : Option (List ℕ)) (chunk : List ℕ) (r : SoFar S)
+    (told : Result (Result U RefusedLine) E)
+    → IsReadOn takes start input old r → Keeps old (prepend_known chunk rest) → IfOk told (λ t. OnOk t (IsAtEnd old)) → IfOk told (λ t. OnOk t (OnSome input (IsAtEnd rest)))
+ends_empty takes start input old rest chunk r (Ok (Ok u)) before kept end = on_end takes start input old rest chunk r before end kept
+ends_empty takes start input old rest chunk r (Ok (Err refused)) before kept end = tt
+ends_empty takes start input old rest chunk r (Err fault) before kept end = tt
+
+pub returns-clause-told : goal.returns-clause-told
+returns-clause-told g c =
+    ends g.L.LineReader.takes (g.L.LineReader.reached c.args.reader.now).state (g.R.Read.remaining c.args.input.now)
+    (prepend_known c.loop.chunk (g.R.Read.remaining c.loop.input)) (g.L.LineReader.reached c.loop.reader) c.end_of_lines.result c.loop.invariant.read
+    (omega (arith, c.loop-test.false, c.loop.auto.counter-end, c.loop.invariant.count)) c.end_of_lines.ensures.end c.end_of_lines.ensures.past
+
+pub returns-clause-taken : goal.returns-clause-taken
+returns-clause-taken g c =
+    on_kept g.L.LineReader.takes (g.L.LineReader.reached c.args.reader.now).state (g.R.Read.remaining c.args.input.now)
+    (prepend_known c.loop.chunk (g.R.Read.remaining c.loop.input)) (g.R.Read.remaining c.end_of_lines.new.input) c.end_of_lines.new.chunk
+    (g.L.LineReader.reached c.loop.reader) c.loop.invariant.read c.end_of_lines.ensures.kept c.end_of_lines.ensures.brought
+
+pub returns-clause-end : goal.returns-clause-end
+returns-clause-end g c =
+    ends_empty g.L.LineReader.takes (g.L.LineReader.reached c.args.reader.now).state (g.R.Read.remaining c.args.input.now)
+    (prepend_known c.loop.chunk (g.R.Read.remaining c.loop.input)) (g.R.Read.remaining c.end_of_lines.new.input) c.end_of_lines.new.chunk
+    (g.L.LineReader.reached c.loop.reader) c.end_of_lines.result c.loop.invariant.read c.end_of_lines.ensures.kept c.end_of_lines.ensures.end

@@ -1,4 +1,4 @@
-use Rattle.std.proofs.Common.{◌≡◌, rules, length, subst, sym, Ok, ◌∙◌, ap}
+use Rattle.std.proofs.Common.{◌≡◌, rules, length, subst, sym}
 use Rattle.std.proofs.lemmas.Result.{err_from_is_err_and}
 use Rattle.api_lines.proofs.LineByLine.{taken_more, taken_until}
 use Rattle.api_lines.proofs.ReadingLemmas.{IsReadUpTo, read_all, read_none}

@@ -12,5 +12,5 @@ texts (Some text) events read = read_is_text text events read
 
 pub returns-in-Ok-clause-text : goal.returns-in-Ok-clause-text
 returns-in-Ok-clause-text g c =
-    let read : IfSome (g.B.Read.remaining c.args.input.now) (λ text. history_text text ≡ Ok c.finish.result) = search rules in
-    texts (g.B.Read.remaining c.args.input.now) c.finish.result read
+    let read : IfSome (g.R.Read.remaining c.args.input.now) (λ text. history_text text ≡ Ok c.finish.result) = search rules in
+    texts (g.R.Read.remaining c.args.input.now) c.finish.result read
