@@ -1,11 +1,13 @@
-ghost use Rattle.std.specs.Prelude.{◌≡◌, Err, IfOk, IfSome, MatchResult, Ok};
+ghost use Rattle.std.specs.Prelude.{◌≡◌, Err, IfOk, IfSome, MatchResult, Ok, OnOk, OnSome};
+ghost use Rattle.std.specs.Io.KnownBytes.{IsAtEnd};
+ghost use Rattle.api_lines.specs.Sources.{IsTakenFor};
 ghost use Rattle.history.specs.Reading.{history_text, takes_value};
 
 use crate::event_lines::EventLines;
 use api_lines::{InputFault, LineReader, ReadFault, RefusedLine, take_lines};
 use history::{HashKeys, History, HistoryReader};
 use std::alloc::Global;
-use std::io::BufRead;
+use std::io::Read;
 
 // A history that is read line by line, and on which lines its events stand.
 #[derive(Drop)]
@@ -34,15 +36,19 @@ impl LineReader for NumberedReader {
 }
 
 /// The history, with these keys, whose text the input has to its end, and on which lines its events stand; or the first line
-/// that is refused. What comes after that line is not read. A fault of the input of any kind ends the reading.
-pub fn read_numbered_from<B: BufRead>(
+/// that is refused. Nothing after that line is taken but what the last read brought, which is asked for 32,768 bytes. A fault
+/// of the input of any kind ends the reading.
+pub fn read_numbered_from<R: Read>(
     alloc: Global,
     keys: HashKeys,
-    input: &mut B,
+    input: &mut R,
 ) -> Result<Result<(History, EventLines), RefusedLine>, InputFault>
-    ensures { IfOk result (λ told. IfSome (B.remaining input.old) (λ text. MatchResult told
+    ensures told { IfOk result (λ told. IfSome (R.remaining input.old) (λ text. MatchResult told
         (λ read. history_text text ≡ Ok read.0)
         (λ refused. history_text text ≡ Err refused.fault))) }
+    ensures taken { IsTakenFor history_text (R.remaining input.old) (R.remaining input.new) }
+    ensures end { IfOk result (λ told. OnOk told (OnSome (R.remaining input.old)
+        (IsAtEnd (R.remaining input.new)))) }
 {
     let mut reader = NumberedReader {
         history: HistoryReader::with_keys(alloc, keys),
