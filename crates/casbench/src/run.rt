@@ -6,6 +6,8 @@ ghost use Rattle.report.specs.Explained.{ExplainsInput};
 ghost use Rattle.report.specs.Verdict.{IsAnswered, WitnessesInput};
 ghost use Rattle.recorded_runs.specs.Runs.{IsRunText};
 ghost use Rattle.recorded_runs.specs.declared.run_setting.RunSetting.{RunSetting as Setting};
+ghost use Rattle.casbench.specs.Faults.{MayFail};
+ghost use Rattle.stream_io.specs.Faults.{IsWorkedFault};
 ghost use Rattle.stream_io.specs.Written.{HasAnswer};
 
 use crate::files::{create_or_none, open_both, open_or};
@@ -55,6 +57,7 @@ fn explain<T: Threads + Wait + Sync, R: Read, W: Write, P: Write>(
         (W.contents writer.old) (W.contents writer.new)) }
     ensures kept { IfErr result (λ fault. fault ≢ StreamFault.Write
         → Keeps (W.contents writer.old) (W.contents writer.new)) }
+    ensures told { IfErr result IsWorkedFault }
 {
     match page {
         None => explain_stream(threads, alloc, keys, history, writer, workers, conflicts),
@@ -97,6 +100,8 @@ pub fn run<R: Files + Eprint, T: Threads + Wait + Sync, I: Read + Drop, W: Write
         (W.contents writer.old) (W.contents writer.new)) }
     ensures kept { IfErr result (λ fault. fault ≢ StreamFault.Write
         → Keeps (W.contents writer.old) (W.contents writer.new)) }
+    // Each command answers its own faults alone.
+    ensures told { IfErr result (MayFail words.entry) }
 {
     match words {
         Words::Check {

@@ -1,3 +1,4 @@
 pub mod Bulk
 pub mod Verdict
+pub mod Workers
 pub mod Explained

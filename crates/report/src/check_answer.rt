@@ -5,7 +5,9 @@ ghost use Rattle.history.specs.Text.{IsHistoryText};
 ghost use Rattle.compose.specs.Checked.{IsVerdictOn};
 ghost use Rattle.result_lines.specs.Lines.{no_line as told_no, refused_line as told_refused, refuted_line as told_refuted, yes_line as told_yes};
 ghost use Rattle.stream_io.specs.Faults.{IsCheckFault};
+ghost use Rattle.stream_io.specs.Taken.{TakesHistory};
 ghost use Rattle.report.specs.Verdict.{AnswersInput, IsAnswer, IsWitnessAnswer};
+ghost use Rattle.report.specs.Workers.{HasDocument, NamesOwnDocument};
 
 use api_lines::TextFault;
 use check_pool::{NoGate, PoolFault};
@@ -104,6 +106,7 @@ fn verdict_by<R: Threads + Wait + Sync>(
     requires few { workers ≤ 16 }
     ensures verdict { IfOk result (IsVerdictOn conflicts history) }
     ensures told { IfErr result IsCheckFault }
+    ensures named { IfErr result (HasDocument history) }
 {
     if workers == 1 {
         return match check_alone(alloc, history, conflicts) {
@@ -136,6 +139,7 @@ pub fn history_answer<R: Threads + Wait + Sync>(
     ensures answer { IfOk result (λ told. (input : List ℕ) → IsHistoryText input history
         → IsAnswer conflicts input told.0.status told.0.text.items) }
     ensures told { IfErr result IsCheckFault }
+    ensures named { IfErr result (HasDocument history) }
 {
     match verdict_by(rt, alloc, history, workers, conflicts) {
         Ok(Verdict::Yes(proof)) => {
@@ -164,12 +168,14 @@ pub fn check_answer<T: Threads + Wait + Sync, R: Read>(
     ensures answer { IfOk result (λ answer. AnswersInput conflicts (R.remaining reader.old) answer.status
         answer.text.items) }
     ensures told { IfErr result IsCheckFault }
+    ensures named { IfErr result (NamesOwnDocument (R.remaining reader.old)) }
+    ensures taken { TakesHistory (R.remaining reader.old) (R.remaining reader.new) }
 {
     match read_history(alloc, keys, reader) {
-        Ok(Ok(history)) => {
-            let (answer, _) = history_answer(rt, alloc, history, workers, conflicts)?;
-            Ok(answer)
-        }
+        Ok(Ok(history)) => match history_answer(rt, alloc, history, workers, conflicts) {
+            Ok((answer, _)) => Ok(answer),
+            Err(fault) => Err(fault),
+        },
         Ok(Err(fault)) => {
             let answer = refusal(alloc, fault)?;
             Ok(answer)

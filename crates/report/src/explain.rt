@@ -3,8 +3,10 @@
 ghost use Rattle.std.specs.Prelude.{◌≡◌, ◌≤◌, ◌++◌, ℕ, List, IfErr, IfOk};
 ghost use Rattle.page.specs.Pages.{IsPage};
 ghost use Rattle.stream_io.specs.Faults.{IsCheckFault};
+ghost use Rattle.stream_io.specs.Taken.{TakesHistory};
 ghost use Rattle.report.specs.Explained.{ExplainsInput};
 ghost use Rattle.report.specs.Verdict.{AnswersInput};
+ghost use Rattle.report.specs.Workers.{NamesOwnDocument};
 
 use crate::check_answer::{history_answer, refusal};
 use crate::numbered_input::read_numbered;
@@ -63,6 +65,8 @@ fn explain<T: Threads + Wait + Sync, R: Read>(
     ensures answer { IfOk result (λ told. AnswersInput conflicts (R.remaining reader.old) told.0.status
         told.0.text.items) }
     ensures told { IfErr result IsCheckFault }
+    ensures named { IfErr result (NamesOwnDocument (R.remaining reader.old)) }
+    ensures taken { TakesHistory (R.remaining reader.old) (R.remaining reader.new) }
 {
     match read_numbered(alloc, keys, reader) {
         Ok(Ok((history, lines))) => {
@@ -110,6 +114,8 @@ pub fn explained_text<T: Threads + Wait + Sync, R: Read>(
     ensures answer { IfOk result (λ told. ExplainsInput conflicts (R.remaining reader.old) told.status
         told.text.items) }
     ensures told { IfErr result IsCheckFault }
+    ensures named { IfErr result (NamesOwnDocument (R.remaining reader.old)) }
+    ensures taken { TakesHistory (R.remaining reader.old) (R.remaining reader.new) }
 {
     let (answer, story) = explain(rt, alloc, keys, reader, workers, conflicts)?;
     let told = with_story(alloc, answer, &story)?;
@@ -131,6 +137,8 @@ pub fn explained_page<T: Threads + Wait + Sync, R: Read>(
         told.0.text.items) }
     ensures page { IfOk result (λ told. IsPage told.1.items) }
     ensures told { IfErr result IsCheckFault }
+    ensures named { IfErr result (NamesOwnDocument (R.remaining reader.old)) }
+    ensures taken { TakesHistory (R.remaining reader.old) (R.remaining reader.new) }
 {
     let (answer, story) = explain(rt, alloc, keys, reader, workers, conflicts)?;
     let page = page_of(alloc, line_of(&answer), &story)?;

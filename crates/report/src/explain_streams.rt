@@ -2,7 +2,9 @@ ghost use Rattle.std.specs.Prelude.{◌≢◌, ◌≤◌, IfErr, IfOk, IsErrOf, 
 ghost use Rattle.std.specs.Io.KnownBytes.{Keeps};
 ghost use Rattle.page.specs.Pages.{IsPage};
 ghost use Rattle.report.specs.Explained.{ExplainsInput, HasPageFront};
+ghost use Rattle.report.specs.Workers.{NamesOwnDocument};
 ghost use Rattle.stream_io.specs.Faults.{IsWorkedFault};
+ghost use Rattle.stream_io.specs.Taken.{TakesHistory};
 ghost use Rattle.stream_io.specs.Written.{HasAnswer, HasFront};
 
 use crate::explain::{explained_page, explained_text};
@@ -38,6 +40,9 @@ pub fn explain_stream<T: Threads + Wait + Sync, R: Read, W: Write>(
     ensures kept { IfErr result (λ fault. fault ≢ StreamFault.Write
         → Keeps (W.contents writer.old) (W.contents writer.new)) }
     ensures told { IfErr result IsWorkedFault }
+    // A document that a fault names is one of the history whose text the reader had.
+    ensures named { IfErr result (NamesOwnDocument (R.remaining reader.old)) }
+    ensures taken { TakesHistory (R.remaining reader.old) (R.remaining reader.new) }
 {
     match explained_text(rt, alloc, keys, reader, workers, conflicts) {
         Ok(answer) => write_answer(writer, &answer),
@@ -72,6 +77,9 @@ pub fn explain_page_stream<T: Threads + Wait + Sync, R: Read, W: Write, P: Write
         → Keeps (W.contents writer.old) (W.contents writer.new)
         × Keeps (P.contents page.old) (P.contents page.new)) }
     ensures told { IfErr result IsWorkedFault }
+    // A document that a fault names is one of the history whose text the reader had.
+    ensures named { IfErr result (NamesOwnDocument (R.remaining reader.old)) }
+    ensures taken { TakesHistory (R.remaining reader.old) (R.remaining reader.new) }
 {
     let (answer, bytes) = match explained_page(rt, alloc, keys, reader, workers, conflicts) {
         Ok(told) => told,

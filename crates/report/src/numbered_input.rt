@@ -1,17 +1,18 @@
 ghost use Rattle.std.specs.Prelude.{◌≡◌, Err, IfOk, IfSome, MatchResult, Ok};
 ghost use Rattle.history.specs.Reading.{history_text};
 ghost use Rattle.history.specs.Text.{IsHistoryText};
+ghost use Rattle.stream_io.specs.Taken.{TakesHistory};
 
 use api_lines::{InputFault, RefusedLine};
 use history::laws::texts_are_read;
 use history::{HashKeys, History};
 use std::alloc::Global;
-use std::io::{BufReader, Read};
+use std::io::Read;
 use story::{EventLines, read_numbered_from};
-use stream_io::CHUNK;
 
 /// The history, with these keys, whose text the reader has to its end, and on which lines its events stand; or the first line
-/// that is refused. What comes after that line is not read. A fault of the reader of any kind ends the reading.
+/// that is refused. Nothing after that line is taken but what the last read brought, which is asked for 32,768 bytes. A fault
+/// of the reader of any kind ends the reading.
 pub fn read_numbered<R: Read>(
     alloc: Global,
     keys: HashKeys,
@@ -22,11 +23,9 @@ pub fn read_numbered<R: Read>(
     ensures told { IfOk result (λ told. IfSome (R.remaining reader.old) (λ text. MatchResult told
         (λ read. history_text text ≡ Ok read.0)
         (λ refused. history_text text ≡ Err refused.fault))) }
+    ensures taken { TakesHistory (R.remaining reader.old) (R.remaining reader.new) }
 {
     // That what is read is a text of its history is known from here on.
     texts_are_read();
-    match BufReader::with_capacity(alloc, CHUNK, reader) {
-        Ok(mut input) => read_numbered_from(alloc, keys, &mut input),
-        Err(_) => Err(InputFault::NoMemory),
-    }
+    read_numbered_from(alloc, keys, reader)
 }

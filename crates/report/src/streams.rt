@@ -2,7 +2,9 @@ ghost use Rattle.std.specs.Prelude.{◌≢◌, ◌≤◌, IfErr, IfOk, IsErrOf};
 ghost use Rattle.std.specs.Io.KnownBytes.{Keeps};
 ghost use Rattle.report.specs.Bulk.{AnswersBulk};
 ghost use Rattle.report.specs.Verdict.{IsAnswered, IsCutOff, VerifiesInputs, WitnessesInput};
+ghost use Rattle.report.specs.Workers.{NamesOwnDocument};
 ghost use Rattle.stream_io.specs.Faults.{IsStreamFault, IsWorkedFault};
+ghost use Rattle.stream_io.specs.Taken.{TakesHistory, TakesWitness};
 ghost use Rattle.stream_io.specs.Written.{HasAnswer, HasFront};
 
 use crate::bulk_answer::bulk_answer;
@@ -57,6 +59,11 @@ pub fn check_stream<T: Threads + Wait + Sync, R: Read, W: Write>(
     ensures kept { IfErr result (λ fault. fault ≢ StreamFault.Write
         → Keeps (W.contents writer.old) (W.contents writer.new)) }
     ensures told { IfErr result IsWorkedFault }
+    // A document that a fault names is one of the history whose text the reader had.
+    ensures named { IfErr result (NamesOwnDocument (R.remaining reader.old)) }
+    // Of the bytes of the reader no line behind the first that is refused is taken, and nothing behind that one but what the
+    // last read brought, 32,768 bytes at most; and no more than the limits allow. So it is of each stream below.
+    ensures taken { TakesHistory (R.remaining reader.old) (R.remaining reader.new) }
 {
     match check_answer(rt, alloc, keys, reader, workers, conflicts) {
         Ok(answer) => write_answer(writer, &answer),
@@ -85,6 +92,7 @@ pub fn witness_stream<R: Read, W: Write>(
     ensures kept { IfErr result (λ fault. fault ≢ StreamFault.Write
         → Keeps (W.contents writer.old) (W.contents writer.new)) }
     ensures told { IfErr result IsStreamFault }
+    ensures taken { TakesHistory (R.remaining reader.old) (R.remaining reader.new) }
 {
     match witness_answer(alloc, keys, reader, conflicts) {
         Ok(answer) => write_answer(writer, &answer),
@@ -117,6 +125,8 @@ pub fn verify_stream<R: Read, Q: Read, W: Write>(
     ensures kept { IfErr result (λ fault. fault ≢ StreamFault.Write
         → Keeps (W.contents writer.old) (W.contents writer.new)) }
     ensures told { IfErr result IsStreamFault }
+    ensures taken { TakesHistory (R.remaining history.old) (R.remaining history.new) }
+    ensures witness_taken { TakesWitness (Q.remaining witness.old) (Q.remaining witness.new) }
 {
     match verify_input(alloc, keys, history, witness, conflicts) {
         Ok(answer) => write_answer(writer, &answer),

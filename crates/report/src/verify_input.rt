@@ -1,6 +1,7 @@
 ghost use Rattle.std.specs.Prelude.{IfErr, IfOk, IfSome, ℕ, List};
 ghost use Rattle.history.specs.Text.{IsHistoryText};
 ghost use Rattle.stream_io.specs.Faults.{IsReadingFault};
+ghost use Rattle.stream_io.specs.Taken.{TakesHistory, TakesWitness};
 ghost use Rattle.report.specs.Verdict.{IsVerifyAnswer, VerifiesInputs};
 
 use crate::verify_answer::{entries_answer, refused_history, refused_witness};
@@ -21,6 +22,7 @@ fn read_witness_answer<Q: Read>(
         → IfSome (Q.remaining witness.old) (λ w. IsVerifyAnswer conflicts input w answer.status
         answer.text.items)) }
     ensures told { IfErr result IsReadingFault }
+    ensures taken { TakesWitness (Q.remaining witness.old) (Q.remaining witness.new) }
 {
     match read_entries(alloc, witness) {
         Ok(Ok(entries)) => {
@@ -47,6 +49,8 @@ pub fn verify_input<R: Read, Q: Read>(
     ensures answer { IfOk result (λ answer. VerifiesInputs conflicts (R.remaining history.old)
         (Q.remaining witness.old) answer.status answer.text.items) }
     ensures told { IfErr result IsReadingFault }
+    ensures taken { TakesHistory (R.remaining history.old) (R.remaining history.new) }
+    ensures witness_taken { TakesWitness (Q.remaining witness.old) (Q.remaining witness.new) }
 {
     match read_history(alloc, keys, history) {
         Ok(Ok(found)) => read_witness_answer(alloc, found, witness, conflicts),

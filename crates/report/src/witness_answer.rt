@@ -1,6 +1,7 @@
 ghost use Rattle.std.specs.Prelude.{IfErr, IfOk, ℕ, List};
 ghost use Rattle.history.specs.Text.{IsHistoryText};
 ghost use Rattle.stream_io.specs.Faults.{IsReadingFault};
+ghost use Rattle.stream_io.specs.Taken.{TakesHistory};
 ghost use Rattle.report.specs.Verdict.{IsWitnessAnswer, WitnessesInput};
 
 use crate::check_answer::{case_answer, refusal};
@@ -48,6 +49,7 @@ pub fn witness_answer<R: Read>(
     ensures answer { IfOk result (λ answer. WitnessesInput conflicts (R.remaining reader.old) answer.status
         answer.text.items) }
     ensures told { IfErr result IsReadingFault }
+    ensures taken { TakesHistory (R.remaining reader.old) (R.remaining reader.new) }
 {
     match read_history(alloc, keys, reader) {
         Ok(Ok(history)) => {

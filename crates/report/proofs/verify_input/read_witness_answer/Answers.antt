@@ -8,11 +8,11 @@ use Rattle.report.proofs.verify_input.read_witness_answer.Goals as goal
 pub returns-in_ok-answer-in-Ok-Ok-clause-answer : goal.returns-in_ok-answer-in-Ok-Ok-clause-answer
 returns-in_ok-answer-in-Ok-Ok-clause-answer g c = λ history is.
     let input = g.Q.Read.remaining c.args.witness.now in
-    let read = subst (λ told. IfSome input (λ text. MatchResult told (λ es. witness_text text ≡ Ok (map doc_places es.items)) (λ f. witness_text text ≡ Err f))) c.in-Ok-Ok.field-0-is c.in-Ok-Ok.ensures in
+    let read = subst (λ told. IfSome input (λ text. MatchResult told (λ es. witness_text text ≡ Ok (map doc_places es.items)) (λ f. witness_text text ≡ Err f))) c.in-Ok-Ok.field-0-is c.in-Ok-Ok.ensures.told in
     if_each input read (λ witness reads. c.in_ok-answer-in-Ok-Ok.ensures history witness is reads)
 
 pub returns-in_ok-answer-in-Ok-Err-clause-answer : goal.returns-in_ok-answer-in-Ok-Err-clause-answer
 returns-in_ok-answer-in-Ok-Err-clause-answer g c = λ history is.
     let input = g.Q.Read.remaining c.args.witness.now in
-    let read = subst (λ told. IfSome input (λ text. MatchResult told (λ es. witness_text text ≡ Ok (map doc_places es.items)) (λ f. witness_text text ≡ Err f))) c.in-Ok-Err.field-0-is c.in-Ok-Err.ensures in
+    let read = subst (λ told. IfSome input (λ text. MatchResult told (λ es. witness_text text ≡ Ok (map doc_places es.items)) (λ f. witness_text text ≡ Err f))) c.in-Ok-Err.field-0-is c.in-Ok-Err.ensures.told in
     if_each input read (λ witness told. c.in_ok-answer-in-Ok-Err.ensures.answers c.args.conflicts history witness (c.args.history, is) told)

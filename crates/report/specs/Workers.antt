@@ -1,0 +1,29 @@
+-- Which documents a fault of a stream names.
+use Rattle.std.specs.Prelude.{◌<◌, ℕ, List, Option, IfSome, length}
+use Rattle.history.specs.declared.event.Event.{Event}
+use Rattle.history.specs.Events.{documents_of}
+use Rattle.history.specs.Text.{IsHistoryText}
+use Rattle.stream_io.specs.declared.stream_fault.StreamFault.{StreamFault}
+use Rattle.stream_io.specs.declared.stream_fault.StreamFault.TheVariants.{Read, Write, NoMemory, Worker, Recording, Setting}
+
+-- the number of a document whose worker gave no answer is that of a document of the events
+abbrev pub HasDocument : List Event → StreamFault → Type 0
+HasDocument events Read = Unit {0}
+HasDocument events Write = Unit {0}
+HasDocument events NoMemory = Unit {0}
+HasDocument events (Worker doc) = doc < length (documents_of events)
+HasDocument events Recording = Unit {0}
+HasDocument events Setting = Unit {0}
+
+-- the bytes are then a text of a history with such a document
+abbrev pub NamesDocument : List ℕ → StreamFault → Type 0
+NamesDocument bytes Read = Unit {0}
+NamesDocument bytes Write = Unit {0}
+NamesDocument bytes NoMemory = Unit {0}
+NamesDocument bytes (Worker doc) = (events : List Event) × IsHistoryText bytes events × (doc < length (documents_of events))
+NamesDocument bytes Recording = Unit {0}
+NamesDocument bytes Setting = Unit {0}
+
+-- and these are the bytes that a reader had
+abbrev pub NamesOwnDocument : Option (List ℕ) → StreamFault → Type 0
+NamesOwnDocument input fault = IfSome input (λ bytes. NamesDocument bytes fault)
