@@ -1,0 +1,3 @@
+pub mod DocumentSteps
+pub mod OrderedSteps
+pub mod PlacingLaws
