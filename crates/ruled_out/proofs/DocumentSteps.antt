@@ -1,17 +1,15 @@
 -- What one document is at each place of a run of all documents.
-use Rattle.std.proofs.Common.{ℕ, zero, suc, ◌≡◌, ◌<◌, ◌≤◌, ◌⊎◌, inl, inr, List, [], ◌∷◌, refl, sym, ap, subst, ◌∙◌, arith, Bool, true, false, Option, Some, None, slice_get, true≢false}
+use Rattle.std.proofs.Common.{ℕ, zero, suc, ◌≡◌, ◌<◌, ◌≤◌, ◌⊎◌, inl, inr, List, [], ◌∷◌, refl, sym, ap, subst, ◌∙◌, arith, Bool, true, false, Some, None, slice_get, true≢false}
 use Rattle.std.specs.Cmp.Lexicographic.{bytes_decides}
 use Rattle.version_pair.specs.declared.pair.Pair.{Pair}
 use Rattle.version_pair.specs.PairOrder.{IsBelow}
 use Rattle.doc_register.specs.declared.op.Op.{Op}
 use Rattle.doc_register.specs.declared.op.Op.TheVariants.{Get, Index, Delete, Create}
-use Rattle.doc_register.specs.declared.reply.Reply.{Reply as Answer}
 use Rattle.doc_register.specs.declared.state.DocState.{DocState}
 use Rattle.doc_register.specs.declared.state.DocState.TheVariants.{Never, Gone, Here}
 use Rattle.doc_register.specs.Register.{DocStep, Exceeds, HasPair, Performs, condition_of, is_here, last_pair, performed_state}
 use Rattle.doc_register.specs.Run.{Entry, IsRun, State, Step, pair_taken}
-use Rattle.doc_register.proofs.RunLemmas.{AtMost, IsKind, below_new, leaves_pair, not_below_itself, step_kind}
-use Rattle.doc_register.proofs.RunLaws.{pair_performs}
+use Rattle.doc_register.proofs.RunLemmas.{AtMost, IsKind, below_new, leaves_pair, step_kind}
 use Rattle.history.specs.Events.{is_same}
 use Rattle.history.proofs.ListLemmas.{none_is_not_some, same_some}
 

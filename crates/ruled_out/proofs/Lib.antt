@@ -1,3 +1,6 @@
 pub mod DocumentSteps
-pub mod OrderedSteps
-pub mod PlacingLaws
+mod Counts
+mod OrderedSteps
+mod ToldStates
+mod OrderedPositions
+mod PlacingLaws

@@ -1,17 +1,19 @@
 -- What one document of a history is at each place of an order that explains the history, and where its calls stand.
-use Rattle.std.proofs.Common.{ℕ, zero, suc, ◌≡◌, ◌<◌, ◌≤◌, ◌⊎◌, ◌==◌, inl, inr, List, [], ◌∷◌, refl, sym, ap, subst, ◌∙◌, arith, Bool, true, false, Option, Some, None, option_and_then, slice_get}
-use Rattle.std.specs.Prelude.{if◌then◌else◌, map}
+use Rattle.std.proofs.Common.{ℕ, zero, suc, ◌≡◌, ◌<◌, ◌≤◌, ◌⊎◌, ◌==◌, inl, inr, List, [], ◌∷◌, refl, sym, ap, subst, ◌∙◌, arith, Bool, true, false, Option, Some, None, slice_get}
+use Rattle.std.specs.Prelude.{if◌then◌else◌, map, option_map}
+use Rattle.std.proofs.lemmas.Option.{slice_get-map}
 use Rattle.std.proofs.Common.{eq-eqb, true≢false}
 use Rattle.std.proofs.lemmas.Bool.{eqb-true}
 use Rattle.version_pair.specs.declared.pair.Pair.{Pair}
 use Rattle.version_pair.specs.PairOrder.{IsBelow}
-use Rattle.doc_register.specs.declared.op.Op.{Op}
 use Rattle.doc_register.specs.declared.reply.Reply.{Reply as Answer}
+use Rattle.doc_register.specs.declared.reply.Reply.TheVariants.{Indexed, Deleted, Found, Missing, Conflict}
 use Rattle.doc_register.specs.declared.state.Conflicts.{Conflicts}
+use Rattle.doc_register.specs.declared.state.Conflicts.TheVariants.{Plain, Maybe}
 use Rattle.doc_register.specs.declared.state.DocState.{DocState}
 use Rattle.doc_register.specs.declared.state.DocState.TheVariants.{Never}
 use Rattle.doc_register.specs.Register.{DocStep, Exceeds, Performs, last_pair}
-use Rattle.doc_register.specs.Run.{Entry, IsRun, State, pair_taken, start}
+use Rattle.doc_register.specs.Run.{Entry, pair_taken, start}
 use Rattle.doc_register.proofs.RunLemmas.{AtMost, below_new, not_below_itself, step_kind}
 use Rattle.doc_register.proofs.RunLaws.{pair_performs}
 use Rattle.history.specs.declared.event.Event.{Event}
@@ -23,7 +25,7 @@ use Rattle.history.proofs.EventLemmas.{same_call}
 use Rattle.history.proofs.HistoryLemmas.{call_passes}
 use Rattle.history.proofs.ListLemmas.{compare, mapped_from, none_is_not_some, same_some}
 use Rattle.history.proofs.RecordLaws.{split_by_document}
-use Rattle.ruled_out.specs.Placings.{IsListed}
+use Rattle.ruled_out.specs.Told.{IsListed, as_told, told, told_of}
 use Rattle.ruled_out.proofs.DocumentSteps.{IsTakenBefore, at_place, came, exceeds_earlier, keeps, leaves_it, never_written, own_step, pair_reached}
 
 -- ---- a document of a history that an order explains
@@ -36,9 +38,9 @@ pub record Explained : Type 0 where
   pub history : IsHistory events
   pub explains : Explains conflicts events order
 
--- the records of the document
+-- the records of the document, as they are told
 abbrev pub recs : Explained → List Rec
-recs x = records_of x.events x.doc
+recs x = told x.conflicts (records_of x.events x.doc)
 
 -- what the document is before a place of the order
 abbrev pub doc_at : Explained → ℕ → DocState
@@ -51,10 +53,12 @@ pub record IsEntry (x : Explained) (i : ℕ) (p : Placed) : Type 0 where
 
 -- ---- steps
 
+-- what a function makes of an element stands at its place
+mapped_at : {X Y : Type 0} (f : X → Y) (xs : List X) (i : ℕ) (x : X) → slice_get xs i ≡ Some x → slice_get (map f xs) i ≡ Some (f x)
+mapped_at f xs i x at = slice_get-map f xs i ∙ ap (option_map f) at
+
 entry_at : (order : List Placed) (i : ℕ) (p : Placed) → slice_get order i ≡ Some p → slice_get (run_of order) i ≡ Some p.entry
-entry_at [] i p at = absurd (none_is_not_some p at)
-entry_at (q ∷ qs) zero p at = ap (λ (y : Placed). Some y.entry) (same_some q p at)
-entry_at (q ∷ qs) (suc i) p at = entry_at qs i p at
+entry_at order i p at = mapped_at (λ (y : Placed). y.entry) order i p at
 
 pub step_at : (x : Explained) (i : ℕ) (p : Placed) → IsEntry x i p → DocStep (doc_at x i) p.entry.op p.entry.reply p.entry.hidden (doc_at x (suc i))
 step_at x i p e =
@@ -156,17 +160,65 @@ place_found (r ∷ rs) n i p at number = by_test (r.no == n) refl i at (λ j bt.
       absurd (true≢false (sym (eq-eqb r.no n (ap (λ (y : Placed). y.no) same ∙ number)) ∙ is))
   by_test false is (suc i) at later = let q = later i at in (q.0, here false q.0 q.1 is, q.2)
 
+-- what stands at this place has the number
+pub place_is : (order : List Placed) (n : ℕ) (p : Placed) → slice_get order (place_in order n) ≡ Some p → p.no ≡ n
+place_is [] n p at = absurd (none_is_not_some p at)
+place_is (r ∷ rs) n p at = by_test (r.no == n) refl (sym (here (r.no == n) refl) ∙ at) (λ bt. place_is rs n p bt) where
+  here : (b : Bool) → (r.no == n) ≡ b → slice_get (r ∷ rs) (place_in (r ∷ rs) n) ≡ slice_get (r ∷ rs) (if b then 0 else suc (place_in rs n))
+  here b is = ap (λ c. slice_get (r ∷ rs) (if c then 0 else suc (place_in rs n))) is
+
+  by_test : (b : Bool) → (r.no == n) ≡ b → slice_get (r ∷ rs) (if b then 0 else suc (place_in rs n)) ≡ Some p → (slice_get rs (place_in rs n) ≡ Some p → p.no ≡ n) → p.no ≡ n
+  by_test true is at later = ap (λ (y : Placed). y.no) (sym (same_some r p at)) ∙ eqb-true r.no n is
+  by_test false is at later = later at
+
 pub split : (x : Explained) → IsSplitByDocument x.events
 split x = split_by_document x.events x.history
 
+-- the record that is told so
+pub record IsToldFrom (x : Explained) (j : ℕ) (r : Rec) : Type 0 where
+  pub own : Rec
+  pub at : slice_get (records_of x.events x.doc) j ≡ Some own
+  pub is : as_told x.conflicts own ≡ r
+
+pub told_from : (x : Explained) (j : ℕ) (r : Rec) → slice_get (recs x) j ≡ Some r → IsToldFrom x j r
+told_from x j r at = let m = mapped_from (as_told x.conflicts) (records_of x.events x.doc) j r at in record { own = m.0; at = m.1; is = m.2 }
+
+-- the call of a record
+pub call_of : (x : Explained) (j : ℕ) (r : Rec) → slice_get (recs x) j ≡ Some r → (h : ℕ) × IsCallAt x.events r.call_at r.no h x.doc r.op
+call_of x j r at =
+    let o = told_from x j r at in
+    subst (λ (s : Rec). (h : ℕ) × IsCallAt x.events s.call_at s.no h x.doc s.op) o.is ((split x).of_call x.doc j o.own o.at)
+
+-- what is told was heard, and under Maybe it is no conflict
+told_heard : (conflicts : Conflicts) (heard : Option (ℕ × Answer)) (replied : ℕ) (reply : Answer) → told_of conflicts heard ≡ Some (replied, reply)
+    → (heard ≡ Some (replied, reply)) × (reply ≡ Conflict → conflicts ≡ Plain)
+told_heard conflicts None replied reply is = absurd (none_is_not_some (replied, reply) is)
+told_heard conflicts (Some (at, Indexed q created)) replied reply is = (is, λ conflict. let same : Indexed q created ≡ reply = ap (λ (y : ℕ × Answer). y.1) (same_some (at, Indexed q created) (replied, reply) is) in absurd (cc))
+told_heard conflicts (Some (at, Deleted q found)) replied reply is = (is, λ conflict. let same : Deleted q found ≡ reply = ap (λ (y : ℕ × Answer). y.1) (same_some (at, Deleted q found) (replied, reply) is) in absurd (cc))
+told_heard conflicts (Some (at, Found p k)) replied reply is = (is, λ conflict. let same : Found p k ≡ reply = ap (λ (y : ℕ × Answer). y.1) (same_some (at, Found p k) (replied, reply) is) in absurd (cc))
+told_heard conflicts (Some (at, Missing)) replied reply is = (is, λ conflict. let same : Missing ≡ reply = ap (λ (y : ℕ × Answer). y.1) (same_some (at, Missing) (replied, reply) is) in absurd (cc))
+told_heard Plain (Some (at, Conflict)) replied reply is = (is, λ conflict. refl)
+told_heard Maybe (Some (at, Conflict)) replied reply is = absurd (none_is_not_some (replied, reply) is)
+
+-- the reply that a record tells is heard of its call
+pub heard_told : (x : Explained) (j : ℕ) (r : Rec) (replied : ℕ) (reply : Answer) → slice_get (recs x) j ≡ Some r → r.heard ≡ Some (replied, reply)
+    → IsReplyAt x.events replied r.no reply × (reply ≡ Conflict → x.conflicts ≡ Plain)
+heard_told x j r replied reply at heard =
+    let o = told_from x j r at in
+    let was = told_heard x.conflicts o.own.heard replied reply (ap (λ (s : Rec). s.heard) o.is ∙ heard) in
+    (subst (λ n. IsReplyAt x.events replied n reply) (ap (λ (s : Rec). s.no) o.is) (((split x).heard x.doc j o.own o.at replied reply).0 was.0), was.1)
+
 -- two records of the document with one number are one
-pub same_record : (x : Explained) (r s : Rec) → IsListed (recs x) r → IsListed (recs x) s → r.no ≡ s.no → r ≡ s
-same_record x r s (j, at) (k, bt) number =
-    let a = (split x).of_call x.doc j r at in
-    let b = (split x).of_call x.doc k s bt in
+pub same_record : (x : Explained) (j k : ℕ) (r s : Rec) → slice_get (recs x) j ≡ Some r → slice_get (recs x) k ≡ Some s → r.no ≡ s.no → r ≡ s
+same_record x j k r s at bt number =
+    let a = call_of x j r at in
+    let b = call_of x k s bt in
     let place : r.call_at ≡ s.call_at = x.history.called_once r.no r.call_at s.call_at (call_passes x.events r.call_at r.no a.0 x.doc r.op a.1)
     (subst (λ n. PassesAt (is_call n) x.events s.call_at) (sym number) (call_passes x.events s.call_at s.no b.0 x.doc s.op b.1)) in
-    let here : j ≡ k = ((split x).once x.doc x.doc j k r s at bt place).1 in
+    let o = told_from x j r at in
+    let p = told_from x k s bt in
+    let called : o.own.call_at ≡ p.own.call_at = ap (λ (y : Rec). y.call_at) o.is ∙ (place ∙ sym (ap (λ (y : Rec). y.call_at) p.is)) in
+    let here : j ≡ k = ((split x).once x.doc x.doc j k o.own p.own o.at p.at called).1 in
     same_some r s (sym at ∙ (ap (slice_get (recs x)) here ∙ bt))
 
 -- the record is of the call that stands at a place
@@ -177,9 +229,9 @@ pub record IsRecordOf (x : Explained) (i : ℕ) (p : Placed) (r : Rec) : Type 0 
   pub op : p.entry.op ≡ r.op
 
 -- a call of a record, wherever it stands
-of_record : (x : Explained) (i : ℕ) (p : Placed) (r : Rec) → slice_get x.order i ≡ Some p → IsListed (recs x) r → p.no ≡ r.no → IsRecordOf x i p r
+pub of_record : (x : Explained) (i : ℕ) (p : Placed) (r : Rec) → slice_get x.order i ≡ Some p → IsListed (recs x) r → p.no ≡ r.no → IsRecordOf x i p r
 of_record x i p r at listed number =
-    let call = (split x).of_call x.doc listed.0 r listed.1 in
+    let call = call_of x listed.0 r listed.1 in
     let of : IsOfCall x.events p = x.explains.is_order.calls i p at in
     let place : of.0 ≡ r.call_at = x.history.called_once r.no of.0 r.call_at
     (subst (λ n. PassesAt (is_call n) x.events of.0) number (call_passes x.events of.0 p.no p.entry.shard p.entry.doc p.entry.op of.1))
@@ -197,7 +249,7 @@ record_of x i p e =
     let own = (split x).of_call x.doc r.0 r.1 r.2 in
     let same = same_call x.events of.0 p.no r.1.no p.entry.shard own.0 x.doc x.doc p.entry.op r.1.op call
     (subst (λ c. IsCallAt x.events c r.1.no own.0 x.doc r.1.op) r.3 own.1) in
-    (r.1, record { entry = e; listed = (r.0, r.2); number = same.0; op = same.2 })
+    (as_told x.conflicts r.1, record { entry = e; listed = (r.0, mapped_at (as_told x.conflicts) (records_of x.events x.doc) r.0 r.1 r.2); number = same.0; op = same.2 })
 
 -- an answered call stands in the order, with its reply
 pub record IsAnswered (x : Explained) (r : Rec) (reply : Answer) : Type 0 where
@@ -207,8 +259,7 @@ pub record IsAnswered (x : Explained) (r : Rec) (reply : Answer) : Type 0 where
 
 pub answered : (x : Explained) (r : Rec) (replied : ℕ) (reply : Answer) → IsListed (recs x) r → r.heard ≡ Some (replied, reply) → IsAnswered x r reply
 answered x r replied reply listed heard =
-    let told : IsReplyAt x.events replied r.no reply = ((split x).heard x.doc listed.0 r listed.1 replied reply).0 heard in
-    let a = x.explains.is_order.answered replied r.no reply told in
+    let a = x.explains.is_order.answered replied r.no reply (heard_told x listed.0 r replied reply listed.1 heard).0 in
     let q = place_found x.order r.no a.0 a.1 a.2 a.3 in
     let place : place_in x.order r.no ≡ a.0 = x.explains.is_order.once (place_in x.order r.no) a.0 q.0 a.1 q.1 a.2 (q.2 ∙ sym a.3) in
     let same : q.0 ≡ a.1 = same_some q.0 a.1 (sym q.1 ∙ (ap (slice_get x.order) place ∙ a.2)) in
@@ -230,6 +281,13 @@ same_reply x i p r replied reply of heard =
 pub stands_first : (x : Explained) (i j : ℕ) (p q : Placed) (r s : Rec) (replied : ℕ) (reply : Answer) → IsRecordOf x i p r → IsRecordOf x j q s
     → r.heard ≡ Some (replied, reply) → replied < s.call_at → i < j
 stands_first x i j p q r s replied reply of with_it heard before =
-    let first : Precedes x.events r.no s.no = ((split x).precedes x.doc of.listed.0 with_it.listed.0 r s of.listed.1 with_it.listed.1).1 (replied, reply, heard, before) in
+    let call = call_of x with_it.listed.0 s with_it.listed.1 in
+    let first : Precedes x.events r.no s.no = record {
+      answered = replied;
+      called = s.call_at;
+      before = before;
+      reply = (reply, (heard_told x of.listed.0 r replied reply of.listed.1 heard).0);
+      call = call_passes x.events s.call_at s.no call.0 x.doc s.op call.1;
+    } in
     x.explains.respects i j p q of.entry.at with_it.entry.at
     (subst (λ n. Precedes x.events n q.no) (sym of.number) (subst (λ n. Precedes x.events r.no n) (sym with_it.number) first))

@@ -1,307 +1,374 @@
--- Each document of a history that an order explains has a placing: its calls stand as they do in the order.
-use Rattle.std.proofs.Common.{ℕ, zero, suc, ◌≡◌, ◌<◌, ◌≤◌, ◌⊎◌, inl, inr, List, refl, sym, ap, subst, ◌∙◌, arith, true, Option, Some, None, option_and_then, slice_get}
-use Rattle.std.proofs.lemmas.Bool.{cases_lt}
+-- Each document of a history that an order explains has a placing: its calls stand where they do in the order.
+use Rattle.std.proofs.Common.{ℕ, zero, suc, ◌≡◌, ◌<◌, ◌≤◌, ◌⊎◌, inl, inr, List, [], ◌∷◌, refl, sym, ap, subst, ◌∙◌, arith, Bool, true, false, not, true≢false, Option, Some, None, length, option_and_then, slice_get}
+use Rattle.std.proofs.lemmas.Bool.{cases_lt, true_from_ne_false}
 use Rattle.version_pair.specs.declared.pair.Pair.{Pair}
-use Rattle.version_pair.specs.PairOrder.{IsBelow}
 use Rattle.doc_register.specs.declared.op.Op.{Op}
 use Rattle.doc_register.specs.declared.op.Op.TheVariants.{Get, Index, Delete, Create}
 use Rattle.doc_register.specs.declared.reply.Reply.{Reply as Answer}
 use Rattle.doc_register.specs.declared.reply.Reply.TheVariants.{Indexed, Deleted, Found, Missing, Conflict}
-use Rattle.doc_register.specs.declared.state.Conflicts.{Conflicts}
-use Rattle.doc_register.specs.declared.state.Conflicts.TheVariants.{Plain, Maybe}
 use Rattle.doc_register.specs.declared.state.DocState.{DocState}
 use Rattle.doc_register.specs.declared.state.DocState.TheVariants.{Never, Gone, Here}
-use Rattle.doc_register.specs.Register.{DocStep, Exceeds, HasPair, Performs, condition_of, is_here, last_pair, performed_state, shown}
+use Rattle.doc_register.specs.Register.{DocStep, HasPair, IsPerformed, Performs, condition_of, is_here, last_pair, performed_state, value_of}
 use Rattle.doc_register.specs.Run.{pair_taken}
-use Rattle.doc_register.proofs.RunLemmas.{AtMost, below_new, not_below_itself, not_both_below}
-use Rattle.history.specs.declared.event.Event.{Event}
-use Rattle.history.specs.declared.event.Event.TheVariants.{Call, Reply}
 use Rattle.history.specs.declared.record.Rec.{Rec}
-use Rattle.history.specs.Events.{IsCallAt, IsHistory, IsReplyAt, PassesAt, is_call, records_of}
 use Rattle.history.specs.Heard.{pair_of}
-use Rattle.history.specs.Order.{Explains, Placed}
-use Rattle.history.proofs.HistoryLemmas.{call_passes, reply_passes}
-use Rattle.history.proofs.ListLemmas.{none_is_not_some, same_some}
-use Rattle.ruled_out.specs.Placings.{AllowsPair, HasReached, IsAnsweredBefore, IsKnown, IsListed, IsNext, IsPlacing, IsRuledOut, IsUncontradicted, MayChange, RuledOutHaveNoOrder, Stand, StandsAsMay, condition_met, state_shown}
-use Rattle.ruled_out.proofs.DocumentSteps.{exceeds_above, exceeds_pair, leaves_it, meets, met_pair, pair_reached}
-use Rattle.ruled_out.proofs.OrderedSteps.{Explained, IsAnswered, IsEntry, IsRecordOf, IsTaken, IsTakenFor, answered, doc_at, exceeds_before, lesser_first, performs_at, place_in, reached_after, reached_later, record_of, recs, same_place, same_record, same_reply, same_state, split, stands_first, step_at, taken_for}
+use Rattle.history.specs.Order.{Placed}
+use Rattle.history.proofs.ListLemmas.{get_within, none_is_not_some, same_some}
+use Rattle.ruled_out.specs.Told.{IsGone, IsKnown, IsListed, IsToldOf, IsUncontradicted, pair_shown, state_shown}
+use Rattle.ruled_out.specs.Positions.{position_after, version_of}
+use Rattle.ruled_out.specs.Placings.{IsPlacing, IsReached, Lifts, MayAnswer, MayBeAbsent, MayBePresent, MayChange, MayConflict, MayRefuse, MayStand, MayWrite}
+use Rattle.ruled_out.specs.Laws.{ExplainedHavePlacings, RuledOutHaveNoOrder}
+use Rattle.ruled_out.proofs.Counts.{known_or_not, no_gap_is_version, same_version, shown_known}
+use Rattle.ruled_out.proofs.DocumentSteps.{exceeds_above, leaves_it, meets, met_pair}
+use Rattle.ruled_out.proofs.OrderedSteps.{Explained, IsAnswered, IsRecordOf, IsTaken, answered, doc_at, heard_told, of_record, performs_at, place_in, place_is, reached_after, record_of, recs, same_place, same_record, same_state, stands_first, taken_for}
+use Rattle.ruled_out.proofs.ToldStates.{TakesShown, did_delete, did_index, found_has, gone_told, known_taken, state_at, takes_shown, takes_told, told_step, uncontradicted, untold_here}
+use Rattle.ruled_out.proofs.OrderedPositions.{called_before, floor_is, floor_of, may_take, position, position_at, position_below, position_grows, position_known, position_unknown, reached_position, taken_below, taken_earlier, takes_as_told}
 
--- ---- what replies tell
+-- ---- an answered call that stands in the order
 
--- the value from which another one comes
-and_then_from : {X Y : Type 0} (f : X → Option Y) (o : Option X) (y : Y) → option_and_then f o ≡ Some y → (x : X) × (o ≡ Some x) × (f x ≡ Some y)
-and_then_from f None y is = absurd (none_is_not_some y is)
-and_then_from f (Some x) y is = (x, refl, is)
+-- what stands before an answered call, with the pair that it takes there
+record StandsBefore (x : Explained) (j : ℕ) (c : Rec) (replied : ℕ) (reply : Answer) : Type 0 where
+  pub answered : IsAnswered x c reply
+  pub heard : c.heard ≡ Some (replied, reply)
+  pub here : place_in x.order c.no ≡ j
 
--- the reply that shows a pair which was taken
-pair_heard : (heard : Option (ℕ × Answer)) (q : Pair) → pair_of heard ≡ Some q → (y : ℕ) × (r : Answer) × (heard ≡ Some (y, r)) × (pair_taken r None ≡ Some q)
-pair_heard None q is = absurd (none_is_not_some q is)
-pair_heard (Some (y, r)) q is = (y, r, refl, is)
+-- a call that takes a pair before an answered one has a record, and was called before the reply
+record TakesBefore (x : Explained) (q : Pair) (k : IsTaken x q) (replied : ℕ) : Type 0 where
+  pub call : Rec
+  pub own : IsRecordOf x k.place k.placed call
+  pub called : call.call_at < replied
 
--- a reply that shows a pair shows it whatever is hidden
-shown_taken : (r : Answer) (h : Option Pair) (q : Pair) → pair_taken r None ≡ Some q → pair_taken r h ≡ Some q
-shown_taken (Indexed p created) h q is = is
-shown_taken (Deleted p found) h q is = is
-shown_taken (Found p k) h q is = absurd (none_is_not_some q is)
-shown_taken Missing h q is = absurd (none_is_not_some q is)
-shown_taken Conflict h q is = absurd (none_is_not_some q is)
-
--- a get that finds a pair stands where the document has it
-found_has : (s : DocState) (op : Op) (h : Option Pair) (t : DocState) (p : Pair) (k : ℕ) → DocStep s op (Found p k) h t → s ≡ Here p k
-found_has s Get h t p k step = by_state s step.0 where
-  by_state : (x : DocState) → Found p k ≡ shown x → x ≡ Here p k
-  by_state Never is = let impossible : Found p k ≡ Missing = is in absurd (cc)
-  by_state (Gone q) is = let impossible : Found p k ≡ Missing = is in absurd (cc)
-  by_state (Here q n) is = let same : Found p k ≡ Found q n = is in let one : p ≡ q = cc in let two : k ≡ n = cc in cc
-found_has s (Index n c) h t p k step = absurd step
-found_has s (Delete c) h t p k step = absurd step
-found_has s (Create n) h t p k step = absurd step
-
--- a document that has reached a pair, in the words of runs and in those of placings
-has_reached : (s : DocState) (p : Pair) → AtMost p s → HasReached s p
-has_reached Never p most = most
-has_reached (Gone q) p most = most
-has_reached (Here q k) p most = most
-
-at_most : (s : DocState) (p : Pair) → HasReached s p → AtMost p s
-at_most Never p most = most
-at_most (Gone q) p most = most
-at_most (Here q k) p most = most
-
--- a write whose reply shows a pair stands in the order, and takes it there
-record TakesShown (x : Explained) (r : Rec) (q : Pair) : Type 0 where
-  pub placed : Placed
-  pub own : IsRecordOf x (place_in x.order r.no) placed r
-  pub takes : pair_taken placed.entry.reply placed.entry.hidden ≡ Some q
-
-takes_shown : (x : Explained) (r : Rec) (y : ℕ) (reply : Answer) (q : Pair) → IsListed (recs x) r → r.heard ≡ Some (y, reply) → pair_taken reply None ≡ Some q → TakesShown x r q
-takes_shown x r y reply q listed heard is =
-    let a = answered x r y reply listed heard in
+takes_before : (x : Explained) (q : Pair) (k : IsTaken x q) (j : ℕ) (c : Rec) (replied : ℕ) (reply : Answer) → StandsBefore x j c replied reply → k.place < j → TakesBefore x q k replied
+takes_before x q k j c replied reply s before =
+    let w = record_of x k.place k.placed k.entry in
+    let first : k.place < place_in x.order c.no = (let same : place_in x.order c.no ≡ j = s.here in omega arith) in
     record {
-      placed = a.placed;
-      own = a.own;
-      takes = ap (λ s. pair_taken s a.placed.entry.hidden) a.replies ∙ shown_taken reply a.placed.entry.hidden q is;
+      call = w.0;
+      own = w.1;
+      called = called_before x k.place (place_in x.order c.no) k.placed s.answered.placed w.0 c replied reply w.1 s.answered.own s.heard first;
     }
 
-takes_told : (x : Explained) (r : Rec) (q : Pair) → IsListed (recs x) r → pair_of r.heard ≡ Some q → TakesShown x r q
-takes_told x r q listed is = let h = pair_heard r.heard q is in takes_shown x r h.0 h.1 q listed h.2 h.3
+-- a call that took an untold pair has no told reply
+unanswered_taker : (x : Explained) (q : Pair) (k : IsTaken x q) (w : Rec) → IsRecordOf x k.place k.placed w → (¬ IsToldOf (recs x) q) → w.heard ≡ None
+unanswered_taker x q k w of untold = by_case (takes_as_told x k.place k.placed w q of k.takes) where
+  by_case : (w.heard ≡ None) ⊎ (pair_of w.heard ≡ Some q) → w.heard ≡ None
+  by_case (inl none) = none
+  by_case (inr is) = absurd (untold (w, of.listed, is))
 
--- the document is what a reply shows at some place
-state_at : (x : Explained) (r : Rec) (t : DocState) → IsListed (recs x) r → state_shown r.op r.heard ≡ Some t → (j : ℕ) × (doc_at x j ≡ t)
-state_at x r t listed is = by_heard r.heard refl is where
-  wrote : (y : ℕ) (reply : Answer) (q : Pair) → r.heard ≡ Some (y, reply) → pair_taken reply None ≡ Some q → Some (performed_state Never r.op q) ≡ Some t → (j : ℕ) × (doc_at x j ≡ t)
-  wrote y reply q heard takes is =
-      let a = takes_shown x r y reply q listed heard takes in
-      let k : ℕ = place_in x.order r.no in
-      let left = leaves_it (doc_at x k) a.placed.entry.op q (doc_at x (suc k)) (performs_at x k a.placed q a.own.entry a.takes) in
-      (suc k, left.0 ∙ (ap (λ o. performed_state Never o q) a.own.op ∙ same_some (performed_state Never r.op q) t is))
+-- a told pair is known
+told_known : (records : List Rec) (q : Pair) → IsToldOf records q → IsKnown records q
+told_known records q (r, listed, is) = shown_known records q (record { call = r; listed = listed; shows = inl (by_heard r.heard is) }) where
+  by_reply : (y : ℕ) (reply : Answer) → pair_taken reply None ≡ Some q → pair_shown (Some (y, reply)) ≡ Some q
+  by_reply y (Indexed v created) is = is
+  by_reply y (Deleted v found) is = is
+  by_reply y (Found v k) is = absurd (none_is_not_some q is)
+  by_reply y Missing is = absurd (none_is_not_some q is)
+  by_reply y Conflict is = absurd (none_is_not_some q is)
 
-  by_heard : (o : Option (ℕ × Answer)) → r.heard ≡ o → state_shown r.op o ≡ Some t → (j : ℕ) × (doc_at x j ≡ t)
-  by_heard None heard is = absurd (none_is_not_some t is)
-  by_heard (Some (y, Indexed q created)) heard is = wrote y (Indexed q created) q heard refl is
-  by_heard (Some (y, Deleted q found)) heard is = wrote y (Deleted q found) q heard refl is
-  by_heard (Some (y, Found p k)) heard is =
-      let a = answered x r y (Found p k) listed heard in
-      let i : ℕ = place_in x.order r.no in
-      let step = subst (λ s. DocStep (doc_at x i) a.placed.entry.op s a.placed.entry.hidden (doc_at x (suc i))) a.replies (step_at x i a.placed a.own.entry) in
-      (i, found_has (doc_at x i) a.placed.entry.op a.placed.entry.hidden (doc_at x (suc i)) p k step ∙ same_some (Here p k) t is)
-  by_heard (Some (y, Missing)) heard is = absurd (none_is_not_some t is)
-  by_heard (Some (y, Conflict)) heard is = absurd (none_is_not_some t is)
+  by_heard : (o : Option (ℕ × Answer)) → pair_of o ≡ Some q → pair_shown o ≡ Some q
+  by_heard None is = absurd (none_is_not_some q is)
+  by_heard (Some (y, reply)) is = by_reply y reply is
 
--- where a write was performed under a condition the document had its pair
-met_at : (x : Explained) (r : Rec) (p : Pair) → IsListed (recs x) r → condition_met r ≡ Some p → (j : ℕ) × HasPair (doc_at x j) p
-met_at x r p listed is =
-    let c = and_then_from (λ (q : Pair). condition_of r.op) (pair_of r.heard) p is in
-    let a = takes_told x r c.0 listed c.1 in
-    let k : ℕ = place_in x.order r.no in
-    (k, meets (doc_at x k) a.placed.entry.op c.0 (doc_at x (suc k)) p (performs_at x k a.placed c.0 a.own.entry a.takes) (ap condition_of a.own.op ∙ c.2))
+-- a pair that isn't known, and which the document has before an answered call, may have been taken by a call without a reply
+may_change : (x : Explained) (j : ℕ) (c : Rec) (replied : ℕ) (reply : Answer) (p : Pair) → StandsBefore x j c replied reply → last_pair (doc_at x j) ≡ Some p → (¬ IsKnown (recs x) p)
+    → (m : MayChange (recs x) (floor_of x) replied (position_at x j)) × (doc_at x j ≡ performed_state Never m.call.op p)
+may_change x j c replied reply p s is unknown =
+    let k = taken_for x j p is in
+    let w = takes_before x p k.own j c replied reply s k.before in
+    let none : w.call.heard ≡ None = unanswered_taker x p k.own w.call w.own (λ told. unknown (told_known (recs x) p told)) in
+    let left = leaves_it (doc_at x k.own.place) k.own.placed.entry.op p (doc_at x (suc k.own.place)) (performs_at x k.own.place k.own.placed p k.own.entry k.own.takes) in (
+      record {
+        number = w.own.listed.0;
+        call = w.call;
+        pair = p;
+        unknown = unknown;
+        there = ap (position (recs x)) is ∙ position_unknown (recs x) p unknown;
+        takes = may_take x k.own.place k.own.placed w.call p replied w.own k.own.takes none w.called;
+      },
+      sym k.stays ∙ (left.0 ∙ ap (λ o. performed_state Never o p) w.own.op),
+    )
 
--- no reply contradicts what the document is at a place
-uncontradicted : (x : Explained) (j : ℕ) → IsUncontradicted (recs x) (doc_at x j)
-uncontradicted x j = record {
-  shown = λ r t listed is same. (
-      let a = state_at x r t listed is in
-      sym a.1 ∙ same_state x a.0 j (ap last_pair a.1 ∙ same)
-      );
-  met = λ r p listed is same. (
-      let a = met_at x r p listed is in
-      let met = met_pair (doc_at x a.0) p a.1 in
-      sym (ap is_here (same_state x a.0 j (met.0 ∙ sym same))) ∙ met.1
-      );
-}
+-- an operation that leaves a document gone is a delete
+deletes : (op : Op) (p q : Pair) → Gone q ≡ performed_state Never op p → (c : Option Pair) × (op ≡ Delete c)
+deletes Get p q is = let impossible : Gone q ≡ Never = is in absurd (cc)
+deletes (Index k c) p q is = let impossible : Gone q ≡ Here p k = is in absurd (cc)
+deletes (Delete c) p q is = (c, refl)
+deletes (Create k) p q is = let impossible : Gone q ≡ Here p k = is in absurd (cc)
 
--- ---- known pairs
+-- and one that leaves it there gives its number
+gives : (op : Op) (p q : Pair) (n : ℕ) → Here q n ≡ performed_state Never op p → value_of op ≡ Some n
+gives Get p q n is = let impossible : Here q n ≡ Never = is in absurd (cc)
+gives (Index k c) p q n is = let same : Here q n ≡ Here p k = is in let one : k ≡ n = cc in ap (λ v. Some v) one
+gives (Delete c) p q n is = let impossible : Here q n ≡ Gone p = is in absurd (cc)
+gives (Create k) p q n is = let same : Here q n ≡ Here p k = is in let one : k ≡ n = cc in ap (λ v. Some v) one
 
--- a known pair is taken somewhere
-known_taken : (x : Explained) (v : Pair) → IsKnown (recs x) v → IsTaken x v
-known_taken x v known = by_reply known.shows where
-  by_reply : (option_and_then last_pair (state_shown known.call.op known.call.heard) ≡ Some v) ⊎ (condition_met known.call ≡ Some v) → IsTaken x v
-  by_reply (inl is) =
-      let t = and_then_from last_pair (state_shown known.call.op known.call.heard) v is in
-      let a = state_at x known.call t.0 known.listed t.1 in
-      (taken_for x a.0 v (ap last_pair a.1 ∙ t.2)).own
-  by_reply (inr is) =
-      let a = met_at x known.call v known.listed is in
-      (taken_for x a.0 v (met_pair (doc_at x a.0) v a.1).0).own
+-- ---- what the document may be
 
--- where a call takes a pair no known pair lies between that of the document and this one
-next_at : (x : Explained) (i : ℕ) (p : Placed) (q : Pair) → IsEntry x i p → pair_taken p.entry.reply p.entry.hidden ≡ Some q → IsNext (recs x) (doc_at x i) q
-next_at x i p q e takes v known above below =
+absent_there : (x : Explained) (j : ℕ) (c : Rec) (replied : ℕ) (reply : Answer) → StandsBefore x j c replied reply → is_here (doc_at x j) ≡ false → MayBeAbsent (recs x) (floor_of x) replied (position_at x j)
+absent_there x j c replied reply s away = by_state (doc_at x j) refl where
+  by_known : (p : Pair) → doc_at x j ≡ Gone p → IsKnown (recs x) p ⊎ (¬ IsKnown (recs x) p) → MayBeAbsent (recs x) (floor_of x) replied (position_at x j)
+  by_known p is (inl known) = inr (inl (p, gone_told x p j known is, ap (λ t. position (recs x) (last_pair t)) is ∙ position_known (recs x) p known))
+  by_known p is (inr unknown) =
+      let m = may_change x j c replied reply p s (ap last_pair is) unknown in
+      let d = deletes m.0.call.op p p (sym is ∙ m.1) in
+      inr (inr (record { change = m.0; condition = d.0; deletes = d.1 }))
+
+  by_state : (t : DocState) → doc_at x j ≡ t → MayBeAbsent (recs x) (floor_of x) replied (position_at x j)
+  by_state Never is = inl (ap (λ t. position (recs x) (last_pair t)) is)
+  by_state (Gone p) is = by_known p is (known_or_not (recs x) p)
+  by_state (Here p k) is = absurd (true≢false (sym (ap is_here is) ∙ away))
+
+present_there : (x : Explained) (j : ℕ) (c : Rec) (replied : ℕ) (reply : Answer) → StandsBefore x j c replied reply → is_here (doc_at x j) ≡ true → MayBePresent (recs x) (floor_of x) replied (position_at x j)
+present_there x j c replied reply s there = by_state (doc_at x j) refl where
+  not_gone : (p : Pair) (k : ℕ) → doc_at x j ≡ Here p k → ¬ IsGone (recs x) p
+  not_gone p k is gone =
+      let a = answered x gone.call gone.replied (Deleted p gone.found) gone.listed gone.heard in
+      let i : ℕ = place_in x.order gone.call.no in
+      let did = did_delete (doc_at x i) gone.call.op p gone.found a.placed.entry.hidden (doc_at x (suc i)) (told_step x gone.call (Deleted p gone.found) a) in
+      let impossible : Here p k ≡ Gone p = sym is ∙ (same_state x j (suc i) (ap last_pair is ∙ ap last_pair (sym did.left)) ∙ did.left) in
+      cc
+
+  by_known : (p : Pair) (k : ℕ) → doc_at x j ≡ Here p k → IsKnown (recs x) p ⊎ (¬ IsKnown (recs x) p) → MayBePresent (recs x) (floor_of x) replied (position_at x j)
+  by_known p k is (inl known) = inl (p, known, not_gone p k is, ap (λ t. position (recs x) (last_pair t)) is ∙ position_known (recs x) p known)
+  by_known p k is (inr unknown) =
+      let m = may_change x j c replied reply p s (ap last_pair is) unknown in
+      inr (record { change = m.0; value = k; gives = gives m.0.call.op p p k (sym is ∙ m.1) })
+
+  by_state : (t : DocState) → doc_at x j ≡ t → MayBePresent (recs x) (floor_of x) replied (position_at x j)
+  by_state Never is = absurd (true≢false (sym there ∙ ap is_here is))
+  by_state (Gone p) is = absurd (true≢false (sym there ∙ ap is_here is))
+  by_state (Here p k) is = by_known p k is (known_or_not (recs x) p)
+
+-- each known pair that the document has reached before an answered call has a call that took it
+reached_there : (x : Explained) (j : ℕ) (c : Rec) (replied : ℕ) (reply : Answer) → StandsBefore x j c replied reply → IsReached (recs x) (floor_of x) replied (position_at x j)
+reached_there x j c replied reply s v known untold reached =
     let k = known_taken x v known in
-    by_order k (cases_lt k.place i) (cases_lt i k.place) where
-      by_order : (k : IsTaken x v) → ((k.place < i) ⊎ (i ≤ k.place)) → ((i < k.place) ⊎ (k.place ≤ i)) → ⊥
-      by_order k (inl first) other =
-          not_below_itself v (below_new v v (doc_at x i) (reached_after x k.place i k.placed v first k.entry k.takes) above)
-      by_order k (inr not) (inl first) =
-          not_both_below v q below (lesser_first x i k.place p k.placed q v first e k.entry takes k.takes)
-      by_order k (inr not) (inr nor) =
-          let same : i ≡ k.place = omega arith in
-          let one : p ≡ k.placed = same_some p k.placed (sym e.at ∙ (ap (slice_get x.order) same ∙ k.entry.at)) in
-          let pair : q ≡ v = same_some q v (sym takes ∙ (ap (λ (y : Placed). pair_taken y.entry.reply y.entry.hidden) one ∙ k.takes)) in
-          not_below_itself v (subst (IsBelow v) pair below)
+    let w = takes_before x v k j c replied reply s (taken_earlier x v k j reached) in
+    let none : w.call.heard ≡ None = unanswered_taker x v k w.call w.own untold in
+    let left = leaves_it (doc_at x k.place) k.placed.entry.op v (doc_at x (suc k.place)) (performs_at x k.place k.placed v k.entry k.takes) in
+    let is : doc_at x (suc k.place) ≡ performed_state Never w.call.op v = left.0 ∙ ap (λ o. performed_state Never o v) w.own.op in
+    let given = number_given (doc_at x (suc k.place)) w.call.op is left.1 (untold_here x v (suc k.place) known untold left.1) in
+    record {
+      number = w.own.listed.0;
+      call = w.call;
+      takes = may_take x k.place k.placed w.call v replied w.own k.takes none w.called;
+      value = given.0;
+      gives = given.1;
+      found = λ n f. (
+          let a = state_at x f.call (Here v n) f.listed (ap (state_shown f.call.op) f.heard) in
+          let there : Here v n ≡ performed_state Never w.call.op v = sym a.1 ∙ (same_state x a.0 (suc k.place) (ap last_pair a.1 ∙ sym left.1) ∙ is) in
+          same_some n given.0 (sym (gives w.call.op v v n there) ∙ given.1)
+          );
+    } where
+      number_given : (t : DocState) (op : Op) → t ≡ performed_state Never op v → last_pair t ≡ Some v → is_here t ≡ true → (n : ℕ) × (value_of op ≡ Some n)
+      number_given Never op is pair there = absurd (true≢false (sym there))
+      number_given (Gone q) op is pair there = absurd (true≢false (sym there))
+      number_given (Here q n) op is pair there = (n, gives op v q n is)
 
--- ---- the placing
+-- ---- how an answered call may be answered
 
--- how the call of a record stands in the order
-abbrev pub stand : Explained → Rec → Stand
-stand x r = record {
-  before = doc_at x (place_in x.order r.no);
-  hidden = option_and_then (λ (p : Placed). p.entry.hidden) (slice_get x.order (place_in x.order r.no));
-  after = doc_at x (suc (place_in x.order r.no));
-}
-
--- what was heard of a call that takes a pair allows it
-allows_pair : (conflicts : Conflicts) (heard : Option (ℕ × Answer)) (r : Answer) (h : Option Pair) (q : Pair) → pair_taken r h ≡ Some q → (conflicts ≡ Plain → h ≡ None)
-    → ((y : ℕ) (a : Answer) → heard ≡ Some (y, a) → r ≡ a) → AllowsPair conflicts heard q
-allows_pair conflicts None r h q takes plain told = tt
-allows_pair conflicts (Some (y, Indexed p created)) r h q takes plain told = same_some p q (ap (λ a. pair_taken a h) (sym (told y (Indexed p created) refl)) ∙ takes)
-allows_pair conflicts (Some (y, Deleted p found)) r h q takes plain told = same_some p q (ap (λ a. pair_taken a h) (sym (told y (Deleted p found) refl)) ∙ takes)
-allows_pair conflicts (Some (y, Found p k)) r h q takes plain told = absurd (none_is_not_some q (ap (λ a. pair_taken a h) (sym (told y (Found p k) refl)) ∙ takes))
-allows_pair conflicts (Some (y, Missing)) r h q takes plain told = absurd (none_is_not_some q (ap (λ a. pair_taken a h) (sym (told y Missing refl)) ∙ takes))
-allows_pair conflicts (Some (y, Conflict)) r h q takes plain told = by_reading conflicts refl where
-  hides : h ≡ Some q
-  hides = ap (λ a. pair_taken a h) (sym (told y Conflict refl)) ∙ takes
-
-  by_reading : (c : Conflicts) → conflicts ≡ c → conflicts ≡ Maybe
-  by_reading Plain is = absurd (none_is_not_some q (sym (plain is) ∙ hides))
-  by_reading Maybe is = is
-
--- a call that takes a pair in the order may change the document so
-may_change : (x : Explained) (i : ℕ) (p : Placed) (w : Rec) (q : Pair) (event : ℕ) → IsRecordOf x i p w → pair_taken p.entry.reply p.entry.hidden ≡ Some q
-    → w.call_at < event → MayChange x.conflicts (recs x) (stand x) event w q (doc_at x (suc i))
-may_change x i p w q event of takes called = record {
-  listed = of.listed;
-  called = called;
-  allows = allows_pair x.conflicts w.heard p.entry.reply p.entry.hidden q takes (λ plain. x.explains.is_order.plain plain i p of.entry.at) (λ y a heard. same_reply x i p w y a of heard);
-  alone = λ r listed is. (
-      let a = takes_told x r q listed is in
-      let place : place_in x.order r.no ≡ i = same_place x (place_in x.order r.no) i a.placed p q a.own.entry of.entry a.takes takes in
-      let one : a.placed ≡ p = same_some a.placed p (sym a.own.entry.at ∙ (ap (slice_get x.order) place ∙ of.entry.at)) in
-      same_record x r w listed of.listed (sym a.own.number ∙ (ap (λ (y : Placed). y.no) one ∙ of.number))
+-- a write that was performed may be answered so where it stands
+may_write : (x : Explained) (c : Rec) (replied : ℕ) (reply : Answer) (q : Pair) (absent : Bool) → IsListed (recs x) c → (s : StandsBefore x (place_in x.order c.no) c replied reply) → pair_taken reply None ≡ Some q
+    → absent ≡ not (is_here (doc_at x (place_in x.order c.no))) → MayWrite (recs x) (floor_of x) replied c q absent (position_at x (place_in x.order c.no))
+may_write x c replied reply q absent listed s shows flag = record {
+  before = position_below x j q performs.rises;
+  after = λ v known below. (
+      let k = known_taken x v known in
+      let first : k.place < j = taken_below x j t.placed q v k t.own.entry t.takes below in
+      let most = reached_position (recs x) (doc_at x j) v (reached_after x k.place j k.placed v first k.entry k.takes) in
+      subst (λ n. n ≤ position_at x j) (position_known (recs x) v known) most
       );
-  leaves = (leaves_it (doc_at x i) p.entry.op q (doc_at x (suc i)) performs).0 ∙ ap (λ o. performed_state Never o q) of.op;
-  pair = (leaves_it (doc_at x i) p.entry.op q (doc_at x (suc i)) performs).1;
-  uncontradicted = uncontradicted x (suc i);
-  rises = λ b before. (
-      let a = answered x b before.replied before.reply before.listed before.heard in
-      let first : place_in x.order b.no < i = stands_first x (place_in x.order b.no) i a.placed p b w before.replied before.reply a.own of before.heard before.before in
-      exceeds_before x q (suc (place_in x.order b.no)) i (omega arith) performs.rises
-      );
-  condition = λ c is. (
-      let met = met_pair (doc_at x i) c (meets (doc_at x i) p.entry.op q (doc_at x (suc i)) c performs (ap condition_of of.op ∙ is)) in (
-        exceeds_above (doc_at x i) c q met.0 performs.rises,
-        λ v known above. next_at x i p q of.entry takes v known (exceeds_pair (doc_at x i) c v met.0 above),
+  was_absent = λ is. absent_there x j c replied reply s (away (is_here (doc_at x j)) (sym is ∙ flag));
+  was_present = λ is. present_there x j c replied reply s (there (is_here (doc_at x j)) (sym is ∙ flag));
+  condition = λ b is. (
+      let met = met_pair (doc_at x j) b (meets (doc_at x j) t.placed.entry.op q (doc_at x (suc j)) b performs (ap condition_of t.own.op ∙ is)) in
+      let known : IsKnown (recs x) b = shown_known (recs x) b (record { call = c; listed = listed; shows = inr (ap (option_and_then (λ (p : Pair). condition_of c.op)) told ∙ is) }) in (
+        exceeds_above (doc_at x j) b q met.0 performs.rises,
+        ap (position (recs x)) met.0 ∙ position_known (recs x) b known,
+        flag ∙ ap not met.1,
       )
       );
+  uncontradicted = subst (IsUncontradicted (recs x)) left (uncontradicted x (suc j));
+  alone = λ r other is. (
+      let a = takes_told x r q other is in
+      let place : place_in x.order r.no ≡ j = same_place x (place_in x.order r.no) j a.placed t.placed q a.own.entry t.own.entry a.takes t.takes in
+      let one : a.placed ≡ t.placed = same_some a.placed t.placed (sym a.own.entry.at ∙ (ap (slice_get x.order) place ∙ t.own.entry.at)) in
+      same_record x other.0 listed.0 r c other.1 listed.1 (sym a.own.number ∙ (ap (λ (y : Placed). y.no) one ∙ t.own.number))
+      );
 } where
-  performs : Performs (doc_at x i) p.entry.op q (doc_at x (suc i))
-  performs = performs_at x i p q of.entry takes
-
--- what stands before a call was called before its reply
-called_before : (x : Explained) (i j : ℕ) (p r : Placed) (w c : Rec) (replied : ℕ) (reply : Answer) → IsRecordOf x i p w → IsRecordOf x j r c → c.heard ≡ Some (replied, reply)
-    → i < j → w.call_at < replied
-called_before x i j p r w c replied reply of with_it heard before = by_order (cases_lt w.call_at replied) (cases_lt replied w.call_at) where
-  by_order : ((w.call_at < replied) ⊎ (replied ≤ w.call_at)) → ((replied < w.call_at) ⊎ (w.call_at ≤ replied)) → w.call_at < replied
-  by_order (inl first) other = first
-  by_order (inr not) (inl late) =
-      let after : j < i = stands_first x j i r p c w replied reply with_it of heard late in
-      absurd (omega arith)
-  by_order (inr not) (inr nor) =
-      let same : replied ≡ w.call_at = omega arith in
-      let told : IsReplyAt x.events replied c.no reply = ((split x).heard x.doc with_it.listed.0 c with_it.listed.1 replied reply).0 heard in
-      let call = (split x).of_call x.doc of.listed.0 w of.listed.1 in
-      absurd (not_both (sym told ∙ (ap (slice_get x.events) same ∙ call.1))) where
-        not_both : {m n h : ℕ} {d : List ℕ} {op : Op} {a : Answer} → Some (Reply m a) ≡ Some (Call n h d op) → ⊥
-        not_both is = cc
-
--- a call that takes a pair before another one may change the document so before the other one's reply
-changed_before : (x : Explained) (q : Pair) (k : IsTaken x q) (j : ℕ) (r : Placed) (c : Rec) (replied : ℕ) (reply : Answer) → IsRecordOf x j r c → c.heard ≡ Some (replied, reply)
-    → k.place < j → (w : Rec) × MayChange x.conflicts (recs x) (stand x) replied w q (doc_at x (suc k.place))
-changed_before x q k j r c replied reply of heard before =
-    let w = record_of x k.place k.placed k.entry in
-    (w.0, may_change x k.place k.placed w.0 q replied w.1 k.takes (called_before x k.place j k.placed r w.0 c replied reply w.1 of heard before))
-
--- a known pair that the document has reached is taken before
-taken_earlier : (x : Explained) (v : Pair) (k : IsTaken x v) (j : ℕ) → AtMost v (doc_at x j) → k.place < j
-taken_earlier x v k j most = by_order (cases_lt k.place j) where
-  by_order : ((k.place < j) ⊎ (j ≤ k.place)) → k.place < j
-  by_order (inl first) = first
-  by_order (inr not) =
-      absurd (not_below_itself v (below_new v v (doc_at x k.place) (reached_later x v j k.place not most) (performs_at x k.place k.placed v k.entry k.takes).rises))
-
--- an answered call stands as it may where it stands as in the order
-stands_as_may : (x : Explained) (c : Rec) (replied : ℕ) (reply : Answer) → IsListed (recs x) c → c.heard ≡ Some (replied, reply)
-    → StandsAsMay x.conflicts (recs x) (stand x) c replied reply
-stands_as_may x c replied reply listed heard = record {
-  step = subst (λ h. DocStep (doc_at x j) c.op reply h (doc_at x (suc j))) (sym hides)
-      (subst (λ o. DocStep (doc_at x j) o reply a.placed.entry.hidden (doc_at x (suc j))) a.own.op
-      (subst (λ s. DocStep (doc_at x j) a.placed.entry.op s a.placed.entry.hidden (doc_at x (suc j))) a.replies (step_at x j a.placed a.own.entry)));
-  plain = λ plain. hides ∙ x.explains.is_order.plain plain j a.placed a.own.entry.at;
-  follows = λ b q before is. (
-      let o = answered x b before.replied before.reply before.listed before.heard in
-      let first : place_in x.order b.no < j = stands_first x (place_in x.order b.no) j o.placed a.placed b c before.replied before.reply o.own a.own before.heard before.before in
-      has_reached (doc_at x j) q (reached_later x q (suc (place_in x.order b.no)) j (omega arith) (pair_reached (doc_at x (suc (place_in x.order b.no))) q is))
-      );
-  written = λ p is. (
-      let k = taken_for x j p is in
-      let w = changed_before x p k.own j a.placed c replied reply a.own heard k.before in
-      (w.0, subst (MayChange x.conflicts (recs x) (stand x) replied w.0 p) k.stays w.1)
-      );
-  passed = λ v known most. (
-      let k = known_taken x v known in
-      let w = changed_before x v k j a.placed c replied reply a.own heard (taken_earlier x v k j (at_most (doc_at x j) v most)) in
-      (w.0, doc_at x (suc k.place), w.1)
-      );
-  takes = λ q is. may_change x j a.placed c q replied a.own (taken q is) called;
-  next = λ q is. next_at x j a.placed q a.own.entry (taken q is);
-} where
-  a : IsAnswered x c reply
-  a = answered x c replied reply listed heard
-
   j : ℕ
   j = place_in x.order c.no
 
-  hides : (stand x c).hidden ≡ a.placed.entry.hidden
-  hides = ap (option_and_then (λ (p : Placed). p.entry.hidden)) a.own.entry.at
+  told : pair_of c.heard ≡ Some q
+  told = ap pair_of s.heard ∙ shows
 
-  taken : (q : Pair) → pair_taken reply (stand x c).hidden ≡ Some q → pair_taken a.placed.entry.reply a.placed.entry.hidden ≡ Some q
-  taken q is = ap (λ s. pair_taken s a.placed.entry.hidden) a.replies ∙ (ap (pair_taken reply) (sym hides) ∙ is)
+  t : TakesShown x c q
+  t = takes_shown x c replied reply q listed s.heard shows
 
-  called : c.call_at < replied
-  called =
-      let told : IsReplyAt x.events replied c.no reply = ((split x).heard x.doc listed.0 c listed.1 replied reply).0 heard in
-      let call = (split x).of_call x.doc listed.0 c listed.1 in
-      let earlier = x.history.ended_after_call c.no replied (reply_passes x.events replied c.no reply told) in
-      let same : earlier.0 ≡ c.call_at = x.history.called_once c.no earlier.0 c.call_at earlier.2 (call_passes x.events c.call_at c.no call.0 x.doc c.op call.1) in
-      subst (λ i. i < replied) same earlier.1
+  performs : Performs (doc_at x j) t.placed.entry.op q (doc_at x (suc j))
+  performs = performs_at x j t.placed q t.own.entry t.takes
 
--- ---- the law
+  left : doc_at x (suc j) ≡ performed_state Never c.op q
+  left = (leaves_it (doc_at x j) t.placed.entry.op q (doc_at x (suc j)) performs).0 ∙ ap (λ o. performed_state Never o q) t.own.op
 
--- each document of a history that an order explains has a placing of all its answered calls
-explained_has_placing : (x : Explained) (event : ℕ) → IsPlacing x.conflicts (recs x) event (stand x)
-explained_has_placing x event c replied reply listed heard before = stands_as_may x c replied reply listed heard
+  away : (b : Bool) → true ≡ not b → b ≡ false
+  away true is = absurd (true≢false is)
+  away false is = refl
+
+  there : (b : Bool) → false ≡ not b → b ≡ true
+  there true is = refl
+  there false is = absurd (true≢false (sym is))
+
+-- a get that misses stands where the document is absent
+missing_away : (s : DocState) (op : Op) (h : Option Pair) (t : DocState) → DocStep s op Missing h t → is_here s ≡ false
+missing_away Never Get h t step = refl
+missing_away (Gone p) Get h t step = refl
+missing_away (Here p k) Get h t step = let impossible : Missing ≡ Found p k = step.0 in absurd (cc)
+missing_away s (Index k c) h t step = absurd step
+missing_away s (Delete c) h t step = absurd step
+missing_away s (Create k) h t step = absurd step
+
+-- a write that is refused isn't performed
+refused : (s : DocState) (op : Op) (t : DocState) → DocStep s op Conflict None t → ¬ IsPerformed s op
+refused s Get t step = λ performed. performed
+refused s (Index k c) t step = step.0
+refused s (Delete c) t step = step.0
+refused s (Create k) t step = step.0
+
+-- no get is
+no_get_refused : (s : DocState) (h : Option Pair) (t : DocState) → DocStep s Get Conflict h t → ⊥
+no_get_refused Never h t step = let impossible : Conflict ≡ Missing = step.0 in cc
+no_get_refused (Gone p) h t step = let impossible : Conflict ≡ Missing = step.0 in cc
+no_get_refused (Here p k) h t step = let impossible : Conflict ≡ Found p k = step.0 in cc
+
+-- a write under a condition that isn't met may be refused where it stands
+may_refuse : (x : Explained) (j : ℕ) (c : Rec) (replied : ℕ) (reply : Answer) (b : Pair) → StandsBefore x j c replied reply → (¬ HasPair (doc_at x j) b)
+    → MayRefuse (recs x) (floor_of x) replied b (position_at x j)
+may_refuse x j c replied reply b s other = record {
+  some = by_presence (is_here (doc_at x j)) refl;
+  other = λ known stays same. by_state (doc_at x j) refl known stays same;
+} where
+  by_presence : (is : Bool) → is_here (doc_at x j) ≡ is → MayBeAbsent (recs x) (floor_of x) replied (position_at x j) ⊎ MayBePresent (recs x) (floor_of x) replied (position_at x j)
+  by_presence true is = inr (present_there x j c replied reply s is)
+  by_presence false is = inl (absent_there x j c replied reply s is)
+
+  by_pair : (t : DocState) (p : Pair) → doc_at x j ≡ t → last_pair t ≡ Some p → IsKnown (recs x) b → position_at x j ≡ version_of (recs x) b → IsKnown (recs x) p ⊎ (¬ IsKnown (recs x) p) → p ≡ b
+  by_pair t p is pair known same (inl too) =
+      same_version (recs x) p b too known (sym (position_known (recs x) p too) ∙ (ap (position (recs x)) (sym (ap last_pair is ∙ pair)) ∙ same))
+  by_pair t p is pair known same (inr unknown) =
+      absurd (no_gap_is_version (recs x) p b (sym (position_unknown (recs x) p unknown) ∙ (ap (position (recs x)) (sym (ap last_pair is ∙ pair)) ∙ same)))
+
+  by_state : (t : DocState) → doc_at x j ≡ t → IsKnown (recs x) b → (¬ IsGone (recs x) b) → position_at x j ≡ version_of (recs x) b → ⊥
+  by_state Never is known stays same = let impossible : 0 ≡ version_of (recs x) b = sym (ap (λ t. position (recs x) (last_pair t)) is) ∙ same in omega arith
+  by_state (Gone p) is known stays same =
+      let one : p ≡ b = by_pair (Gone p) p is refl known same (known_or_not (recs x) p) in
+      stays (gone_told x b j known (is ∙ ap (λ v. Gone v) one))
+  by_state (Here p k) is known stays same =
+      let one : p ≡ b = by_pair (Here p k) p is refl known same (known_or_not (recs x) p) in
+      other (subst (λ t. HasPair t b) (sym is) one)
+
+may_conflict : (x : Explained) (j : ℕ) (c : Rec) (replied : ℕ) (reply : Answer) (op : Op) (t : DocState) → StandsBefore x j c replied reply → DocStep (doc_at x j) op Conflict None t
+    → MayConflict (recs x) (floor_of x) replied op (position_at x j)
+may_conflict x j c replied reply Get t s step = no_get_refused (doc_at x j) None t step
+may_conflict x j c replied reply (Index k None) t s step = refused (doc_at x j) (Index k None) t step tt
+may_conflict x j c replied reply (Index k (Some b)) t s step = may_refuse x j c replied reply b s (refused (doc_at x j) (Index k (Some b)) t step)
+may_conflict x j c replied reply (Delete None) t s step = refused (doc_at x j) (Delete None) t step tt
+may_conflict x j c replied reply (Delete (Some b)) t s step = may_refuse x j c replied reply b s (refused (doc_at x j) (Delete (Some b)) t step)
+may_conflict x j c replied reply (Create k) t s step = present_there x j c replied reply s (true_from_ne_false (is_here (doc_at x j)) (refused (doc_at x j) (Create k) t step))
+
+-- an answered call may be answered so where it stands
+may_answer : (x : Explained) (c : Rec) (replied : ℕ) (reply : Answer) → IsListed (recs x) c → StandsBefore x (place_in x.order c.no) c replied reply
+    → MayAnswer (recs x) (floor_of x) replied c reply (position_at x (place_in x.order c.no))
+may_answer x c replied (Indexed q created) listed s =
+    may_write x c replied (Indexed q created) q created listed s refl
+    (did_index (doc_at x (place_in x.order c.no)) c.op q created s.answered.placed.entry.hidden (doc_at x (suc (place_in x.order c.no))) (told_step x c (Indexed q created) s.answered)).flag
+may_answer x c replied (Deleted q found) listed s =
+    may_write x c replied (Deleted q found) q (not found) listed s refl
+    (ap not (did_delete (doc_at x (place_in x.order c.no)) c.op q found s.answered.placed.entry.hidden (doc_at x (suc (place_in x.order c.no))) (told_step x c (Deleted q found) s.answered)).flag)
+may_answer x c replied (Found p k) listed s =
+    let here = found_has (doc_at x (place_in x.order c.no)) c.op s.answered.placed.entry.hidden (doc_at x (suc (place_in x.order c.no))) p k (told_step x c (Found p k) s.answered) in
+    let known : IsKnown (recs x) p = shown_known (recs x) p (record { call = c; listed = listed; shows = inl (ap pair_shown s.heard) }) in (
+      ap (λ t. position (recs x) (last_pair t)) here ∙ position_known (recs x) p known,
+      subst (IsUncontradicted (recs x)) here (uncontradicted x (place_in x.order c.no)),
+    )
+may_answer x c replied Missing listed s =
+    absent_there x (place_in x.order c.no) c replied Missing s
+    (missing_away (doc_at x (place_in x.order c.no)) c.op s.answered.placed.entry.hidden (doc_at x (suc (place_in x.order c.no))) (told_step x c Missing s.answered))
+may_answer x c replied Conflict listed s =
+    let plain : s.answered.placed.entry.hidden ≡ None = x.explains.is_order.plain ((heard_told x listed.0 c replied Conflict listed.1 s.heard).1 refl) (place_in x.order c.no) s.answered.placed s.answered.own.entry.at in
+    may_conflict x (place_in x.order c.no) c replied Conflict c.op (doc_at x (suc (place_in x.order c.no))) s
+    (subst (λ h. DocStep (doc_at x (place_in x.order c.no)) c.op Conflict h (doc_at x (suc (place_in x.order c.no)))) plain (told_step x c Conflict s.answered))
+
+-- ---- the placing
+
+-- an element stands inside its list
+inside : {X : Type 0} (xs : List X) (i : ℕ) (y : X) → slice_get xs i ≡ Some y → i < length xs
+inside [] i y at = absurd (none_is_not_some y at)
+inside (z ∷ zs) zero y at = omega arith
+inside (z ∷ zs) (suc i) y at = let rest : i < length zs = inside zs i y at in omega arith
+
+-- a call that is made after a reply stands after the answered call, if at all
+later_place : (x : Explained) (c r : Rec) (replied : ℕ) (reply : Answer) (a : IsAnswered x c reply) → IsListed (recs x) r → c.heard ≡ Some (replied, reply) → replied < r.call_at
+    → place_in x.order c.no < place_in x.order r.no
+later_place x c r replied reply a listed heard before = by_order (cases_lt (place_in x.order c.no) (place_in x.order r.no)) where
+  by_order : ((place_in x.order c.no < place_in x.order r.no) ⊎ (place_in x.order r.no ≤ place_in x.order c.no)) → place_in x.order c.no < place_in x.order r.no
+  by_order (inl first) = first
+  by_order (inr not) =
+      let within : place_in x.order c.no < length x.order = inside x.order (place_in x.order c.no) a.placed a.own.entry.at in
+      let q = get_within x.order (place_in x.order r.no) (omega arith) in
+      stands_first x (place_in x.order c.no) (place_in x.order r.no) a.placed q.0 c r replied reply a.own
+      (of_record x (place_in x.order r.no) q.0 r q.1 listed (place_is x.order r.no q.0 q.1)) heard before
+
+-- where a call has stood the document has reached the position after it
+after_reached : (x : Explained) (c : Rec) (replied : ℕ) (reply : Answer) → IsListed (recs x) c → c.heard ≡ Some (replied, reply)
+    → position_after (recs x) (pair_of c.heard) (position_at x (place_in x.order c.no)) ≤ position_at x (suc (place_in x.order c.no))
+after_reached x c replied reply listed heard = by_pair (pair_of c.heard) refl where
+  by_pair : (o : Option Pair) → pair_of c.heard ≡ o → position_after (recs x) o (position_at x (place_in x.order c.no)) ≤ position_at x (suc (place_in x.order c.no))
+  by_pair None told = position_grows x (place_in x.order c.no) (suc (place_in x.order c.no)) (omega arith)
+  by_pair (Some q) told =
+      let t = takes_told x c q listed told in
+      let left = leaves_it (doc_at x (place_in x.order c.no)) t.placed.entry.op q (doc_at x (suc (place_in x.order c.no))) (performs_at x (place_in x.order c.no) t.placed q t.own.entry t.takes) in
+      let same : position_at x (suc (place_in x.order c.no)) ≡ version_of (recs x) q = ap (position (recs x)) left.1 ∙ position_known (recs x) q (told_known (recs x) q (c, listed, told)) in
+      omega arith
+
+-- the positions at which the calls of an explained document stand in the order are a placing
+explained_placing : (x : Explained) (event : ℕ) → IsPlacing (recs x) event (floor_of x)
+explained_placing x event i c replied reply at heard before = (position_at x j, stands, lifts) where
+  j : ℕ
+  j = place_in x.order c.no
+
+  listed : IsListed (recs x) c
+  listed = (i, at)
+
+  a : IsAnswered x c reply
+  a = answered x c replied reply listed heard
+
+  s : StandsBefore x j c replied reply
+  s = record { answered = a; heard = heard; here = refl }
+
+  stands : MayStand (recs x) (floor_of x) i c replied reply (position_at x j)
+  stands = record {
+    above = (let same : floor_of x i ≡ position_at x j = floor_is x i c at in omega arith);
+    reached = reached_there x j c replied reply s;
+    answers = may_answer x c replied reply listed s;
+  }
+
+  lifts : Lifts (recs x) (floor_of x) c replied (position_at x j)
+  lifts k r there later =
+      let first : j < place_in x.order r.no = later_place x c r replied reply a (k, there) heard later in
+      let after : position_after (recs x) (pair_of c.heard) (position_at x j) ≤ position_at x (suc j) = after_reached x c replied reply listed heard in
+      let grows : position_at x (suc j) ≤ position_at x (place_in x.order r.no) = position_grows x (suc j) (place_in x.order r.no) (omega arith) in
+      let same : floor_of x k ≡ position_at x (place_in x.order r.no) = floor_is x k r there in
+      omega arith
+
+-- ---- the laws
+
+pub explained_have_placings : ExplainedHavePlacings
+explained_have_placings conflicts events order d history explains =
+    let x : Explained = record { conflicts = conflicts; events = events; order = order; doc = d; history = history; explains = explains } in
+    (floor_of x, λ event. explained_placing x event)
 
 pub ruled_out_have_no_order : RuledOutHaveNoOrder
-ruled_out_have_no_order conflicts events d c history ruled (order, explains) =
-    let x : Explained = record { conflicts = conflicts; events = events; order = order; doc = d; history = history; explains = explains } in
-    ruled.none (stand x) (explained_has_placing x (suc ruled.replied))
+ruled_out_have_no_order conflicts events d n history ruled (order, explains) =
+    let p = explained_have_placings conflicts events order d history explains in
+    ruled.none p.0 (p.1 (suc ruled.replied))

@@ -1,1 +1,4 @@
+pub mod Told
+pub mod Positions
 pub mod Placings
+pub mod Laws

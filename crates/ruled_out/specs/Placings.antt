@@ -1,140 +1,146 @@
--- Placings of a document: how each of its answered calls may stand, whatever became of the calls without a reply; and which
--- documents are ruled out, having none.
-use Rattle.std.specs.Prelude.{◌≡◌, ◌<◌, ◌⊎◌, ℕ, suc, Bool, true, List, Option, None, Some, option_and_then, slice_get}
+-- Placings of a document: positions at which its answered calls may stand, whatever became of the calls without a reply; and
+-- where a document is ruled out, having none.
+use Rattle.std.specs.Prelude.{◌≡◌, ◌≢◌, ◌<◌, ◌≤◌, ◌⊎◌, ℕ, suc, Bool, true, false, not, List, Option, None, Some, slice_get}
 use Rattle.version_pair.specs.declared.pair.Pair.{Pair}
 use Rattle.version_pair.specs.PairOrder.{IsBelow}
 use Rattle.doc_register.specs.declared.op.Op.{Op}
+use Rattle.doc_register.specs.declared.op.Op.TheVariants.{Get, Index, Delete, Create}
 use Rattle.doc_register.specs.declared.reply.Reply.{Reply}
 use Rattle.doc_register.specs.declared.reply.Reply.TheVariants.{Indexed, Deleted, Found, Missing, Conflict}
-use Rattle.doc_register.specs.declared.state.Conflicts.{Conflicts}
-use Rattle.doc_register.specs.declared.state.Conflicts.TheVariants.{Plain, Maybe}
-use Rattle.doc_register.specs.declared.state.DocState.{DocState}
-use Rattle.doc_register.specs.declared.state.DocState.TheVariants.{Never, Gone, Here}
-use Rattle.doc_register.specs.Register.{DocStep, Exceeds, condition_of, is_here, last_pair, performed_state}
-use Rattle.doc_register.specs.Run.{pair_taken}
-use Rattle.history.specs.declared.event.Event.{Event}
+use Rattle.doc_register.specs.declared.state.DocState.TheVariants.{Never, Here}
+use Rattle.doc_register.specs.Register.{condition_of, performed_state, value_of}
 use Rattle.history.specs.declared.record.Rec.{Rec}
-use Rattle.history.specs.Events.{IsHistory, records_of}
 use Rattle.history.specs.Heard.{pair_of}
-use Rattle.history.specs.Order.{IsLinearizable}
+use Rattle.ruled_out.specs.Told.{IsFoundWith, IsGone, IsKnown, IsListed, IsToldOf, IsUncontradicted}
+use Rattle.ruled_out.specs.Positions.{IsNext, gap_of, position_after, version_of}
 
--- the call is one of the records
-abbrev pub IsListed : List Rec → Rec → Type 0
-IsListed records r = (i : ℕ) × (slice_get records i ≡ Some r)
+-- The records are those of a document as they are told. The floor of each record, by its number, is a position that the document
+-- has reached when the call is made: no call that is made then stands below it.
 
--- the call is one of the records, and it was answered before the event
-pub record IsAnsweredBefore (records : List Rec) (event : ℕ) (r : Rec) : Type 0 where
-  pub listed : IsListed records r
-  pub replied : ℕ
-  pub reply : Reply
-  pub heard : r.heard ≡ Some (replied, reply)
-  pub before : replied < event
+-- ---- what calls without a reply may do
 
--- ---- what replies tell of a document
+-- The i-th call, w, has no reply, and may have taken the pair before the event: it was made by then, its floor is no bar, and where
+-- it has a condition, the condition is below the pair, with no known pair between. That another call needs it too, with another
+-- pair, is no hindrance.
+pub record MayTake (records : List Rec) (floor : ℕ → ℕ) (event i : ℕ) (w : Rec) (p : Pair) : Type 0 where
+  pub at : slice_get records i ≡ Some w
+  pub unanswered : w.heard ≡ None
+  pub called : w.call_at < event
+  pub above : floor i ≤ gap_of records p
+  pub condition : (c : Pair) → condition_of w.op ≡ Some c → IsBelow c p × IsNext records c p
 
--- what the document was, as the reply to one of its calls shows: after a write that was performed, or at a get that found it
-abbrev pub state_shown : Op → Option (ℕ × Reply) → Option DocState
-state_shown op None = None
-state_shown op (Some (at, Indexed q created)) = Some (performed_state Never op q)
-state_shown op (Some (at, Deleted q found)) = Some (performed_state Never op q)
-state_shown op (Some (at, Found p k)) = Some (Here p k)
-state_shown op (Some (at, Missing)) = None
-state_shown op (Some (at, Conflict)) = None
-
--- the condition under which a write was performed, as its reply shows: the document was there with this pair
-abbrev pub condition_met : Rec → Option Pair
-condition_met r = option_and_then (λ q. condition_of r.op) (pair_of r.heard)
-
--- The pair is known: a reply shows that a change of the document has it.
-pub record IsKnown (records : List Rec) (p : Pair) : Type 0 where
+-- a call without a reply may have taken a pair that isn't known, and that has the position n
+pub record MayChange (records : List Rec) (floor : ℕ → ℕ) (event n : ℕ) : Type 0 where
+  pub number : ℕ
   pub call : Rec
-  pub listed : IsListed records call
-  pub shows : (option_and_then last_pair (state_shown call.op call.heard) ≡ Some p) ⊎ (condition_met call ≡ Some p)
+  pub pair : Pair
+  pub unknown : ¬ IsKnown records pair
+  pub there : n ≡ gap_of records pair
+  pub takes : MayTake records floor event number call pair
 
--- no reply contradicts that the document was s when it had the pair of s
-pub record IsUncontradicted (records : List Rec) (s : DocState) : Type 0 where
-  pub shown : (r : Rec) (t : DocState) → IsListed records r → state_shown r.op r.heard ≡ Some t → last_pair t ≡ last_pair s → t ≡ s
-  pub met : (r : Rec) (p : Pair) → IsListed records r → condition_met r ≡ Some p → last_pair s ≡ Some p → is_here s ≡ true
+-- such a call is a delete
+pub record MayDelete (records : List Rec) (floor : ℕ → ℕ) (event n : ℕ) : Type 0 where
+  pub change : MayChange records floor event n
+  pub condition : Option Pair
+  pub deletes : change.call.op ≡ Delete condition
 
--- no known pair lies above that of the document and below q
-abbrev pub IsNext : List Rec → DocState → Pair → Type 0
-IsNext records s q = (v : Pair) → IsKnown records v → Exceeds v s → ¬ IsBelow v q
+-- such a call is an index or a create
+pub record MayGive (records : List Rec) (floor : ℕ → ℕ) (event n : ℕ) : Type 0 where
+  pub change : MayChange records floor event n
+  pub value : ℕ
+  pub gives : value_of change.call.op ≡ Some value
 
--- the pair of the document's last change is p, or above it
-abbrev pub HasReached : DocState → Pair → Type 0
-HasReached Never p = ⊥
-HasReached (Gone q) p = (p ≡ q) ⊎ IsBelow p q
-HasReached (Here q k) p = (p ≡ q) ⊎ IsBelow p q
+-- ---- what the document may be at a position, before the event
+
+-- it was never written, or it was deleted with the known pair of the position, or a call without a reply may have deleted it
+abbrev pub MayBeAbsent : List Rec → (ℕ → ℕ) → ℕ → ℕ → Type 0
+MayBeAbsent records floor event n =
+    (n ≡ 0) ⊎ ((v : Pair) × IsGone records v × (n ≡ version_of records v)) ⊎ MayDelete records floor event n
+
+-- it has the known pair of the position and wasn't deleted with it, or a call without a reply may have written it
+abbrev pub MayBePresent : List Rec → (ℕ → ℕ) → ℕ → ℕ → Type 0
+MayBePresent records floor event n =
+    ((v : Pair) × IsKnown records v × (¬ IsGone records v) × (n ≡ version_of records v)) ⊎ MayGive records floor event n
+
+-- an index or a create without a reply may have taken the pair, giving the number that was found with it, if one was
+pub record HasWriter (records : List Rec) (floor : ℕ → ℕ) (event : ℕ) (v : Pair) : Type 0 where
+  pub number : ℕ
+  pub call : Rec
+  pub takes : MayTake records floor event number call v
+  pub value : ℕ
+  pub gives : value_of call.op ≡ Some value
+  pub found : (k : ℕ) → IsFoundWith records v k → k ≡ value
+
+-- each known pair up to the position has a call that took it: the one that is told, or one that may have taken it
+abbrev pub IsReached : List Rec → (ℕ → ℕ) → ℕ → ℕ → Type 0
+IsReached records floor event n = (v : Pair) → IsKnown records v → (¬ IsToldOf records v) → version_of records v ≤ n
+    → HasWriter records floor event v
+
+-- ---- where an answered call may stand
+
+-- A write that was performed with the pair q, on a document that was absent or wasn't, as its reply tells: it stands before q and
+-- after each known pair below it; the document may be as is told; a condition is the pair of the position, and the document is
+-- there; no reply contradicts what the write leaves, and no other one tells of the pair.
+pub record MayWrite (records : List Rec) (floor : ℕ → ℕ) (event : ℕ) (c : Rec) (q : Pair) (absent : Bool) (n : ℕ) : Type 0 where
+  pub before : n ≤ gap_of records q
+  pub after : (v : Pair) → IsKnown records v → IsBelow v q → version_of records v ≤ n
+  pub was_absent : absent ≡ true → MayBeAbsent records floor event n
+  pub was_present : absent ≡ false → MayBePresent records floor event n
+  pub condition : (b : Pair) → condition_of c.op ≡ Some b → IsBelow b q × (n ≡ version_of records b) × (absent ≡ false)
+  pub uncontradicted : IsUncontradicted records (performed_state Never c.op q)
+  pub alone : (r : Rec) → IsListed records r → pair_of r.heard ≡ Some q → r ≡ c
+
+-- a write with the condition b may be refused: the document may be there or not, but not there with b
+pub record MayRefuse (records : List Rec) (floor : ℕ → ℕ) (event : ℕ) (b : Pair) (n : ℕ) : Type 0 where
+  pub some : MayBeAbsent records floor event n ⊎ MayBePresent records floor event n
+  pub other : IsKnown records b → (¬ IsGone records b) → n ≢ version_of records b
+
+abbrev pub MayConflict : List Rec → (ℕ → ℕ) → ℕ → Op → ℕ → Type 0
+MayConflict records floor event Get n = ⊥
+MayConflict records floor event (Index k None) n = ⊥
+MayConflict records floor event (Index k (Some b)) n = MayRefuse records floor event b n
+MayConflict records floor event (Delete None) n = ⊥
+MayConflict records floor event (Delete (Some b)) n = MayRefuse records floor event b n
+MayConflict records floor event (Create k) n = MayBePresent records floor event n
+
+-- the call may be answered so at the position
+abbrev pub MayAnswer : List Rec → (ℕ → ℕ) → ℕ → Rec → Reply → ℕ → Type 0
+MayAnswer records floor event c (Indexed q created) n = MayWrite records floor event c q created n
+MayAnswer records floor event c (Deleted q found) n = MayWrite records floor event c q (not found) n
+MayAnswer records floor event c (Found p k) n = (n ≡ version_of records p) × IsUncontradicted records (Here p k)
+MayAnswer records floor event c Missing n = MayBeAbsent records floor event n
+MayAnswer records floor event c Conflict n = MayConflict records floor event c.op n
+
+-- The i-th call, c, answered at the event, may stand at the position: it isn't below its floor (`above`), each known pair up to it
+-- has a call that took it (`reached`), and the call may be answered so there (`answers`).
+pub record MayStand (records : List Rec) (floor : ℕ → ℕ) (i : ℕ) (c : Rec) (event : ℕ) (reply : Reply) (n : ℕ) : Type 0 where
+  pub above : floor i ≤ n
+  pub reached : IsReached records floor event n
+  pub answers : MayAnswer records floor event c reply n
 
 -- ---- placings
 
--- how a call stands: what the document is before it, the pair that its reply hides, and what the document is after it
-pub record Stand : Type 0 where
-  pub before : DocState
-  pub hidden : Option Pair
-  pub after : DocState
+-- where a call that was answered at the event stands at n, each call that is made later has a floor that is no lower
+abbrev pub Lifts : List Rec → (ℕ → ℕ) → Rec → ℕ → ℕ → Type 0
+Lifts records floor c event n = (j : ℕ) (r : Rec) → slice_get records j ≡ Some r → event < r.call_at
+    → position_after records (pair_of c.heard) n ≤ floor j
 
--- What was heard of a write allows that it took the pair p: it was answered with this pair, it has no reply, or, under Maybe,
--- it was answered with a conflict.
-abbrev pub AllowsPair : Conflicts → Option (ℕ × Reply) → Pair → Type 0
-AllowsPair conflicts None p = Unit {0}
-AllowsPair conflicts (Some (at, Indexed q created)) p = q ≡ p
-AllowsPair conflicts (Some (at, Deleted q found)) p = q ≡ p
-AllowsPair conflicts (Some (at, Found q k)) p = ⊥
-AllowsPair conflicts (Some (at, Missing)) p = ⊥
-AllowsPair conflicts (Some (at, Conflict)) p = conflicts ≡ Maybe
+-- The floors are those of a placing of the calls that were answered before the event: each of these may stand at a position, and
+-- lifts the floors of the calls that are made after its reply.
+abbrev pub IsPlacing : List Rec → ℕ → (ℕ → ℕ) → Type 0
+IsPlacing records event floor = (i : ℕ) (c : Rec) (replied : ℕ) (reply : Reply) → slice_get records i ≡ Some c
+    → c.heard ≡ Some (replied, reply) → replied < event
+    → (n : ℕ) × MayStand records floor i c replied reply n × Lifts records floor c replied n
 
--- The call may have changed the document to s, with the pair p, before the event: it was called by then (`called`); what was
--- heard of it allows the pair (`allows`), and no other call was answered with it (`alone`); the operation leaves s (`leaves`,
--- `pair`), and no reply contradicts s (`uncontradicted`); the pair is above what the document was after each call that was
--- answered before this one was made (`rises`); and where the operation has a condition, the condition is below the pair, with
--- no known pair between (`condition`). That another call needs this one too, with another pair, is no hindrance.
-pub record MayChange (conflicts : Conflicts) (records : List Rec) (stands : Rec → Stand) (event : ℕ) (w : Rec) (p : Pair) (s : DocState) : Type 0 where
-  pub listed : IsListed records w
-  pub called : w.call_at < event
-  pub allows : AllowsPair conflicts w.heard p
-  pub alone : (r : Rec) → IsListed records r → pair_of r.heard ≡ Some p → r ≡ w
-  pub leaves : s ≡ performed_state Never w.op p
-  pub pair : last_pair s ≡ Some p
-  pub uncontradicted : IsUncontradicted records s
-  pub rises : (b : Rec) → IsAnsweredBefore records w.call_at b → Exceeds p (stands b).after
-  pub condition : (c : Pair) → condition_of w.op ≡ Some c → IsBelow c p × ((v : Pair) → IsKnown records v → IsBelow c v → ¬ IsBelow v p)
-
--- The answered call stands as it may: it is a step of the document, with its reply (`step`), which under Plain hides no pair
--- (`plain`). The document before it has reached the pair that it had after each call that was answered before this one was
--- made (`follows`). Some call may have changed the document to what it is before this one (`written`), and some call to each
--- known pair that it has reached (`passed`), before this call's reply. And where this call takes a pair it may do so, with no
--- known pair between (`takes`, `next`).
-pub record StandsAsMay (conflicts : Conflicts) (records : List Rec) (stands : Rec → Stand) (c : Rec) (replied : ℕ) (reply : Reply) : Type 0 where
-  pub step : DocStep (stands c).before c.op reply (stands c).hidden (stands c).after
-  pub plain : conflicts ≡ Plain → (stands c).hidden ≡ None
-  pub follows : (b : Rec) (q : Pair) → IsAnsweredBefore records c.call_at b → last_pair (stands b).after ≡ Some q
-      → HasReached (stands c).before q
-  pub written : (p : Pair) → last_pair (stands c).before ≡ Some p
-      → (w : Rec) × MayChange conflicts records stands replied w p (stands c).before
-  pub passed : (v : Pair) → IsKnown records v → HasReached (stands c).before v
-      → (w : Rec) × (s : DocState) × MayChange conflicts records stands replied w v s
-  pub takes : (q : Pair) → pair_taken reply (stands c).hidden ≡ Some q
-      → MayChange conflicts records stands replied c q (stands c).after
-  pub next : (q : Pair) → pair_taken reply (stands c).hidden ≡ Some q → IsNext records (stands c).before q
-
--- each call that was answered before the event stands as it may
-abbrev pub IsPlacing : Conflicts → List Rec → ℕ → (Rec → Stand) → Type 0
-IsPlacing conflicts records event stands = (c : Rec) (replied : ℕ) (reply : Reply) → IsListed records c → c.heard ≡ Some (replied, reply)
-    → replied < event → StandsAsMay conflicts records stands c replied reply
-
--- ---- ruled out
-
--- The document is ruled out at the call: the calls that were answered before it have a placing, and with it they have none.
-pub record IsRuledOut (conflicts : Conflicts) (records : List Rec) (c : Rec) : Type 0 where
-  pub listed : IsListed records c
+-- The document is ruled out at the call with the number no: the calls that were answered before it have a placing, and with it
+-- they have none.
+pub record IsRuledOut (records : List Rec) (no : ℕ) : Type 0 where
+  pub number : ℕ
+  pub call : Rec
+  pub at : slice_get records number ≡ Some call
+  pub named : call.no ≡ no
   pub replied : ℕ
   pub reply : Reply
-  pub heard : c.heard ≡ Some (replied, reply)
-  pub first : (stands : Rec → Stand) × IsPlacing conflicts records replied stands
-  pub none : (stands : Rec → Stand) → ¬ IsPlacing conflicts records (suc replied) stands
-
--- where a document of a history is ruled out, no order explains the history, however its pending calls are completed
-abbrev pub RuledOutHaveNoOrder : Type 0
-RuledOutHaveNoOrder = (conflicts : Conflicts) (events : List Event) (d : List ℕ) (c : Rec) → IsHistory events
-    → IsRuledOut conflicts (records_of events d) c → ¬ IsLinearizable conflicts events
+  pub heard : call.heard ≡ Some (replied, reply)
+  pub first : (floor : ℕ → ℕ) × IsPlacing records replied floor
+  pub none : (floor : ℕ → ℕ) → ¬ IsPlacing records (suc replied) floor

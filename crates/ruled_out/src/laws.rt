@@ -1,6 +1,11 @@
-//! The law of documents that are ruled out, the contract of a function that does nothing.
+//! Laws of placings, each the contract of a function that does nothing.
 
-ghost use Rattle.ruled_out.specs.Placings.{RuledOutHaveNoOrder};
+ghost use Rattle.ruled_out.specs.Laws.{ExplainedHavePlacings, RuledOutHaveNoOrder};
+
+/// Shows that each document of a history that an order explains has a placing of all its answered calls.
+pub fn explained_have_placings()
+    ensures { ExplainedHavePlacings }
+{}
 
 /// Shows that a history with a document that is ruled out is not linearizable, however its pending calls are completed.
 pub fn ruled_out_have_no_order()
