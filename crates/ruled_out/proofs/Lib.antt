@@ -4,3 +4,4 @@ mod OrderedSteps
 mod ToldStates
 mod OrderedPositions
 mod PlacingLaws
+pub mod WalkLemmas

@@ -14,14 +14,14 @@ use Rattle.history.specs.declared.record.Rec.{Rec}
 use Rattle.history.specs.Heard.{pair_of}
 use Rattle.history.specs.Order.{Placed}
 use Rattle.history.proofs.ListLemmas.{get_within, none_is_not_some, same_some}
-use Rattle.ruled_out.specs.Told.{IsGone, IsKnown, IsListed, IsToldOf, IsUncontradicted, pair_shown, state_shown}
+use Rattle.ruled_out.specs.Told.{IsGone, IsKnown, IsListed, IsToldOf, pair_shown}
 use Rattle.ruled_out.specs.Positions.{position_after, version_of}
 use Rattle.ruled_out.specs.Placings.{IsPlacing, IsReached, Lifts, MayAnswer, MayBeAbsent, MayBePresent, MayChange, MayConflict, MayRefuse, MayStand, MayWrite}
 use Rattle.ruled_out.specs.Laws.{ExplainedHavePlacings, RuledOutHaveNoOrder}
 use Rattle.ruled_out.proofs.Counts.{known_or_not, no_gap_is_version, same_version, shown_known}
 use Rattle.ruled_out.proofs.DocumentSteps.{exceeds_above, leaves_it, meets, met_pair}
 use Rattle.ruled_out.proofs.OrderedSteps.{Explained, IsAnswered, IsRecordOf, IsTaken, answered, doc_at, heard_told, of_record, performs_at, place_in, place_is, reached_after, record_of, recs, same_place, same_record, same_state, stands_first, taken_for}
-use Rattle.ruled_out.proofs.ToldStates.{TakesShown, did_delete, did_index, found_has, gone_told, known_taken, state_at, takes_shown, takes_told, told_step, uncontradicted, untold_here}
+use Rattle.ruled_out.proofs.ToldStates.{TakesShown, did_delete, did_index, found_has, gone_told, known_taken, state_at, takes_shown, state_shown, takes_told, told_step, untold_here}
 use Rattle.ruled_out.proofs.OrderedPositions.{called_before, floor_is, floor_of, may_take, position, position_at, position_below, position_grows, position_known, position_unknown, reached_position, taken_below, taken_earlier, takes_as_told}
 
 -- ---- an answered call that stands in the order
@@ -188,13 +188,6 @@ may_write x c replied reply q absent listed s shows flag = record {
         flag ∙ ap not met.1,
       )
       );
-  uncontradicted = subst (IsUncontradicted (recs x)) left (uncontradicted x (suc j));
-  alone = λ r other is. (
-      let a = takes_told x r q other is in
-      let place : place_in x.order r.no ≡ j = same_place x (place_in x.order r.no) j a.placed t.placed q a.own.entry t.own.entry a.takes t.takes in
-      let one : a.placed ≡ t.placed = same_some a.placed t.placed (sym a.own.entry.at ∙ (ap (slice_get x.order) place ∙ t.own.entry.at)) in
-      same_record x other.0 listed.0 r c other.1 listed.1 (sym a.own.number ∙ (ap (λ (y : Placed). y.no) one ∙ t.own.number))
-      );
 } where
   j : ℕ
   j = place_in x.order c.no
@@ -207,9 +200,6 @@ may_write x c replied reply q absent listed s shows flag = record {
 
   performs : Performs (doc_at x j) t.placed.entry.op q (doc_at x (suc j))
   performs = performs_at x j t.placed q t.own.entry t.takes
-
-  left : doc_at x (suc j) ≡ performed_state Never c.op q
-  left = (leaves_it (doc_at x j) t.placed.entry.op q (doc_at x (suc j)) performs).0 ∙ ap (λ o. performed_state Never o q) t.own.op
 
   away : (b : Bool) → true ≡ not b → b ≡ false
   away true is = absurd (true≢false is)
@@ -287,10 +277,8 @@ may_answer x c replied (Deleted q found) listed s =
     (ap not (did_delete (doc_at x (place_in x.order c.no)) c.op q found s.answered.placed.entry.hidden (doc_at x (suc (place_in x.order c.no))) (told_step x c (Deleted q found) s.answered)).flag)
 may_answer x c replied (Found p k) listed s =
     let here = found_has (doc_at x (place_in x.order c.no)) c.op s.answered.placed.entry.hidden (doc_at x (suc (place_in x.order c.no))) p k (told_step x c (Found p k) s.answered) in
-    let known : IsKnown (recs x) p = shown_known (recs x) p (record { call = c; listed = listed; shows = inl (ap pair_shown s.heard) }) in (
-      ap (λ t. position (recs x) (last_pair t)) here ∙ position_known (recs x) p known,
-      subst (IsUncontradicted (recs x)) here (uncontradicted x (place_in x.order c.no)),
-    )
+    let known : IsKnown (recs x) p = shown_known (recs x) p (record { call = c; listed = listed; shows = inl (ap pair_shown s.heard) }) in
+    ap (λ t. position (recs x) (last_pair t)) here ∙ position_known (recs x) p known
 may_answer x c replied Missing listed s =
     absent_there x (place_in x.order c.no) c replied Missing s
     (missing_away (doc_at x (place_in x.order c.no)) c.op s.answered.placed.entry.hidden (doc_at x (suc (place_in x.order c.no))) (told_step x c Missing s.answered))

@@ -14,12 +14,21 @@ use Rattle.history.specs.declared.record.Rec.{Rec}
 use Rattle.history.specs.Heard.{pair_of}
 use Rattle.history.specs.Order.{Placed}
 use Rattle.history.proofs.ListLemmas.{none_is_not_some, same_some}
-use Rattle.ruled_out.specs.Told.{IsGone, IsKnown, IsListed, IsToldOf, IsUncontradicted, condition_met, pair_shown, state_shown}
+use Rattle.ruled_out.specs.Told.{IsGone, IsKnown, IsListed, IsToldOf, condition_met, pair_shown}
 use Rattle.ruled_out.proofs.Counts.{IsShown, known_shown}
 use Rattle.ruled_out.proofs.DocumentSteps.{leaves_it, meets, met_pair}
 use Rattle.ruled_out.proofs.OrderedSteps.{Explained, IsAnswered, IsRecordOf, IsTaken, answered, doc_at, performs_at, place_in, recs, same_state, step_at, taken_for}
 
 -- ---- what replies tell
+
+-- what the document was, as a reply shows: after a write that was performed, or at a get that found it
+abbrev pub state_shown : Op → Option (ℕ × Answer) → Option DocState
+state_shown op None = None
+state_shown op (Some (at, Indexed q created)) = Some (performed_state Never op q)
+state_shown op (Some (at, Deleted q found)) = Some (performed_state Never op q)
+state_shown op (Some (at, Found p k)) = Some (Here p k)
+state_shown op (Some (at, Missing)) = None
+state_shown op (Some (at, Conflict)) = None
 
 -- the value from which another one comes
 and_then_from : {X Y : Type 0} (f : X → Option Y) (o : Option X) (y : Y) → option_and_then f o ≡ Some y → (x : X) × (o ≡ Some x) × (f x ≡ Some y)
@@ -139,20 +148,6 @@ met_at x r p listed is =
     let a = takes_told x r c.0 listed c.1 in
     let k : ℕ = place_in x.order r.no in
     (k, meets (doc_at x k) a.placed.entry.op c.0 (doc_at x (suc k)) p (performs_at x k a.placed c.0 a.own.entry a.takes) (ap condition_of a.own.op ∙ c.2))
-
--- no reply contradicts what the document is at a place
-pub uncontradicted : (x : Explained) (j : ℕ) → IsUncontradicted (recs x) (doc_at x j)
-uncontradicted x j = record {
-  shown = λ r t listed is same. (
-      let a = state_at x r t listed is in
-      sym a.1 ∙ same_state x a.0 j (ap last_pair a.1 ∙ same)
-      );
-  met = λ r p listed is same. (
-      let a = met_at x r p listed is in
-      let met = met_pair (doc_at x a.0) p a.1 in
-      sym (ap is_here (same_state x a.0 j (met.0 ∙ sym same))) ∙ met.1
-      );
-}
 
 -- ---- known pairs
 

@@ -2,3 +2,4 @@ pub mod Told
 pub mod Positions
 pub mod Placings
 pub mod Laws
+pub mod aids

@@ -7,11 +7,10 @@ use Rattle.doc_register.specs.declared.op.Op.{Op}
 use Rattle.doc_register.specs.declared.op.Op.TheVariants.{Get, Index, Delete, Create}
 use Rattle.doc_register.specs.declared.reply.Reply.{Reply}
 use Rattle.doc_register.specs.declared.reply.Reply.TheVariants.{Indexed, Deleted, Found, Missing, Conflict}
-use Rattle.doc_register.specs.declared.state.DocState.TheVariants.{Never, Here}
-use Rattle.doc_register.specs.Register.{condition_of, performed_state, value_of}
+use Rattle.doc_register.specs.Register.{condition_of, value_of}
 use Rattle.history.specs.declared.record.Rec.{Rec}
 use Rattle.history.specs.Heard.{pair_of}
-use Rattle.ruled_out.specs.Told.{IsFoundWith, IsGone, IsKnown, IsListed, IsToldOf, IsUncontradicted}
+use Rattle.ruled_out.specs.Told.{IsFoundWith, IsGone, IsKnown, IsToldOf}
 use Rattle.ruled_out.specs.Positions.{IsNext, gap_of, position_after, version_of}
 
 -- The records are those of a document as they are told. The floor of each record, by its number, is a position that the document
@@ -79,16 +78,14 @@ IsReached records floor event n = (v : Pair) → IsKnown records v → (¬ IsTol
 -- ---- where an answered call may stand
 
 -- A write that was performed with the pair q, on a document that was absent or wasn't, as its reply tells: it stands before q and
--- after each known pair below it; the document may be as is told; a condition is the pair of the position, and the document is
--- there; no reply contradicts what the write leaves, and no other one tells of the pair.
+-- after each known pair below it; the document may be as is told; and a condition is the pair of the position, and the document
+-- is there.
 pub record MayWrite (records : List Rec) (floor : ℕ → ℕ) (event : ℕ) (c : Rec) (q : Pair) (absent : Bool) (n : ℕ) : Type 0 where
   pub before : n ≤ gap_of records q
   pub after : (v : Pair) → IsKnown records v → IsBelow v q → version_of records v ≤ n
   pub was_absent : absent ≡ true → MayBeAbsent records floor event n
   pub was_present : absent ≡ false → MayBePresent records floor event n
   pub condition : (b : Pair) → condition_of c.op ≡ Some b → IsBelow b q × (n ≡ version_of records b) × (absent ≡ false)
-  pub uncontradicted : IsUncontradicted records (performed_state Never c.op q)
-  pub alone : (r : Rec) → IsListed records r → pair_of r.heard ≡ Some q → r ≡ c
 
 -- a write with the condition b may be refused: the document may be there or not, but not there with b
 pub record MayRefuse (records : List Rec) (floor : ℕ → ℕ) (event : ℕ) (b : Pair) (n : ℕ) : Type 0 where
@@ -107,7 +104,7 @@ MayConflict records floor event (Create k) n = MayBePresent records floor event 
 abbrev pub MayAnswer : List Rec → (ℕ → ℕ) → ℕ → Rec → Reply → ℕ → Type 0
 MayAnswer records floor event c (Indexed q created) n = MayWrite records floor event c q created n
 MayAnswer records floor event c (Deleted q found) n = MayWrite records floor event c q (not found) n
-MayAnswer records floor event c (Found p k) n = (n ≡ version_of records p) × IsUncontradicted records (Here p k)
+MayAnswer records floor event c (Found p k) n = n ≡ version_of records p
 MayAnswer records floor event c Missing n = MayBeAbsent records floor event n
 MayAnswer records floor event c Conflict n = MayConflict records floor event c.op n
 

@@ -2,14 +2,11 @@
 use Rattle.std.specs.Prelude.{◌≡◌, ◌++◌, ℕ, Bool, true, List, [], ◌∷◌, Option, None, Some, map, option_and_then, slice_get}
 use Rattle.std.specs.Option.{option_to_list}
 use Rattle.version_pair.specs.declared.pair.Pair.{Pair}
-use Rattle.doc_register.specs.declared.op.Op.{Op}
 use Rattle.doc_register.specs.declared.reply.Reply.{Reply}
 use Rattle.doc_register.specs.declared.reply.Reply.TheVariants.{Indexed, Deleted, Found, Missing, Conflict}
 use Rattle.doc_register.specs.declared.state.Conflicts.{Conflicts}
 use Rattle.doc_register.specs.declared.state.Conflicts.TheVariants.{Plain, Maybe}
-use Rattle.doc_register.specs.declared.state.DocState.{DocState}
-use Rattle.doc_register.specs.declared.state.DocState.TheVariants.{Never, Here}
-use Rattle.doc_register.specs.Register.{condition_of, is_here, last_pair, pair_of_reply, performed_state}
+use Rattle.doc_register.specs.Register.{condition_of, pair_of_reply}
 use Rattle.history.specs.declared.record.Rec.{Rec}
 use Rattle.history.specs.Heard.{pair_of}
 
@@ -74,20 +71,3 @@ pub record IsFoundWith (records : List Rec) (p : Pair) (k : ℕ) : Type 0 where
   pub listed : IsListed records call
   pub replied : ℕ
   pub heard : call.heard ≡ Some (replied, Found p k)
-
--- ---- replies that agree
-
--- what the document was, as a reply shows: after a write that was performed, or at a get that found it
-abbrev pub state_shown : Op → Option (ℕ × Reply) → Option DocState
-state_shown op None = None
-state_shown op (Some (at, Indexed q created)) = Some (performed_state Never op q)
-state_shown op (Some (at, Deleted q found)) = Some (performed_state Never op q)
-state_shown op (Some (at, Found p k)) = Some (Here p k)
-state_shown op (Some (at, Missing)) = None
-state_shown op (Some (at, Conflict)) = None
-
--- no reply contradicts that the document was s when it had the pair of s
-pub record IsUncontradicted (records : List Rec) (s : DocState) : Type 0 where
-  pub shown : (r : Rec) (t : DocState) → IsListed records r → state_shown r.op r.heard ≡ Some t → last_pair t ≡ last_pair s
-      → t ≡ s
-  pub met : (r : Rec) (p : Pair) → IsListed records r → condition_met r ≡ Some p → last_pair s ≡ Some p → is_here s ≡ true
