@@ -176,3 +176,10 @@ known_or_not records p = by_case (listed_or_not (known_pairs records) p) where
   by_case : ((i : ℕ) × (slice_get (known_pairs records) i ≡ Some p)) ⊎ ((i : ℕ) → slice_get (known_pairs records) i ≡ Some p → ⊥) → IsKnown records p ⊎ (¬ IsKnown records p)
   by_case (inl known) = inl known
   by_case (inr none) = inr (λ known. none known.0 known.1)
+
+-- ---- another test
+
+-- a test that holds of just the pairs below is this one
+pub same_as_tested : (p q : Pair) (b : Bool) → (b ≡ true → IsBelow p q) → (IsBelow p q → b ≡ true) → b ≡ is_below p q
+same_as_tested p q true to back = sym (below_tested p q (to refl))
+same_as_tested p q false to back = sym (false_from_ne_true (is_below p q) (λ is. true≢false (sym (back (tested_below p q is)))))

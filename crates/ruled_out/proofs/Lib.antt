@@ -5,3 +5,4 @@ mod ToldStates
 mod OrderedPositions
 mod PlacingLaws
 pub mod WalkLemmas
+mod KnownLemmas

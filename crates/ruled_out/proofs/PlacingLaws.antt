@@ -12,7 +12,6 @@ use Rattle.doc_register.specs.Register.{DocStep, HasPair, IsPerformed, Performs,
 use Rattle.doc_register.specs.Run.{pair_taken}
 use Rattle.history.specs.declared.record.Rec.{Rec}
 use Rattle.history.specs.Heard.{pair_of}
-use Rattle.history.specs.Order.{Placed}
 use Rattle.history.proofs.ListLemmas.{get_within, none_is_not_some, same_some}
 use Rattle.ruled_out.specs.Told.{IsGone, IsKnown, IsListed, IsToldOf, pair_shown}
 use Rattle.ruled_out.specs.Positions.{position_after, version_of}
@@ -20,7 +19,7 @@ use Rattle.ruled_out.specs.Placings.{IsPlacing, IsReached, Lifts, MayAnswer, May
 use Rattle.ruled_out.specs.Laws.{ExplainedHavePlacings, RuledOutHaveNoOrder}
 use Rattle.ruled_out.proofs.Counts.{known_or_not, no_gap_is_version, same_version, shown_known}
 use Rattle.ruled_out.proofs.DocumentSteps.{exceeds_above, leaves_it, meets, met_pair}
-use Rattle.ruled_out.proofs.OrderedSteps.{Explained, IsAnswered, IsRecordOf, IsTaken, answered, doc_at, heard_told, of_record, performs_at, place_in, place_is, reached_after, record_of, recs, same_place, same_record, same_state, stands_first, taken_for}
+use Rattle.ruled_out.proofs.OrderedSteps.{Explained, IsAnswered, IsRecordOf, IsTaken, answered, doc_at, heard_told, of_record, performs_at, place_in, place_is, reached_after, record_of, recs, same_state, stands_first, taken_for}
 use Rattle.ruled_out.proofs.ToldStates.{TakesShown, did_delete, did_index, found_has, gone_told, known_taken, state_at, takes_shown, state_shown, takes_told, told_step, untold_here}
 use Rattle.ruled_out.proofs.OrderedPositions.{called_before, floor_is, floor_of, may_take, position, position_at, position_below, position_grows, position_known, position_unknown, reached_position, taken_below, taken_earlier, takes_as_told}
 

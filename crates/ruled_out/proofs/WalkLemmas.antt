@@ -1,6 +1,6 @@
 -- The walk: where each answered call is given its least position, the floors are the least of all placings; and where one has no
 -- position, there is no placing.
-use Rattle.std.proofs.Common.{ℕ, zero, suc, ◌≡◌, ◌≢◌, ◌<◌, ◌≤◌, ◌⊎◌, inl, inr, List, refl, sym, ap, subst, ◌∙◌, arith, Bool, true, false, not, Option, Some, None, slice_get}
+use Rattle.std.proofs.Common.{ℕ, suc, ◌≡◌, ◌<◌, ◌≤◌, ◌⊎◌, inl, inr, List, refl, sym, ap, subst, ◌∙◌, arith, Bool, not, Option, Some, None, slice_get}
 use Rattle.std.proofs.lemmas.Bool.{cases_lt}
 use Rattle.version_pair.specs.declared.pair.Pair.{Pair}
 use Rattle.doc_register.specs.declared.op.Op.{Op}
@@ -10,10 +10,9 @@ use Rattle.doc_register.specs.declared.reply.Reply.{Reply}
 use Rattle.doc_register.specs.declared.reply.Reply.TheVariants.{Indexed, Deleted, Found, Missing, Conflict}
 use Rattle.history.specs.declared.record.Rec.{Rec}
 use Rattle.history.specs.Heard.{pair_of}
-use Rattle.history.proofs.ListLemmas.{none_is_not_some, same_some}
-use Rattle.ruled_out.specs.Told.{IsGone, IsKnown}
-use Rattle.ruled_out.specs.Positions.{gap_of, position_after, version_of}
-use Rattle.ruled_out.specs.Placings.{HasWriter, IsPlacing, IsReached, IsRuledOut, Lifts, MayAnswer, MayBeAbsent, MayBePresent, MayChange, MayConflict, MayDelete, MayGive, MayRefuse, MayStand, MayTake, MayWrite}
+use Rattle.history.proofs.ListLemmas.{same_some}
+use Rattle.ruled_out.specs.Positions.{gap_of, position_after}
+use Rattle.ruled_out.specs.Placings.{IsPlacing, IsReached, IsRuledOut, Lifts, MayAnswer, MayBeAbsent, MayBePresent, MayChange, MayConflict, MayRefuse, MayStand, MayTake, MayWrite}
 use Rattle.ruled_out.specs.aids.Walks.{AreInOrder, IsAnswerAt, IsEarliest, IsWalked}
 
 -- ---- lower floors allow more
@@ -211,10 +210,10 @@ walked_out records i c y reply floor answer w nowhere = record {
   heard = answer.heard;
   first = (floor, w.placed);
   none = λ other placing. (
-    let p = placing i c y reply answer.at answer.heard (omega arith) in
-    let low = λ (k : ℕ) (s : Rec) (there : slice_get records k ≡ Some s). w.least other (placing_earlier records y (suc y) other (omega arith) placing) k s there in
-    nowhere p.0 (stand_lower records floor other i c y reply p.0 (λ k s there before. low k s there) (low i c answer.at) p.1)
-  );
+      let p = placing i c y reply answer.at answer.heard (omega arith) in
+      let low = λ (k : ℕ) (s : Rec) (there : slice_get records k ≡ Some s). w.least other (placing_earlier records y (suc y) other (omega arith) placing) k s there in
+      nowhere p.0 (stand_lower records floor other i c y reply p.0 (λ k s there before. low k s there) (low i c answer.at) p.1)
+      );
 }
 
 -- ---- one call alone
