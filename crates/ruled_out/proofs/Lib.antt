@@ -6,3 +6,4 @@ mod OrderedPositions
 mod PlacingLaws
 pub mod WalkLemmas
 mod KnownLemmas
+mod AboveLemmas

@@ -2,7 +2,7 @@ ghost use Rattle.std.specs.Prelude.{◌≡◌, ◌↔◌, ◌++◌, IfOk, OnOk, 
 ghost use Rattle.std.specs.Option.{option_to_list};
 ghost use Rattle.history.specs.declared.record.Rec.{Rec as Record};
 ghost use Rattle.ruled_out.specs.Positions.{count_below, is_below};
-ghost use Rattle.ruled_out.specs.Told.{condition_met, known_pairs, pair_shown};
+ghost use Rattle.ruled_out.specs.Told.{IsKnown, condition_met, known_pairs, pair_shown};
 ghost use Rattle.ruled_out.specs.aids.KnownPairs.{AreKnown};
 
 use doc_register::Reply;
@@ -75,5 +75,14 @@ impl Known {
             → result ≡ count_below (known_pairs records) pair }
     {
         self.pairs.partition_point(|known| known.is_below(pair))
+    }
+
+    /// Whether the pair is known.
+    pub fn is_known(&self, pair: Pair) -> bool
+        ensures { (records : List Record) → AreKnown records self.now.pairs.items
+            → (IsTrue result ↔ IsKnown records pair) }
+    {
+        let place = self.count_below(pair);
+        place < self.pairs.len() && self.pairs[place] == pair
     }
 }
