@@ -7,3 +7,4 @@ mod PlacingLaws
 pub mod WalkLemmas
 mod KnownLemmas
 mod AboveLemmas
+pub mod RecordOrder

@@ -190,7 +190,7 @@ call_of x j r at =
     subst (λ (s : Rec). (h : ℕ) × IsCallAt x.events s.call_at s.no h x.doc s.op) o.is ((split x).of_call x.doc j o.own o.at)
 
 -- what is told was heard, and under Maybe it is no conflict
-told_heard : (conflicts : Conflicts) (heard : Option (ℕ × Answer)) (replied : ℕ) (reply : Answer) → told_of conflicts heard ≡ Some (replied, reply)
+pub told_heard : (conflicts : Conflicts) (heard : Option (ℕ × Answer)) (replied : ℕ) (reply : Answer) → told_of conflicts heard ≡ Some (replied, reply)
     → (heard ≡ Some (replied, reply)) × (reply ≡ Conflict → conflicts ≡ Plain)
 told_heard conflicts None replied reply is = absurd (none_is_not_some (replied, reply) is)
 told_heard conflicts (Some (at, Indexed q created)) replied reply is = (is, λ conflict. let same : Indexed q created ≡ reply = ap (λ (y : ℕ × Answer). y.1) (same_some (at, Indexed q created) (replied, reply) is) in absurd (cc))
