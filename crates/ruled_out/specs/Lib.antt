@@ -1,0 +1,5 @@
+pub mod Told
+pub mod Positions
+pub mod Placings
+pub mod Laws
+pub mod aids

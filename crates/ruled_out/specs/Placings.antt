@@ -1,0 +1,143 @@
+-- Placings of a document: positions at which its answered calls may stand, whatever became of the calls without a reply; and
+-- where a document is ruled out, having none.
+use Rattle.std.specs.Prelude.{◌≡◌, ◌≢◌, ◌<◌, ◌≤◌, ◌⊎◌, ℕ, suc, Bool, true, false, not, List, Option, None, Some, slice_get}
+use Rattle.version_pair.specs.declared.pair.Pair.{Pair}
+use Rattle.version_pair.specs.PairOrder.{IsBelow}
+use Rattle.doc_register.specs.declared.op.Op.{Op}
+use Rattle.doc_register.specs.declared.op.Op.TheVariants.{Get, Index, Delete, Create}
+use Rattle.doc_register.specs.declared.reply.Reply.{Reply}
+use Rattle.doc_register.specs.declared.reply.Reply.TheVariants.{Indexed, Deleted, Found, Missing, Conflict}
+use Rattle.doc_register.specs.Register.{condition_of, value_of}
+use Rattle.history.specs.declared.record.Rec.{Rec}
+use Rattle.history.specs.Heard.{pair_of}
+use Rattle.ruled_out.specs.Told.{IsFoundWith, IsGone, IsKnown, IsToldOf}
+use Rattle.ruled_out.specs.Positions.{IsNext, gap_of, position_after, version_of}
+
+-- The records are those of a document as they are told. The floor of each record, by its number, is a position that the document
+-- has reached when the call is made: no call that is made then stands below it.
+
+-- ---- what calls without a reply may do
+
+-- The i-th call, w, has no reply, and may have taken the pair before the event: it was made by then, its floor is no bar, and where
+-- it has a condition, the condition is below the pair, with no known pair between. That another call needs it too, with another
+-- pair, is no hindrance.
+pub record MayTake (records : List Rec) (floor : ℕ → ℕ) (event i : ℕ) (w : Rec) (p : Pair) : Type 0 where
+  pub at : slice_get records i ≡ Some w
+  pub unanswered : w.heard ≡ None
+  pub called : w.call_at < event
+  pub above : floor i ≤ gap_of records p
+  pub condition : (c : Pair) → condition_of w.op ≡ Some c → IsBelow c p × IsNext records c p
+
+-- a call without a reply may have taken a pair that isn't known, and that has the position n
+pub record MayChange (records : List Rec) (floor : ℕ → ℕ) (event n : ℕ) : Type 0 where
+  pub number : ℕ
+  pub call : Rec
+  pub pair : Pair
+  pub unknown : ¬ IsKnown records pair
+  pub there : n ≡ gap_of records pair
+  pub takes : MayTake records floor event number call pair
+
+-- such a call is a delete
+pub record MayDelete (records : List Rec) (floor : ℕ → ℕ) (event n : ℕ) : Type 0 where
+  pub change : MayChange records floor event n
+  pub condition : Option Pair
+  pub deletes : change.call.op ≡ Delete condition
+
+-- such a call is an index or a create
+pub record MayGive (records : List Rec) (floor : ℕ → ℕ) (event n : ℕ) : Type 0 where
+  pub change : MayChange records floor event n
+  pub value : ℕ
+  pub gives : value_of change.call.op ≡ Some value
+
+-- ---- what the document may be at a position, before the event
+
+-- it was never written, or it was deleted with the known pair of the position, or a call without a reply may have deleted it
+abbrev pub MayBeAbsent : List Rec → (ℕ → ℕ) → ℕ → ℕ → Type 0
+MayBeAbsent records floor event n =
+    (n ≡ 0) ⊎ ((v : Pair) × IsGone records v × (n ≡ version_of records v)) ⊎ MayDelete records floor event n
+
+-- it has the known pair of the position and wasn't deleted with it, or a call without a reply may have written it
+abbrev pub MayBePresent : List Rec → (ℕ → ℕ) → ℕ → ℕ → Type 0
+MayBePresent records floor event n =
+    ((v : Pair) × IsKnown records v × (¬ IsGone records v) × (n ≡ version_of records v)) ⊎ MayGive records floor event n
+
+-- an index or a create without a reply may have taken the pair, giving the number that was found with it, if one was
+pub record HasWriter (records : List Rec) (floor : ℕ → ℕ) (event : ℕ) (v : Pair) : Type 0 where
+  pub number : ℕ
+  pub call : Rec
+  pub takes : MayTake records floor event number call v
+  pub value : ℕ
+  pub gives : value_of call.op ≡ Some value
+  pub found : (k : ℕ) → IsFoundWith records v k → k ≡ value
+
+-- each known pair up to the position has a call that took it: the one that is told, or one that may have taken it
+abbrev pub IsReached : List Rec → (ℕ → ℕ) → ℕ → ℕ → Type 0
+IsReached records floor event n = (v : Pair) → IsKnown records v → (¬ IsToldOf records v) → version_of records v ≤ n
+    → HasWriter records floor event v
+
+-- ---- where an answered call may stand
+
+-- A write that was performed with the pair q, on a document that was absent or wasn't, as its reply tells: it stands before q and
+-- after each known pair below it; the document may be as is told; and a condition is the pair of the position, and the document
+-- is there.
+pub record MayWrite (records : List Rec) (floor : ℕ → ℕ) (event : ℕ) (c : Rec) (q : Pair) (absent : Bool) (n : ℕ) : Type 0 where
+  pub before : n ≤ gap_of records q
+  pub after : (v : Pair) → IsKnown records v → IsBelow v q → version_of records v ≤ n
+  pub was_absent : absent ≡ true → MayBeAbsent records floor event n
+  pub was_present : absent ≡ false → MayBePresent records floor event n
+  pub condition : (b : Pair) → condition_of c.op ≡ Some b → IsBelow b q × (n ≡ version_of records b) × (absent ≡ false)
+
+-- a write with the condition b may be refused: the document may be there or not, but not there with b
+pub record MayRefuse (records : List Rec) (floor : ℕ → ℕ) (event : ℕ) (b : Pair) (n : ℕ) : Type 0 where
+  pub some : MayBeAbsent records floor event n ⊎ MayBePresent records floor event n
+  pub other : IsKnown records b → (¬ IsGone records b) → n ≢ version_of records b
+
+abbrev pub MayConflict : List Rec → (ℕ → ℕ) → ℕ → Op → ℕ → Type 0
+MayConflict records floor event Get n = ⊥
+MayConflict records floor event (Index k None) n = ⊥
+MayConflict records floor event (Index k (Some b)) n = MayRefuse records floor event b n
+MayConflict records floor event (Delete None) n = ⊥
+MayConflict records floor event (Delete (Some b)) n = MayRefuse records floor event b n
+MayConflict records floor event (Create k) n = MayBePresent records floor event n
+
+-- the call may be answered so at the position
+abbrev pub MayAnswer : List Rec → (ℕ → ℕ) → ℕ → Rec → Reply → ℕ → Type 0
+MayAnswer records floor event c (Indexed q created) n = MayWrite records floor event c q created n
+MayAnswer records floor event c (Deleted q found) n = MayWrite records floor event c q (not found) n
+MayAnswer records floor event c (Found p k) n = n ≡ version_of records p
+MayAnswer records floor event c Missing n = MayBeAbsent records floor event n
+MayAnswer records floor event c Conflict n = MayConflict records floor event c.op n
+
+-- The i-th call, c, answered at the event, may stand at the position: it isn't below its floor (`above`), each known pair up to it
+-- has a call that took it (`reached`), and the call may be answered so there (`answers`).
+pub record MayStand (records : List Rec) (floor : ℕ → ℕ) (i : ℕ) (c : Rec) (event : ℕ) (reply : Reply) (n : ℕ) : Type 0 where
+  pub above : floor i ≤ n
+  pub reached : IsReached records floor event n
+  pub answers : MayAnswer records floor event c reply n
+
+-- ---- placings
+
+-- where a call that was answered at the event stands at n, each call that is made later has a floor that is no lower
+abbrev pub Lifts : List Rec → (ℕ → ℕ) → Rec → ℕ → ℕ → Type 0
+Lifts records floor c event n = (j : ℕ) (r : Rec) → slice_get records j ≡ Some r → event < r.call_at
+    → position_after records (pair_of c.heard) n ≤ floor j
+
+-- The floors are those of a placing of the calls that were answered before the event: each of these may stand at a position, and
+-- lifts the floors of the calls that are made after its reply.
+abbrev pub IsPlacing : List Rec → ℕ → (ℕ → ℕ) → Type 0
+IsPlacing records event floor = (i : ℕ) (c : Rec) (replied : ℕ) (reply : Reply) → slice_get records i ≡ Some c
+    → c.heard ≡ Some (replied, reply) → replied < event
+    → (n : ℕ) × MayStand records floor i c replied reply n × Lifts records floor c replied n
+
+-- The document is ruled out at the call with the number no: the calls that were answered before it have a placing, and with it
+-- they have none.
+pub record IsRuledOut (records : List Rec) (no : ℕ) : Type 0 where
+  pub number : ℕ
+  pub call : Rec
+  pub at : slice_get records number ≡ Some call
+  pub named : call.no ≡ no
+  pub replied : ℕ
+  pub reply : Reply
+  pub heard : call.heard ≡ Some (replied, reply)
+  pub first : (floor : ℕ → ℕ) × IsPlacing records replied floor
+  pub none : (floor : ℕ → ℕ) → ¬ IsPlacing records (suc replied) floor

@@ -1,0 +1,29 @@
+-- The walk over the answered calls of a document in the order of their replies, which gives each the least position that it may have.
+use Rattle.std.specs.Prelude.{◌≡◌, ◌≢◌, ◌<◌, ◌≤◌, ℕ, List, Some, slice_get}
+use Rattle.doc_register.specs.declared.reply.Reply.{Reply}
+use Rattle.history.specs.declared.record.Rec.{Rec}
+use Rattle.ruled_out.specs.Placings.{IsPlacing, MayStand}
+
+-- The records stand by place of call, each reply stands after its call, and no two events have one place.
+pub record AreInOrder (records : List Rec) : Type 0 where
+  pub calls : (i j : ℕ) (r s : Rec) → slice_get records i ≡ Some r → slice_get records j ≡ Some s → i < j → r.call_at < s.call_at
+  pub replies : (i : ℕ) (r : Rec) (y : ℕ) (reply : Reply) → slice_get records i ≡ Some r → r.heard ≡ Some (y, reply) → r.call_at < y
+  pub apart : (i j : ℕ) (r s : Rec) (y : ℕ) (reply : Reply) → slice_get records i ≡ Some r → slice_get records j ≡ Some s
+      → r.heard ≡ Some (y, reply) → s.call_at ≢ y
+  pub once : (i j : ℕ) (r s : Rec) (y : ℕ) (a b : Reply) → slice_get records i ≡ Some r → slice_get records j ≡ Some s
+      → r.heard ≡ Some (y, a) → s.heard ≡ Some (y, b) → i ≡ j
+
+-- the i-th call, c, was answered at the place y
+pub record IsAnswerAt (records : List Rec) (i : ℕ) (c : Rec) (y : ℕ) (reply : Reply) : Type 0 where
+  pub at : slice_get records i ≡ Some c
+  pub heard : c.heard ≡ Some (y, reply)
+
+-- n is a position of the answered call, and none is less
+pub record IsEarliest (records : List Rec) (floor : ℕ → ℕ) (i : ℕ) (c : Rec) (y : ℕ) (reply : Reply) (n : ℕ) : Type 0 where
+  pub stands : MayStand records floor i c y reply n
+  pub least : (l : ℕ) → MayStand records floor i c y reply l → n ≤ l
+
+-- The floors are those of a placing of the calls that were answered before the event, and the least such.
+pub record IsWalked (records : List Rec) (event : ℕ) (floor : ℕ → ℕ) : Type 0 where
+  pub placed : IsPlacing records event floor
+  pub least : (other : ℕ → ℕ) → IsPlacing records event other → (i : ℕ) (r : Rec) → slice_get records i ≡ Some r → floor i ≤ other i

@@ -1,0 +1,31 @@
+ghost use Rattle.std.specs.Prelude.{◌≡◌, IfOk};
+ghost use Rattle.ruled_out.specs.aids.Answers.{AreAnswers, answers_from};
+
+use history::Rec;
+use std::alloc::Global;
+use version_pair::NoMemory;
+
+/// An answered call: the place of its reply in the history, and the number of its record.
+pub type Answer = (usize, usize);
+
+// The answered calls by the numbers of their records.
+fn answered_calls(alloc: Global, records: &[Rec]) -> Result<Vec<Answer>, NoMemory>
+    ensures { IfOk result (λ answers. answers.items ≡ answers_from 0 records.now) }
+{
+    let mut answers = Vec::new(alloc);
+    for k in 0..records.len() {
+        if let Some(heard) = records[k].heard {
+            answers.push((heard.0, k))?;
+        }
+    }
+    Ok(answers)
+}
+
+/// The answered calls by the places of their replies.
+pub fn answers_of(alloc: Global, records: &[Rec]) -> Result<Vec<Answer>, NoMemory>
+    ensures { IfOk result (λ answers. AreAnswers records.now answers.items) }
+{
+    let mut answers = answered_calls(alloc, records)?;
+    answers.sort_unstable();
+    Ok(answers)
+}

@@ -1,0 +1,88 @@
+ghost use Rattle.std.specs.Prelude.{◌≡◌, ◌↔◌, ◌++◌, IfOk, OnOk, IsTrue, List};
+ghost use Rattle.std.specs.Option.{option_to_list};
+ghost use Rattle.history.specs.declared.record.Rec.{Rec as Record};
+ghost use Rattle.ruled_out.specs.Positions.{count_below, is_below};
+ghost use Rattle.ruled_out.specs.Told.{IsKnown, condition_met, known_pairs, pair_shown};
+ghost use Rattle.ruled_out.specs.aids.KnownPairs.{AreKnown};
+
+use doc_register::Reply;
+use history::Rec;
+use std::alloc::Global;
+use version_pair::{NoMemory, Pair};
+
+/// The known pairs of a document: those that replies show to be those of its changes, each as often as a reply shows it.
+#[derive(Drop)]
+pub struct Known {
+    // In the order of pairs.
+    pairs: Vec<Pair>,
+}
+
+// The pair in the reply: that of a write that was performed, or of the document that was found.
+fn pair_shown(heard: Option<(usize, Reply)>) -> Option<Pair>
+    ensures { result ≡ pair_shown heard }
+{
+    match &heard {
+        Some(said) => said.1.pair(),
+        None => None,
+    }
+}
+
+// The condition under which a write was performed.
+fn condition_met(call: Rec) -> Option<Pair>
+    ensures { result ≡ condition_met call }
+{
+    match call.pair_taken() {
+        Some(_) => call.op.condition(),
+        None => None,
+    }
+}
+
+// Adds the pair, where there is one.
+fn push_some(pairs: &mut Vec<Pair>, found: Option<Pair>) -> Result<(), NoMemory>
+    ensures ok { OnOk result (pairs.new.items ≡ pairs.old.items ++ option_to_list found) }
+{
+    if let Some(pair) = found {
+        pairs.push(pair)?;
+    }
+    Ok(())
+}
+
+// The pairs that replies show, in the order of the calls.
+fn shown_pairs(alloc: Global, records: &[Rec]) -> Result<Vec<Pair>, NoMemory>
+    ensures { IfOk result (λ pairs. pairs.items ≡ known_pairs records.now) }
+{
+    let mut pairs = Vec::new(alloc);
+    for call in records {
+        push_some(&mut pairs, pair_shown(call.heard))?;
+        push_some(&mut pairs, condition_met(*call))?;
+    }
+    Ok(pairs)
+}
+
+impl Known {
+    /// The known pairs of a document's records.
+    pub fn of(alloc: Global, records: &[Rec]) -> Result<Known, NoMemory>
+        ensures { IfOk result (λ known. AreKnown records.now known.pairs.items) }
+    {
+        let mut pairs = shown_pairs(alloc, records)?;
+        pairs.sort_unstable();
+        Ok(Known { pairs })
+    }
+
+    /// How many known pairs are below the pair.
+    pub fn count_below(&self, pair: Pair) -> usize
+        ensures { (records : List Record) → AreKnown records self.now.pairs.items
+            → result ≡ count_below (known_pairs records) pair }
+    {
+        self.pairs.partition_point(|known| known.is_below(pair))
+    }
+
+    /// Whether the pair is known.
+    pub fn is_known(&self, pair: Pair) -> bool
+        ensures { (records : List Record) → AreKnown records self.now.pairs.items
+            → (IsTrue result ↔ IsKnown records pair) }
+    {
+        let place = self.count_below(pair);
+        place < self.pairs.len() && self.pairs[place] == pair
+    }
+}

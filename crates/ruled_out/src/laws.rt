@@ -1,0 +1,13 @@
+//! Laws of placings, each the contract of a function that does nothing.
+
+ghost use Rattle.ruled_out.specs.Laws.{ExplainedHavePlacings, RuledOutHaveNoOrder};
+
+/// Shows that each document of a history that an order explains has a placing of all its answered calls.
+pub fn explained_have_placings()
+    ensures { ExplainedHavePlacings }
+{}
+
+/// Shows that a history with a document that is ruled out is not linearizable, however its pending calls are completed.
+pub fn ruled_out_have_no_order()
+    ensures { RuledOutHaveNoOrder }
+{}
