@@ -115,7 +115,7 @@ fn run_text<T: Threads + Wait + Sync>(
 /// which thread was quicker.
 ///
 /// `Setting` where a number of the plan or of the group is refused, told before anything else; `NoMemory` where a growth was
-/// refused; `Recording` where an event or an operation was refused otherwise, or the recording was lost as it was closed.
+/// refused; `Recording` where an event or an operation was refused otherwise. Closing loses no recording.
 pub fn run_stream<T: Threads + Wait + Sync, W: Write>(
     rt: &T,
     alloc: Global,

@@ -119,8 +119,8 @@ impl Recorder {
     }
 
     /// The history that the pens recorded together; or `PenMissing`, with both handed back, where fewer pens come than
-    /// were started; `Mismatch` where the lists of the pens and what was recorded under the lock disagree; `NoMemory`.
-    /// Where `Mismatch` or `NoMemory` is answered the recording is lost.
+    /// were started; `Mismatch` where what the pens were answered and what was recorded under the lock disagree;
+    /// `NoMemory`. Where `Mismatch` or `NoMemory` is answered the recording is lost.
     pub fn close(self, pens: Vec<Pen>) -> Result<History, CloseFault<Recorder, Pen>>
         ensures recording { IfOk result (λ history. IsRecordingOf (lists_of pens.items) history) }
         ensures missing { IsPenMissing result ↔ (vec_len pens < self) }

@@ -172,10 +172,10 @@ pub fn check_answer<T: Threads + Wait + Sync, R: Read>(
     ensures taken { TakesHistory (R.remaining reader.old) (R.remaining reader.new) }
 {
     match read_history(alloc, keys, reader) {
-        Ok(Ok(history)) => match history_answer(rt, alloc, history, workers, conflicts) {
-            Ok((answer, _)) => Ok(answer),
-            Err(fault) => Err(fault),
-        },
+        Ok(Ok(history)) => {
+            let (answer, _) = history_answer(rt, alloc, history, workers, conflicts)?;
+            Ok(answer)
+        }
         Ok(Err(fault)) => {
             let answer = refusal(alloc, fault)?;
             Ok(answer)

@@ -4,6 +4,7 @@ use Rattle.std.specs.Prelude.{IfOk, IfSome, MatchResult}
 use Rattle.history.specs.Reading.{history_text}
 use Rattle.history.specs.Text.{IsHistoryText}
 use Rattle.report.proofs.AnswerLemmas.{if_any, if_each}
+use Rattle.stream_io.proofs.TakenLemmas.{witness_unasked}
 use Rattle.report.proofs.verify_input.verify_input.Goals as goal
 
 pub returns-in-Ok-Ok-clause-answer : goal.returns-in-Ok-Ok-clause-answer
@@ -18,3 +19,14 @@ returns-in_ok-answer-in-Ok-Err-clause-answer g c =
     let read = subst (λ told. IfSome input (λ text. MatchResult told (λ h. history_text text ≡ Ok h) (λ f. history_text text ≡ Err f))) c.in-Ok-Err.field-0-is c.in-Ok-Err.ensures.told in
     if_each input read (λ history told.
     if_any (g.Q.Read.remaining c.args.witness.now) (λ witness. c.in_ok-answer-in-Ok-Err.ensures.answers c.args.conflicts history witness told))
+
+-- where the history is refused, or was not had, the witness isn't asked for
+
+pub returns-in_err-answer-in-Ok-Err-clause-witness_taken : goal.returns-in_err-answer-in-Ok-Err-clause-witness_taken
+returns-in_err-answer-in-Ok-Err-clause-witness_taken g c = witness_unasked (g.Q.Read.remaining c.args.witness.now)
+
+pub returns-in_ok-answer-in-Ok-Err-clause-witness_taken : goal.returns-in_ok-answer-in-Ok-Err-clause-witness_taken
+returns-in_ok-answer-in-Ok-Err-clause-witness_taken g c = witness_unasked (g.Q.Read.remaining c.args.witness.now)
+
+pub returns-in-Err-clause-witness_taken : goal.returns-in-Err-clause-witness_taken
+returns-in-Err-clause-witness_taken g c = witness_unasked (g.Q.Read.remaining c.args.witness.now)
