@@ -74,6 +74,20 @@ count_passes (v ∷ vs) zero p q at below =
 count_passes (v ∷ vs) (suc i) p q at below =
     counted_less (is_below v p) (is_below v q) (count_below vs p) (count_below vs q) (only_more v p q below) (count_passes vs i p q at below)
 
+-- where no pair of the list lies between two pairs, as many are below the one as below the other
+count_within : (vs : List Pair) (q p : Pair) → ((i : ℕ) (v : Pair) → slice_get vs i ≡ Some v → IsBelow v p → IsBelow v q) → count_below vs p ≤ count_below vs q
+count_within [] q p within = omega arith
+count_within (v ∷ vs) q p within =
+    counted (is_below v p) (is_below v q) (count_below vs p) (count_below vs q)
+    (λ is. below_tested v q (within 0 v refl (tested_below v p is)))
+    (count_within vs q p (λ i u at below. within (suc i) u at below))
+
+pub count_same : (vs : List Pair) (q p : Pair) → IsBelow q p → ((i : ℕ) (v : Pair) → slice_get vs i ≡ Some v → IsBelow v p → IsBelow v q) → count_below vs p ≡ count_below vs q
+count_same vs q p below within =
+    let more : count_below vs q ≤ count_below vs p = count_grows vs q p below in
+    let less : count_below vs p ≤ count_below vs q = count_within vs q p within in
+    omega arith
+
 -- ---- positions
 
 pub gap_grows : (records : List Rec) (p q : Pair) → IsBelow p q → gap_of records p ≤ gap_of records q

@@ -3,8 +3,20 @@ mod Counts
 mod OrderedSteps
 mod ToldStates
 mod OrderedPositions
-mod PlacingLaws
+pub mod PlacingLaws
 pub mod WalkLemmas
 mod KnownLemmas
+mod RoomLemmas
+mod WriterLemmas
+mod OfferLemmas
+mod VersionLemmas
+mod ItemLemmas
 mod AboveLemmas
 pub mod RecordOrder
+pub mod StandLemmas
+mod PassLemmas
+mod StartLemmas
+mod ReachLemmas
+mod AnswerLemmas
+mod ReplyOrder
+mod DocumentLemmas

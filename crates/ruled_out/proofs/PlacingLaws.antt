@@ -55,7 +55,7 @@ unanswered_taker x q k w of untold = by_case (takes_as_told x k.place k.placed w
   by_case (inr is) = absurd (untold (w, of.listed, is))
 
 -- a told pair is known
-told_known : (records : List Rec) (q : Pair) → IsToldOf records q → IsKnown records q
+pub told_known : (records : List Rec) (q : Pair) → IsToldOf records q → IsKnown records q
 told_known records q (r, listed, is) = shown_known records q (record { call = r; listed = listed; shows = inl (by_heard r.heard is) }) where
   by_reply : (y : ℕ) (reply : Answer) → pair_taken reply None ≡ Some q → pair_shown (Some (y, reply)) ≡ Some q
   by_reply y (Indexed v created) is = is

@@ -11,7 +11,7 @@ use Rattle.history.proofs.HistoryLemmas.{call_passes, reply_passes}
 use Rattle.history.proofs.ListLemmas.{mapped_from}
 use Rattle.history.proofs.RecordLaws.{split_by_document}
 use Rattle.ruled_out.specs.Told.{as_told, told}
-use Rattle.ruled_out.specs.aids.Walks.{AreInOrder}
+use Rattle.ruled_out.specs.Placings.{AreInOrder}
 use Rattle.ruled_out.proofs.OrderedSteps.{told_heard}
 
 -- the record that is told so, its call, and the reply to it

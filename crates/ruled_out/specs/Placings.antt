@@ -141,3 +141,19 @@ pub record IsRuledOut (records : List Rec) (no : ℕ) : Type 0 where
   pub heard : call.heard ≡ Some (replied, reply)
   pub first : (floor : ℕ → ℕ) × IsPlacing records replied floor
   pub none : (floor : ℕ → ℕ) → ¬ IsPlacing records (suc replied) floor
+
+-- the call at which the document is ruled out; where none is given, it isn't
+abbrev pub IsRuledOutAt : List Rec → Option ℕ → Type 0
+IsRuledOutAt records None = (n : ℕ) → ¬ IsRuledOut records n
+IsRuledOutAt records (Some n) = IsRuledOut records n
+
+-- ---- records of a history
+
+-- The records stand by place of call, each reply stands after its call, and no two events have one place.
+pub record AreInOrder (records : List Rec) : Type 0 where
+  pub calls : (i j : ℕ) (r s : Rec) → slice_get records i ≡ Some r → slice_get records j ≡ Some s → i < j → r.call_at < s.call_at
+  pub replies : (i : ℕ) (r : Rec) (y : ℕ) (reply : Reply) → slice_get records i ≡ Some r → r.heard ≡ Some (y, reply) → r.call_at < y
+  pub apart : (i j : ℕ) (r s : Rec) (y : ℕ) (reply : Reply) → slice_get records i ≡ Some r → slice_get records j ≡ Some s
+      → r.heard ≡ Some (y, reply) → s.call_at ≢ y
+  pub once : (i j : ℕ) (r s : Rec) (y : ℕ) (a b : Reply) → slice_get records i ≡ Some r → slice_get records j ≡ Some s
+      → r.heard ≡ Some (y, a) → s.heard ≡ Some (y, b) → i ≡ j

@@ -2,3 +2,12 @@ pub mod Walks
 pub mod Answers
 pub mod KnownPairs
 pub mod Above
+pub mod Sets
+pub mod Versions
+pub mod Wild
+pub mod Rooms
+pub mod VersionsOf
+pub mod Offers
+pub mod Writing
+pub mod States
+pub mod Standing

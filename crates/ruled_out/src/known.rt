@@ -1,10 +1,11 @@
-ghost use Rattle.std.specs.Prelude.{◌≡◌, ◌↔◌, ◌++◌, IfOk, OnOk, IsTrue, List};
+ghost use Rattle.std.specs.Prelude.{◌≡◌, ◌≤◌, ◌<◌, ◌+◌, ◌^◌, ◌↔◌, ◌++◌, length, IfOk, IfSome, OnOk, IsTrue, List};
 ghost use Rattle.std.specs.Option.{option_to_list};
 ghost use Rattle.history.specs.declared.record.Rec.{Rec as Record};
-ghost use Rattle.ruled_out.specs.Positions.{count_below, is_below};
+ghost use Rattle.ruled_out.specs.Positions.{count_below, gap_of, is_below};
 ghost use Rattle.ruled_out.specs.Told.{IsKnown, condition_met, known_pairs, pair_shown};
-ghost use Rattle.ruled_out.specs.aids.KnownPairs.{AreKnown};
+ghost use Rattle.ruled_out.specs.aids.KnownPairs.{AreKnown, IsGapAbove, IsLastKnown, IsNextKnown, IsVersionOf};
 
+use crate::above::least_above;
 use doc_register::Reply;
 use history::Rec;
 use std::alloc::Global;
@@ -71,10 +72,39 @@ impl Known {
 
     /// How many known pairs are below the pair.
     pub fn count_below(&self, pair: Pair) -> usize
-        ensures { (records : List Record) → AreKnown records self.now.pairs.items
+        ensures exact { (records : List Record) → AreKnown records self.now.pairs.items
             → result ≡ count_below (known_pairs records) pair }
+        ensures within { result ≤ length self.now.pairs.items }
     {
         self.pairs.partition_point(|known| known.is_below(pair))
+    }
+
+    /// The known pairs in their order.
+    pub fn pairs(&self) -> &[Pair]
+        ensures { result.now ≡ self.now.pairs.items }
+    {
+        &self.pairs
+    }
+
+    /// The position of a call that takes the pair.
+    pub fn gap_of(&self, pair: Pair) -> usize
+        ensures { (records : List Record) → AreKnown records self.now.pairs.items → result ≡ gap_of records pair }
+    {
+        2 * self.count_below(pair) + 1
+    }
+
+    /// The position of a document that has the pair, where it is known.
+    pub fn version_of(&self, pair: Pair) -> Option<usize>
+        ensures exact { (records : List Record) → AreKnown records self.now.pairs.items
+            → IsVersionOf records pair result }
+        ensures fits { IfSome result (λ n. n + 1 < 2 ^ 64) }
+    {
+        let below = self.count_below(pair);
+        if below < self.pairs.len() && self.pairs[below] == pair {
+            Some(2 * below + 2)
+        } else {
+            None
+        }
     }
 
     /// Whether the pair is known.
@@ -82,7 +112,39 @@ impl Known {
         ensures { (records : List Record) → AreKnown records self.now.pairs.items
             → (IsTrue result ↔ IsKnown records pair) }
     {
-        let place = self.count_below(pair);
-        place < self.pairs.len() && self.pairs[place] == pair
+        self.version_of(pair).is_some()
+    }
+
+    /// The position of the calls that may take a pair which isn't known, and which lies behind the lower one, if there is one,
+    /// with no known pair between; `None` where there is no such pair.
+    pub fn gap_above(&self, lower: Option<Pair>) -> Option<usize>
+        ensures { (records : List Record) → AreKnown records self.now.pairs.items → IsGapAbove records lower result }
+    {
+        let next = least_above(lower)?;
+        if self.is_known(next) {
+            None
+        } else {
+            Some(self.gap_of(next))
+        }
+    }
+
+    /// The least known pair above the pair.
+    pub fn next_above(&self, pair: Pair) -> Option<Pair>
+        ensures { (records : List Record) → AreKnown records self.now.pairs.items → IsNextKnown records pair result }
+    {
+        let next = least_above(Some(pair))?;
+        self.pairs.get(self.count_below(next)).copied()
+    }
+
+    /// The greatest known pair below the pair.
+    pub fn last_below(&self, pair: Pair) -> Option<Pair>
+        ensures { (records : List Record) → AreKnown records self.now.pairs.items → IsLastKnown records pair result }
+    {
+        let below = self.count_below(pair);
+        if below == 0 {
+            None
+        } else {
+            self.pairs.get(below - 1).copied()
+        }
     }
 }

@@ -1,9 +1,31 @@
-//! Documents that no order explains, whatever became of the calls without a reply: the laws of it, and what the walk over the
-//! answered calls is to be made of.
+//! Documents that no order explains, whatever became of the calls without a reply: the call at which the answered calls of a
+//! document have no positions any more, and the laws of it.
+//!
+//! ```text
+//! let records = history.records(doc)?;
+//! let call = ruled_out_at(alloc, &records, Conflicts::Plain)?; // Option<u64>: the call at which the document is ruled out
+//! ```
 #![tactic(auto)]
 
 mod above;
 mod answers;
+mod cause;
+mod document;
 mod known;
 pub mod laws;
+mod positions;
+mod possible;
+mod standing;
+mod standings;
 mod told;
+mod unhelpful;
+mod version;
+mod versions;
+mod walk;
+mod writers;
+
+pub use cause::{Cause, Unmet};
+pub use document::ruled_out_at;
+pub use standing::{Stage, Standing};
+pub use standings::Standings;
+pub use unhelpful::Unhelpful;

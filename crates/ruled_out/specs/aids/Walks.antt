@@ -1,17 +1,8 @@
 -- The walk over the answered calls of a document in the order of their replies, which gives each the least position that it may have.
-use Rattle.std.specs.Prelude.{◌≡◌, ◌≢◌, ◌<◌, ◌≤◌, ℕ, List, Some, slice_get}
+use Rattle.std.specs.Prelude.{◌≡◌, ◌≤◌, ℕ, List, Some, slice_get}
 use Rattle.doc_register.specs.declared.reply.Reply.{Reply}
 use Rattle.history.specs.declared.record.Rec.{Rec}
 use Rattle.ruled_out.specs.Placings.{IsPlacing, MayStand}
-
--- The records stand by place of call, each reply stands after its call, and no two events have one place.
-pub record AreInOrder (records : List Rec) : Type 0 where
-  pub calls : (i j : ℕ) (r s : Rec) → slice_get records i ≡ Some r → slice_get records j ≡ Some s → i < j → r.call_at < s.call_at
-  pub replies : (i : ℕ) (r : Rec) (y : ℕ) (reply : Reply) → slice_get records i ≡ Some r → r.heard ≡ Some (y, reply) → r.call_at < y
-  pub apart : (i j : ℕ) (r s : Rec) (y : ℕ) (reply : Reply) → slice_get records i ≡ Some r → slice_get records j ≡ Some s
-      → r.heard ≡ Some (y, reply) → s.call_at ≢ y
-  pub once : (i j : ℕ) (r s : Rec) (y : ℕ) (a b : Reply) → slice_get records i ≡ Some r → slice_get records j ≡ Some s
-      → r.heard ≡ Some (y, a) → s.heard ≡ Some (y, b) → i ≡ j
 
 -- the i-th call, c, was answered at the place y
 pub record IsAnswerAt (records : List Rec) (i : ℕ) (c : Rec) (y : ℕ) (reply : Reply) : Type 0 where

@@ -7,8 +7,8 @@ use Rattle.ruled_out.proofs.Counts.{same_as_tested}
 use Rattle.ruled_out.proofs.KnownLemmas.{below_first, count_is_point}
 use Rattle.ruled_out.proofs.known.Known.count_below.Goals as goal
 
-pub returns : goal.returns
-returns c records known =
+pub returns-clause-exact : goal.returns-clause-exact
+returns-clause-exact c records known =
     let pairs = c.deref.result.now in
     let there : AreKnown records pairs = subst (AreKnown records) (sym c.deref.ensures.value) known in
     let test = λ (v : Pair). is_below v c.args.pair in

@@ -1,0 +1,99 @@
+-- The walk over the answered calls of a document, call by call.
+use Rattle.std.proofs.Common.{ℕ, suc, ◌≡◌, ◌<◌, ◌≤◌, ◌+◌, ◌⊎◌, inl, inr, List, [], ◌∷◌, length, refl, sym, ap, subst, ◌∙◌, arith, Option, Some, None, Bor, slice_get, slice_index_or}
+use Rattle.std.proofs.lemmas.Bool.{cases_lt}
+use Rattle.std.proofs.lemmas.Option.{slice_get_past, slice_get_within}
+use Rattle.std.specs.Slice.{IsItemAt}
+use Rattle.doc_register.specs.declared.reply.Reply.{Reply}
+use Rattle.history.specs.declared.record.Rec.{Rec}
+use Rattle.history.proofs.ListLemmas.{none_is_not_some, same_some}
+use Rattle.ruled_out.specs.declared.walk.Walk.{Walk}
+use Rattle.ruled_out.specs.Placings.{AreInOrder, IsRuledOut}
+use Rattle.ruled_out.specs.aids.Answers.{AreAnswers}
+use Rattle.ruled_out.specs.aids.Standing.{Answers}
+use Rattle.ruled_out.specs.aids.States.{AreEarlier, HasPassed, IsAt, PassesCalls, floor_in}
+use Rattle.ruled_out.specs.aids.Walks.{IsAnswerAt, IsWalked}
+use Rattle.ruled_out.proofs.AnswerLemmas.{walked_same}
+use Rattle.ruled_out.proofs.ReplyOrder.{answered_entry, replies_rise}
+use Rattle.ruled_out.proofs.WalkLemmas.{not_ruled_out, walked_first, walked_on}
+
+-- so many of the answered calls have their positions
+pub record IsWalkedTo (records : List Rec) (answers : List (ℕ × ℕ)) (i : ℕ) (walk : Walk) : Type 0 where
+  pub known : IsAt records walk
+  pub event : ℕ
+  pub walked : IsWalked records event (floor_in walk)
+  pub earlier : AreEarlier records walk.floors.items event
+  pub before : (m : ℕ) (a : ℕ × ℕ) → m < i → slice_get answers m ≡ Some a → a.0 < event
+  pub after : (m : ℕ) (a : ℕ × ℕ) → i ≤ m → slice_get answers m ≡ Some a → event ≤ a.0
+
+past_all : (floors : List ℕ) (j : ℕ) → length floors ≡ 0 → slice_index_or floors j 0 ≡ 0
+past_all [] j none = refl
+past_all (x ∷ floors) j none = absurd (omega arith)
+
+pub walked_start : (records : List Rec) (answers : List (ℕ × ℕ)) (walk : Walk) → IsAt records walk → length walk.floors.items ≡ 0 → walk.reached ≡ 0 → IsWalkedTo records answers 0 walk
+walked_start records answers walk known none zero_reached = record {
+  known = known;
+  event = 0;
+  walked = walked_first records (floor_in walk) (λ j. ap (λ n. slice_index_or walk.floors.items j n) zero_reached ∙ past_all walk.floors.items j none);
+  earlier = λ j r at inside. absurd (let empty : length walk.floors.items ≡ 0 = none in omega arith);
+  before = λ m a less at. absurd (omega (arith, less));
+  after = λ m a over at. omega arith;
+}
+
+-- the calls up to the next reply are passed
+pub walked_up : (records : List Rec) (answers : List (ℕ × ℕ)) (i : ℕ) (a : ℕ × ℕ) (old new : Walk) → AreInOrder records → AreAnswers records answers → slice_get answers i ≡ Some a → IsWalkedTo records answers i old → PassesCalls records a.0 old new
+    → IsWalked records a.0 (floor_in new)
+walked_up records answers i a old new order are at w passes =
+    walked_on records w.event a.0 (floor_in new) (w.after i a (omega arith) at) silent (walked_same records w.event (floor_in old) (floor_in new) passes.floors w.walked) where
+      not_later : (y j m : ℕ) → slice_get answers m ≡ Some (y, j) → y < a.0 → ((i < m) ⊎ (m ≤ i)) → ((m < i) ⊎ (i ≤ m)) → y < w.event
+      not_later y j m bt low other (inl less) = w.before m (y, j) less bt
+      not_later y j m bt low (inl more) (inr not) = let up : a.0 < y = replies_rise records answers order are i m a (y, j) more at bt in absurd (omega arith)
+      not_later y j m bt low (inr nor) (inr not) =
+          let here : m ≡ i = omega arith in
+          let one : a ≡ (y, j) = same_some a (y, j) (sym at ∙ (ap (slice_get answers) (sym here) ∙ bt)) in
+          let same : a.0 ≡ y = ap (λ (v : ℕ × ℕ). v.0) one in
+          absurd (omega arith)
+
+      silent : (j : ℕ) (c : Rec) (y : ℕ) (reply : Reply) → IsAnswerAt records j c y reply → y < a.0 → y < w.event
+      silent j c y reply answer low =
+          let entry = answered_entry records answers j c y reply are answer in
+          not_later y j entry.0 entry.1 low (cases_lt i entry.0) (cases_lt entry.0 i)
+
+-- before the next reply the calls with a floor are made
+pub earlier_up : (records : List Rec) (answers : List (ℕ × ℕ)) (i : ℕ) (a : ℕ × ℕ) (walk : Walk) → slice_get answers i ≡ Some a → IsWalkedTo records answers i walk → AreEarlier records walk.floors.items a.0
+earlier_up records answers i a walk at w j r there inside =
+    let before : r.call_at < w.event = w.earlier j r there inside in
+    let up : w.event ≤ a.0 = w.after i a (omega arith) at in
+    omega arith
+
+-- one more call has its position
+pub walked_next : (records : List Rec) (answers : List (ℕ × ℕ)) (i : ℕ) (a : ℕ × ℕ) (middle new : Walk) → AreInOrder records → AreAnswers records answers → slice_get answers i ≡ Some a → HasPassed records middle.floors.items a.0
+    → Answers records a.0 new × (new.floors.items ≡ middle.floors.items) → IsWalkedTo records answers (i + 1) new
+walked_next records answers i a middle new order are at passed answered = record {
+  known = answered.0.known;
+  event = suc a.0;
+  walked = answered.0.walked;
+  earlier = subst (λ (xs : List ℕ). AreEarlier records xs (suc a.0)) (sym answered.1) (λ j r there inside. (let before : r.call_at < a.0 = (passed j r there).1 inside in omega arith));
+  before = λ m b less bt. by_place m b bt less (cases_lt m i);
+  after = λ m b over bt. (let up : a.0 < b.0 = replies_rise records answers order are i m a b (omega arith) at bt in omega arith);
+} where
+  by_place : (m : ℕ) (b : ℕ × ℕ) → slice_get answers m ≡ Some b → m < i + 1 → ((m < i) ⊎ (i ≤ m)) → b.0 < suc a.0
+  by_place m b bt less (inl more) = let up : b.0 < a.0 = replies_rise records answers order are m i b a more bt at in omega arith
+  by_place m b bt less (inr not) =
+      let here : m ≡ i = omega arith in
+      let one : a ≡ b = same_some a b (sym at ∙ (ap (slice_get answers) (sym here) ∙ bt)) in
+      let same : a.0 ≡ b.0 = ap (λ (v : ℕ × ℕ). v.0) one in
+      omega arith
+
+-- where all of them have, the document isn't ruled out
+pub walked_end : (records : List Rec) (answers : List (ℕ × ℕ)) (i : ℕ) (walk : Walk) → AreAnswers records answers → length answers ≤ i → IsWalkedTo records answers i walk → (n : ℕ) → ¬ IsRuledOut records n
+walked_end records answers i walk are past w =
+    not_ruled_out records (floor_in walk) (λ event j c y reply at heard before. (
+    let entry = answered_entry records answers j c y reply are (record { at = at; heard = heard }) in
+    let inside : entry.0 < length answers = slice_get_within answers entry.0 (y, j) entry.1 in
+    w.walked.placed j c y reply at heard (w.before entry.0 (y, j) (omega arith) entry.1)
+    ))
+
+-- a look-up that finds nothing has nothing to find
+pub get_none : {X : Type 0} (xs : List X) (i : ℕ) (r : Option (Bor X)) (x : X) → IsItemAt xs i r → ((y : Bor X) → r ≡ Some y → ⊥) → slice_get xs i ≡ Some x → ⊥
+get_none xs i None x item not at = none_is_not_some x (sym (slice_get_past xs i item.3) ∙ at)
+get_none xs i (Some y) x item not at = not y refl

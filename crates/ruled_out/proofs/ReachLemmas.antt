@@ -1,0 +1,65 @@
+-- Up to which position each known pair has a call that took it.
+use Rattle.std.proofs.Common.{ℕ, zero, suc, ◌≡◌, ◌<◌, ◌≤◌, ◌⊎◌, inl, inr, List, [], ◌∷◌, length, refl, sym, subst, arith, Option, Some, None, slice_get, get_or}
+use Rattle.std.specs.Prelude.{◌↔◌}
+use Rattle.std.proofs.lemmas.Bool.{cases_lt}
+use Rattle.std.proofs.lemmas.Option.{get_or_from_slice_get, slice_get_within}
+use Rattle.version_pair.specs.declared.pair.Pair.{Pair}
+use Rattle.version_pair.specs.PairOrder.{IsBelow}
+use Rattle.history.specs.declared.record.Rec.{Rec}
+use Rattle.history.proofs.ListLemmas.{none_is_not_some}
+use Rattle.ruled_out.specs.declared.walk.Walk.{Walk}
+use Rattle.ruled_out.specs.Told.{IsKnown, IsToldOf}
+use Rattle.ruled_out.specs.Positions.{version_of}
+use Rattle.ruled_out.specs.aids.Standing.{IsReachedBy, IsTaken}
+use Rattle.ruled_out.specs.aids.States.{Knows}
+use Rattle.ruled_out.specs.aids.Wild.{IsWritten}
+use Rattle.ruled_out.proofs.KnownLemmas.{known_there, later_not_below}
+use Rattle.ruled_out.proofs.RoomLemmas.{version_grows}
+
+untold_written : (records : List Rec) (floors : List ℕ) (v : Pair) → ¬ IsToldOf records v → IsToldOf records v ⊎ IsWritten records floors v → IsWritten records floors v
+untold_written records floors v not (inl told) = absurd (not told)
+untold_written records floors v not (inr written) = written
+
+-- where all known pairs were passed each position is reached
+pub reached_end : (records : List Rec) (floors : List ℕ) (walk : Walk) (n : ℕ) → Knows records floors walk → length walk.versions.known.pairs.items ≤ walk.settled → IsReachedBy records floors n
+reached_end records floors walk n knows past v known untold within =
+    let there = known_there records walk.versions.known.pairs.items v knows.versions.known known in
+    let inside : there.0 < length walk.versions.known.pairs.items = slice_get_within walk.versions.known.pairs.items there.0 v there.1 in
+    untold_written records floors v untold (knows.settled there.0 v (omega arith) there.1)
+
+-- else the positions before that of the first pair that no call took
+pub reached_below : (records : List Rec) (floors : List ℕ) (walk : Walk) (p : Pair) (n : ℕ) → Knows records floors walk → slice_get walk.versions.known.pairs.items walk.settled ≡ Some p → IsKnown records p → ¬ IsTaken records floors p
+    → (n < version_of records p) ↔ IsReachedBy records floors n
+reached_below records floors walk p n knows at known none = (λ below v is untold within. earlier v is untold within below, λ reached. by_order reached (cases_lt n (version_of records p))) where
+  vs : List Pair
+  vs = walk.versions.known.pairs.items
+
+  earlier : (v : Pair) → IsKnown records v → ¬ IsToldOf records v → version_of records v ≤ n → n < version_of records p → IsWritten records floors v
+  earlier v is untold within below = by_place (cases_lt there.0 walk.settled) where
+    there : (i : ℕ) × (slice_get vs i ≡ Some v)
+    there = known_there records vs v knows.versions.known is
+
+    by_place : ((there.0 < walk.settled) ⊎ (walk.settled ≤ there.0)) → IsWritten records floors v
+    by_place (inl before) = untold_written records floors v untold (knows.settled there.0 v before there.1)
+    by_place (inr not) =
+        let inside : there.0 < length vs = slice_get_within vs there.0 v there.1 in
+        let here : get_or vs walk.settled v ≡ p = get_or_from_slice_get vs walk.settled p v at in
+        let far : get_or vs there.0 v ≡ v = get_or_from_slice_get vs there.0 v v there.1 in
+        let no_less : ¬ IsBelow v p = λ less. later_not_below vs walk.settled there.0 v knows.versions.known.in_order not inside (subst (λ (u : Pair). IsBelow u (get_or vs walk.settled v)) (sym far) (subst (IsBelow v) (sym here) less)) in
+        let up : version_of records p ≤ version_of records v = version_grows records p v no_less in
+        absurd (omega arith)
+
+  by_order : IsReachedBy records floors n → ((n < version_of records p) ⊎ (version_of records p ≤ n)) → n < version_of records p
+  by_order reached (inl below) = below
+  by_order reached (inr not) = absurd (none (inr (reached p known (λ told. none (inl told)) not)))
+
+-- ---- small steps
+
+pub none_none : {X : Type 0} (o : Option X) → ((x : X) → o ≡ Some x → ⊥) → o ≡ None
+none_none None not = refl
+none_none (Some x) not = absurd (not x refl)
+
+pub past_end : {X : Type 0} (xs : List X) (i : ℕ) → slice_get xs i ≡ None → length xs ≤ i
+past_end [] i none = omega arith
+past_end (x ∷ xs) zero none = absurd (none_is_not_some x (sym none))
+past_end (x ∷ xs) (suc i) none = let rest : length xs ≤ i = past_end xs i none in omega arith

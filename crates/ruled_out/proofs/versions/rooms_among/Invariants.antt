@@ -1,0 +1,8 @@
+use Rattle.ruled_out.specs.aids.KnownPairs.{AreKnown}
+use Rattle.ruled_out.proofs.RoomLemmas.{AreRoomsOf}
+use Rattle.std.proofs.Common.{List, take}
+use Rattle.history.specs.declared.record.Rec.{Rec}
+use Rattle.ruled_out.proofs.versions.rooms_among.Given as goal
+
+abbrev pub invariant-loop-pair : goal.invariant-loop-pair
+invariant-loop-pair l = (records : List Rec) → AreKnown records l.known.pairs.items → AreRoomsOf records (take l.pair-index l.known.pairs.items) l.rooms.items

@@ -1,0 +1,12 @@
+-- Where there is room for a pair that isn't known.
+use Rattle.std.specs.Prelude.{◌≡◌, ◌↔◌, ℕ, List, None, Some, slice_get}
+use Rattle.history.specs.declared.record.Rec.{Rec}
+use Rattle.ruled_out.specs.aids.Wild.{IsOffered}
+
+-- the position is one of the list
+abbrev pub IsAmong : List ℕ → ℕ → Type 0
+IsAmong rooms n = (i : ℕ) × (slice_get rooms i ≡ Some n)
+
+-- the positions of calls that may take a pair which isn't known
+abbrev pub AreRooms : List Rec → List ℕ → Type 0
+AreRooms records rooms = (n : ℕ) → IsAmong rooms n ↔ IsOffered records None n

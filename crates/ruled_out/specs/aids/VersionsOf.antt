@@ -1,0 +1,31 @@
+-- The versions of a document, as the code keeps them.
+use Rattle.std.specs.Prelude.{◌≡◌, ◌≤◌, ◌⊎◌, ℕ, List, Option, None, Some}
+use Rattle.version_pair.specs.declared.pair.Pair.{Pair}
+use Rattle.version_pair.specs.PairOrder.{IsBelow}
+use Rattle.history.specs.declared.record.Rec.{Rec}
+use Rattle.ruled_out.specs.declared.versions.Versions.{Versions}
+use Rattle.ruled_out.specs.Told.{IsGone, IsKnown}
+use Rattle.ruled_out.specs.Positions.{version_of}
+use Rattle.ruled_out.specs.aids.KnownPairs.{AreKnown}
+use Rattle.ruled_out.specs.aids.Rooms.{AreRooms}
+use Rattle.ruled_out.specs.aids.Versions.{AreVersions}
+
+pub record AreOf (records : List Rec) (versions : Versions) : Type 0 where
+  pub known : AreKnown records versions.known.pairs.items
+  pub told : AreVersions records versions.told.items
+  pub rooms : AreRooms records versions.rooms.items
+
+-- the position of a document that is there with the pair; none where the pair isn't known, or was that of a delete
+abbrev pub IsPresentWith : List Rec → Pair → Option ℕ → Type 0
+IsPresentWith records b None = IsKnown records b → IsGone records b
+IsPresentWith records b (Some n) = IsKnown records b × (¬ IsGone records b) × (n ≡ version_of records b)
+
+-- the position of a document that was deleted with the pair, if it was
+abbrev pub IsGoneWith : List Rec → Pair → Option ℕ → Type 0
+IsGoneWith records b None = ¬ IsGone records b
+IsGoneWith records b (Some n) = IsGone records b × (n ≡ version_of records b)
+
+-- the least position at which each known pair below the pair was taken
+abbrev pub IsLeastAfter : List Rec → Pair → ℕ → Type 0
+IsLeastAfter records q n = ((v : Pair) → IsKnown records v → IsBelow v q → version_of records v ≤ n)
+    × ((n ≡ 0) ⊎ ((v : Pair) × IsKnown records v × IsBelow v q × (n ≡ version_of records v)))

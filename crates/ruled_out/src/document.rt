@@ -1,0 +1,53 @@
+ghost use Rattle.std.specs.Prelude.{◌≡◌, IfOk, length};
+ghost use Rattle.ruled_out.specs.Told.{told};
+ghost use Rattle.ruled_out.specs.Placings.{AreInOrder, IsRuledOutAt};
+ghost use Rattle.ruled_out.specs.aids.Answers.{AreAnswers};
+ghost use Rattle.ruled_out.specs.aids.States.{IsAt};
+
+use crate::answers::{Answer, answers_of};
+use crate::told::told_records;
+use crate::walk::Walk;
+use doc_register::Conflicts;
+use history::Rec;
+use std::alloc::Global;
+use version_pair::NoMemory;
+
+// The number of the first call, in the order of the replies, that has no position.
+fn first_without_position(
+    walk: &mut Walk,
+    told: &[Rec],
+    answers: &[Answer],
+) -> Result<Option<u64>, NoMemory>
+    requires order { AreInOrder told.now }
+    requires sorted { AreAnswers told.now answers.now }
+    requires known { IsAt told.now walk.old }
+    requires start { (length walk.old.floors.items ≡ 0) × (walk.old.reached ≡ 0) }
+    ensures { IfOk result (IsRuledOutAt told.now) }
+{
+    for answer in answers {
+        walk.pass_until(told, answer.0)?;
+        let Some(call) = told.get(answer.1) else {
+            return Ok(None);
+        };
+        if !walk.answer(answer.1, call) {
+            return Ok(Some(call.no));
+        }
+    }
+    Ok(None)
+}
+
+/// The number of the call at which the document of the records is ruled out, where it is: its answered calls are taken in the
+/// order of their replies, each with the least position that it may have, and this one has none.
+pub fn ruled_out_at(
+    alloc: Global,
+    records: &[Rec],
+    conflicts: Conflicts,
+) -> Result<Option<u64>, NoMemory>
+    requires { AreInOrder (told conflicts records.now) }
+    ensures { IfOk result (IsRuledOutAt (told conflicts records.now)) }
+{
+    let told = told_records(alloc, records, conflicts)?;
+    let answers = answers_of(alloc, &told)?;
+    let mut walk = Walk::new(alloc, &told)?;
+    first_without_position(&mut walk, &told, &answers)
+}

@@ -1,0 +1,130 @@
+use crate::answers::{Answer, answers_of};
+use crate::cause::{Cause, cause_of};
+use crate::standing::{Stage, Standing, stage_of};
+use crate::told::told_records;
+use crate::unhelpful::{Unhelpful, Wanted, unhelpful_for};
+use crate::walk::Walk;
+use doc_register::{Conflicts, Op};
+use history::Rec;
+use std::alloc::Global;
+use version_pair::{NoMemory, Pair};
+
+/// Where the answered calls of a document stand at the earliest, and why the walk over them stops, where it does: what
+/// `ruled_out_at` goes by, kept to be told to people.
+///
+/// Nothing is promised of what is told here. That a document is ruled out is what `ruled_out_at` promises.
+#[derive(Drop)]
+pub struct Standings {
+    told: Vec<Rec>,
+    walk: Walk,
+    standings: Vec<Standing>,
+    cause: Option<Cause>,
+}
+
+// Which standing first brought the document to the floor, where each raise has the position and the standing that brought it there.
+fn bound_of(raises: &[(usize, usize)], floor: usize) -> Option<usize> {
+    if floor == 0 {
+        return None;
+    }
+    let place = raises.partition_point(|raise| raise.0 < floor);
+    raises.get(place).map(|raise| raise.1)
+}
+
+impl Standings {
+    /// Of the records of a document.
+    pub fn of(alloc: Global, records: &[Rec], conflicts: Conflicts) -> Result<Standings, NoMemory> {
+        let told = told_records(alloc, records, conflicts)?;
+        let answers = answers_of(alloc, &told)?;
+        let walk = Walk::new(alloc, &told)?;
+        let mut standings = Standings {
+            told,
+            walk,
+            standings: Vec::new(alloc),
+            cause: None,
+        };
+        standings.walk_over(alloc, &answers)?;
+        Ok(standings)
+    }
+
+    // Walks over the answered calls, up to the one that has no position.
+    fn walk_over(&mut self, alloc: Global, answers: &[Answer]) -> Result<(), NoMemory> {
+        let mut raises = Vec::new(alloc);
+        for answer in answers {
+            self.walk.pass_until(&self.told, answer.0)?;
+            let before = self.walk.reached();
+            let bound = bound_of(&raises, self.walk.floor(answer.1));
+            if !self.stand(answer.1, bound)? {
+                return Ok(());
+            }
+            if before < self.walk.reached() {
+                raises.push((self.walk.reached(), self.standings.len().saturating_sub(1)))?;
+            }
+        }
+        Ok(())
+    }
+
+    // Lets the answered call with this number stand, which is bound by that standing; tells whether it has a position.
+    fn stand(&mut self, number: usize, bound: Option<usize>) -> Result<bool, NoMemory> {
+        let Some(call) = self.told.get(number).copied() else {
+            return Ok(false);
+        };
+        let Some(heard) = call.heard else {
+            return Ok(true);
+        };
+        let floor = self.walk.floor(number);
+        let permitted = self.walk.first_permitted(&call, heard.1, floor);
+        let stands = self.walk.answer(number, &call);
+        if !stands {
+            self.cause = Some(cause_of(&self.walk, &call, heard.1, floor));
+        }
+        self.standings.push(Standing {
+            record: number,
+            floor,
+            bound,
+            earliest: if stands { permitted } else { None },
+        })?;
+        Ok(stands)
+    }
+
+    /// The standings in the order of the replies, up to the one that has no position.
+    pub fn standings(&self) -> &[Standing] {
+        &self.standings
+    }
+
+    /// The standing that has no position, and why, where the document is ruled out.
+    pub fn stop(&self) -> Option<(Standing, Cause)> {
+        let last = self.standings.last().copied()?;
+        Some((last, self.cause?))
+    }
+
+    /// What the document is at the position.
+    pub fn stage(&self, position: usize) -> Stage {
+        stage_of(&self.walk.versions().known, position)
+    }
+
+    /// The greatest version below this one that a reply shows.
+    pub fn last_below(&self, pair: Pair) -> Option<Pair> {
+        self.walk.versions().known.last_below(pair)
+    }
+
+    /// Whether the record is of a write that may have been performed with a pair that nobody was told.
+    pub fn is_untold(&self, number: usize) -> bool {
+        match self.told.get(number) {
+            Some(call) => call.heard.is_none() && call.op != Op::Get,
+            None => false,
+        }
+    }
+
+    /// Why the write of this record, of which no reply tells, doesn't give a place to the call at which the document is ruled out.
+    pub fn unhelpful(&self, number: usize) -> Option<Unhelpful> {
+        let (stop, cause) = self.stop()?;
+        let event = self.told.get(stop.record)?.heard.map(|heard| heard.0)?;
+        let write = self.told.get(number)?;
+        let wanted = Wanted {
+            cause,
+            floor: stop.floor,
+            event,
+        };
+        Some(unhelpful_for(self.walk.versions(), write, self.walk.floor(number), wanted))
+    }
+}

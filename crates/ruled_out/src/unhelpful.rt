@@ -1,0 +1,124 @@
+use crate::cause::Cause;
+use crate::versions::Versions;
+use doc_register::Op;
+use history::Rec;
+use version_pair::Pair;
+
+/// Why a write without a reply gives no place to the call at which a document is ruled out, for people. Nothing is promised of
+/// it.
+#[derive(Clone, Copy, Debug, PartialEq, Eq)]
+pub enum Unhelpful {
+    /// It was made after the reply to that call.
+    Late,
+    /// No write would help.
+    Vain,
+    /// It writes the document, and a delete is needed.
+    Writes,
+    /// It deletes the document, and a write is needed that gives it a number.
+    Deletes,
+    /// It gives another number than the one that was found.
+    OtherNumber,
+    /// It asks for another version than the one behind which a change is needed.
+    OtherVersion,
+    /// No version is free for it between these two, or below the second one.
+    NoRoom(Option<Pair>, Pair),
+    /// The document had passed that version as it was made.
+    Passed,
+}
+
+/// What a write without a reply is looked at for: that a call has no place, for this cause, which was made when the document had
+/// reached the floor, and was answered at the event.
+#[derive(Clone, Copy)]
+pub struct Wanted {
+    pub cause: Cause,
+    pub floor: usize,
+    pub event: usize,
+}
+
+// Whether the write is of the wrong kind.
+fn other_kind(cause: Cause, op: Op) -> Option<Unhelpful> {
+    let deletes = matches!(op, Op::Delete { .. });
+    match cause {
+        Cause::There | Cause::WasThere(_) if !deletes => Some(Unhelpful::Writes),
+        Cause::NotThere | Cause::WasAbsent(_) | Cause::Unwritten(_) if deletes => Some(
+            Unhelpful::Deletes,
+        ),
+        Cause::NeverRefused | Cause::Passed(_) | Cause::Unmet(_) => Some(Unhelpful::Vain),
+        _ => None,
+    }
+}
+
+// Why the write, which was made when the document had reached this floor, can't have taken the known pair.
+fn not_written(versions: &Versions, write: &Rec, floor: usize, pair: Pair) -> Unhelpful {
+    if let Some(k) = write.op.value()
+        && !versions.told_of(pair).number.allows(k)
+    {
+        return Unhelpful::OtherNumber;
+    }
+    match write.op.condition() {
+        Some(asked) if versions.known.next_above(asked) != Some(pair) => Unhelpful::OtherVersion,
+        _ if floor > versions.known.gap_of(pair) => Unhelpful::Passed,
+        _ => Unhelpful::Vain,
+    }
+}
+
+// Behind which version the write may change the document, where it can only be behind one.
+fn place_of(versions: &Versions, write: &Rec, cause: Cause) -> Option<Option<Pair>> {
+    match (write.op.condition(), cause) {
+        (Some(asked), _) => Some(Some(asked)),
+        (None, Cause::WasThere(pair) | Cause::WasAbsent(pair)) => Some(
+            versions.known.last_below(pair),
+        ),
+        (None, _) => None,
+    }
+}
+
+// Whether a change at the position is what is wanted.
+fn is_wanted_at(versions: &Versions, wanted: Wanted, position: usize) -> bool {
+    match wanted.cause {
+        Cause::WasThere(pair) | Cause::WasAbsent(pair) => position == versions.known.gap_of(pair),
+        _ => wanted.floor <= position,
+    }
+}
+
+// The least known version above the last one, if there is one.
+fn next_known(versions: &Versions, last: Option<Pair>) -> Option<Pair> {
+    match last {
+        Some(pair) => versions.known.next_above(pair),
+        None => versions.known.pairs().first().copied(),
+    }
+}
+
+// Why the write can't have changed the document where a change is wanted.
+fn not_changed(versions: &Versions, write: &Rec, floor: usize, wanted: Wanted) -> Unhelpful {
+    let Some(last) = place_of(versions, write, wanted.cause) else {
+        return Unhelpful::Vain;
+    };
+    let Some(position) = versions.known.gap_above(last) else {
+        return match next_known(versions, last) {
+            Some(next) => Unhelpful::NoRoom(last, next),
+            None => Unhelpful::Vain,
+        };
+    };
+    if !is_wanted_at(versions, wanted, position) {
+        Unhelpful::OtherVersion
+    } else if floor > position {
+        Unhelpful::Passed
+    } else {
+        Unhelpful::Vain
+    }
+}
+
+/// Why the write without a reply, which was made when the document had reached this floor, doesn't help.
+pub fn unhelpful_for(versions: &Versions, write: &Rec, floor: usize, wanted: Wanted) -> Unhelpful {
+    if write.call_at >= wanted.event {
+        return Unhelpful::Late;
+    }
+    if let Some(unhelpful) = other_kind(wanted.cause, write.op) {
+        return unhelpful;
+    }
+    match wanted.cause {
+        Cause::Unwritten(pair) => not_written(versions, write, floor, pair),
+        _ => not_changed(versions, write, floor, wanted),
+    }
+}

@@ -1,0 +1,87 @@
+ghost use Rattle.std.specs.Prelude.{◌≡◌};
+
+use doc_register::Reply;
+
+/// The numbers that gets found with a pair.
+#[derive(Clone, Copy)]
+pub enum Number {
+    /// No get found the pair.
+    Unseen,
+    /// Each get that found the pair found this number.
+    One(u64),
+    /// Two gets found different numbers, so no write gave both.
+    Several,
+}
+
+/// What replies tell of a known pair.
+#[derive(Clone, Copy)]
+pub struct Version {
+    /// Whether a reply tells which call took the pair.
+    pub told: bool,
+    /// Whether a reply tells that the document was deleted with the pair.
+    pub gone: bool,
+    /// What gets found with the pair.
+    pub number: Number,
+}
+
+/// The version of a pair of which nothing is told.
+pub const UNTOLD: Version = Version {
+    told: false,
+    gone: false,
+    number: Number::Unseen,
+};
+
+impl Number {
+    ghost use Rattle.ruled_out.specs.aids.Versions.{allows, number_with};
+
+    /// The numbers with one more.
+    pub fn with(self, k: u64) -> Number
+        ensures { result ≡ number_with self k }
+    {
+        match self {
+            Number::Unseen => Number::One(k),
+            Number::One(known) => {
+                if known == k {
+                    Number::One(known)
+                } else {
+                    Number::Several
+                }
+            }
+            Number::Several => Number::Several,
+        }
+    }
+
+    /// Whether a write of this number may have taken the pair.
+    pub fn allows(self, k: u64) -> bool
+        ensures { result ≡ allows self k }
+    {
+        match self {
+            Number::Unseen => true,
+            Number::One(known) => known == k,
+            Number::Several => false,
+        }
+    }
+}
+
+impl Version {
+    ghost use Rattle.ruled_out.specs.aids.Versions.{version_with};
+
+    /// What is told of the pair, with one more reply that shows it.
+    pub fn with(self, reply: Reply) -> Version
+        ensures { result ≡ version_with self reply }
+    {
+        match reply {
+            Reply::Indexed { .. } => Version { told: true, ..self },
+            Reply::Deleted { .. } => Version {
+                told: true,
+                gone: true,
+                ..self
+            },
+            Reply::Found { k, .. } => Version {
+                number: self.number.with(k),
+                ..self
+            },
+            Reply::Missing | Reply::Conflict => self,
+        }
+    }
+}

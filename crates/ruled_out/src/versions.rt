@@ -1,0 +1,134 @@
+ghost use Rattle.std.specs.Prelude.{◌≡◌, ◌+◌, ◌<◌, ◌^◌, ◌++◌, IfOk, IfSome, OnOk, List};
+ghost use Rattle.std.specs.Option.{option_to_list};
+ghost use Rattle.history.specs.declared.record.Rec.{Rec as Record};
+ghost use Rattle.ruled_out.specs.Told.{IsKnown};
+ghost use Rattle.ruled_out.specs.aids.KnownPairs.{AreKnown};
+ghost use Rattle.ruled_out.specs.aids.Rooms.{AreRooms};
+ghost use Rattle.ruled_out.specs.aids.Versions.{AreVersions, IsNoted, version_told, untold};
+
+use crate::known::Known;
+use crate::version::{UNTOLD, Version};
+use history::Rec;
+use std::alloc::Global;
+use version_pair::{NoMemory, Pair};
+
+/// The known pairs of a document, what replies tell of each, and where there is room for more.
+#[derive(Drop)]
+pub struct Versions {
+    pub known: Known,
+    // What is told of each known pair, by the number of known pairs below it.
+    told: Vec<Version>,
+    /// The positions of calls that may take a pair which isn't known.
+    pub rooms: Vec<usize>,
+}
+
+// Notes what was heard of a call.
+fn note_reply(versions: &mut Vec<Version>, known: &Known, call: Rec)
+    ensures { (records : List Record) → AreKnown records known.now.pairs.items
+        → IsNoted records call.heard versions.old.items versions.new.items }
+{
+    if let Some(heard) = call.heard
+        && let Some(pair) = heard.1.pair()
+    {
+        let below = known.count_below(pair);
+        if below < versions.len() {
+            versions[below] = versions[below].with(heard.1);
+        }
+    }
+}
+
+// What the replies tell of the known pairs.
+fn versions_told(alloc: Global, known: &Known, records: &[Rec]) -> Result<Vec<Version>, NoMemory>
+    ensures { IfOk result (λ versions. AreKnown records.now known.now.pairs.items
+        → AreVersions records.now versions.items) }
+{
+    let mut versions = vec![in alloc; UNTOLD; known.pairs().len()]?;
+    for call in records {
+        note_reply(&mut versions, known, *call);
+    }
+    Ok(versions)
+}
+
+// Adds the position, where there is one.
+fn push_room(rooms: &mut Vec<usize>, found: Option<usize>) -> Result<(), NoMemory>
+    ensures { OnOk result (rooms.new.items ≡ rooms.old.items ++ option_to_list found) }
+{
+    if let Some(n) = found {
+        rooms.push(n)?;
+    }
+    Ok(())
+}
+
+// Where there is room for a pair that isn't known.
+fn rooms_among(alloc: Global, known: &Known) -> Result<Vec<usize>, NoMemory>
+    ensures { IfOk result (λ rooms. (records : List Record) → AreKnown records known.now.pairs.items
+        → AreRooms records rooms.items) }
+{
+    let mut rooms = Vec::new(alloc);
+    push_room(&mut rooms, known.gap_above(None))?;
+    for pair in known.pairs() {
+        push_room(&mut rooms, known.gap_above(Some(*pair)))?;
+    }
+    Ok(rooms)
+}
+
+impl Versions {
+    ghost use Rattle.ruled_out.specs.aids.VersionsOf.{AreOf, IsGoneWith, IsLeastAfter, IsPresentWith};
+
+    /// The versions of a document's records.
+    pub fn of(alloc: Global, records: &[Rec]) -> Result<Versions, NoMemory>
+        ensures { IfOk result (AreOf records.now) }
+    {
+        let known = Known::of(alloc, records)?;
+        let told = versions_told(alloc, &known, records)?;
+        let rooms = rooms_among(alloc, &known)?;
+        Ok(Versions { known, told, rooms })
+    }
+
+    /// What is told of a pair, where it is known.
+    pub fn told_of(&self, pair: Pair) -> Version
+        ensures { (records : List Record) → AreOf records self.now → IsKnown records pair
+            → result ≡ version_told untold pair records }
+    {
+        let below = self.known.count_below(pair);
+        match self.told.get(below) {
+            Some(version) => *version,
+            None => UNTOLD,
+        }
+    }
+
+    /// The position of a document that has the pair, where it is known and no reply tells that the document was deleted with it.
+    pub fn present_with(&self, pair: Pair) -> Option<usize>
+        ensures exact { (records : List Record) → AreOf records self.now → IsPresentWith records pair result }
+        ensures fits { IfSome result (λ n. n + 1 < 2 ^ 64) }
+    {
+        let n = self.known.version_of(pair)?;
+        if self.told_of(pair).gone {
+            None
+        } else {
+            Some(n)
+        }
+    }
+
+    /// The position of a document that has the pair, where a reply tells that it was deleted with it.
+    pub fn gone_with(&self, pair: Pair) -> Option<usize>
+        ensures { (records : List Record) → AreOf records self.now → IsGoneWith records pair result }
+    {
+        let n = self.known.version_of(pair)?;
+        if self.told_of(pair).gone {
+            Some(n)
+        } else {
+            None
+        }
+    }
+
+    /// The least position at which each known pair below the pair was taken.
+    pub fn after_known_below(&self, pair: Pair) -> usize
+        ensures { (records : List Record) → AreOf records self.now → IsLeastAfter records pair result }
+    {
+        match self.known.last_below(pair) {
+            Some(last) => self.known.version_of(last).unwrap_or(0),
+            None => 0,
+        }
+    }
+}
