@@ -29,6 +29,7 @@ use Rattle.evidence.proofs.FilterLemmas.{mapped_at}
 use Rattle.evidence.proofs.CallsByNumber.{same_shard}
 use Rattle.evidence.proofs.HeardLemmas.{heard_is_reply}
 use Rattle.history.proofs.EventLemmas.{same_call}
+use Rattle.ruled_out.proofs.PlacingLaws.{ruled_out_have_no_order}
 
 -- ---- answered calls in an order
 
@@ -288,3 +289,5 @@ evidence_refutes conflicts events (evidence.PairTwice a b) history holds explain
 evidence_refutes conflicts events (evidence.NoWriter g) history holds explained = no_writer conflicts events g history holds explained
 evidence_refutes conflicts events (evidence.StaleGet g w) history holds explained = stale_get conflicts events g w history holds explained
 evidence_refutes conflicts events (evidence.StaleSwap a b) history holds explained = stale_swap conflicts events a b history holds explained
+evidence_refutes conflicts events (evidence.RuledOut n) history holds explained =
+    ruled_out_have_no_order conflicts events holds.document.0 n history holds.ruled_out explained

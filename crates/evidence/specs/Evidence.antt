@@ -1,5 +1,5 @@
 -- Evidence in a history that no order of its calls explains it.
-use Rattle.std.specs.Prelude.{◌≡◌, ◌≢◌, ◌<◌, ◌⊎◌, ℕ, List, Option, Some, None}
+use Rattle.std.specs.Prelude.{◌≡◌, ◌≢◌, ◌<◌, ◌⊎◌, ℕ, List, Option, Some, None, slice_get}
 use Rattle.version_pair.specs.declared.pair.Pair.{Pair}
 use Rattle.version_pair.specs.PairOrder.{IsBelow}
 use Rattle.doc_register.specs.declared.op.Op.{Op}
@@ -9,9 +9,11 @@ use Rattle.doc_register.specs.declared.reply.Reply.TheVariants.{Indexed, Deleted
 use Rattle.doc_register.specs.declared.state.Conflicts.{Conflicts}
 use Rattle.doc_register.specs.declared.state.Conflicts.TheVariants.{Maybe}
 use Rattle.history.specs.declared.event.Event.{Event}
-use Rattle.history.specs.Events.{IsCallAt, IsHistory, Precedes, heard_of}
+use Rattle.history.specs.Events.{IsCallAt, IsHistory, Precedes, documents_of, heard_of, records_of}
 use Rattle.history.specs.Order.{IsLinearizable}
 use Rattle.history.specs.Heard.{taken_by}
+use Rattle.ruled_out.specs.Told.{told}
+use Rattle.ruled_out.specs.Placings.{IsRuledOut}
 use Rattle.evidence.specs.declared.refuted.Refuted.{Refuted}
 use Rattle.evidence.specs.declared.refuted.Refuted.TheVariants as evidence
 
@@ -106,16 +108,28 @@ pub record IsStaleSwap (events : List Event) (a b : ℕ) : Type 0 where
   pub below : IsBelow condition pair
   pub first : Precedes events a b ⊎ IsBelow pair later
 
+-- a document of the history is ruled out at the call
+pub record IsRuledOutIn (conflicts : Conflicts) (events : List Event) (n : ℕ) : Type 0 where
+  pub doc : ℕ
+  pub document : List ℕ × ℕ
+  pub listed : slice_get (documents_of events) doc ≡ Some document
+  pub ruled_out : IsRuledOut (told conflicts (records_of events document.0)) n
+
+-- none of its documents is ruled out
+abbrev pub IsWithoutRuledOut : Conflicts → List Event → Type 0
+IsWithoutRuledOut conflicts events = (n : ℕ) → ¬ IsRuledOutIn conflicts events n
+
 -- the evidence holds in the history, with conflicts read as told
 abbrev pub Holds : Conflicts → List Event → Refuted → Type 0
 Holds conflicts events (evidence.PairTwice a b) = IsPairTwice events a b
 Holds conflicts events (evidence.NoWriter g) = HasNoWriter conflicts events g
 Holds conflicts events (evidence.StaleGet g w) = IsStaleGet events g w
 Holds conflicts events (evidence.StaleSwap a b) = IsStaleSwap events a b
+Holds conflicts events (evidence.RuledOut n) = IsRuledOutIn conflicts events n
 
 -- ---- the law
 
 -- where evidence holds in a history, no order of its calls explains it, however its pending calls are completed
 abbrev pub EvidenceRefutes : Type 0
-EvidenceRefutes = (conflicts : Conflicts) (events : List Event) (told : Refuted) → IsHistory events → Holds conflicts events told
+EvidenceRefutes = (conflicts : Conflicts) (events : List Event) (evidence : Refuted) → IsHistory events → Holds conflicts events evidence
     → ¬ IsLinearizable conflicts events

@@ -1,4 +1,4 @@
-ghost use Rattle.std.specs.Prelude.{◌≡◌, ◌<◌, ◌≤◌, ◌↔◌, ◌⊎◌, IsTrue, List, Some, ℕ, length};
+ghost use Rattle.std.specs.Prelude.{◌≡◌, ◌<◌, ◌≤◌, ◌↔◌, ◌⊎◌, IfOk, IsTrue, List, Some, ℕ, length};
 ghost use Rattle.version_pair.specs.PairOrder.{IsBelow};
 ghost use Rattle.history.specs.Events.{IsHistory, PassesAt, is_call_of};
 ghost use Rattle.doc_register.specs.Register.{value_of};
@@ -9,9 +9,11 @@ use crate::answered_call::{
     FoundGet, PerformedWrite, are_of_one_document, found_get, performed_write,
 };
 use crate::refuted::Refuted;
+use crate::ruled_out_calls::is_ruled_out;
 use doc_register::{Conflicts, Op, Reply};
 use history::{Event, History};
-use version_pair::Pair;
+use std::alloc::Global;
+use version_pair::{NoMemory, Pair};
 
 // Whether two writes are of one shard and have the same pair.
 fn take_one_pair(first: PerformedWrite, second: PerformedWrite) -> bool
@@ -156,16 +158,23 @@ fn is_stale_swap(history: &History, one: u64, two: u64) -> bool
 }
 
 /// Whether the evidence holds in the history, with conflicts read as told. A call number that the history doesn't have
-/// is no evidence. It takes no memory, and one walk over the events at most.
-pub fn refutes(history: &History, evidence: &Refuted, conflicts: Conflicts) -> bool
-    ensures { IsTrue result ↔ Holds conflicts history.now evidence.now }
+/// is no evidence. It takes one walk over the events at most; and memory for a call at which its document is ruled out, and for
+/// no other evidence.
+pub fn refutes(
+    alloc: Global,
+    history: &History,
+    evidence: &Refuted,
+    conflicts: Conflicts,
+) -> Result<bool, NoMemory>
+    ensures { IfOk result (λ holds. IsTrue holds ↔ Holds conflicts history.now evidence.now) }
 {
     // A look at the history: that it is one is known from here on.
     let _ = history.len();
     match *evidence {
-        Refuted::PairTwice(one, two) => is_pair_twice(history, one, two),
-        Refuted::NoWriter(get) => has_no_writer(history, get, conflicts),
-        Refuted::StaleGet(get, write) => is_stale_get(history, get, write),
-        Refuted::StaleSwap(one, two) => is_stale_swap(history, one, two),
+        Refuted::PairTwice(one, two) => Ok(is_pair_twice(history, one, two)),
+        Refuted::NoWriter(get) => Ok(has_no_writer(history, get, conflicts)),
+        Refuted::StaleGet(get, write) => Ok(is_stale_get(history, get, write)),
+        Refuted::StaleSwap(one, two) => Ok(is_stale_swap(history, one, two)),
+        Refuted::RuledOut(call) => is_ruled_out(alloc, history, call, conflicts),
     }
 }

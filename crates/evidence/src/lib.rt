@@ -2,7 +2,7 @@
 //!
 //! ```text
 //! let found = find_evidence(alloc, &history, Conflicts::Plain)?; // Option<Refuted>
-//! let holds = refutes(&history, &Refuted::StaleGet(3, 1), Conflicts::Plain);
+//! let holds = refutes(alloc, &history, &Refuted::StaleGet(3, 1), Conflicts::Plain)?;
 //! ```
 #![tactic(auto)]
 
@@ -10,8 +10,11 @@ mod answered_call;
 mod holding;
 pub mod laws;
 mod refuted;
+mod ruled_out_calls;
+mod ruling_out;
 mod search;
 
 pub use holding::refutes;
 pub use refuted::Refuted;
-pub use search::find_evidence;
+pub use ruling_out::RulingOut;
+pub use search::{find_evidence, rule_out};

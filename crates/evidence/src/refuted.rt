@@ -11,4 +11,7 @@ pub enum Refuted {
     /// Two writes of one document. The second was performed although its condition asks for a pair below the first
     /// one's, and the first stands before it: it was answered before the second was called, or has the lesser pair.
     StaleSwap(u64, u64),
+    /// A call at which its document is ruled out: whatever became of the calls without a reply, the calls that were answered up
+    /// to this one have no positions among the pairs that replies show.
+    RuledOut(u64),
 }

@@ -6,11 +6,12 @@ mod pairs_taken_twice;
 mod stale_reads;
 mod unwritten_reads;
 
-ghost use Rattle.std.specs.Prelude.{IfOk, IfSome};
-ghost use Rattle.evidence.specs.Evidence.{Holds};
+ghost use Rattle.std.specs.Prelude.{◌≡◌, None as Nothing, IfOk, IfSome};
+ghost use Rattle.evidence.specs.Evidence.{Holds, IsWithoutRuledOut};
 
 use crate::holding::refutes;
 use crate::refuted::Refuted;
+use crate::ruled_out_calls::least_ruled_out;
 use answered_calls::AnsweredCalls;
 use doc_register::Conflicts;
 use history::History;
@@ -22,23 +23,29 @@ use unwritten_reads::least_without_writer;
 use version_pair::NoMemory;
 
 // The evidence, where it holds.
-fn confirm(history: &History, found: Option<Refuted>, conflicts: Conflicts) -> Option<Refuted>
-    ensures { IfSome result (Holds conflicts history.now) }
+fn confirm(
+    alloc: Global,
+    history: &History,
+    found: Option<Refuted>,
+    conflicts: Conflicts,
+) -> Result<Option<Refuted>, NoMemory>
+    ensures { IfOk result (λ told. IfSome told (Holds conflicts history.now)) }
 {
     match found {
         Some(evidence) => {
-            if refutes(history, &evidence, conflicts) {
-                Some(evidence)
+            if refutes(alloc, history, &evidence, conflicts)? {
+                Ok(Some(evidence))
             } else {
-                None
+                Ok(None)
             }
         }
-        None => None,
+        None => Ok(None),
     }
 }
 
 /// Evidence that holds in the history, with conflicts read as told: of the first kind that does, in the order of `Refuted`,
-/// and of that kind the one with the least call numbers, the first number counting first. `None` where no kind holds.
+/// and of that kind the one with the least call numbers, the first number counting first. `None` where no kind holds; documents
+/// that are ruled out are not looked for.
 pub fn find_evidence(
     alloc: Global,
     history: &History,
@@ -48,17 +55,35 @@ pub fn find_evidence(
 {
     let calls = AnsweredCalls::of(alloc, history)?;
     let twice = least_pair_twice(alloc, &calls.writes)?;
-    if let Some(evidence) = confirm(history, twice, conflicts) {
+    if let Some(evidence) = confirm(alloc, history, twice, conflicts)? {
         return Ok(Some(evidence));
     }
     let unwritten = least_without_writer(alloc, history, &calls.gets, conflicts)?;
-    if let Some(evidence) = confirm(history, unwritten, conflicts) {
+    if let Some(evidence) = confirm(alloc, history, unwritten, conflicts)? {
         return Ok(Some(evidence));
     }
     let stale = least_stale_get(&calls.gets, &calls.writes);
-    if let Some(evidence) = confirm(history, stale, conflicts) {
+    if let Some(evidence) = confirm(alloc, history, stale, conflicts)? {
         return Ok(Some(evidence));
     }
     let swap = least_stale_swap(alloc, &calls.writes)?;
-    Ok(confirm(history, swap, conflicts))
+    confirm(alloc, history, swap, conflicts)
+}
+
+/// The evidence that a document of the history is ruled out, with conflicts read as told: the least call at which one is.
+/// `None` where none is.
+pub fn rule_out(
+    alloc: Global,
+    history: &History,
+    conflicts: Conflicts,
+) -> Result<Option<Refuted>, NoMemory>
+    ensures holds { IfOk result (λ told. IfSome told (Holds conflicts history.now)) }
+    ensures none { IfOk result (λ told. told ≡ Nothing → IsWithoutRuledOut conflicts history.now) }
+{
+    // A look at the history: that it is one is known from here on.
+    let _ = history.len();
+    match least_ruled_out(alloc, history, conflicts)? {
+        Some(call) => Ok(Some(Refuted::RuledOut(call))),
+        None => Ok(None),
+    }
 }

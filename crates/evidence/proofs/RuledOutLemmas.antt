@@ -1,0 +1,89 @@
+-- Documents that are ruled out, by their numbers.
+use Rattle.std.proofs.Common.{ℕ, ◌≡◌, ◌<◌, ◌≤◌, ◌+◌, ◌⊎◌, inl, inr, List, [], length, refl, sym, ap, subst, ◌∙◌, arith, Option, Some, None, option_map, slice_get, slice_index_or}
+use Rattle.std.specs.Prelude.{MatchOption}
+use Rattle.std.proofs.lemmas.Bool.{cases_lt}
+use Rattle.std.proofs.lemmas.Option.{slice_get-get_or, slice_get_within}
+use Rattle.doc_register.specs.declared.state.Conflicts.{Conflicts}
+use Rattle.history.specs.declared.event.Event.{Event}
+use Rattle.history.specs.declared.record.Rec.{Rec}
+use Rattle.history.specs.Events.{IsHistory, documents_of, records_of}
+use Rattle.history.proofs.ListLemmas.{none_is_not_some, same_some}
+use Rattle.ruled_out.specs.Told.{told}
+use Rattle.ruled_out.specs.Placings.{AreInOrder, IsRuledOut, IsRuledOutAt}
+use Rattle.ruled_out.proofs.RecordOrder.{records_in_order}
+use Rattle.ruled_out.proofs.WalkLemmas.{ruled_out_once}
+use Rattle.evidence.specs.Evidence.{IsRuledOutIn}
+use Rattle.evidence.specs.aids.RuledOutCalls.{IsRuledOutBefore, IsRuledOutCall, IsRuledOutDocument}
+
+-- the records of the document of a number
+pub record HasRecords (events : List Event) (doc : ℕ) (records : List Rec) : Type 0 where
+  pub document : List ℕ × ℕ
+  pub listed : slice_get (documents_of events) doc ≡ Some document
+  pub same : records_of events document.0 ≡ records
+
+pub document_there : (events : List Event) (doc : ℕ) (records : List Rec) → option_map (λ (d : List ℕ × ℕ). records_of events d.0) (slice_get (documents_of events) doc) ≡ Some records
+    → HasRecords events doc records
+document_there events doc records is = by_found (slice_get (documents_of events) doc) refl is where
+  by_found : (found : Option (List ℕ × ℕ)) → slice_get (documents_of events) doc ≡ found → option_map (λ (d : List ℕ × ℕ). records_of events d.0) found ≡ Some records → HasRecords events doc records
+  by_found None at never = absurd (none_is_not_some records never)
+  by_found (Some d) at same = record { document = d; listed = at; same = same_some (records_of events d.0) records same }
+
+-- its records are in order
+pub records_ready : (conflicts : Conflicts) (events : List Event) (doc : ℕ) (records : List Rec) → IsHistory events
+    → option_map (λ (d : List ℕ × ℕ). records_of events d.0) (slice_get (documents_of events) doc) ≡ Some records → AreInOrder (told conflicts records)
+records_ready conflicts events doc records history is =
+    let x = document_there events doc records is in
+    subst (λ (rs : List Rec). AreInOrder (told conflicts rs)) x.same (records_in_order conflicts events x.document.0 history)
+
+-- what is found of its records is found of the document
+pub found_of_document : (conflicts : Conflicts) (events : List Event) (doc : ℕ) (records : List Rec) (found : Option ℕ)
+    → option_map (λ (d : List ℕ × ℕ). records_of events d.0) (slice_get (documents_of events) doc) ≡ Some records → IsRuledOutAt (told conflicts records) found
+    → IsRuledOutDocument conflicts events doc found
+found_of_document conflicts events doc records found is at document listed =
+    let x = document_there events doc records is in
+    let one : x.document ≡ document = same_some x.document document (sym x.listed ∙ listed) in
+    subst (λ (d : List ℕ × ℕ). IsRuledOutAt (told conflicts (records_of events d.0)) found) one (subst (λ (rs : List Rec). IsRuledOutAt (told conflicts rs) found) (sym x.same) at)
+
+-- a document that is ruled out at the call is ruled out at no other
+pub only_call : (conflicts : Conflicts) (events : List Event) (n : ℕ) (found : Option ℕ) → IsHistory events → (is : IsRuledOutIn conflicts events n) → IsRuledOutDocument conflicts events is.doc found → found ≡ Some n
+only_call conflicts events n found history is at = by_found found (at is.document is.listed) where
+  by_found : (found : Option ℕ) → IsRuledOutAt (told conflicts (records_of events is.document.0)) found → found ≡ Some n
+  by_found None none = absurd (none n is.ruled_out)
+  by_found (Some m) ruled =
+      ap (λ (k : ℕ). Some k) (ruled_out_once (told conflicts (records_of events is.document.0)) m n (records_in_order conflicts events is.document.0 history) ruled is.ruled_out)
+
+-- the call at which a document was found to be ruled out
+pub found_call : (conflicts : Conflicts) (events : List Event) (doc n : ℕ) → doc < length (documents_of events) → IsRuledOutDocument conflicts events doc (Some n) → IsRuledOutIn conflicts events n
+found_call conflicts events doc n within at =
+    let document : List ℕ × ℕ = slice_index_or (documents_of events) doc ([], 0) in
+    let listed : slice_get (documents_of events) doc ≡ Some document = slice_get-get_or (documents_of events) doc ([], 0) within in
+    record { doc = doc; document = document; listed = listed; ruled_out = at document listed }
+
+-- a document is among the history's
+pub doc_within : (conflicts : Conflicts) (events : List Event) (n : ℕ) (is : IsRuledOutIn conflicts events n) → is.doc < length (documents_of events)
+doc_within conflicts events n is = slice_get_within (documents_of events) is.doc is.document is.listed
+
+-- ---- the first documents
+
+-- one more document, at which none was found yet
+pub none_more : (conflicts : Conflicts) (events : List Event) (docs : ℕ) → IsHistory events → IsRuledOutBefore conflicts events docs None → IsRuledOutDocument conflicts events docs None → IsRuledOutBefore conflicts events (docs + 1) None
+none_more conflicts events docs history before own n is less = by_place (cases_lt is.doc docs) where
+  by_place : ((is.doc < docs) ⊎ (docs ≤ is.doc)) → ⊥
+  by_place (inl earlier) = before n is earlier
+  by_place (inr not) =
+      let here : docs ≡ is.doc = omega arith in
+      none_is_not_some n (only_call conflicts events n None history is (subst (λ d. IsRuledOutDocument conflicts events d None) here own))
+
+-- one more document, of whose call and the one found before the lesser is kept
+pub one_more : (conflicts : Conflicts) (events : List Event) (docs : ℕ) (least found both : Option ℕ) → IsHistory events → docs < length (documents_of events)
+    → IsRuledOutBefore conflicts events docs least → IsRuledOutDocument conflicts events docs found
+    → MatchOption both ((least ≡ None) × (found ≡ None)) (λ n. (least ≡ Some n) ⊎ (found ≡ Some n)) → IsRuledOutBefore conflicts events (docs + 1) both
+one_more conflicts events docs least found None history within before own none =
+    none_more conflicts events docs history (subst (IsRuledOutBefore conflicts events docs) none.0 before) (subst (IsRuledOutDocument conflicts events docs) none.1 own)
+one_more conflicts events docs least found (Some n) history within before own (inl was) = subst (IsRuledOutBefore conflicts events docs) was before
+one_more conflicts events docs least found (Some n) history within before own (inr is) = found_call conflicts events docs n within (subst (IsRuledOutDocument conflicts events docs) is own)
+
+-- all documents
+pub all_documents : (conflicts : Conflicts) (events : List Event) (docs : ℕ) (least : Option ℕ) → length (documents_of events) ≤ docs → IsRuledOutBefore conflicts events docs least → IsRuledOutCall conflicts events least
+all_documents conflicts events docs None all before = λ n is. before n is (let within : is.doc < length (documents_of events) = doc_within conflicts events n is in omega arith)
+all_documents conflicts events docs (Some n) all before = before

@@ -1,0 +1,72 @@
+//! The calls at which documents of a history are ruled out.
+
+ghost use Rattle.std.specs.Prelude.{◌≡◌, ◌<◌, ◌⊎◌, ◌↔◌, IfOk, IsTrue, MatchOption, None as Nothing, Some as Just, length};
+ghost use Rattle.history.specs.Events.{IsHistory, documents_of};
+ghost use Rattle.evidence.specs.Evidence.{IsRuledOutIn};
+ghost use Rattle.evidence.specs.aids.RuledOutCalls.{IsRuledOutCall, IsRuledOutDocument};
+
+use doc_register::Conflicts;
+use history::History;
+use ruled_out::ruled_out_at;
+use std::alloc::Global;
+use version_pair::NoMemory;
+
+// The call at which the document is ruled out, where it is.
+fn ruled_out_call(
+    alloc: Global,
+    history: &History,
+    doc: usize,
+    conflicts: Conflicts,
+) -> Result<Option<u64>, NoMemory>
+    requires history { IsHistory history.now }
+    requires within { doc < length (documents_of history.now) }
+    ensures { IfOk result (IsRuledOutDocument conflicts history.now doc) }
+{
+    let records = history.records(doc)?;
+    ruled_out_at(alloc, &records, conflicts)
+}
+
+// The lesser of two numbers of calls, where there are two.
+fn lesser(one: Option<u64>, two: Option<u64>) -> Option<u64>
+    ensures { MatchOption result ((one ≡ Nothing) × (two ≡ Nothing)) (λ n. (one ≡ Just n) ⊎ (two ≡ Just n)) }
+{
+    match (one, two) {
+        (Some(a), Some(b)) => Some(a.min(b)),
+        (Some(n), None) | (None, Some(n)) => Some(n),
+        (None, None) => None,
+    }
+}
+
+/// Whether the document of a call is ruled out at it. It takes one walk over each document.
+pub fn is_ruled_out(
+    alloc: Global,
+    history: &History,
+    call: u64,
+    conflicts: Conflicts,
+) -> Result<bool, NoMemory>
+    requires { IsHistory history.now }
+    ensures { IfOk result (λ told. IsTrue told ↔ IsRuledOutIn conflicts history.now call) }
+{
+    for doc in 0..history.docs() {
+        if ruled_out_call(alloc, history, doc, conflicts)? == Some(call) {
+            return Ok(true);
+        }
+    }
+    Ok(false)
+}
+
+/// The least call at which a document of the history is ruled out.
+pub fn least_ruled_out(
+    alloc: Global,
+    history: &History,
+    conflicts: Conflicts,
+) -> Result<Option<u64>, NoMemory>
+    requires { IsHistory history.now }
+    ensures { IfOk result (IsRuledOutCall conflicts history.now) }
+{
+    let mut least = None;
+    for doc in 0..history.docs() {
+        least = lesser(least, ruled_out_call(alloc, history, doc, conflicts)?);
+    }
+    Ok(least)
+}
