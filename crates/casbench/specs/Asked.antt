@@ -6,9 +6,12 @@ use Rattle.std.specs.Str.{bytes_eq}
 use Rattle.std.specs.Str.Parse.{digits_value, without_leading_plus}
 use Rattle.clap.specs.Simple.{on_top}
 use Rattle.clap.specs.Words.{App, Kinds, Row, Rule, Text, first_of, fault_of, new_app, new_rule, subcommand_of, with_rule, with_subcommand}
+use Rattle.clap.specs.declared.builder.action.ArgAction.TheVariants.{SetTrue}
 use Rattle.clap.specs.declared.builder.value_parser.ValueParser.TheVariants as parser
 use Rattle.doc_register.specs.declared.state.Conflicts.{Conflicts}
 use Rattle.doc_register.specs.declared.state.Conflicts.TheVariants.{Plain, Maybe}
+use Rattle.evidence.specs.declared.ruling_out.RulingOut.{RulingOut}
+use Rattle.evidence.specs.declared.ruling_out.RulingOut.TheVariants.{Off, On}
 use Rattle.repl_group.specs.declared.fault.Fault.{Fault}
 use Rattle.repl_group.specs.declared.fault.Fault.TheVariants as fault
 use Rattle.recorded_runs.specs.declared.run_setting.RunSetting.{RunSetting}
@@ -19,20 +22,20 @@ use Rattle.casbench.specs.declared.words.Words.TheVariants as words
 -- witness against a history, each with a reading of conflicts; or the lines of a bulk's body and its reply, the calls numbered from a number on; or a run; or
 -- a check that is told, with a file for the page or none
 pub data Asked : Type 0 where
-  ToCheck : Option Text → Conflicts → ℕ → Asked
-  ToWitness : Option Text → Conflicts → Asked
+  ToCheck : Option Text → Conflicts → ℕ → RulingOut → Asked
+  ToWitness : Option Text → Conflicts → RulingOut → Asked
   ToVerify : Text → Text → Conflicts → Asked
   ToWriteBulk : Text → Text → ℕ → Asked
   ToRun : RunSetting → Asked
-  ToExplain : Option Text → Conflicts → ℕ → Option Text → Asked
+  ToExplain : Option Text → Conflicts → ℕ → RulingOut → Option Text → Asked
 
 abbrev pub asked_by : Words → Asked
-asked_by (words.Check file conflicts workers) = ToCheck (option_map (λ f. f.now) file) conflicts workers
-asked_by (words.Witness file conflicts) = ToWitness (option_map (λ f. f.now) file) conflicts
+asked_by (words.Check file conflicts workers ruling) = ToCheck (option_map (λ f. f.now) file) conflicts workers ruling
+asked_by (words.Witness file conflicts ruling) = ToWitness (option_map (λ f. f.now) file) conflicts ruling
 asked_by (words.Verify history witness conflicts) = ToVerify history.now witness.now conflicts
 asked_by (words.Bulk body reply first) = ToWriteBulk body.now reply.now first
 asked_by (words.Run setting) = ToRun setting
-asked_by (words.Explain file conflicts workers page) = ToExplain (option_map (λ f. f.now) file) conflicts workers (option_map (λ t. t.now) page)
+asked_by (words.Explain file conflicts workers ruling page) = ToExplain (option_map (λ f. f.now) file) conflicts workers ruling (option_map (λ t. t.now) page)
 
 -- the reading of conflicts of this name, which is plain where none is given
 abbrev pub conflicts_named : Option Text → Option Conflicts
@@ -51,18 +54,23 @@ abbrev pub number_or : ℕ → Option Text → Option ℕ
 number_or other None = Some other
 number_or other (Some text) = if is_number text then Some (digits_value 10 (without_leading_plus text)) else None
 
--- one worker where no number is given
-abbrev pub check_of : Option Text → Option Text → Option Text → Option Asked
-check_of file name workers =
-    option_and_then (λ conflicts. option_map (λ n. ToCheck file conflicts n) (number_or 1 workers)) (conflicts_named name)
+-- documents are looked at that may be ruled out where the option for it is given: its text is then `true`
+abbrev pub ruling_given : Option Text → RulingOut
+ruling_given None = Off
+ruling_given (Some text) = if bytes_eq text (codes "true") then On else Off
 
 -- one worker where no number is given
-abbrev pub explain_of : Option Text → Option Text → Option Text → Option Text → Option Asked
-explain_of file name workers page =
-    option_and_then (λ conflicts. option_map (λ n. ToExplain file conflicts n page) (number_or 1 workers)) (conflicts_named name)
+abbrev pub check_of : Option Text → Option Text → Option Text → Option Text → Option Asked
+check_of file name workers rule_out =
+    option_and_then (λ conflicts. option_map (λ n. ToCheck file conflicts n (ruling_given rule_out)) (number_or 1 workers)) (conflicts_named name)
 
-abbrev pub witness_of : Option Text → Option Text → Option Asked
-witness_of file name = option_map (λ conflicts. ToWitness file conflicts) (conflicts_named name)
+-- one worker where no number is given
+abbrev pub explain_of : Option Text → Option Text → Option Text → Option Text → Option Text → Option Asked
+explain_of file name workers rule_out page =
+    option_and_then (λ conflicts. option_map (λ n. ToExplain file conflicts n (ruling_given rule_out) page) (number_or 1 workers)) (conflicts_named name)
+
+abbrev pub witness_of : Option Text → Option Text → Option Text → Option Asked
+witness_of file name rule_out = option_map (λ conflicts. ToWitness file conflicts (ruling_given rule_out)) (conflicts_named name)
 
 abbrev pub verify_of : Option Text → Option Text → Option Text → Option Asked
 verify_of (Some history) (Some witness) name = option_map (λ conflicts. ToVerify history witness conflicts) (conflicts_named name)
@@ -110,21 +118,22 @@ run_of rows = option_map ToRun (setting_given rows)
 -- what a command of this name asks for, which was given these texts by the names of its arguments
 abbrev pub asked_of_command : Text → List Row → Option Asked
 asked_of_command name rows =
-    if bytes_eq name (codes "check") then check_of (first_of (codes "history") rows) (first_of (codes "conflicts") rows) (first_of (codes "workers") rows)
+    if bytes_eq name (codes "check") then check_of (first_of (codes "history") rows) (first_of (codes "conflicts") rows) (first_of (codes "workers") rows) (first_of (codes "rule-out") rows)
     else (if bytes_eq name (codes "witness")
-    then witness_of (first_of (codes "history") rows) (first_of (codes "conflicts") rows)
+    then witness_of (first_of (codes "history") rows) (first_of (codes "conflicts") rows) (first_of (codes "rule-out") rows)
     else (if bytes_eq name (codes "verify")
     then verify_of (first_of (codes "history") rows) (first_of (codes "witness") rows) (first_of (codes "conflicts") rows)
     else (if bytes_eq name (codes "bulk")
     then bulk_of (first_of (codes "body") rows) (first_of (codes "reply") rows) (first_of (codes "first") rows)
     else (if bytes_eq name (codes "run") then run_of rows
     else (if bytes_eq name (codes "explain")
-    then explain_of (first_of (codes "history") rows) (first_of (codes "conflicts") rows) (first_of (codes "workers") rows) (first_of (codes "html") rows)
+    then explain_of (first_of (codes "history") rows) (first_of (codes "conflicts") rows) (first_of (codes "workers") rows) (first_of (codes "rule-out") rows)
+    (first_of (codes "html") rows)
     else None)))))
 
 -- no command asks for a check of standard input by one worker
 abbrev pub asked_of : Option (Text × List Row) → Option Asked
-asked_of None = Some (ToCheck None Plain 1)
+asked_of None = Some (ToCheck None Plain 1 Off)
 asked_of (Some command) = asked_of_command command.0 command.1
 
 -- ---- the command line
@@ -147,6 +156,10 @@ conflicts_rule = record (file_rule (codes "conflicts")) { long = Some (codes "co
 abbrev pub workers_rule : Rule
 workers_rule = record (file_rule (codes "workers")) { long = Some (codes "workers"); parser = Some (parser.Unsigned 1 16) }
 
+-- `--rule-out`
+abbrev pub rule_out_rule : Rule
+rule_out_rule = record (new_rule (codes "rule-out")) { long = Some (codes "rule-out"); action = Some SetTrue }
+
 -- `--html OUT`
 abbrev pub html_rule : Rule
 html_rule = record (file_rule (codes "html")) { long = Some (codes "html") }
@@ -165,7 +178,7 @@ fault_rule = record (needed_rule (codes "fault")) { long = Some (codes "fault") 
 
 -- a command of this name that takes what a check takes
 abbrev pub searched_line : Text → App
-searched_line name = with_rule (with_rule (with_rule (new_app name) (file_rule (codes "history"))) conflicts_rule) workers_rule
+searched_line name = with_rule (with_rule (with_rule (with_rule (new_app name) (file_rule (codes "history"))) conflicts_rule) workers_rule) rule_out_rule
 
 abbrev pub check_line : App
 check_line = searched_line (codes "check")
@@ -175,7 +188,7 @@ abbrev pub explain_line : App
 explain_line = with_rule (searched_line (codes "explain")) html_rule
 
 abbrev pub witness_line : App
-witness_line = with_rule (with_rule (new_app (codes "witness")) (file_rule (codes "history"))) conflicts_rule
+witness_line = with_rule (with_rule (with_rule (new_app (codes "witness")) (file_rule (codes "history"))) conflicts_rule) rule_out_rule
 
 abbrev pub verify_line : App
 verify_line =

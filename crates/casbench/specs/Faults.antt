@@ -7,9 +7,9 @@ use Rattle.stream_io.specs.declared.stream_fault.StreamFault.{StreamFault}
 
 -- a check, told or not, has workers; a run reads nothing
 abbrev pub MayFail : Words → StreamFault → Type 0
-MayFail (words.Check file conflicts workers) fault = IsWorkedFault fault
-MayFail (words.Witness file conflicts) fault = IsStreamFault fault
+MayFail (words.Check file conflicts workers ruling) fault = IsWorkedFault fault
+MayFail (words.Witness file conflicts ruling) fault = IsStreamFault fault
 MayFail (words.Verify history witness conflicts) fault = IsStreamFault fault
 MayFail (words.Bulk body reply first) fault = IsStreamFault fault
 MayFail (words.Run setting) fault = IsRunFault fault
-MayFail (words.Explain file conflicts workers page) fault = IsWorkedFault fault
+MayFail (words.Explain file conflicts workers ruling page) fault = IsWorkedFault fault

@@ -1,9 +1,9 @@
 ghost use Rattle.std.specs.Prelude.{◌≡◌, false, codes};
 ghost use Rattle.clap.specs.Words.{rule_of};
-ghost use Rattle.casbench.specs.Asked.{conflicts_rule, fault_rule, file_rule, first_rule, html_rule, needed_rule, seed_rule, small_rule, workers_rule};
+ghost use Rattle.casbench.specs.Asked.{conflicts_rule, fault_rule, file_rule, first_rule, html_rule, needed_rule, rule_out_rule, seed_rule, small_rule, workers_rule};
 
-use clap::Arg;
 use clap::builder::ValueParser;
+use clap::{Arg, ArgAction};
 use std::alloc::Global;
 
 /// The history text.
@@ -23,6 +23,9 @@ pub const CONFLICTS: &str = "conflicts";
 
 /// How many workers there are.
 pub const WORKERS: &str = "workers";
+
+/// Whether documents are looked at that may be ruled out.
+pub const RULE_OUT: &str = "rule-out";
 
 /// The file of a page.
 pub const HTML: &str = "html";
@@ -104,6 +107,19 @@ pub fn workers<'a>(alloc: Global) -> Arg<'a>
         .value_name("N")
         .value_parser(ValueParser::Unsigned(1, 16))
         .help("How many workers search the documents, 1 to 16; 1 where it is left out")
+}
+
+/// Whether documents are looked at that may be ruled out.
+pub fn rule_out<'a>(alloc: Global) -> Arg<'a>
+    ensures rule { rule_of result ≡ rule_out_rule }
+    ensures local { result.global ≡ false }
+{
+    Arg::new(alloc, RULE_OUT)
+        .long(RULE_OUT)
+        .action(ArgAction::SetTrue)
+        .help(
+            "Where no order is found, look for a document that no order explains, whatever was lost",
+        )
 }
 
 /// The file of the page, which may be left out.

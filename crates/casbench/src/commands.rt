@@ -6,7 +6,7 @@ ghost use Rattle.casbench.specs.Asked.{bulk_line, check_line, command_line, expl
 use crate::arguments;
 use crate::arguments::{
     BODY, CALLS, CLIENTS, COPIES, DOCS, HISTORY, REPLY, conflicts, fault, first, history, html,
-    needed_file, seed, small, workers,
+    needed_file, rule_out, seed, small, workers,
 };
 use clap::Command;
 use std::alloc::{AllocError, Global};
@@ -44,7 +44,8 @@ fn searched_command<'a>(
         .after_help(example)
         .arg(history(alloc))?
         .arg(conflicts(alloc))?
-        .arg(workers(alloc))
+        .arg(workers(alloc))?
+        .arg(rule_out(alloc))
 }
 
 fn check_command<'a>(alloc: Global) -> Result<Command<'a>, AllocError>
@@ -67,7 +68,8 @@ fn witness_command<'a>(alloc: Global) -> Result<Command<'a>, AllocError>
         .about("Write the witness of a history")
         .after_help("Example:\n  casbench witness history.ndjson > history.witness")
         .arg(history(alloc))?
-        .arg(conflicts(alloc))
+        .arg(conflicts(alloc))?
+        .arg(rule_out(alloc))
 }
 
 fn verify_command<'a>(alloc: Global) -> Result<Command<'a>, AllocError>

@@ -2,6 +2,7 @@ ghost use Rattle.std.specs.Prelude.{◌≡◌, ◌≢◌, ◌≤◌, ℕ, List, 
 ghost use Rattle.std.proofs.Common.{Bor};
 ghost use Rattle.std.specs.Io.KnownBytes.{Keeps};
 ghost use Rattle.doc_register.specs.declared.state.Conflicts.{Conflicts as Reading};
+ghost use Rattle.evidence.specs.declared.ruling_out.RulingOut.{RulingOut as Ruling};
 ghost use Rattle.report.specs.Explained.{ExplainsInput};
 ghost use Rattle.report.specs.Verdict.{IsAnswered, WitnessesInput};
 ghost use Rattle.recorded_runs.specs.Runs.{IsRunText};
@@ -16,7 +17,7 @@ use doc_register::Conflicts;
 use history::HashKeys;
 use repl_group::Group;
 use report::{
-    Status, StreamFault, bulk_stream, check_stream, explain_page_stream, explain_stream,
+    RulingOut, Status, StreamFault, bulk_stream, check_stream, explain_page_stream, explain_stream,
     run_stream, verify_stream, witness_stream,
 };
 use std::alloc::Global;
@@ -50,19 +51,22 @@ fn explain<T: Threads + Wait + Sync, R: Read, W: Write, P: Write>(
     page: Option<&mut P>,
     workers: usize,
     conflicts: Conflicts,
+    ruling_out: RulingOut,
 ) -> Result<Status, StreamFault>
     requires some { 1 ≤ workers }
     requires few { workers ≤ 16 }
-    ensures explained { IfOk result (λ status. HasAnswer (ExplainsInput conflicts (R.remaining history.old) status)
+    ensures explained { IfOk result (λ status. HasAnswer (ExplainsInput ruling_out conflicts (R.remaining history.old) status)
         (W.contents writer.old) (W.contents writer.new)) }
     ensures kept { IfErr result (λ fault. fault ≢ StreamFault.Write
         → Keeps (W.contents writer.old) (W.contents writer.new)) }
     ensures told { IfErr result IsWorkedFault }
 {
     match page {
-        None => explain_stream(threads, alloc, keys, history, writer, workers, conflicts),
+        None => explain_stream(
+            threads, alloc, keys, history, writer, workers, conflicts, ruling_out,
+        ),
         Some(page) => explain_page_stream(
-            threads, alloc, keys, history, writer, page, workers, conflicts,
+            threads, alloc, keys, history, writer, page, workers, conflicts, ruling_out,
         ),
     }
 }
@@ -82,17 +86,18 @@ pub fn run<R: Files + Eprint, T: Threads + Wait + Sync, I: Read + Drop, W: Write
     words: Words<'_>,
 ) -> Result<Status, StreamFault>
     // A check of the input answers it, with conflicts read as the words say.
-    ensures checked { (conflicts : Reading) (workers : ℕ) → words.entry ≡ Words.Check None conflicts workers
-        → IfOk result (IsAnswered conflicts (I.remaining input) (W.contents writer.old)
+    ensures checked { (conflicts : Reading) (workers : ℕ) (ruling : Ruling)
+        → words.entry ≡ Words.Check None conflicts workers ruling
+        → IfOk result (IsAnswered ruling conflicts (I.remaining input) (W.contents writer.old)
         (W.contents writer.new)) }
     // The witness of the input is written, with conflicts read as the words say.
-    ensures witnessed { (conflicts : Reading) → words.entry ≡ Words.Witness None conflicts
-        → IfOk result (λ status. HasAnswer (WitnessesInput conflicts (I.remaining input) status)
+    ensures witnessed { (conflicts : Reading) (ruling : Ruling) → words.entry ≡ Words.Witness None conflicts ruling
+        → IfOk result (λ status. HasAnswer (WitnessesInput ruling conflicts (I.remaining input) status)
         (W.contents writer.old) (W.contents writer.new)) }
     // A check of the input that is told begins with its answer, whether a page is written too or not.
-    ensures explained { (conflicts : Reading) (workers : ℕ) (page : Option (Bor (List ℕ)))
-        → words.entry ≡ Words.Explain None conflicts workers page
-        → IfOk result (λ status. HasAnswer (ExplainsInput conflicts (I.remaining input) status)
+    ensures explained { (conflicts : Reading) (workers : ℕ) (ruling : Ruling) (page : Option (Bor (List ℕ)))
+        → words.entry ≡ Words.Explain None conflicts workers ruling page
+        → IfOk result (λ status. HasAnswer (ExplainsInput ruling conflicts (I.remaining input) status)
         (W.contents writer.old) (W.contents writer.new)) }
     // What the clients of a run recorded is written, and the status is yes.
     ensures recorded { (setting : Setting) → words.entry ≡ Words.Run setting
@@ -108,6 +113,7 @@ pub fn run<R: Files + Eprint, T: Threads + Wait + Sync, I: Read + Drop, W: Write
             file,
             conflicts,
             workers,
+            ruling_out,
         } => {
             let mut history = open_or(rt, file, input)?;
             let workers = worker_count(workers);
@@ -119,11 +125,16 @@ pub fn run<R: Files + Eprint, T: Threads + Wait + Sync, I: Read + Drop, W: Write
                 writer,
                 workers,
                 conflicts,
+                ruling_out,
             )
         }
-        Words::Witness { file, conflicts } => {
+        Words::Witness {
+            file,
+            conflicts,
+            ruling_out,
+        } => {
             let mut history = open_or(rt, file, input)?;
-            witness_stream(alloc, keys, &mut history, writer, conflicts)
+            witness_stream(alloc, keys, &mut history, writer, conflicts, ruling_out)
         }
         Words::Verify {
             history,
@@ -142,6 +153,7 @@ pub fn run<R: Files + Eprint, T: Threads + Wait + Sync, I: Read + Drop, W: Write
             file,
             conflicts,
             workers,
+            ruling_out,
             page,
         } => {
             let mut history = open_or(rt, file, input)?;
@@ -155,6 +167,7 @@ pub fn run<R: Files + Eprint, T: Threads + Wait + Sync, I: Read + Drop, W: Write
                 page.as_mut(),
                 worker_count(workers),
                 conflicts,
+                ruling_out,
             )
         }
     }

@@ -1,15 +1,15 @@
 ghost use Rattle.std.specs.Prelude.{◌≡◌, ◌⊎◌, [], Some, None, IfOk, IfErr, OnOk, map, option_map};
 ghost use Rattle.clap.specs.Words.{FailsBy, HasKind, found_of, rows_of, subcommand_rows_of};
-ghost use Rattle.casbench.specs.Asked.{asked_by, asked_of, asked_of_command, asked_on, bulk_of, check_of, explain_of, faults_on, number_or as number_told, conflicts_named, verify_of, witness_of};
+ghost use Rattle.casbench.specs.Asked.{asked_by, asked_of, asked_of_command, asked_on, bulk_of, check_of, explain_of, faults_on, number_or as number_told, conflicts_named, ruling_given, verify_of, witness_of};
 
 use crate::arguments;
-use crate::arguments::{BODY, CONFLICTS, FIRST, HISTORY, HTML, REPLY, WORKERS};
+use crate::arguments::{BODY, CONFLICTS, FIRST, HISTORY, HTML, REPLY, RULE_OUT, WORKERS};
 use crate::commands::{BULK, CHECK, EXPLAIN, RUN, VERIFY, WITNESS, program};
 use crate::run_words::asked_run;
 use clap::error::ErrorKind;
 use clap::{ArgMatches, Error};
 use doc_register::Conflicts;
-use report::RunSetting;
+use report::{RulingOut, RunSetting};
 use std::alloc::{AllocError, Global};
 use std::convert::AsStr;
 
@@ -21,11 +21,13 @@ pub enum Words<'a> {
         file: Option<&'a str>,
         conflicts: Conflicts,
         workers: u64,
+        ruling_out: RulingOut,
     },
     /// To write the witness of a history text: that of the file, or of standard input where none is named.
     Witness {
         file: Option<&'a str>,
         conflicts: Conflicts,
+        ruling_out: RulingOut,
     },
     /// To check the witness text of the one file against the history text of the other.
     Verify {
@@ -48,6 +50,7 @@ pub enum Words<'a> {
         file: Option<&'a str>,
         conflicts: Conflicts,
         workers: u64,
+        ruling_out: RulingOut,
         page: Option<&'a str>,
     },
 }
@@ -71,6 +74,19 @@ fn conflicts_named(name: Option<&str>) -> Option<Conflicts>
     }
 }
 
+// The text of an option without a value that is given.
+const GIVEN: &str = "true";
+
+// Whether documents are looked at that may be ruled out, where the option has the text.
+fn ruling_given(text: Option<&str>) -> RulingOut
+    ensures { result ≡ ruling_given (option_map (λ t. t.now) text.entry) }
+{
+    match text {
+        Some(GIVEN) => RulingOut::On,
+        _ => RulingOut::Off,
+    }
+}
+
 /// The number that is given, or another one where none is. The parse refuses a text that is none.
 pub fn number_or(other: u64, text: Option<&str>) -> Option<u64>
     ensures { result ≡ number_told other (option_map (λ t. t.now) text.entry) }
@@ -89,26 +105,37 @@ fn check_words<'a>(
     file: Option<&'a str>,
     conflicts: Option<&'a str>,
     workers: Option<&'a str>,
+    rule_out: Option<&'a str>,
 ) -> Option<Words<'a>>
     ensures { option_map asked_by result
         ≡ check_of (option_map (λ f. f.now) file.entry) (option_map (λ t. t.now) conflicts.entry) (option_map
-        (λ t. t.now) workers.entry) }
+        (λ t. t.now) workers.entry) (option_map (λ t. t.now) rule_out.entry) }
 {
+    let conflicts = conflicts_named(conflicts)?;
+    let workers = number_or(1, workers)?;
     Some(Words::Check {
         file,
-        conflicts: conflicts_named(conflicts)?,
-        workers: number_or(1, workers)?,
+        conflicts,
+        workers,
+        ruling_out: ruling_given(rule_out),
     })
 }
 
 // The witness of a history, where a reading is named or none.
-fn witness_words<'a>(file: Option<&'a str>, conflicts: Option<&'a str>) -> Option<Words<'a>>
+fn witness_words<'a>(
+    file: Option<&'a str>,
+    conflicts: Option<&'a str>,
+    rule_out: Option<&'a str>,
+) -> Option<Words<'a>>
     ensures { option_map asked_by result
-        ≡ witness_of (option_map (λ f. f.now) file.entry) (option_map (λ t. t.now) conflicts.entry) }
+        ≡ witness_of (option_map (λ f. f.now) file.entry) (option_map (λ t. t.now) conflicts.entry) (option_map
+        (λ t. t.now) rule_out.entry) }
 {
+    let conflicts = conflicts_named(conflicts)?;
     Some(Words::Witness {
         file,
-        conflicts: conflicts_named(conflicts)?,
+        conflicts,
+        ruling_out: ruling_given(rule_out),
     })
 }
 
@@ -152,11 +179,12 @@ fn explain_words<'a>(
     file: Option<&'a str>,
     conflicts: Option<&'a str>,
     workers: Option<&'a str>,
+    rule_out: Option<&'a str>,
     page: Option<&'a str>,
 ) -> Option<Words<'a>>
     ensures { option_map asked_by result
         ≡ explain_of (option_map (λ f. f.now) file.entry) (option_map (λ t. t.now) conflicts.entry) (option_map
-        (λ t. t.now) workers.entry) (option_map (λ t. t.now) page.entry) }
+        (λ t. t.now) workers.entry) (option_map (λ t. t.now) rule_out.entry) (option_map (λ t. t.now) page.entry) }
 {
     let conflicts = conflicts_named(conflicts)?;
     let workers = number_or(1, workers)?;
@@ -164,6 +192,7 @@ fn explain_words<'a>(
         file,
         conflicts,
         workers,
+        ruling_out: ruling_given(rule_out),
         page,
     })
 }
@@ -175,8 +204,13 @@ fn asked_of_command<'a>(name: &str, given: &ArgMatches<'a>) -> Option<Words<'a>>
 {
     let file = given.get_str(HISTORY);
     match name {
-        CHECK => check_words(file, given.get_str(CONFLICTS), given.get_str(WORKERS)),
-        WITNESS => witness_words(file, given.get_str(CONFLICTS)),
+        CHECK => check_words(
+            file,
+            given.get_str(CONFLICTS),
+            given.get_str(WORKERS),
+            given.get_str(RULE_OUT),
+        ),
+        WITNESS => witness_words(file, given.get_str(CONFLICTS), given.get_str(RULE_OUT)),
         VERIFY => verify_words(
             file,
             given.get_str(arguments::WITNESS),
@@ -192,6 +226,7 @@ fn asked_of_command<'a>(name: &str, given: &ArgMatches<'a>) -> Option<Words<'a>>
             file,
             given.get_str(CONFLICTS),
             given.get_str(WORKERS),
+            given.get_str(RULE_OUT),
             given.get_str(HTML),
         ),
         _ => None,
@@ -208,6 +243,7 @@ fn asked_for<'a>(matches: &ArgMatches<'a>) -> Option<Words<'a>>
             file: None,
             conflicts: Conflicts::Plain,
             workers: 1,
+            ruling_out: RulingOut::Off,
         }),
     }
 }

@@ -1,5 +1,5 @@
-ghost use Rattle.std.specs.Prelude.{IfOk, IfSome};
-ghost use Rattle.evidence.specs.Evidence.{Holds};
+ghost use Rattle.std.specs.Prelude.{◌≡◌, None as Nothing, IfOk, IfSome};
+ghost use Rattle.evidence.specs.Evidence.{Holds, IsWithoutRuledOut};
 
 use crate::case::Case;
 use evidence::{Refuted, find_evidence};
@@ -8,9 +8,19 @@ use version_pair::NoMemory;
 
 /// Evidence that holds in the case's history, with conflicts read as the case reads them: of the first kind that does, in
 /// the order of `Refuted`, and of that kind the one with the least call numbers, the first number counting first.
-/// `None` where no kind holds.
+/// `None` where no kind holds; documents that are ruled out are not looked for.
 pub fn refute(alloc: Global, case: &Case) -> Result<Option<Refuted>, NoMemory>
     ensures { IfOk result (λ told. IfSome told (Holds case.now.conflicts case.now.events)) }
 {
     find_evidence(alloc, case.history(), case.conflicts())
+}
+
+/// The evidence that a document of the case's history is ruled out, with conflicts read as the case reads them: the least call
+/// at which one is. `None` where none is.
+pub fn rule_out(alloc: Global, case: &Case) -> Result<Option<Refuted>, NoMemory>
+    ensures holds { IfOk result (λ told. IfSome told (Holds case.now.conflicts case.now.events)) }
+    ensures none { IfOk result (λ told. told ≡ Nothing
+        → IsWithoutRuledOut case.now.conflicts case.now.events) }
+{
+    evidence::rule_out(alloc, case.history(), case.conflicts())
 }

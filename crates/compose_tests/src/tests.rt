@@ -1,6 +1,6 @@
 mod refutations;
 
-use compose::{CheckFault, Refuted, Verdict, check, refutes};
+use compose::{CheckFault, Refuted, Verdict, check, check_alone, refutes, rule_out};
 use doc_register::Conflicts;
 use history::{History, read};
 use std::alloc::Global;

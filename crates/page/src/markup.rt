@@ -30,6 +30,8 @@ tr.broken td:first-child { border-left: 6px solid var(--bad); }
 tr.evidence td:first-child { border-left: 6px double var(--proof); }
 ul { margin: 8px 0; padding-left: 24px; }
 li { overflow-wrap: anywhere; }
+details { margin: 28px 0 0; border-top: 1px solid var(--edge); }
+summary { cursor: pointer; font-size: 19px; font-weight: 600; padding: 12px 0; }
 figure { margin: 12px 0; }
 figcaption { color: var(--soft); font-size: 14px; }
 svg { width: 100%; height: auto; display: block; }
@@ -83,6 +85,13 @@ const ITEM_START: &str = "<li>";
 const ITEM_END: &str = "</li>\n";
 
 const LIST_END: &str = "</ul>\n";
+
+const FOLD_START: &str = r#"<details>
+<summary>"#;
+
+const FOLD_OPEN: &str = "</summary>\n";
+
+const FOLD_END: &str = "</details>\n";
 
 const CALLS_START: &str = r#"<table>
 <thead><tr><th></th><th>line</th><th>call</th><th>asked</th><th>answered</th><th>open at the same time</th></tr></thead>
@@ -193,6 +202,10 @@ pub enum Markup {
     ItemStart,
     ItemEnd,
     ListEnd,
+    /// What is folded away until it is asked for, up to what it is called.
+    FoldStart,
+    FoldOpen,
+    FoldEnd,
     /// The table of calls.
     CallsStart,
     /// The table of an order.
@@ -265,6 +278,9 @@ pub fn markup_text(markup: Markup) -> &'static str
         Markup::ItemStart => ITEM_START,
         Markup::ItemEnd => ITEM_END,
         Markup::ListEnd => LIST_END,
+        Markup::FoldStart => FOLD_START,
+        Markup::FoldOpen => FOLD_OPEN,
+        Markup::FoldEnd => FOLD_END,
         Markup::CallsStart => CALLS_START,
         Markup::OrderStart => ORDER_START,
         Markup::RowStart => ROW_START,

@@ -12,8 +12,10 @@ use Rattle.witness.specs.declared.place.Place.{Place}
 use Rattle.witness.specs.Text.{AreWithinLimits, witness_text}
 use Rattle.witness.specs.Witness.{Witness}
 use Rattle.compose.specs.Covers.{AreCover}
-use Rattle.evidence.specs.Evidence.{Holds}
+use Rattle.evidence.specs.Evidence.{Holds, IsWithoutRuledOut}
 use Rattle.evidence.specs.declared.refuted.Refuted.{Refuted as Evidence}
+use Rattle.evidence.specs.declared.ruling_out.RulingOut.{RulingOut}
+use Rattle.evidence.specs.declared.ruling_out.RulingOut.TheVariants.{On}
 use Rattle.compose.specs.Verdicts.{AreWitnesses, HasNoOrderFound}
 use Rattle.compose.specs.VerifyFaults.{IsFirstVerifyFault}
 use Rattle.compose.specs.declared.verify_fault.VerifyFault.{VerifyFault}
@@ -21,28 +23,36 @@ use Rattle.compose.specs.Offences.{IsOffence}
 use Rattle.compose.specs.declared.offence.Offence.{Offence}
 use Rattle.stream_io.specs.declared.status.Status.{Status}
 use Rattle.stream_io.specs.declared.status.Status.TheVariants.{No, Refuted, Refused}
-use Rattle.result_lines.specs.Lines.{broken_line, refused_file_line, refused_line, refuted_line}
+use Rattle.result_lines.specs.Lines.{broken_line, no_line, refused_file_line, refused_line, refuted_line}
 use Rattle.report.specs.Bulk.{AnswersBulk, IsBulkAnswer}
-use Rattle.report.specs.Verdict.{IsAnswer, IsRefutedBy, IsSomeHistory, IsUnexplained, IsVerifyAnswer, IsWitnessAnswer, IsWitnessed}
+use Rattle.report.specs.Verdict.{IsAnswer, IsRefutedBy, IsSomeHistory, IsUndecided, IsUnexplained, IsVerifyAnswer, IsWitnessAnswer, IsWitnessed}
 use Rattle.report.proofs.WitnessLimits.{within_limits}
 
 -- ---- answers
 
-pub is_refusal : (conflicts : Conflicts) (input : List ℕ) (status : Status) (text : List ℕ) (told : TextFault) → status ≡ Refused → text ≡ refused_line told.line told.cause
-    → history_text input ≡ Err told → IsAnswer conflicts input status text
-is_refusal conflicts input status text told is line refused = subst (λ s. IsAnswer conflicts input s text) (sym is) (told, line, refused)
+pub is_refusal : (ruling : RulingOut) (conflicts : Conflicts) (input : List ℕ) (status : Status) (text : List ℕ) (told : TextFault) → status ≡ Refused → text ≡ refused_line told.line told.cause
+    → history_text input ≡ Err told → IsAnswer ruling conflicts input status text
+is_refusal ruling conflicts input status text told is line refused = subst (λ s. IsAnswer ruling conflicts input s text) (sym is) (told, line, refused)
 
-pub is_witness_refusal : (conflicts : Conflicts) (input : List ℕ) (status : Status) (text : List ℕ) (told : TextFault) → status ≡ Refused
-    → text ≡ refused_line told.line told.cause → history_text input ≡ Err told → IsWitnessAnswer conflicts input status text
-is_witness_refusal conflicts input status text told is line refused = subst (λ s. IsWitnessAnswer conflicts input s text) (sym is) (told, line, refused)
+pub is_witness_refusal : (ruling : RulingOut) (conflicts : Conflicts) (input : List ℕ) (status : Status) (text : List ℕ) (told : TextFault) → status ≡ Refused
+    → text ≡ refused_line told.line told.cause → history_text input ≡ Err told → IsWitnessAnswer ruling conflicts input status text
+is_witness_refusal ruling conflicts input status text told is line refused = subst (λ s. IsWitnessAnswer ruling conflicts input s text) (sym is) (told, line, refused)
 
-pub is_refuted : (conflicts : Conflicts) (input : List ℕ) (H : List Event) (status : Status) (text : List ℕ) (told : Evidence) (o : Offence) → status ≡ Refuted
+pub is_undecided : (ruling : RulingOut) (conflicts : Conflicts) (input : List ℕ) (H : List Event) (status : Status) (text : List ℕ) (o : Offence) → status ≡ No
+    → text ≡ no_line o → IsHistoryText input H → HasNoOrderFound conflicts H → IsOffence conflicts H o → (ruling ≡ On → IsWithoutRuledOut conflicts H)
+    → IsAnswer ruling conflicts input status text × IsWitnessAnswer ruling conflicts input status text
+is_undecided ruling conflicts input H status text o is line is_text none_found offence none =
+    let unexplained : IsUnexplained conflicts input o = record { events = H; is_text = is_text; none_found = none_found; offence = offence } in
+    let undecided : IsUndecided ruling conflicts input o = record { unexplained = unexplained; none = none } in
+    (subst (λ s. IsAnswer ruling conflicts input s text) (sym is) (o, line, undecided), subst (λ s. IsWitnessAnswer ruling conflicts input s text) (sym is) (o, line, undecided))
+
+pub is_refuted : (ruling : RulingOut) (conflicts : Conflicts) (input : List ℕ) (H : List Event) (status : Status) (text : List ℕ) (told : Evidence) (o : Offence) → status ≡ Refuted
     → text ≡ refuted_line told o → IsHistoryText input H → HasNoOrderFound conflicts H → IsOffence conflicts H o → Holds conflicts H told → (IsLinearizable conflicts H → ⊥)
-    → IsAnswer conflicts input status text × IsWitnessAnswer conflicts input status text
-is_refuted conflicts input H status text told o is line is_text none_found offence holds no_order =
+    → IsAnswer ruling conflicts input status text × IsWitnessAnswer ruling conflicts input status text
+is_refuted ruling conflicts input H status text told o is line is_text none_found offence holds no_order =
     let unexplained : IsUnexplained conflicts input o = record { events = H; is_text = is_text; none_found = none_found; offence = offence } in
     let by : IsRefutedBy conflicts input told o = record { unexplained = unexplained; holds = holds; no_order = no_order } in
-    (subst (λ s. IsAnswer conflicts input s text) (sym is) (told, o, line, by), subst (λ s. IsWitnessAnswer conflicts input s text) (sym is) (told, o, line, by))
+    (subst (λ s. IsAnswer ruling conflicts input s text) (sym is) (told, o, line, by), subst (λ s. IsWitnessAnswer ruling conflicts input s text) (sym is) (told, o, line, by))
 
 pub witnessed : (conflicts : Conflicts) (input : List ℕ) (H : List Event) (ws : List Witness) (text : List ℕ) → IsHistoryText input H → AreWitnesses conflicts H ws → IsLinearizable conflicts H
     → (AreWithinLimits (map witness_places ws) → witness_text text ≡ Ok (map witness_places ws)) → IsWitnessed conflicts input text

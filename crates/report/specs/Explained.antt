@@ -2,14 +2,15 @@
 use Rattle.std.specs.Prelude.{◌≡◌, ℕ, ◌++◌, List, Option, take}
 use Rattle.std.specs.Io.KnownBytes.{Appends}
 use Rattle.doc_register.specs.declared.state.Conflicts.{Conflicts}
+use Rattle.evidence.specs.declared.ruling_out.RulingOut.{RulingOut}
 use Rattle.page.specs.Pages.{IsPage}
 use Rattle.report.specs.Verdict.{AnswersInput}
 use Rattle.stream_io.specs.declared.status.Status.{Status}
 
 -- The text begins with the line of a check, which is an answer to the bytes that the reader had; a story follows.
-abbrev pub ExplainsInput : Conflicts → Option (List ℕ) → Status → List ℕ → Type 0
-ExplainsInput conflicts input status text =
-    (line story : List ℕ) × (text ≡ line ++ story) × AnswersInput conflicts input status line
+abbrev pub ExplainsInput : RulingOut → Conflicts → Option (List ℕ) → Status → List ℕ → Type 0
+ExplainsInput ruling conflicts input status text =
+    (line story : List ℕ) × (text ≡ line ++ story) × AnswersInput ruling conflicts input status line
 
 -- the writer holds a page beside what it held, or a front of one
 abbrev pub HasPageFront : Option (List ℕ) → Option (List ℕ) → Type 0

@@ -9,8 +9,10 @@ use Rattle.history.specs.Reading.{history_text}
 use Rattle.history.specs.Text.{IsHistoryText}
 use Rattle.compose.specs.Counts.{calls_of}
 use Rattle.compose.specs.Covers.{AreCover}
-use Rattle.evidence.specs.Evidence.{Holds}
+use Rattle.evidence.specs.Evidence.{Holds, IsWithoutRuledOut}
 use Rattle.evidence.specs.declared.refuted.Refuted.{Refuted as Evidence}
+use Rattle.evidence.specs.declared.ruling_out.RulingOut.{RulingOut}
+use Rattle.evidence.specs.declared.ruling_out.RulingOut.TheVariants.{On}
 use Rattle.compose.specs.Verdicts.{AreCounts, HasNoOrderFound, HasOrder}
 use Rattle.compose.specs.VerifyFaults.{IsFirstVerifyFault}
 use Rattle.compose.specs.declared.verify_fault.VerifyFault.{VerifyFault}
@@ -41,6 +43,11 @@ pub record IsUnexplained (conflicts : Conflicts) (input : List ℕ) (o : Offence
   pub none_found : HasNoOrderFound conflicts events
   pub offence : IsOffence conflicts events o
 
+-- All that an unexplained input is; and where documents were looked at that may be ruled out, none is.
+pub record IsUndecided (ruling : RulingOut) (conflicts : Conflicts) (input : List ℕ) (o : Offence) : Type 0 where
+  pub unexplained : IsUnexplained conflicts input o
+  pub none : ruling ≡ On → IsWithoutRuledOut conflicts unexplained.events
+
 -- All that an unexplained input is, and beside it the evidence holds in the history that it is a text of. So no order of the calls
 -- explains that history, however those of unknown outcome are completed or left out.
 pub record IsRefutedBy (conflicts : Conflicts) (input : List ℕ) (told : Evidence) (o : Offence) : Type 0 where
@@ -55,11 +62,11 @@ IsRefused input line = (told : TextFault) × (line ≡ refused_line told.line to
 -- The line, and what it says of the input: `yes` says that it is explained, `no` that no order was found for the history that it
 -- is a text of, and at which reply the search first failed, `refuted` says that too and gives evidence that there is no order, and
 -- `refused` says that it is a text of no history.
-abbrev pub IsAnswer : Conflicts → List ℕ → Status → List ℕ → Type 0
-IsAnswer conflicts input Yes line = (docs calls left_out : ℕ) × (line ≡ yes_line docs calls left_out) × IsExplained conflicts input docs calls left_out
-IsAnswer conflicts input No line = (o : Offence) × (line ≡ no_line o) × IsUnexplained conflicts input o
-IsAnswer conflicts input Refuted line = (told : Evidence) × (o : Offence) × (line ≡ refuted_line told o) × IsRefutedBy conflicts input told o
-IsAnswer conflicts input Refused line = IsRefused input line
+abbrev pub IsAnswer : RulingOut → Conflicts → List ℕ → Status → List ℕ → Type 0
+IsAnswer ruling conflicts input Yes line = (docs calls left_out : ℕ) × (line ≡ yes_line docs calls left_out) × IsExplained conflicts input docs calls left_out
+IsAnswer ruling conflicts input No line = (o : Offence) × (line ≡ no_line o) × IsUndecided ruling conflicts input o
+IsAnswer ruling conflicts input Refuted line = (told : Evidence) × (o : Offence) × (line ≡ refuted_line told o) × IsRefutedBy conflicts input told o
+IsAnswer ruling conflicts input Refused line = IsRefused input line
 
 -- The input is a text of a history, and what is written reads as entries that cover it; so an order explains it.
 pub record IsWitnessed (conflicts : Conflicts) (input text : List ℕ) : Type 0 where
@@ -71,11 +78,11 @@ pub record IsWitnessed (conflicts : Conflicts) (input text : List ℕ) : Type 0 
   pub explained : IsLinearizable conflicts events
 
 -- what is written where a witness is asked for: the text of one, or the line of a check
-abbrev pub IsWitnessAnswer : Conflicts → List ℕ → Status → List ℕ → Type 0
-IsWitnessAnswer conflicts input Yes text = IsWitnessed conflicts input text
-IsWitnessAnswer conflicts input No text = (o : Offence) × (text ≡ no_line o) × IsUnexplained conflicts input o
-IsWitnessAnswer conflicts input Refuted text = (told : Evidence) × (o : Offence) × (text ≡ refuted_line told o) × IsRefutedBy conflicts input told o
-IsWitnessAnswer conflicts input Refused text = IsRefused input text
+abbrev pub IsWitnessAnswer : RulingOut → Conflicts → List ℕ → Status → List ℕ → Type 0
+IsWitnessAnswer ruling conflicts input Yes text = IsWitnessed conflicts input text
+IsWitnessAnswer ruling conflicts input No text = (o : Offence) × (text ≡ no_line o) × IsUndecided ruling conflicts input o
+IsWitnessAnswer ruling conflicts input Refuted text = (told : Evidence) × (o : Offence) × (text ≡ refuted_line told o) × IsRefutedBy conflicts input told o
+IsWitnessAnswer ruling conflicts input Refused text = IsRefused input text
 
 -- The one input is a text of a history, and the other reads as entries that cover it, in no place of which so many of its
 -- calls stand; there is an order that explains it, of as many calls as the entries have places.
@@ -123,21 +130,21 @@ IsVerifyAnswer conflicts history witness Refused line = IsRefusedHistory history
 -- ---- what the writer holds
 
 -- an answer to the bytes that the reader had
-abbrev pub AnswersInput : Conflicts → Option (List ℕ) → Status → List ℕ → Type 0
-AnswersInput conflicts input status line = IfSome input (λ bytes. IsAnswer conflicts bytes status line)
+abbrev pub AnswersInput : RulingOut → Conflicts → Option (List ℕ) → Status → List ℕ → Type 0
+AnswersInput ruling conflicts input status line = IfSome input (λ bytes. IsAnswer ruling conflicts bytes status line)
 
 -- a witness of the history whose text the reader had, or the line of a check
-abbrev pub WitnessesInput : Conflicts → Option (List ℕ) → Status → List ℕ → Type 0
-WitnessesInput conflicts input status text = IfSome input (λ bytes. IsWitnessAnswer conflicts bytes status text)
+abbrev pub WitnessesInput : RulingOut → Conflicts → Option (List ℕ) → Status → List ℕ → Type 0
+WitnessesInput ruling conflicts input status text = IfSome input (λ bytes. IsWitnessAnswer ruling conflicts bytes status text)
 
 -- an answer to the bytes that the two readers had
 abbrev pub VerifiesInputs : Conflicts → Option (List ℕ) → Option (List ℕ) → Status → List ℕ → Type 0
 VerifiesInputs conflicts history witness status line = IfSome history (λ h. IfSome witness (λ w. IsVerifyAnswer conflicts h w status line))
 
 -- The writer holds the line beside what it held, and the line is an answer to the bytes that the reader had.
-abbrev pub IsAnswered : Conflicts → Option (List ℕ) → Option (List ℕ) → Option (List ℕ) → Status → Type 0
-IsAnswered conflicts input old new status = HasAnswer (AnswersInput conflicts input status) old new
+abbrev pub IsAnswered : RulingOut → Conflicts → Option (List ℕ) → Option (List ℕ) → Option (List ℕ) → Status → Type 0
+IsAnswered ruling conflicts input old new status = HasAnswer (AnswersInput ruling conflicts input status) old new
 
 -- The writer holds a front of such a line beside what it held.
-abbrev pub IsCutOff : Conflicts → Option (List ℕ) → Option (List ℕ) → Option (List ℕ) → Type 0
-IsCutOff conflicts input old new = HasFront (AnswersInput conflicts input) old new
+abbrev pub IsCutOff : RulingOut → Conflicts → Option (List ℕ) → Option (List ℕ) → Option (List ℕ) → Type 0
+IsCutOff ruling conflicts input old new = HasFront (AnswersInput ruling conflicts input) old new

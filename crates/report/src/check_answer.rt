@@ -1,8 +1,10 @@
-ghost use Rattle.std.specs.Prelude.{◌≡◌, ◌≤◌, IfErr, IfOk, ℕ, List, Err};
+ghost use Rattle.std.specs.Prelude.{◌≡◌, ◌≤◌, None as Nothing, IfErr, IfOk, IfSome, ℕ, List, Err};
 ghost use Rattle.doc_register.specs.declared.state.Conflicts.{Conflicts as Reading};
 ghost use Rattle.history.specs.Reading.{history_text};
 ghost use Rattle.history.specs.Text.{IsHistoryText};
 ghost use Rattle.compose.specs.Checked.{IsVerdictOn};
+ghost use Rattle.evidence.specs.Evidence.{Holds, IsWithoutRuledOut};
+ghost use Rattle.evidence.specs.declared.ruling_out.RulingOut.{RulingOut as Ruling};
 ghost use Rattle.result_lines.specs.Lines.{no_line as told_no, refused_line as told_refused, refuted_line as told_refuted, yes_line as told_yes};
 ghost use Rattle.stream_io.specs.Faults.{IsCheckFault};
 ghost use Rattle.stream_io.specs.Taken.{TakesHistory};
@@ -12,8 +14,8 @@ ghost use Rattle.report.specs.Workers.{HasDocument, NamesOwnDocument};
 use api_lines::TextFault;
 use check_pool::{NoGate, PoolFault};
 use compose::{
-    Case, CheckFault, Counts, Failing, Finding, Offence, Refuted, Verdict, check, check_alone,
-    first_offence, refute,
+    Case, CheckFault, Counts, Failing, Finding, Offence, Refuted, RulingOut, Verdict, check,
+    check_alone, first_offence, refute, rule_out,
 };
 use doc_register::Conflicts;
 use evidence::laws::evidence_refutes;
@@ -54,16 +56,40 @@ fn refuted_answer(alloc: Global, evidence: Refuted, offence: Offence) -> Result<
     Ok(Answer::of(Status::Refuted, line))
 }
 
+// The evidence that no order explains the case's history, where some is found; documents that are ruled out are looked for
+// last, where that is asked for.
+fn evidence_against(
+    alloc: Global,
+    case: &Case,
+    ruling_out: RulingOut,
+) -> Result<Option<Refuted>, NoMemory>
+    ensures holds { IfOk result (λ told. IfSome told (Holds case.now.conflicts case.now.events)) }
+    ensures none { IfOk result (λ told. told ≡ Nothing → ruling_out ≡ RulingOut.On
+        → IsWithoutRuledOut case.now.conflicts case.now.events) }
+{
+    if let Some(evidence) = refute(alloc, case)? {
+        return Ok(Some(evidence));
+    }
+    match ruling_out {
+        RulingOut::Off => Ok(None),
+        RulingOut::On => rule_out(alloc, case),
+    }
+}
+
 /// The answer to a text of a history for which no order was found: with the evidence that there is none, where some is found;
 /// and what it tells.
-pub fn case_answer(alloc: Global, case: &Case) -> Result<(Answer, Failing), NoMemory>
+pub fn case_answer(
+    alloc: Global,
+    case: &Case,
+    ruling_out: RulingOut,
+) -> Result<(Answer, Failing), NoMemory>
     ensures { IfOk result (λ told. (input : List ℕ) → IsHistoryText input case.now.events
-        → IsAnswer case.now.conflicts input told.0.status told.0.text.items
-        × IsWitnessAnswer case.now.conflicts input told.0.status told.0.text.items) }
+        → IsAnswer ruling_out case.now.conflicts input told.0.status told.0.text.items
+        × IsWitnessAnswer ruling_out case.now.conflicts input told.0.status told.0.text.items) }
 {
     // A look at the history: that no order was found for it is known from here on.
     let _ = case.history();
-    let evidence = refute(alloc, case)?;
+    let evidence = evidence_against(alloc, case, ruling_out)?;
     let offence = first_offence(alloc, case)?;
     let failing = Failing { evidence, offence };
     match evidence {
@@ -84,11 +110,11 @@ pub fn case_answer(alloc: Global, case: &Case) -> Result<(Answer, Failing), NoMe
 pub fn refusal(alloc: Global, fault: TextFault) -> Result<Answer, NoMemory>
     ensures status { IfOk result (λ answer. answer.status ≡ Status.Refused) }
     ensures line { IfOk result (λ answer. answer.text.items ≡ told_refused fault.line fault.cause) }
-    ensures answers { IfOk result (λ answer. (conflicts : Reading) (input : List ℕ)
-        → history_text input ≡ Err fault → IsAnswer conflicts input answer.status answer.text.items) }
-    ensures witness { IfOk result (λ answer. (conflicts : Reading) (input : List ℕ)
+    ensures answers { IfOk result (λ answer. (ruling : Ruling) (conflicts : Reading) (input : List ℕ)
+        → history_text input ≡ Err fault → IsAnswer ruling conflicts input answer.status answer.text.items) }
+    ensures witness { IfOk result (λ answer. (ruling : Ruling) (conflicts : Reading) (input : List ℕ)
         → history_text input ≡ Err fault
-        → IsWitnessAnswer conflicts input answer.status answer.text.items) }
+        → IsWitnessAnswer ruling conflicts input answer.status answer.text.items) }
 {
     let line = refused_line(alloc, fault)?;
     Ok(Answer::of(Status::Refused, line))
@@ -133,11 +159,12 @@ pub fn history_answer<R: Threads + Wait + Sync>(
     history: History,
     workers: usize,
     conflicts: Conflicts,
+    ruling_out: RulingOut,
 ) -> Result<(Answer, Finding), StreamFault>
     requires some { 1 ≤ workers }
     requires few { workers ≤ 16 }
     ensures answer { IfOk result (λ told. (input : List ℕ) → IsHistoryText input history
-        → IsAnswer conflicts input told.0.status told.0.text.items) }
+        → IsAnswer ruling_out conflicts input told.0.status told.0.text.items) }
     ensures told { IfErr result IsCheckFault }
     ensures named { IfErr result (HasDocument history) }
 {
@@ -147,7 +174,7 @@ pub fn history_answer<R: Threads + Wait + Sync>(
             Ok((answer, Finding::Explained(proof)))
         }
         Ok(Verdict::No(case)) => {
-            let (answer, failing) = case_answer(alloc, &case)?;
+            let (answer, failing) = case_answer(alloc, &case, ruling_out)?;
             Ok((answer, Finding::Unexplained(case, failing)))
         }
         Err(fault) => Err(fault),
@@ -162,10 +189,11 @@ pub fn check_answer<T: Threads + Wait + Sync, R: Read>(
     reader: &mut R,
     workers: usize,
     conflicts: Conflicts,
+    ruling_out: RulingOut,
 ) -> Result<Answer, StreamFault>
     requires some { 1 ≤ workers }
     requires few { workers ≤ 16 }
-    ensures answer { IfOk result (λ answer. AnswersInput conflicts (R.remaining reader.old) answer.status
+    ensures answer { IfOk result (λ answer. AnswersInput ruling_out conflicts (R.remaining reader.old) answer.status
         answer.text.items) }
     ensures told { IfErr result IsCheckFault }
     ensures named { IfErr result (NamesOwnDocument (R.remaining reader.old)) }
@@ -173,7 +201,7 @@ pub fn check_answer<T: Threads + Wait + Sync, R: Read>(
 {
     match read_history(alloc, keys, reader) {
         Ok(Ok(history)) => {
-            let (answer, _) = history_answer(rt, alloc, history, workers, conflicts)?;
+            let (answer, _) = history_answer(rt, alloc, history, workers, conflicts, ruling_out)?;
             Ok(answer)
         }
         Ok(Err(fault)) => {

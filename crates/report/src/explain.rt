@@ -10,7 +10,7 @@ ghost use Rattle.report.specs.Workers.{NamesOwnDocument};
 
 use crate::check_answer::{history_answer, refusal};
 use crate::numbered_input::read_numbered;
-use compose::{Counts, Finding};
+use compose::{Counts, Finding, RulingOut};
 use doc_register::Conflicts;
 use history::HashKeys;
 use std::alloc::Global;
@@ -59,10 +59,11 @@ fn explain<T: Threads + Wait + Sync, R: Read>(
     reader: &mut R,
     workers: usize,
     conflicts: Conflicts,
+    ruling_out: RulingOut,
 ) -> Result<(Answer, Story), StreamFault>
     requires some { 1 ≤ workers }
     requires few { workers ≤ 16 }
-    ensures answer { IfOk result (λ told. AnswersInput conflicts (R.remaining reader.old) told.0.status
+    ensures answer { IfOk result (λ told. AnswersInput ruling_out conflicts (R.remaining reader.old) told.0.status
         told.0.text.items) }
     ensures told { IfErr result IsCheckFault }
     ensures named { IfErr result (NamesOwnDocument (R.remaining reader.old)) }
@@ -70,7 +71,9 @@ fn explain<T: Threads + Wait + Sync, R: Read>(
 {
     match read_numbered(alloc, keys, reader) {
         Ok(Ok((history, lines))) => {
-            let (answer, finding) = history_answer(rt, alloc, history, workers, conflicts)?;
+            let (answer, finding) = history_answer(
+                rt, alloc, history, workers, conflicts, ruling_out,
+            )?;
             let story = story_of(alloc, &finding, &lines)?;
             Ok((answer, story))
         }
@@ -108,16 +111,17 @@ pub fn explained_text<T: Threads + Wait + Sync, R: Read>(
     reader: &mut R,
     workers: usize,
     conflicts: Conflicts,
+    ruling_out: RulingOut,
 ) -> Result<Answer, StreamFault>
     requires some { 1 ≤ workers }
     requires few { workers ≤ 16 }
-    ensures answer { IfOk result (λ told. ExplainsInput conflicts (R.remaining reader.old) told.status
+    ensures answer { IfOk result (λ told. ExplainsInput ruling_out conflicts (R.remaining reader.old) told.status
         told.text.items) }
     ensures told { IfErr result IsCheckFault }
     ensures named { IfErr result (NamesOwnDocument (R.remaining reader.old)) }
     ensures taken { TakesHistory (R.remaining reader.old) (R.remaining reader.new) }
 {
-    let (answer, story) = explain(rt, alloc, keys, reader, workers, conflicts)?;
+    let (answer, story) = explain(rt, alloc, keys, reader, workers, conflicts, ruling_out)?;
     let told = with_story(alloc, answer, &story)?;
     Ok(told)
 }
@@ -130,17 +134,18 @@ pub fn explained_page<T: Threads + Wait + Sync, R: Read>(
     reader: &mut R,
     workers: usize,
     conflicts: Conflicts,
+    ruling_out: RulingOut,
 ) -> Result<(Answer, Vec<u8>), StreamFault>
     requires some { 1 ≤ workers }
     requires few { workers ≤ 16 }
-    ensures text { IfOk result (λ told. ExplainsInput conflicts (R.remaining reader.old) told.0.status
+    ensures text { IfOk result (λ told. ExplainsInput ruling_out conflicts (R.remaining reader.old) told.0.status
         told.0.text.items) }
     ensures page { IfOk result (λ told. IsPage told.1.items) }
     ensures told { IfErr result IsCheckFault }
     ensures named { IfErr result (NamesOwnDocument (R.remaining reader.old)) }
     ensures taken { TakesHistory (R.remaining reader.old) (R.remaining reader.new) }
 {
-    let (answer, story) = explain(rt, alloc, keys, reader, workers, conflicts)?;
+    let (answer, story) = explain(rt, alloc, keys, reader, workers, conflicts, ruling_out)?;
     let page = page_of(alloc, line_of(&answer), &story)?;
     let told = with_story(alloc, answer, &story)?;
     Ok((told, page))

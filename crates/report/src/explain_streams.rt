@@ -8,6 +8,7 @@ ghost use Rattle.stream_io.specs.Taken.{TakesHistory};
 ghost use Rattle.stream_io.specs.Written.{HasAnswer, HasFront};
 
 use crate::explain::{explained_page, explained_text};
+use compose::RulingOut;
 use doc_register::Conflicts;
 use history::HashKeys;
 use std::alloc::Global;
@@ -27,15 +28,16 @@ pub fn explain_stream<T: Threads + Wait + Sync, R: Read, W: Write>(
     writer: &mut W,
     workers: usize,
     conflicts: Conflicts,
+    ruling_out: RulingOut,
 ) -> Result<Status, StreamFault>
     requires some_workers { 1 ≤ workers }
     requires few_workers { workers ≤ 16 }
     // What it writes begins with a line that answers the bytes of the reader as the line of `check_stream` does.
-    ensures answered { IfOk result (λ status. HasAnswer (ExplainsInput conflicts (R.remaining reader.old) status)
+    ensures answered { IfOk result (λ status. HasAnswer (ExplainsInput ruling_out conflicts (R.remaining reader.old) status)
         (W.contents writer.old) (W.contents writer.new)) }
     // After a write fault a front of such a text is written, and after any other fault nothing is.
     ensures cut_off { IsErrOf result StreamFault.Write
-        → HasFront (ExplainsInput conflicts (R.remaining reader.old)) (W.contents writer.old)
+        → HasFront (ExplainsInput ruling_out conflicts (R.remaining reader.old)) (W.contents writer.old)
         (W.contents writer.new) }
     ensures kept { IfErr result (λ fault. fault ≢ StreamFault.Write
         → Keeps (W.contents writer.old) (W.contents writer.new)) }
@@ -44,7 +46,7 @@ pub fn explain_stream<T: Threads + Wait + Sync, R: Read, W: Write>(
     ensures named { IfErr result (NamesOwnDocument (R.remaining reader.old)) }
     ensures taken { TakesHistory (R.remaining reader.old) (R.remaining reader.new) }
 {
-    match explained_text(rt, alloc, keys, reader, workers, conflicts) {
+    match explained_text(rt, alloc, keys, reader, workers, conflicts, ruling_out) {
         Ok(answer) => write_answer(writer, &answer),
         Err(fault) => Err(fault),
     }
@@ -60,16 +62,17 @@ pub fn explain_page_stream<T: Threads + Wait + Sync, R: Read, W: Write, P: Write
     page: &mut P,
     workers: usize,
     conflicts: Conflicts,
+    ruling_out: RulingOut,
 ) -> Result<Status, StreamFault>
     requires some_workers { 1 ≤ workers }
     requires few_workers { workers ≤ 16 }
-    ensures answered { IfOk result (λ status. HasAnswer (ExplainsInput conflicts (R.remaining reader.old) status)
+    ensures answered { IfOk result (λ status. HasAnswer (ExplainsInput ruling_out conflicts (R.remaining reader.old) status)
         (W.contents writer.old) (W.contents writer.new)) }
     // The page is made of markup of the crate `page`, numbers, and escaped texts.
     ensures page { OnOk result (HasAnswer IsPage (P.contents page.old) (P.contents page.new)) }
     // After a write fault a front of each is written, and after any other fault nothing is.
     ensures cut_off { IsErrOf result StreamFault.Write
-        → HasFront (ExplainsInput conflicts (R.remaining reader.old)) (W.contents writer.old)
+        → HasFront (ExplainsInput ruling_out conflicts (R.remaining reader.old)) (W.contents writer.old)
         (W.contents writer.new) }
     ensures page_cut_off { IsErrOf result StreamFault.Write
         → HasPageFront (P.contents page.old) (P.contents page.new) }
@@ -81,7 +84,9 @@ pub fn explain_page_stream<T: Threads + Wait + Sync, R: Read, W: Write, P: Write
     ensures named { IfErr result (NamesOwnDocument (R.remaining reader.old)) }
     ensures taken { TakesHistory (R.remaining reader.old) (R.remaining reader.new) }
 {
-    let (answer, bytes) = match explained_page(rt, alloc, keys, reader, workers, conflicts) {
+    let (answer, bytes) = match explained_page(
+        rt, alloc, keys, reader, workers, conflicts, ruling_out,
+    ) {
         Ok(told) => told,
         Err(fault) => return Err(fault),
     };

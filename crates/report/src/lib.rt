@@ -2,7 +2,7 @@
 //! as history lines. Whoever wants the checker as a library takes this crate.
 //!
 //! ```text
-//! let status = check_stream(rt, alloc, keys, &mut reader, &mut writer, 1, Conflicts::Plain)?;
+//! let status = check_stream(rt, alloc, keys, &mut reader, &mut writer, 1, Conflicts::Plain, RulingOut::Off)?;
 //! let passed = status == Status::Yes;
 //! ```
 #![tactic(auto)]
@@ -17,7 +17,7 @@ mod verify_answer;
 mod verify_input;
 mod witness_answer;
 
-pub use compose::{Offence, first_offence};
+pub use compose::{Offence, RulingOut, first_offence};
 pub use explain_streams::{explain_page_stream, explain_stream};
 pub use page::laws;
 pub use recorded_runs::{RUN_POLLS, RunSetting, run_stream};

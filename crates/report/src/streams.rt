@@ -11,6 +11,7 @@ use crate::bulk_answer::bulk_answer;
 use crate::check_answer::check_answer;
 use crate::verify_input::verify_input;
 use crate::witness_answer::witness_answer;
+use compose::RulingOut;
 use doc_register::Conflicts;
 use history::HashKeys;
 use std::alloc::Global;
@@ -31,7 +32,8 @@ use stream_io::{Status, StreamFault, read_all, write_answer};
 /// documents are searched by 1 to 16 workers. What is answered doesn't depend on the keys of the hashes.
 ///
 /// The kinds of evidence are `pair-twice` of two writes, `no-writer` of one get, `stale-get` of a get and a write, and
-/// `stale-swap` of two writes, with the numbers of these calls in this order.
+/// `stale-swap` of two writes, with the numbers of these calls in this order; and, where that is asked for and no other is found,
+/// `ruled-out` of the answered call at which a document is ruled out.
 pub fn check_stream<T: Threads + Wait + Sync, R: Read, W: Write>(
     rt: &T,
     alloc: Global,
@@ -40,20 +42,21 @@ pub fn check_stream<T: Threads + Wait + Sync, R: Read, W: Write>(
     writer: &mut W,
     workers: usize,
     conflicts: Conflicts,
+    ruling_out: RulingOut,
 ) -> Result<Status, StreamFault>
     requires some_workers { 1 ≤ workers }
     requires few_workers { workers ≤ 16 }
     // Where it answers yes, the bytes of the reader to its end are a text of a history that an order of calls explains, over
     // all its documents, with the counts of the line. Where it answers no, they are a text of a history that no entries
     // without a given pair cover: it is not plainly right, and where it is settled, so that each write was answered, no
-    // order explains it. Where it answers refuted, all that is true as well, and the evidence of the line holds in the
+    // order explains it; and where documents were looked at that may be ruled out, none is. Where it answers refuted, all that is true as well, and the evidence of the line holds in the
     // history: no order explains it, however its unanswered calls are completed. Where it refuses, they are a text of none,
     // and the line tells the first that is refused.
-    ensures answered { IfOk result (IsAnswered conflicts (R.remaining reader.old)
+    ensures answered { IfOk result (IsAnswered ruling_out conflicts (R.remaining reader.old)
         (W.contents writer.old) (W.contents writer.new)) }
     // After a write fault a front of such a line is written.
     ensures cut_off { IsErrOf result StreamFault.Write
-        → IsCutOff conflicts (R.remaining reader.old) (W.contents writer.old)
+        → IsCutOff ruling_out conflicts (R.remaining reader.old) (W.contents writer.old)
         (W.contents writer.new) }
     // After any other fault nothing is.
     ensures kept { IfErr result (λ fault. fault ≢ StreamFault.Write
@@ -65,7 +68,7 @@ pub fn check_stream<T: Threads + Wait + Sync, R: Read, W: Write>(
     // last read brought, 32,768 bytes at most; and no more than the limits allow. So it is of each stream below.
     ensures taken { TakesHistory (R.remaining reader.old) (R.remaining reader.new) }
 {
-    match check_answer(rt, alloc, keys, reader, workers, conflicts) {
+    match check_answer(rt, alloc, keys, reader, workers, conflicts, ruling_out) {
         Ok(answer) => write_answer(writer, &answer),
         Err(fault) => Err(fault),
     }
@@ -79,22 +82,23 @@ pub fn witness_stream<R: Read, W: Write>(
     reader: &mut R,
     writer: &mut W,
     conflicts: Conflicts,
+    ruling_out: RulingOut,
 ) -> Result<Status, StreamFault>
     // Where it answers yes, what it wrote reads as entries that cover the history that the bytes are a text of, each document
     // once, so that an order explains it; else it wrote the line of a check, which says what it says above.
-    ensures answered { IfOk result (λ status. HasAnswer (WitnessesInput conflicts
+    ensures answered { IfOk result (λ status. HasAnswer (WitnessesInput ruling_out conflicts
         (R.remaining reader.old) status)
         (W.contents writer.old) (W.contents writer.new)) }
     // After a write fault a front of such a text is written, and after any other fault nothing is.
     ensures cut_off { IsErrOf result StreamFault.Write
-        → HasFront (WitnessesInput conflicts (R.remaining reader.old)) (W.contents writer.old)
+        → HasFront (WitnessesInput ruling_out conflicts (R.remaining reader.old)) (W.contents writer.old)
         (W.contents writer.new) }
     ensures kept { IfErr result (λ fault. fault ≢ StreamFault.Write
         → Keeps (W.contents writer.old) (W.contents writer.new)) }
     ensures told { IfErr result IsStreamFault }
     ensures taken { TakesHistory (R.remaining reader.old) (R.remaining reader.new) }
 {
-    match witness_answer(alloc, keys, reader, conflicts) {
+    match witness_answer(alloc, keys, reader, conflicts, ruling_out) {
         Ok(answer) => write_answer(writer, &answer),
         Err(fault) => Err(fault),
     }

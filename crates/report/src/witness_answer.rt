@@ -5,7 +5,7 @@ ghost use Rattle.stream_io.specs.Taken.{TakesHistory};
 ghost use Rattle.report.specs.Verdict.{IsWitnessAnswer, WitnessesInput};
 
 use crate::check_answer::{case_answer, refusal};
-use compose::{Verdict, check_alone};
+use compose::{RulingOut, Verdict, check_alone};
 use doc_register::Conflicts;
 use history::{HashKeys, History};
 use std::alloc::{AllocError, Global};
@@ -19,9 +19,10 @@ fn history_witness(
     alloc: Global,
     history: History,
     conflicts: Conflicts,
+    ruling_out: RulingOut,
 ) -> Result<Answer, NoMemory>
     ensures { IfOk result (λ answer. (input : List ℕ) → IsHistoryText input history
-        → IsWitnessAnswer conflicts input answer.status answer.text.items) }
+        → IsWitnessAnswer ruling_out conflicts input answer.status answer.text.items) }
 {
     match check_alone(alloc, history, conflicts) {
         Ok(Verdict::Yes(proof)) => {
@@ -32,7 +33,7 @@ fn history_witness(
             })
         }
         Ok(Verdict::No(case)) => {
-            let (answer, _) = case_answer(alloc, &case)?;
+            let (answer, _) = case_answer(alloc, &case, ruling_out)?;
             Ok(answer)
         }
         Err(_) => Err(AllocError),
@@ -45,15 +46,16 @@ pub fn witness_answer<R: Read>(
     keys: HashKeys,
     reader: &mut R,
     conflicts: Conflicts,
+    ruling_out: RulingOut,
 ) -> Result<Answer, StreamFault>
-    ensures answer { IfOk result (λ answer. WitnessesInput conflicts (R.remaining reader.old) answer.status
+    ensures answer { IfOk result (λ answer. WitnessesInput ruling_out conflicts (R.remaining reader.old) answer.status
         answer.text.items) }
     ensures told { IfErr result IsReadingFault }
     ensures taken { TakesHistory (R.remaining reader.old) (R.remaining reader.new) }
 {
     match read_history(alloc, keys, reader) {
         Ok(Ok(history)) => {
-            let answer = history_witness(alloc, history, conflicts)?;
+            let answer = history_witness(alloc, history, conflicts, ruling_out)?;
             Ok(answer)
         }
         Ok(Err(fault)) => {

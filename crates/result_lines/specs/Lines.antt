@@ -47,6 +47,7 @@ kind_name (evidence.PairTwice a b) = codes "pair-twice"
 kind_name (evidence.NoWriter g) = codes "no-writer"
 kind_name (evidence.StaleGet g w) = codes "stale-get"
 kind_name (evidence.StaleSwap a b) = codes "stale-swap"
+kind_name (evidence.RuledOut n) = codes "ruled-out"
 
 -- the numbers of two calls
 abbrev pub both_numbers : ℕ → ℕ → List ℕ
@@ -58,6 +59,7 @@ named_calls (evidence.PairTwice a b) = both_numbers a b
 named_calls (evidence.NoWriter g) = decimal g
 named_calls (evidence.StaleGet g w) = both_numbers g w
 named_calls (evidence.StaleSwap a b) = both_numbers a b
+named_calls (evidence.RuledOut n) = decimal n
 
 -- the evidence, and after it what the line of a `no` would tell
 abbrev pub refuted_line : Refuted → Offence → List ℕ

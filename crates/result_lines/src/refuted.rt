@@ -15,6 +15,7 @@ fn kind_name(evidence: Refuted) -> &'static str
         Refuted::NoWriter(_) => "no-writer",
         Refuted::StaleGet(_, _) => "stale-get",
         Refuted::StaleSwap(_, _) => "stale-swap",
+        Refuted::RuledOut(_) => "ruled-out",
     }
 }
 
@@ -31,7 +32,7 @@ fn named_calls(alloc: Global, evidence: Refuted) -> Result<String, NoMemory>
 {
     match evidence {
         Refuted::PairTwice(one, two) => numbers(alloc, one, two),
-        Refuted::NoWriter(get) => format!(in alloc; "{get}"),
+        Refuted::NoWriter(call) | Refuted::RuledOut(call) => format!(in alloc; "{call}"),
         Refuted::StaleGet(get, write) => numbers(alloc, get, write),
         Refuted::StaleSwap(one, two) => numbers(alloc, one, two),
     }

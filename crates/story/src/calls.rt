@@ -1,6 +1,6 @@
 use crate::event_lines::EventLines;
-use crate::parts::{CallTold, Mark};
-use crate::subject::Unexplained;
+use crate::named::Named;
+use crate::parts::CallTold;
 use crate::words::{heard_words, list_of, op_words, shown};
 use doc_register::{Op, Reply};
 use evidence::Refuted;
@@ -49,8 +49,8 @@ impl Call<'_> {
         self.record.heard.is_none() && self.record.op != Op::Get
     }
 
-    // Whether the two were open at the same time.
-    fn is_open_with(&self, other: &Call<'_>) -> bool {
+    /// Whether the two were open at the same time.
+    pub fn is_open_with(&self, other: &Call<'_>) -> bool {
         let other_ends = other.reply_place().unwrap_or(usize::MAX);
         let ends = self.reply_place().unwrap_or(usize::MAX);
         self.record.call_at < other_ends && other.record.call_at < ends
@@ -65,95 +65,8 @@ pub fn evidence_calls(alloc: Global, evidence: Option<Refuted>) -> Result<Vec<u6
             | Refuted::StaleGet(one, two)
             | Refuted::StaleSwap(one, two),
         ) => Vec::from_slice(alloc, &[one, two]),
-        Some(Refuted::NoWriter(get)) => Vec::from_slice(alloc, &[get]),
+        Some(Refuted::NoWriter(call) | Refuted::RuledOut(call)) => Vec::from_slice(alloc, &[call]),
         None => Ok(Vec::new(alloc)),
-    }
-}
-
-/// What the calls that matter most name: their numbers, and the versions in their replies and conditions.
-#[derive(Drop)]
-pub struct Named {
-    broken: u64,
-    evidence: Vec<u64>,
-    pairs: Vec<Pair>,
-}
-
-impl Named {
-    /// What the calls of an offence and of evidence name.
-    pub fn of(alloc: Global, unexplained: &Unexplained<'_>) -> Result<Named, NoMemory> {
-        let mut named = Named {
-            broken: unexplained.call,
-            evidence: evidence_calls(alloc, unexplained.evidence)?,
-            pairs: Vec::new(alloc),
-        };
-        named.note_pairs(unexplained.history, unexplained.call)?;
-        for no in evidence_calls(alloc, unexplained.evidence)?.iter() {
-            named.note_pairs(unexplained.history, *no)?;
-        }
-        Ok(named)
-    }
-
-    // Notes the versions that the call names.
-    fn note_pairs(&mut self, history: &History, no: u64) -> Result<(), NoMemory> {
-        if let Some(call) = call_of(history, no) {
-            if let Some(pair) = call.record.pair_taken() {
-                self.pairs.push(pair)?;
-            }
-            if let Some((pair, _)) = call.found() {
-                self.pairs.push(pair)?;
-            }
-            if let Some(pair) = call.record.op.condition() {
-                self.pairs.push(pair)?;
-            }
-        }
-        Ok(())
-    }
-
-    /// How the call stands out.
-    pub fn mark(&self, no: u64) -> Mark {
-        if no == self.broken {
-            Mark::Broken
-        } else if self.evidence.iter().any(|named| *named == no) {
-            Mark::Evidence
-        } else {
-            Mark::Plain
-        }
-    }
-
-    /// Whether the call is one of them, or made a version that they name.
-    pub fn matters(&self, call: &Call<'_>) -> bool {
-        if self.mark(call.record.no) != Mark::Plain {
-            return true;
-        }
-        match call.record.pair_taken() {
-            Some(taken) => self.pairs.iter().any(|pair| *pair == taken),
-            None => false,
-        }
-    }
-
-    /// At most so many of the calls, in their order: those that matter most, and of the others the last ones.
-    pub fn chosen<'h>(
-        &self,
-        alloc: Global,
-        calls: &[Call<'h>],
-        most: usize,
-    ) -> Result<Vec<Call<'h>>, NoMemory> {
-        let mut chosen = Vec::new(alloc);
-        for call in calls {
-            if chosen.len() < most && self.matters(call) {
-                chosen.push(*call)?;
-            }
-        }
-        for call in calls.iter().rev() {
-            if chosen.len() >= most {
-                break;
-            }
-            if !self.matters(call) {
-                chosen.push(*call)?;
-            }
-        }
-        chosen.sort_unstable_by_key(|call| call.record.call_at);
-        Ok(chosen)
     }
 }
 
@@ -196,10 +109,11 @@ pub fn asked_words(alloc: Global, call: &Call<'_>, several: bool) -> Result<Stri
     format!(in alloc; "{id} {op}")
 }
 
-/// The calls in words; with their documents where there are several.
+/// The calls in words, which are some of those that are told; with their documents where there are several.
 pub fn calls_told(
     alloc: Global,
     calls: &[Call<'_>],
+    told_ones: &[Call<'_>],
     named: &Named,
     lines: &EventLines,
     several: bool,
@@ -212,7 +126,7 @@ pub fn calls_told(
             no: call.record.no,
             asked: asked_words(alloc, call, several)?,
             answered: answered_words(alloc, call, lines)?,
-            open_with: open_words(alloc, call, calls)?,
+            open_with: open_words(alloc, call, told_ones)?,
         })?;
     }
     Ok(told)

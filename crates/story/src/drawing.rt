@@ -1,7 +1,8 @@
-use crate::calls::{Call, Named, asked_words};
+use crate::calls::{Call, asked_words};
 use crate::event_lines::EventLines;
 use crate::lanes::Lanes;
-use crate::order_before::OrderBefore;
+use crate::named::Named;
+use crate::order_before::{OrderBefore, Step};
 use crate::parts::Mark;
 use crate::words::{heard_words, state_words};
 use std::alloc::Global;
@@ -176,44 +177,67 @@ fn add_box(
     Ok(())
 }
 
-// The boxes of the versions of an order, below the lanes.
+// The places of an order at which the document changed.
+fn changes_of(alloc: Global, order: &OrderBefore) -> Result<Vec<Step>, NoMemory> {
+    let mut changes = Vec::new(alloc);
+    for step in order.steps.iter() {
+        if step.is_change {
+            changes.push(*step)?;
+        }
+    }
+    Ok(changes)
+}
+
+// The boxes of the last versions of an order, below the lanes: at most so many, and what the document was before them.
 fn boxes_of(
     alloc: Global,
     order: &Option<OrderBefore>,
     top: u64,
+    most: usize,
 ) -> Result<Vec<VersionBox>, NoMemory> {
     let mut boxes = Vec::new(alloc);
-    if let Some(order) = order {
-        let start = state_words(alloc, order.start)?;
-        let before = String::from_str(alloc, "at first")?;
-        add_box(&mut boxes, top, start, before)?;
-        for step in order.steps.iter() {
-            if step.is_change {
-                let no = step.record.no;
-                let version = state_words(alloc, step.state)?;
-                let maker = format!(in alloc; "by call {no}")?;
-                add_box(&mut boxes, top, version, maker)?;
-            }
-        }
+    let Some(order) = order else {
+        return Ok(boxes);
+    };
+    let changes = changes_of(alloc, order)?;
+    let skipped = changes.len().saturating_sub(most);
+    let (start, when) = match skipped.checked_sub(1).and_then(|at| changes.get(at)) {
+        Some(step) => (step.state, "before"),
+        None => (order.start, "at first"),
+    };
+    let when = String::from_str(alloc, when)?;
+    add_box(&mut boxes, top, state_words(alloc, start)?, when)?;
+    for step in changes.iter().skip(skipped) {
+        let no = step.record.no;
+        let version = state_words(alloc, step.state)?;
+        let maker = format!(in alloc; "by call {no}")?;
+        add_box(&mut boxes, top, version, maker)?;
     }
     Ok(boxes)
 }
 
-/// A drawing of the calls, with the broken reply at the event, and of the versions of an order.
+/// What a drawing is of: calls, and the last versions of an order, at most so many.
+#[derive(Clone, Copy)]
+pub struct Drawn<'a, 'h> {
+    pub calls: &'a [Call<'h>],
+    pub named: &'a Named,
+    pub order: &'a Option<OrderBefore>,
+    pub versions: usize,
+}
+
+/// A drawing, with the broken reply at the event, and of the calls with their documents where there are several.
 pub fn drawing_of(
     alloc: Global,
-    calls: &[Call<'_>],
-    named: &Named,
+    drawn: Drawn<'_, '_>,
     lines: &EventLines,
     event: usize,
-    order: &Option<OrderBefore>,
     several: bool,
 ) -> Result<Drawing, NoMemory> {
-    let places = places_of(alloc, calls)?;
+    let places = places_of(alloc, drawn.calls)?;
     let mut lanes = Lanes::new(alloc);
     let mut bars = Vec::new(alloc);
-    for call in calls {
-        let mark = named.mark(call.record.no);
+    for call in drawn.calls {
+        let mark = drawn.named.mark(call.record.no);
         bars.push(bar_of(alloc, call, &places, mark, several, &mut lanes)?)?;
     }
     let lanes_end = (lanes.len() as u64)
@@ -221,8 +245,9 @@ pub fn drawing_of(
         .saturating_add(TOP);
     let boxes = boxes_of(
         alloc,
-        order,
+        drawn.order,
         lanes_end.saturating_add(GAP).saturating_add(GAP),
+        drawn.versions,
     )?;
     let height = match boxes.last() {
         Some(last) => last.y.saturating_add(BOX_HEIGHT).saturating_add(4),

@@ -125,7 +125,7 @@ pub fn evidence_words(
     conflicts: Conflicts,
 ) -> Result<Option<String>, NoMemory> {
     let (one, two) = match evidence {
-        Refuted::NoWriter(get) => (get, get),
+        Refuted::NoWriter(call) | Refuted::RuledOut(call) => (call, call),
         Refuted::PairTwice(one, two) | Refuted::StaleGet(one, two) | Refuted::StaleSwap(one, two) =>
             (one, two),
     };

@@ -1,4 +1,5 @@
-use crate::calls::{Call, Named};
+use crate::calls::Call;
+use crate::named::Named;
 use crate::telling::MOST_TOLD;
 use history::Rec;
 use std::alloc::Global;

@@ -9,20 +9,33 @@
 #![tactic(auto)]
 
 mod calls;
+mod cause_words;
 mod drawing;
 mod event_lines;
 mod evidence_words;
 mod failing;
 mod kept;
 mod lanes;
+mod late_line;
+mod link_words;
+mod named;
 mod numbered_input;
 mod order_before;
 mod page_pieces;
 mod parts;
 mod plain;
+mod reason;
+mod reason_parts;
 mod refused;
+mod shown_calls;
+mod stop_words;
 mod subject;
+mod subjects;
 mod telling;
+mod undecided;
+mod untold_words;
+mod weight;
+mod why;
 mod window;
 mod words;
 

@@ -206,7 +206,7 @@ impl Pieces {
         self.fixed(Markup::DrawingEnd)?;
         self.within(
             Markup::CaptionStart,
-            "Time runs from left to right, by event. A bar is a call from its line to the line of its reply: its number, what was asked, what was answered. A cross and the dotted line: the reply that broke it. A diamond and a thick edge: evidence. A dashed bar with an arrow: no reply. Boxes: the document's versions in the order before that reply.",
+            "Time runs from left to right, by event. A bar is a call from its line to the line of its reply: its number, what was asked, what was answered. A cross and the dotted line: the reply that broke it. A diamond and a thick edge: evidence, or a call of the reasons. A dashed bar with an arrow: no reply. Boxes: the document's versions in the order before that reply.",
             Markup::CaptionEnd,
         )
     }
@@ -224,6 +224,8 @@ impl Pieces {
             Part::Calls(calls) => self.calls(calls),
             Part::Order(places) => self.order(places),
             Part::Drawing(drawing) => self.drawing(drawing),
+            Part::FoldStart(name) => self.within(Markup::FoldStart, name, Markup::FoldOpen),
+            Part::FoldEnd => self.fixed(Markup::FoldEnd),
         }
     }
 }

@@ -5,7 +5,7 @@ use crate::drawing::Drawing;
 pub enum Mark {
     /// It doesn't.
     Plain,
-    /// It is one of the calls of the evidence.
+    /// It is one of the calls of the evidence or of the reasons.
     Evidence,
     /// Its reply is the one at which the search first fails.
     Broken,
@@ -47,6 +47,9 @@ pub enum Part {
     Calls(Vec<CallTold>),
     Order(Vec<PlaceTold>),
     Drawing(Drawing),
+    /// What follows, up to `FoldEnd`, is less important; it is called so.
+    FoldStart(&'static str),
+    FoldEnd,
 }
 
 /// What is told of an answer.

@@ -42,7 +42,10 @@ fn add_calls(alloc: Global, calls: &[CallTold], text: &mut String) -> Result<(),
         let line = call_line(alloc, call)?;
         text.push_str(line.as_str())?;
     }
-    text.push_str("! the reply that broke it; * evidence\n")
+    if calls.iter().any(|call| call.mark != Mark::Plain) {
+        text.push_str("! the reply that broke it; * evidence, or a call of the reasons\n")?;
+    }
+    Ok(())
 }
 
 // Adds the lines of an order.
@@ -64,7 +67,7 @@ fn add_items(items: &[String], text: &mut String) -> Result<(), NoMemory> {
     Ok(())
 }
 
-// Adds a part; a drawing is not for plain text.
+// Adds a part; drawings and folds are not for plain text.
 fn add_part(alloc: Global, part: &Part, text: &mut String) -> Result<(), NoMemory> {
     match part {
         Part::Heading(heading) => {
@@ -79,7 +82,7 @@ fn add_part(alloc: Global, part: &Part, text: &mut String) -> Result<(), NoMemor
         Part::Items(items) => add_items(items, text),
         Part::Calls(calls) => add_calls(alloc, calls, text),
         Part::Order(places) => add_places(alloc, places, text),
-        Part::Drawing(_) => Ok(()),
+        Part::Drawing(_) | Part::FoldStart(_) | Part::FoldEnd => Ok(()),
     }
 }
 

@@ -1,7 +1,7 @@
 use doc_register::Conflicts;
 use history::HashKeys;
 use repl_group::Fault;
-use report::{RunSetting, Status, check_stream, run_stream};
+use report::{RulingOut, RunSetting, Status, check_stream, run_stream};
 use std::alloc::Global;
 use std::sync::Wait;
 use std::test::Fail;
@@ -46,6 +46,7 @@ fn checked<T: Threads + Wait + Sync>(
         &mut line,
         1,
         Conflicts::Plain,
+        RulingOut::Off,
     )?;
     Ok((status, line))
 }

@@ -1,7 +1,7 @@
 use crate::tests::texts;
 use doc_register::Conflicts;
 use history::HashKeys;
-use report::{Status, check_stream};
+use report::{RulingOut, Status, check_stream};
 use std::alloc::Global;
 use std::process::Abort;
 use std::sync::Wait;
@@ -41,6 +41,7 @@ fn writes<T: Abort + Threads + Wait + Sync>(
         &mut writer,
         1,
         Conflicts::Plain,
+        RulingOut::Off,
     )?;
     assert_eq!(rt; str::from_utf8(writer.as_slice())?, line, "{case}");
     assert_eq!(rt; status, status_of(line), "{case}");

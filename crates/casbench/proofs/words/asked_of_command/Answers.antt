@@ -11,7 +11,9 @@ returns-in-check c =
     c.get_str.ensures ∙ first_value-rows (found_of c.args.given.now) (codes "conflicts") in
     let workers : option_map (λ t. t.now) c.get_str-in-check.result ≡ first_of (codes "workers") (rows_of (found_of c.args.given.now)) =
     c.get_str-in-check.ensures ∙ first_value-rows (found_of c.args.given.now) (codes "workers") in
-    rw (c.in-check.is, c.check_words.ensures, file, conflicts, workers) refl
+    let rule_out : option_map (λ t. t.now) c.get_str-in-check-2.result ≡ first_of (codes "rule-out") (rows_of (found_of c.args.given.now)) =
+    c.get_str-in-check-2.ensures ∙ first_value-rows (found_of c.args.given.now) (codes "rule-out") in
+    rw (c.in-check.is, c.check_words.ensures, file, conflicts, workers, rule_out) refl
 
 pub returns-in-witness : goal.returns-in-witness
 returns-in-witness c =
@@ -19,7 +21,9 @@ returns-in-witness c =
     c.get_str-file.ensures ∙ first_value-rows (found_of c.args.given.now) (codes "history") in
     let conflicts : option_map (λ t. t.now) c.get_str-in-witness.result ≡ first_of (codes "conflicts") (rows_of (found_of c.args.given.now)) =
     c.get_str-in-witness.ensures ∙ first_value-rows (found_of c.args.given.now) (codes "conflicts") in
-    rw (c.in-witness.is, c.witness_words.ensures, file, conflicts) refl
+    let rule_out : option_map (λ t. t.now) c.get_str-in-witness-2.result ≡ first_of (codes "rule-out") (rows_of (found_of c.args.given.now)) =
+    c.get_str-in-witness-2.ensures ∙ first_value-rows (found_of c.args.given.now) (codes "rule-out") in
+    rw (c.in-witness.is, c.witness_words.ensures, file, conflicts, rule_out) refl
 
 pub returns-in-verify : goal.returns-in-verify
 returns-in-verify c =
@@ -52,6 +56,8 @@ returns-in-explain c =
     c.get_str-in-explain.ensures ∙ first_value-rows (found_of c.args.given.now) (codes "conflicts") in
     let workers : option_map (λ t. t.now) c.get_str-in-explain-2.result ≡ first_of (codes "workers") (rows_of (found_of c.args.given.now)) =
     c.get_str-in-explain-2.ensures ∙ first_value-rows (found_of c.args.given.now) (codes "workers") in
-    let page : option_map (λ t. t.now) c.get_str-in-explain-3.result ≡ first_of (codes "html") (rows_of (found_of c.args.given.now)) =
-    c.get_str-in-explain-3.ensures ∙ first_value-rows (found_of c.args.given.now) (codes "html") in
-    rw (c.in-explain.is, c.explain_words.ensures, file, conflicts, workers, page) refl
+    let rule_out : option_map (λ t. t.now) c.get_str-in-explain-3.result ≡ first_of (codes "rule-out") (rows_of (found_of c.args.given.now)) =
+    c.get_str-in-explain-3.ensures ∙ first_value-rows (found_of c.args.given.now) (codes "rule-out") in
+    let page : option_map (λ t. t.now) c.get_str-in-explain-4.result ≡ first_of (codes "html") (rows_of (found_of c.args.given.now)) =
+    c.get_str-in-explain-4.ensures ∙ first_value-rows (found_of c.args.given.now) (codes "html") in
+    rw (c.in-explain.is, c.explain_words.ensures, file, conflicts, workers, rule_out, page) refl

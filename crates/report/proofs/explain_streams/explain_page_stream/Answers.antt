@@ -5,7 +5,7 @@ use Rattle.report.proofs.explain_streams.explain_page_stream.Goals as goal
 
 pub returns-in-Ok-write_answer-clause-cut_off : goal.returns-in-Ok-write_answer-clause-cut_off
 returns-in-Ok-write_answer-clause-cut_off g c = λ _.
-    whole_front (ExplainsInput c.args.conflicts (g.R.Read.remaining c.args.reader.now)) (g.W.Write.contents c.args.writer.now) (g.W.Write.contents c.write_answer.new.writer)
+    whole_front (ExplainsInput c.args.ruling_out c.args.conflicts (g.R.Read.remaining c.args.reader.now)) (g.W.Write.contents c.args.writer.now) (g.W.Write.contents c.write_answer.new.writer)
     c.in-Ok.told.0.status c.in-Ok.told.0.text.items c.in-Ok-write_answer.ensures.1 c.in-Ok.ensures.text
 
 pub returns-clause-page_cut_off : goal.returns-clause-page_cut_off

@@ -15,4 +15,4 @@ pub returns-in_ok-answer-in-Ok-Err-clause-answer : goal.returns-in_ok-answer-in-
 returns-in_ok-answer-in-Ok-Err-clause-answer g c =
     let input = g.R.Read.remaining c.args.reader.now in
     let read = subst (λ told. IfSome input (λ text. MatchResult told (λ h. history_text text ≡ Ok h) (λ f. history_text text ≡ Err f))) c.in-Ok-Err.field-0-is c.in-Ok-Err.ensures.told in
-    if_each input read (λ text told. c.in_ok-answer-in-Ok-Err.ensures.witness c.args.conflicts text told)
+    if_each input read (λ text told. c.in_ok-answer-in-Ok-Err.ensures.witness c.args.ruling_out c.args.conflicts text told)

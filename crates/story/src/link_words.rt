@@ -1,0 +1,95 @@
+use crate::event_lines::EventLines;
+use crate::reason::Link;
+use crate::words::{op_words, pair_words};
+use doc_register::{Op, Reply};
+use history::Rec;
+use ruled_out::Stage;
+use std::alloc::Global;
+use version_pair::NoMemory;
+
+/// The line of the reply to the call; of the call where there is none.
+pub fn reply_line(record: &Rec, lines: &EventLines) -> u64 {
+    lines.line(record.heard.map_or(record.call_at, |heard| heard.0))
+}
+
+/// How far a document has come, in words that follow `it had`.
+pub fn reached_words(alloc: Global, stage: Stage) -> Result<String, NoMemory> {
+    match stage {
+        Stage::Never => String::from_str(alloc, "not been written"),
+        Stage::At(pair) => {
+            let pair = pair_words(alloc, pair)?;
+            format!(in alloc; "reached {pair}")
+        }
+        Stage::Behind(Some(pair)) => {
+            let pair = pair_words(alloc, pair)?;
+            format!(in alloc; "been changed after {pair} by a write of unknown outcome")
+        }
+        Stage::Behind(None) => String::from_str(
+            alloc,
+            "been changed by a write of unknown outcome, before each version that a reply shows",
+        ),
+    }
+}
+
+// What a call that shows no version was answered, and what follows of the document, on which line.
+fn said_words(alloc: Global, record: &Rec, line: u64) -> Result<String, NoMemory> {
+    match (record.op, record.op.condition()) {
+        (Op::Get, _) => format!(in alloc;
+            "was answered \"not found\" (line {line}), so the document had been deleted by then"
+        ),
+        (_, Some(asked)) => {
+            let asked = pair_words(alloc, asked)?;
+            format!(in alloc;
+                "was answered with a conflict on {asked} (line {line}), so the document was not at {asked} by then"
+            )
+        }
+        (_, None) => format!(in alloc;
+            "was answered with a conflict (line {line}), so the document was there by then"
+        ),
+    }
+}
+
+// A call whose reply shows no version, in a sentence.
+fn unshown_link(
+    alloc: Global,
+    link: &Link,
+    is_first: bool,
+    lines: &EventLines,
+) -> Result<String, NoMemory> {
+    let no = link.record.no;
+    let called = lines.line(link.record.call_at);
+    let asked = op_words(alloc, link.record.op)?;
+    let said = said_words(alloc, &link.record, reply_line(&link.record, lines))?;
+    let reached = reached_words(alloc, link.to)?;
+    let after = if is_first { "" } else { " after that" };
+    format!(in alloc;
+        "Call {no} ({asked}) was made{after} (line {called}) and {said}: it had {reached}, at least."
+    )
+}
+
+/// A call of a chain in a sentence.
+pub fn link_words(
+    alloc: Global,
+    link: &Link,
+    is_first: bool,
+    lines: &EventLines,
+) -> Result<String, NoMemory> {
+    let no = link.record.no;
+    let line = reply_line(&link.record, lines);
+    let asked = op_words(alloc, link.record.op)?;
+    match link.record.heard.map(|heard| heard.1) {
+        Some(Reply::Indexed { pair, .. } | Reply::Deleted { pair, .. }) => {
+            let pair = pair_words(alloc, pair)?;
+            format!(in alloc;
+                "Call {no} ({asked}) was answered with the version {pair} (line {line}), so the document had reached it by then."
+            )
+        }
+        Some(Reply::Found { pair, k }) => {
+            let pair = pair_words(alloc, pair)?;
+            format!(in alloc;
+                "Call {no}, a get, was answered with k={k} at the version {pair} (line {line}), so the document had reached it by then."
+            )
+        }
+        Some(Reply::Missing | Reply::Conflict) | None => unshown_link(alloc, link, is_first, lines),
+    }
+}

@@ -1,0 +1,242 @@
+use crate::calls::evidence_calls;
+use crate::subject::Unexplained;
+use evidence::{Refuted, refutes};
+use history::Rec;
+use ruled_out::{Cause, Stage, Standing, Standings, Unhelpful, Unmet};
+use std::alloc::Global;
+use version_pair::{NoMemory, Pair};
+
+// How many calls of a chain are told, and how many writes without a reply.
+const MOST_LINKS: usize = 6;
+
+const MOST_LOST: usize = 5;
+
+/// An answered call of a chain: it brought the document from one stage at least to another one.
+#[derive(Clone, Copy)]
+pub struct Link {
+    pub record: Rec,
+    pub from: Stage,
+    pub to: Stage,
+}
+
+/// Why no order explains a document, whatever became of its calls without a reply.
+#[derive(Drop)]
+pub struct Reason {
+    /// The call that has no place.
+    pub stop: Rec,
+    /// Why it has none.
+    pub cause: Cause,
+    /// How far the document had come as that call was made.
+    pub stage: Stage,
+    /// The calls that brought it there, the first one first.
+    pub links: Vec<Link>,
+    /// Whether earlier ones of them are not told.
+    pub is_cut: bool,
+    /// The version which is spoken of beside these, and the first call that shows it.
+    pub last: Option<Pair>,
+    pub shower: Option<Rec>,
+    /// The writes that were looked at of which no reply tells whether they were performed, and why none helps; the first few.
+    pub untold: Vec<(Rec, Unhelpful)>,
+    /// How many there are.
+    pub untold_count: usize,
+    /// Whether the evidence tells of the call that has no place already.
+    pub is_told: bool,
+}
+
+impl Reason {
+    /// The numbers of the calls of which it speaks; none where the evidence does.
+    pub fn calls(&self, alloc: Global) -> Result<Vec<u64>, NoMemory> {
+        if self.is_told {
+            return Ok(Vec::new(alloc));
+        }
+        let mut numbers = vec![in alloc; self.stop.no]?;
+        for link in self.links.iter() {
+            numbers.push(link.record.no)?;
+        }
+        if let Some(shower) = self.shower {
+            numbers.push(shower.no)?;
+        }
+        Ok(numbers)
+    }
+
+    /// The calls whose replies show the versions of which it speaks.
+    pub fn showers(&self, alloc: Global) -> Result<Vec<Rec>, NoMemory> {
+        let mut showers = Vec::new(alloc);
+        if let Some(shower) = self.shower {
+            showers.push(shower)?;
+        }
+        for link in self.links.iter() {
+            showers.push(link.record)?;
+        }
+        Ok(showers)
+    }
+
+    /// Whether a write of which no reply tells could help, were it another one.
+    pub fn wants_write(&self) -> bool {
+        !matches!(
+            self.cause,
+            Cause::NeverRefused | Cause::Passed(_) | Cause::Unmet(_)
+        )
+    }
+}
+
+// Whether the cause speaks of what the document had reached as the call was made.
+fn is_bound(standings: &Standings, stop: Standing, cause: Cause) -> bool {
+    match cause {
+        Cause::StillThere(_)
+        | Cause::NotThere
+        | Cause::There
+        | Cause::Passed(_)
+        | Cause::Unmet(Unmet::Changed) => true,
+        Cause::WasThere(pair) | Cause::WasAbsent(pair) => {
+            standings.stage(stop.floor) == Stage::Behind(standings.last_below(pair))
+        }
+        Cause::NeverRefused | Cause::Unmet(_) | Cause::Unwritten(_) => false,
+    }
+}
+
+// The version of which the cause speaks beside what the document had reached.
+fn version_spoken_of(standings: &Standings, stop: Rec, cause: Cause) -> Option<Pair> {
+    match cause {
+        Cause::WasThere(pair) | Cause::WasAbsent(pair) => standings.last_below(pair),
+        Cause::Unmet(Unmet::Replaced(pair)) | Cause::Unwritten(pair) => Some(pair),
+        Cause::Unmet(Unmet::Deleted) => stop.op.condition(),
+        _ => None,
+    }
+}
+
+// Whether a reply shows that the document had the version: it found it, took it, or was performed where the document had it.
+fn shows(record: &Rec, pair: Pair) -> bool {
+    let shown = record.heard.and_then(|heard| heard.1.pair());
+    let asked = record.pair_taken().and(record.op.condition());
+    shown == Some(pair) || asked == Some(pair)
+}
+
+// A standing as a link of a chain.
+fn link_of(standings: &Standings, standing: Standing, record: Rec) -> Link {
+    Link {
+        record,
+        from: standings.stage(standing.floor),
+        to: standings.stage(standing.earliest.unwrap_or(standing.floor)),
+    }
+}
+
+// The chain that leads to the standing, the first call first, and whether it is cut. It begins with a call whose reply shows the
+// version, or with one that is bound by none.
+fn chain_to(
+    alloc: Global,
+    records: &[Rec],
+    standings: &Standings,
+    stop: Standing,
+) -> Result<(Vec<Link>, bool), NoMemory> {
+    let mut links = Vec::new(alloc);
+    let mut next = stop.bound;
+    for _ in 0..MOST_LINKS {
+        let Some(standing) = next.and_then(|at| standings.standings().get(at).copied()) else {
+            break;
+        };
+        let Some(record) = records.get(standing.record).copied() else {
+            break;
+        };
+        links.push(link_of(standings, standing, record))?;
+        next = match record.heard.and_then(|heard| heard.1.pair()) {
+            Some(_) => None,
+            None => standing.bound,
+        };
+    }
+    links.reverse();
+    Ok((links, next.is_some()))
+}
+
+// The first few of the writes of which no reply tells, those first that were made last before the event, and how many there are.
+fn untold_writes(
+    alloc: Global,
+    records: &[Rec],
+    standings: &Standings,
+    event: usize,
+) -> Result<(Vec<(Rec, Unhelpful)>, usize), NoMemory> {
+    let early = records.partition_point(|record| record.call_at < event);
+    let mut count = 0usize;
+    let mut untold = Vec::new(alloc);
+    for number in (0..early).rev().chain(early..records.len()) {
+        if !standings.is_untold(number) {
+            continue;
+        }
+        count = count.saturating_add(1);
+        if untold.len() < MOST_LOST {
+            if let (Some(record), Some(why)) = (records.get(number), standings.unhelpful(number)) {
+                untold.push((*record, why))?;
+            }
+        }
+    }
+    Ok((untold, count))
+}
+
+// Whether the evidence is of another kind and names the call.
+fn is_told(alloc: Global, evidence: Option<Refuted>, no: u64) -> Result<bool, NoMemory> {
+    if let Some(Refuted::RuledOut(_)) = evidence {
+        return Ok(false);
+    }
+    Ok(evidence_calls(alloc, evidence)?.contains(&no))
+}
+
+// The reason, of a document whose walk stops at this call.
+fn reason_at(
+    alloc: Global,
+    evidence: Option<Refuted>,
+    records: &[Rec],
+    standings: &Standings,
+    (stop, cause): (Standing, Cause),
+    record: Rec,
+) -> Result<Reason, NoMemory> {
+    let event = record.heard.map_or(record.call_at, |heard| heard.0);
+    let (untold, untold_count) = untold_writes(alloc, records, standings, event)?;
+    let (links, is_cut) = if is_bound(standings, stop, cause) {
+        chain_to(alloc, records, standings, stop)?
+    } else {
+        (Vec::new(alloc), false)
+    };
+    let last = version_spoken_of(standings, record, cause);
+    let shower = last.and_then(|pair| records.iter().find(|it| shows(it, pair)));
+    Ok(Reason {
+        stop: record,
+        cause,
+        stage: standings.stage(stop.floor),
+        links,
+        is_cut,
+        last,
+        shower: shower.copied(),
+        untold,
+        untold_count,
+        is_told: is_told(alloc, evidence, record.no)?,
+    })
+}
+
+/// Why no order explains the document with these records; `None` where it isn't ruled out.
+///
+/// The reason is a guess for people, but where there is one the document is ruled out: that is looked at again, as evidence is.
+pub fn reason_of(
+    alloc: Global,
+    unexplained: &Unexplained<'_>,
+    records: &[Rec],
+) -> Result<Option<Reason>, NoMemory> {
+    let standings = Standings::of(alloc, records, unexplained.conflicts)?;
+    let Some((stop, cause)) = standings.stop() else {
+        return Ok(None);
+    };
+    let Some(record) = records.get(stop.record).copied() else {
+        return Ok(None);
+    };
+    let ruled_out = Refuted::RuledOut(record.no);
+    if !refutes(
+        alloc,
+        unexplained.history,
+        &ruled_out,
+        unexplained.conflicts,
+    )? {
+        return Ok(None);
+    }
+    let found = unexplained.evidence;
+    let reason = reason_at(alloc, found, records, &standings, (stop, cause), record)?;
+    Ok(Some(reason))
+}

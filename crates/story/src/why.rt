@@ -1,0 +1,144 @@
+use crate::calls::{call_of, evidence_calls, id_words};
+use crate::event_lines::EventLines;
+use crate::evidence_words::evidence_words;
+use crate::late_line::late_words;
+use crate::parts::Part;
+use crate::reason_parts::{add_reason, add_untold};
+use crate::subject::Unexplained;
+use crate::subjects::Subject;
+use evidence::Refuted;
+use history::Rec;
+use std::alloc::Global;
+use version_pair::NoMemory;
+
+// That the evidence is of another document than the reply at which the search failed, where it is.
+fn add_other_document(
+    alloc: Global,
+    unexplained: &Unexplained<'_>,
+    subjects: &[Subject<'_>],
+    parts: &mut Vec<Part>,
+) -> Result<(), NoMemory> {
+    let Some(subject) = subjects.first() else {
+        return Ok(());
+    };
+    let numbers = evidence_calls(alloc, unexplained.evidence)?;
+    let Some(evidence) = numbers
+        .first()
+        .and_then(|no| call_of(unexplained.history, *no))
+    else {
+        return Ok(());
+    };
+    for no in numbers.iter() {
+        if subject.records.iter().any(|record| record.no == *no) {
+            return Ok(());
+        }
+    }
+    let first = id_words(alloc, subject.id)?;
+    let other = id_words(alloc, evidence.id)?;
+    let shard = evidence.shard;
+    let call = unexplained.call;
+    parts.push(Part::Paragraph(format!(in alloc;
+        "The search failed first at {first}, with the reply to call {call}. The calls that prove it are of another document, {other} on shard {shard}; both documents are told."
+    )?))?;
+    Ok(())
+}
+
+// Adds why no order explains the document, where it is ruled out.
+fn add_subject(
+    alloc: Global,
+    unexplained: &Unexplained<'_>,
+    subject: &Subject<'_>,
+    several: bool,
+    lines: &EventLines,
+    parts: &mut Vec<Part>,
+) -> Result<(), NoMemory> {
+    let Some(reason) = &subject.reason else {
+        return Ok(());
+    };
+    if reason.is_told {
+        if reason.wants_write() {
+            add_untold(alloc, reason, lines, unexplained.conflicts, parts)?;
+        }
+        return Ok(());
+    }
+    if several {
+        let id = id_words(alloc, subject.id)?;
+        parts.push(Part::Paragraph(format!(in alloc; "Of the document {id}:")?))?;
+    }
+    add_reason(alloc, reason, lines, unexplained.conflicts, parts)
+}
+
+// The calls whose replies may show what a line writes that was written late.
+fn suspects_of(
+    alloc: Global,
+    unexplained: &Unexplained<'_>,
+    subject: &Subject<'_>,
+) -> Result<Vec<Rec>, NoMemory> {
+    let mut suspects = Vec::new(alloc);
+    if let Some(Refuted::NoWriter(no)) = unexplained.evidence {
+        if let Some(get) = subject.records.iter().find(|record| record.no == no) {
+            suspects.push(*get)?;
+        }
+    }
+    if let Some(reason) = &subject.reason {
+        suspects.extend_from_slice(reason.showers(alloc)?.as_slice())?;
+    }
+    Ok(suspects)
+}
+
+// Asks whether a line was written late, where it seems so.
+fn add_late(
+    alloc: Global,
+    unexplained: &Unexplained<'_>,
+    subject: &Subject<'_>,
+    lines: &EventLines,
+    parts: &mut Vec<Part>,
+) -> Result<(), NoMemory> {
+    for get in suspects_of(alloc, unexplained, subject)?.iter() {
+        if let Some(words) = late_words(alloc, get, &subject.records, lines)? {
+            parts.push(Part::Paragraph(words))?;
+            return Ok(());
+        }
+    }
+    Ok(())
+}
+
+/// Adds why no order can have the replies, where it is known: by evidence, and of each document that is ruled out.
+pub fn add_why(
+    alloc: Global,
+    unexplained: &Unexplained<'_>,
+    subjects: &[Subject<'_>],
+    lines: &EventLines,
+    parts: &mut Vec<Part>,
+) -> Result<(), NoMemory> {
+    let told = match unexplained.evidence {
+        Some(evidence) => evidence_words(
+            alloc,
+            unexplained.history,
+            lines,
+            evidence,
+            unexplained.conflicts,
+        )?,
+        None => None,
+    };
+    if told.is_none() && !subjects.iter().any(|subject| subject.reason.is_some()) {
+        return Ok(());
+    }
+    parts.push(Part::Heading("Why no order can have these replies"))?;
+    add_other_document(alloc, unexplained, subjects, parts)?;
+    if let Some(words) = told {
+        parts.push(Part::Paragraph(words))?;
+    }
+    for subject in subjects {
+        add_late(alloc, unexplained, subject, lines, parts)?;
+        add_subject(
+            alloc,
+            unexplained,
+            subject,
+            subjects.len() > 1,
+            lines,
+            parts,
+        )?;
+    }
+    Ok(())
+}
