@@ -5,7 +5,8 @@
 
 PROGRAM is the built casbench; where it is not named, the one that ./casbench would run. The history of each text case is
 told: the story begins with the line of a check and ends with its status, and is the same where a page is written too. The
-texts below are told too: one with an id that is markup, and two that are too long to be told whole.
+texts below are told too: one with an id that is markup, two that are too long to be told whole, and some that were written by
+hand for the reasons that a story gives. What is wanted of those follows from the rules of the register, and not from the program.
 """
 
 import pathlib
@@ -14,7 +15,7 @@ import tempfile
 
 from program import CASES, built_program
 from running import run, said
-from texts import READINGS, created, found, get, index, no_writer, refuted, updated
+from texts import READINGS, condition, conflict, create, created, delete, deleted, found, get, index, lost, missing, no, no_writer, refuted, updated
 from trials import Trial, Wrong, try_and_tell
 
 # A get of what nobody wrote, of a document with markup for its id, after blank lines.
@@ -39,7 +40,7 @@ TOLD = [
         MARKUP,
         "refuted kind=no-writer ",
         ['"<script>alert("1")</script>&" on shard 0', "! line 3, call 0: get -> line 5: k=2 at 1/0"],
-        {"<script": [0], "&lt;script&gt;alert(&quot;1&quot;)&lt;/script&gt;&amp;": range(1, 100)},
+        {"<details>": [0], "<script": [0], "&lt;script&gt;alert(&quot;1&quot;)&lt;/script&gt;&amp;": range(1, 100)},
     ),
     (
         "a thousand open calls",
@@ -50,18 +51,184 @@ TOLD = [
             "  line 962, call 961: index k=1 -> no reply (open at the same time: 962, 963, 964, 965, 966, 967, 968, 969 and 31 more)\n",
             "Earlier ones: 960.",
         ],
-        {'<g class="bar': [200], '<g class="bar lost">': [199]},
+        {'<g class="bar': [12 + 200], '<g class="bar lost">': [11 + 199]},
     ),
     (
         "the end of a long order",
         LONG_ORDER,
         refuted("stale-get", "100,1", 201, 100),
         [
-            "\n  line 1, call 0: index k=0 -> line 2: created as 1/0\n",
-            "\n* line 3, call 1: index k=1 -> line 4: updated as 1/1\n  line 127, call 63: index k=63 -> line 128: updated as 1/63\n",
+            "\n  line 1, call 0: index k=0 -> line 2: created as 1/0\n* line 3, call 1: index k=1 -> line 4: updated as 1/1\n! line 201,",
+            "\n\nThe other calls, in the order of their events:\n  line 127, call 63: index k=63 -> line 128: updated as 1/63\n",
             "\nEarlier calls that are not told: 61.\n",
             "\nEarlier calls in it: 60.\n  call 60: index k=60 -> 1/60 k=60\n",
             "\n  call 99: index k=99 -> 1/99 k=99\n",
+        ],
+        {},
+    ),
+]
+
+
+# An order may be there that was not found: one write without a reply is needed twice, for a version that a get shows and for a
+# conflict.
+NEEDED_TWICE = (
+    index(0) + created(0, 1, 0) + index(1, k=9) + lost(1) + get(2) + found(2, 1, 1, k=9)
+    + index(3, condition(1, 1), k=2) + updated(3, 1, 2) + index(4, condition(1, 2), k=4) + conflict(4)
+)
+
+# The search fails at a document of shard 0, and the evidence is a stale get of another one of shard 1.
+OTHER = ',"shard":1'
+TWO_DOCUMENTS = (
+    index(0, doc="a") + created(0, 1, 0) + index(1, doc="a", k=2) + conflict(1)
+    + index(2, OTHER, "b", k=3) + created(2, 1, 0) + index(3, OTHER, "b", k=4) + updated(3, 1, 1) + get(4, OTHER, "b") + found(4, 1, 0, k=3)
+)
+
+# The line of the write stands behind the reply to the get that shows it.
+LATE_LINE = get(1) + found(1, 1, 0, k=1) + index(0) + created(0, 1, 0)
+
+TOLD += [
+    (
+        "a write that is needed twice",
+        NEEDED_TWICE,
+        no(9, 4),
+        [
+            "\nNo order of the calls was found that explains the reply to call 4.\nThis `no` is undecided, so it accuses nobody",
+            "\nWhat would decide it: ",
+            "call 1 (line 3: index k=9, no reply).",
+            "`casbench verify`",
+        ],
+        {"Why no order": [0], "is proved": [0], "<details>": [1]},
+    ),
+    (
+        "evidence of another document",
+        TWO_DOCUMENTS,
+        refuted("stale-get", "4,3", 3, 1),
+        [
+            "\nThis is proved by evidence",
+            'The search failed first at "a", with the reply to call 1. The calls that prove it are of another document, "b" on shard 1;',
+            "Call 3 (index k=4) was answered with the version 1/1 (line 8) before call 4, a get, was made (line 9).",
+            'Of the document "a":\nCall 1 (index k=2, called in line 3) was answered with a conflict (line 4).',
+        ],
+        {"<tr class=\"broken\">": [1], "<tr class=\"evidence\">": [2], "Of the document &quot;b&quot;": [0]},
+    ),
+    (
+        "a line that was written late",
+        LATE_LINE,
+        no_writer(1, 1),
+        ["\nWas a line written late? The reply to call 1 on line 2 shows what call 0 (index k=1) writes, and the line of call 0 stands only behind it, on line 3."],
+        {},
+    ),
+    (
+        "a write that met a conflict, and may have been performed",
+        index(0) + created(0, 1, 0) + index(1, condition(1, 0), k=2) + conflict(1) + get(2) + missing(2),
+        no(5, 2),
+        [
+            "\nThis is proved, though ",
+            "\nNo write without a reply or answered with a conflict can have done it:\n  line 3, call 1: index k=2 if at 1/0 -> conflict: it writes, and a delete is needed\n",
+        ],
+        {},
+        "--conflicts",
+        "maybe",
+    ),
+]
+
+# Documents that are ruled out, each by a call that has no place. Name, text, the reply at which the search fails and its call and the
+# call that has no place, what the story has, and what the page has how often.
+RULED_OUT = [
+    (
+        "an index without a condition that met a conflict, and a lost write elsewhere",
+        index(0, doc="e") + lost(0) + index(1, k=2) + created(1, 1, 0) + index(2, k=3) + conflict(2),
+        (5, 2, 2),
+        ["\nCall 2 (index k=3, called in line 5) was answered with a conflict (line 6). But it has no condition,"],
+        {"can have done it": [0]},
+    ),
+    (
+        "a conflict on a version that stood all the time",
+        index(0) + created(0, 1, 0) + index(1, condition(1, 0), k=2) + updated(1, 1, 3) + index(2, condition(1, 0), k=3) + lost(2)
+        + get(3) + found(3, 1, 3, k=2) + index(4, condition(1, 3), k=4) + conflict(4) + index(5, k=5) + lost(5),
+        (9, 4, 4),
+        [
+            "\nCall 1 (index k=2 if at 1/0) was answered with the version 1/3 (line 4), so the document had reached it by then. "
+            "Call 4 (index k=4 if at 1/3) was made after that (line 9), so it stands after it. "
+            "It was answered with a conflict on 1/3 (line 10). So something must have replaced 1/3 before line 10.",
+            "\n  line 5, call 2: index k=3 if at 1/0 -> no reply: it asks for another version, 1/0\n",
+            "\n  line 11, call 5: index k=5 -> no reply: it was called only after the reply to call 4 (line 10)\n",
+            "\n* line 3, call 1: ",
+            "\n! line 9, call 4: ",
+        ],
+        # The get is told and drawn below only, and so all are drawn twice; the last call comes after the reply.
+        {'<g class="bar evidence">': [2], '<g class="bar broken">': [2], '<tr class="evidence">': [1], "<svg": [2], "<details>": [1]},
+    ),
+    (
+        "a document created where it was",
+        index(0) + created(0, 1, 0) + index(1, k=2) + lost(1) + delete(2) + lost(2) + index(3, k=3) + created(3, 1, 1),
+        (7, 3, 3),
+        [
+            "\nCall 3 (index k=3, called in line 7) was answered \"created as 1/1\" (line 8). This says that the document was not there just before 1/1. "
+            "But the last version before 1/1 that a reply shows is 1/0 (call 0, line 2), and with it the document was there.",
+            "\n  line 3, call 1: index k=2 -> no reply: it writes, and a delete is needed\n",
+            "\n  line 5, call 2: delete -> no reply: it could only have been performed between 1/0 and 1/1, and no number is free between them\n",
+        ],
+        {'<tr class="evidence">': [1]},
+    ),
+    (
+        "a delete that came after the version which it would have to precede",
+        index(0) + created(0, 1, 0) + index(2, k=3) + index(1, k=2) + updated(1, 1, 5) + delete(3) + lost(3) + created(2, 1, 3),
+        (7, 2, 2),
+        ["\n  line 6, call 3: delete -> no reply: it was called only after the document had passed that version\n"],
+        {},
+    ),
+    (
+        "a get that missed a document that was there",
+        index(0) + created(0, 1, 0) + "".join(index(n, k=n + 1) + lost(n) for n in range(1, 8)) + get(8) + missing(8),
+        (17, 8, 8),
+        [
+            "\nCall 0 (index k=1) was answered with the version 1/0 (line 2), so the document had reached it by then. "
+            "Call 8 (get) was made after that (line 17), so it stands after it. It was answered \"not found\" (line 18). "
+            "So something must have deleted the document before line 18. But with 1/0 the document was there,",
+            "\nNo write without a reply can have done it:\n  line 15, call 7: index k=8 -> no reply: it writes, and a delete is needed\n",
+            "\nAnd 2 more.\n",
+        ],
+        {},
+    ),
+    (
+        "a chain: a lost delete, a get that missed it, and a create that met it",
+        index(0) + created(0, 1, 0) + delete(1) + lost(1) + get(2) + missing(2) + create(3, k=7) + conflict(3),
+        (7, 3, 3),
+        [
+            "\nCall 0 (index k=1) was answered with the version 1/0 (line 2), so the document had reached it by then. "
+            "Call 2 (get) was made after that (line 5) and was answered \"not found\" (line 6), so the document had been deleted by then: ",
+            "Call 3 (create k=7) was made after that (line 7), so it stands after it. It was answered with a conflict (line 8). "
+            "So something must have written the document before line 8.",
+            "\n  line 3, call 1: delete -> no reply: it deletes, and a write of a number is needed\n",
+        ],
+        {'<tr class="evidence">': [2]},
+    ),
+    (
+        "a write under the version of a delete",
+        index(0) + created(0, 1, 0) + delete(1) + deleted(1, 1, 1) + index(2, condition(1, 1), k=3) + updated(2, 1, 3),
+        (5, 2, 2),
+        ["But with 1/1 the document was deleted (call 1, line 4), and no condition is met by a document that is not there."],
+        {'<tr class="evidence">': [1]},
+    ),
+    (
+        "a conflict with what came later",
+        index(0) + created(0, 1, 0) + index(1, condition(1, 0), k=2) + conflict(1) + index(2, condition(1, 0), k=3) + updated(2, 1, 1),
+        (3, 1, 2),
+        [
+            "\nCall 0 (index k=1) was answered with the version 1/0 (line 2), so the document had reached it by then. "
+            "Call 1 (index k=2 if at 1/0) was made after that (line 3) and was answered with a conflict on 1/0 (line 4), so the document was not at 1/0 by then: it had reached 1/1, at least. "
+            "Call 2 (index k=3 if at 1/0) was made after that (line 5), so it stands after it.",
+        ],
+        {'<tr class="evidence">': [2]},
+    ),
+    (
+        "a version that nobody can have written",
+        index(0) + created(0, 1, 0) + delete(1) + lost(1) + index(2, condition(1, 2), k=2) + updated(2, 1, 3),
+        (5, 2, 2),
+        [
+            "So the document must have had the version 1/2 by then. But no reply tells which write made 1/2.",
+            "\n  line 3, call 1: delete -> no reply: it deletes, and a write of a number is needed\n",
         ],
         {},
     ),
@@ -87,13 +254,34 @@ def case_is_told(program, history, reading):
     return page.startswith("<!doctype html>")
 
 
-def text_is_told(program, text, begins, parts, counts):
+def text_is_told(program, text, begins, parts, counts, *words):
     """Whether the story of the text begins so and has these parts, and the page has what it should so often."""
     with tempfile.TemporaryDirectory() as folder:
         history = pathlib.Path(folder) / "history"
         history.write_text(text)
-        told, page = story(program, history)
+        told, page = story(program, history, *words)
     return told.startswith(begins) and all(it in told for it in parts) and all(page.count(it) in often for it, often in counts.items())
+
+
+def reason_is_told(program, text, place, parts, counts):
+    """Whether the story of the text gives the reason why its document is ruled out: the same where the line says so, and where it
+    says no more than no."""
+    event, number, stop = place
+    first = "\n\nThe replies contradict one another: no order of the calls explains them.\nThis is proved, "
+    with tempfile.TemporaryDirectory() as folder:
+        history = pathlib.Path(folder) / "history"
+        history.write_text(text)
+        plain, page = story(program, history)
+        ruled_out, _ = story(program, history, "--rule-out")
+    begins = [no(event, number)[:-1] + first + "though", refuted("ruled-out", stop, event, number)[:-1] + first + "since"]
+    if not plain.startswith(begins[0]) or not ruled_out.startswith(begins[1]):
+        raise Wrong(f"{plain[:300]}, and with the option {ruled_out[:300]}")
+    reasons = [it[it.index("\nWhy no order can have these replies:\n") :] for it in (plain, ruled_out)]
+    parts = [*parts, f"\nSo no order has a place for call {stop} and its reply. This is proved", "\nThe calls that matter, "]
+    for it in parts:
+        if it not in plain:
+            raise Wrong(f"no {it!r} in {plain}")
+    return reasons[0] == reasons[1] and all(page.count(it) in often for it, often in counts.items())
 
 
 def trials(program):
@@ -103,6 +291,8 @@ def trials(program):
             yield Trial(f"{history.stem}, {reading}", case_is_told, (program, history, reading))
     for name, *row in TOLD:
         yield Trial(name, text_is_told, (program, *row))
+    for name, *row in RULED_OUT:
+        yield Trial(name, reason_is_told, (program, *row))
 
 
 def main():

@@ -22,7 +22,7 @@ import time
 
 from program import CASES, TOP, built_program, case_text
 from running import ended, run, run_words, started
-from texts import READ_FAULT, SETTING_FAULT, WRITE_FAULT, no, status_of, verified, yes
+from texts import READ_FAULT, SETTING_FAULT, WRITE_FAULT, no, refuted, status_of, verified, yes
 from trials import Trial, try_and_tell
 
 EXAMPLES = TOP / "examples"
@@ -53,6 +53,9 @@ TAKEN = [
     ("check -", 0, ANSWER, ""),
     ("check 'a b'", 0, ANSWER, ""),
     ("check ''", 4, "", absent("", READ_FAULT)),
+    ("check --rule-out check", 0, ANSWER, ""),
+    ("witness check --rule-out", 0, case_text("index-then-get-witness", "stdout"), ""),
+    ("check -- --rule-out", 4, "", absent("--rule-out", READ_FAULT)),
     ("witness -- --help", 0, case_text("index-then-get-witness", "stdout"), ""),
     ("verify verify verify", 0, VERIFIED_NOTHING, ""),
     ("--version", 0, "casbench 0.1.0\n", ""),
@@ -100,6 +103,7 @@ UNKNOWN = "unexpected argument '{}' found"
 COMMAND = "unrecognized subcommand '{}'"
 TWICE = "the argument '{}' cannot be used multiple times"
 NO_VALUE = "a value is required for '{}' but none was supplied"
+A_VALUE = "unexpected value '{}' for '{}' found; no more were expected"
 READING = "the value of --conflicts is plain or maybe"
 FAULT = "the value of --fault is none, dirty, early, same-term, stale or blind"
 RUN = "run --seed {} --clients {} --calls 200 --docs 3 --copies 5"
@@ -114,6 +118,9 @@ def wrong(value, name):
     """How it is told that the value is none."""
     return f"invalid value '{value}' for '{name}': "
 
+
+# The commands that have --rule-out.
+RULING_OUT = ("check", "witness", "explain")
 
 # Words that are refused, and what is said of them behind `error: `, from its start.
 REFUSED = [
@@ -148,6 +155,15 @@ REFUSED = [
     ("check --conflicts=maybe --conflicts=maybe", TWICE.format("--conflicts <READING>")),
     ("bulk b r --conflicts=maybe", UNKNOWN.format("--conflicts")),
     ("--conflicts maybe", UNKNOWN.format("--conflicts")),
+    # what else is looked for
+    *((f"{command} --rule-out --rule-out", TWICE.format("--rule-out")) for command in RULING_OUT),
+    *((f"{command} --rule-out=x", A_VALUE.format("x", "--rule-out")) for command in RULING_OUT),
+    ("check --rule-out=", A_VALUE.format("", "--rule-out")),
+    ("check --rule-out a b", UNKNOWN.format("b")),
+    ("verify h w --rule-out", UNKNOWN.format("--rule-out")),
+    ("bulk b r --rule-out", UNKNOWN.format("--rule-out")),
+    (run_words() + " --rule-out", UNKNOWN.format("--rule-out")),
+    ("--rule-out", UNKNOWN.format("--rule-out")),
     # bulks
     ("bulk", missing("<BODY>", "<REPLY>")),
     ("bulk b --first 1", missing("<REPLY>")),
@@ -173,9 +189,10 @@ EXAMPLE = {
     "bulk": "\n  casbench bulk bulk.body bulk.reply --first 100 >> history.ndjson\n",
 }
 
-# Words that ask for help, and an example that it has.
+# Words that ask for help, and what it has: an example, and an option.
 HELP = [(words, example) for words in ("help", "--help", "-h") for example in EXAMPLE.values()]
 HELP += [(words.format(name), example) for words in ("help {}", "{} --help", "{} -h") for name, example in EXAMPLE.items()]
+HELP += [(words.format(name), "\n      --rule-out ") for words in ("help {}", "{} --help", "{} -h") for name in RULING_OUT]
 
 # Words that ask for a story with a page, the page's name, how the story begins, and the page where it is known.
 STORIES = [
@@ -183,6 +200,8 @@ STORIES = [
     ("explain --html=- --workers 3 --conflicts=maybe story", "-", "refuted kind=stale-get ", EXAMPLES / "stale-get.html"),
     ("explain --html=- --workers 3 --conflicts=maybe hidden", "-", ANSWER, None),
     ("explain --html=- --workers 3 hidden", "-", no(3, 2), None),
+    ("explain --html=- --rule-out hidden", "-", refuted("ruled-out", "2", 3, 2), None),
+    ("explain --html=- --rule-out story", "-", "refuted kind=stale-get ", EXAMPLES / "stale-get.html"),
 ]
 
 # The documents and calls of a run, as the answer to it has them.

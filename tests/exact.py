@@ -1,0 +1,121 @@
+"""The exact search: whether any order of all calls explains a history, straight from the definitions of docs/MODEL.md.
+
+It is no test itself. The history has a few calls, on documents of one shard. Its calls are as evidence.Known tells them.
+"""
+
+from typing import NamedTuple
+
+from drawing import CONFLICT, Op, Reply, pair_taken, performed
+from texts import MOST_OF_PAIR
+
+# The number of the least pair, and of the greatest: pairs are in order as their numbers are.
+LEAST, GREATEST = MOST_OF_PAIR + 1, (MOST_OF_PAIR + 1) ** 2 - 1
+
+
+def number_of(pair):
+    """How many pairs of any term, 0 too, are below the pair."""
+    return pair[0] * (MOST_OF_PAIR + 1) + pair[1]
+
+
+def room_between(pairs):
+    """How many pairs lie before the first of these, between each two, and after the last."""
+    edges = [LEAST - 1, *map(number_of, pairs), GREATEST + 1]
+    return [high - low - 1 for low, high in zip(edges, edges[1:])]
+
+
+def is_told(call, reading):
+    """Whether it is told what became of the call: under maybe a write that was answered with a conflict may have been performed."""
+    return call.reply is not None and not (call.reply == CONFLICT and reading == "maybe")
+
+
+class Ranked(NamedTuple):
+    """A call with ranks for pairs; where it was not answered there is no reply, and its place is behind all."""
+
+    called: int
+    replied: float
+    doc: int
+    op: Op
+    reply: Reply
+    is_told: bool
+
+
+class After(NamedTuple):
+    """What a front of an order leaves: the calls behind it, of each document what it is and the rank that it took last, and how often
+    each rank was given."""
+
+    left: frozenset
+    states: tuple
+    last: tuple
+    given: tuple
+
+
+def changed(row, at, item):
+    return row[:at] + (item,) + row[at + 1 :]
+
+
+class Search:
+    """The search for an order. The pairs that the history shows have odd ranks, and those between each two, before the first and
+    after the last have the even rank between: no reply and no condition tells these apart."""
+
+    def __init__(self, calls, reading):
+        shown = [it.op.condition for it in calls] + [it.reply.pair for it in calls if it.reply]
+        pairs = sorted(set(filter(None, shown)))
+        self.ranks = {None: None, **{pair: 2 * at + 1 for at, pair in enumerate(pairs)}}
+        # An unanswered get can be left out of each order.
+        self.calls = [self.ranked(it, reading) for it in calls if it.reply or it.op.name != "get"]
+        self.told = [pair_taken(it.reply) for it in self.calls if pair_taken(it.reply)]
+        # How often each rank may be given to writes whose reply doesn't tell a pair.
+        self.room = [1] * (2 * len(pairs) + 1)
+        self.room[::2] = room_between(pairs)
+        for rank in self.told:
+            self.room[rank] = 0
+        self.failed = set()
+
+    def ranked(self, call, reading):
+        reply = call.reply and call.reply._replace(pair=self.ranks[call.reply.pair])
+        replied = float("inf") if reply is None else call.replied
+        op = call.op._replace(condition=self.ranks[call.op.condition])
+        return Ranked(call.called, replied, call.doc, op, reply, is_told(call, reading))
+
+    def has_order(self):
+        docs = max((it.doc for it in self.calls), default=0) + 1
+        start = After(frozenset(range(len(self.calls))), (None,) * docs, (-1,) * docs, (0,) * len(self.room))
+        return len(set(self.told)) == len(self.told) and self.goes_on(start)
+
+    def goes_on(self, after):
+        """Whether the calls that are left can stand behind; of the unanswered ones none has to."""
+        answered = [self.calls[it].replied for it in after.left if self.calls[it].reply]
+        if not answered:
+            return True
+        if after not in self.failed:
+            self.failed.add(after)
+            able = [it for it in after.left if self.calls[it].called < min(answered)]
+            return any(self.goes_on(it) for no in able for it in self.steps(after, no))
+        return False
+
+    def steps(self, after, no):
+        """What is left where the call stands next, in each way that it can."""
+        call = self.calls[no]
+        state, last = after.states[call.doc], after.last[call.doc]
+        if call.reply:
+            taken = pair_taken(call.reply)
+            reply, then = performed(state, call.op, taken)
+            if reply == call.reply and (taken is None or last < taken):
+                yield self.stepped(after, no, then, last if taken is None else taken)
+        if not call.is_told:
+            for rank in range(max(last, 0), len(self.room)):
+                # (an even rank can be taken again)
+                is_free = after.given[rank] < self.room[rank] and (last < rank or rank % 2 == 0)
+                reply, then = performed(state, call.op, rank)
+                if is_free and reply != CONFLICT:
+                    given = changed(after.given, rank, after.given[rank] + 1)
+                    yield self.stepped(after._replace(given=given), no, then, rank)
+
+    def stepped(self, after, no, then, last):
+        doc = self.calls[no].doc
+        return After(after.left - {no}, changed(after.states, doc, then), changed(after.last, doc, last), after.given)
+
+
+def has_order(calls, reading):
+    """Whether an order of all calls explains the history."""
+    return Search(calls, reading).has_order()

@@ -1,0 +1,340 @@
+#!/usr/bin/env python3
+"""Draws recordings of an index with faults, and has the built program judge them with --rule-out.
+
+    python3 tests/ruled_out.py [PROGRAM]
+
+PROGRAM is the built casbench; where it is not named, the one that ./casbench would run. Recordings have one fault each, of those
+that a cluster makes; small histories have one or more, and at most nine calls, so that an exact search tells whether they have an
+order. Where it tells one the program must not refute, and where it tells none the program must not answer yes, and only seldom no.
+
+What is told has to be the evidence of the four older kinds where a naive body finds it, and else the least call at which a naive
+body of the walk rules a document out, where it does. A witness and a story begin with the same line, and without the option the
+line is the same, but `no` for a document that is ruled out.
+"""
+
+import json
+import sys
+from collections import Counter
+from concurrent.futures import ProcessPoolExecutor
+from typing import Callable, NamedTuple
+
+import offences
+from drawing import CONFLICT, MISSING, Call, Ending, Op, Reply, pair_taken, performed
+from evidence import first_evidence, holds, known_calls
+from exact import has_order
+from orders import text_of
+from placings import least_ruled_out
+from program import CASES, built_program, case_text
+from running import run, said
+from texts import OFFENCE, READINGS, status_of
+from trials import Trial, Wrong, tell, try_all
+
+# How many recordings there are, half with each percentage of lost calls, and in how many of them a document is ruled out at least, in
+# each reading.
+RECORDINGS, LOST, RULED_OUT = 400, (5, 20), 80
+
+# How many small histories there are, how many calls each has at most, and how many of them have no order at least.
+SMALL, CALLS, UNORDERED = 3_000, 9, 500
+
+# Of the small histories without an order, how many in a hundred may get no.
+MOST_NO = {"plain": 4, "maybe": 10}
+
+# The kinds of evidence that are told without the option too, and what is answered.
+OLDER = ("pair-twice", "no-writer", "stale-get", "stale-swap")
+KINDS = ("yes", *OLDER, "ruled-out", "no")
+
+
+class Due(NamedTuple):
+    """A fault that the index makes at the first call that can have it, from a call on."""
+
+    since: int
+    put: Callable
+
+
+class Cluster(offences.Clients):
+    """Clients of an index that makes faults, and what was recorded of their calls."""
+
+    def __init__(self, seed, docs):
+        super().__init__(seed, docs)
+        # Of each document what it was before its last change.
+        self.before = [None] * docs
+        # The faults that are still to be made.
+        self.faults = []
+
+    def rightly(self, call):
+        """The reply of an index without a fault."""
+        was = self.states[call.doc]
+        reply = super().answer(call)
+        if pair_taken(reply):
+            self.before[call.doc] = was
+        return reply
+
+    def answer(self, call):
+        for due in self.faults:
+            reply = due.put(self, call) if due.since <= call.no else None
+            if reply:
+                self.faults.remove(due)
+                return reply
+        return self.rightly(call)
+
+    def would_answer(self, call):
+        """The reply of an index without a fault; nothing changes."""
+        return performed(self.states[call.doc], call.op, (1, self.seq))[0]
+
+
+# The faults. Each answers a call wrongly, and gives None where the call can't be answered so.
+
+
+def stale_get(index, call):
+    """A get finds what was there before the last change."""
+    reply = performed(index.before[call.doc], call.op, None)[0] if call.op.name == "get" else None
+    return None if reply == index.would_answer(call) else reply
+
+
+def lost_update(index, call):
+    """A write is told to be performed, and its document stays as it was."""
+    was = index.states[call.doc]
+    if pair_taken(index.would_answer(call)) is None:
+        return None
+    reply = index.rightly(call)
+    index.states[call.doc] = was
+    return reply
+
+
+def win_told_as_conflict(index, call):
+    """A write is performed, and told to be refused."""
+    if pair_taken(index.would_answer(call)) is None:
+        return None
+    index.rightly(call)
+    return CONFLICT
+
+
+def conflict_told_as_win(index, call):
+    """A write is refused, and told to be performed."""
+    if index.would_answer(call) != CONFLICT:
+        return None
+    index.seq += 1
+    pair = 1, index.seq - 1
+    return Reply("deleted", pair, True) if call.op.name == "delete" else Reply("indexed", pair, call.op.name == "create")
+
+
+def wrong_pair(index, call):
+    """The pair before or after the right one is told."""
+    reply = index.would_answer(call)
+    if not reply.pair:
+        return None
+    seq = reply.pair[1] + (1 if index.draws.below(2) or not reply.pair[1] else -1)
+    return index.rightly(call)._replace(pair=(1, seq))
+
+
+def wrong_flag(index, call):
+    """It is told that a document was there which wasn't, or the other way round."""
+    reply = index.would_answer(call)
+    if pair_taken(reply) is None or call.op.name == "create":
+        return None
+    return index.rightly(call)._replace(more=not reply.more)
+
+
+def pair_twice(index, call):
+    """A write takes the pair that the write before it took."""
+    if pair_taken(index.would_answer(call)) is None or not index.seq:
+        return None
+    index.seq -= 1
+    return index.rightly(call)
+
+
+FAULTS = [stale_get, lost_update, win_told_as_conflict, conflict_told_as_win, wrong_pair, wrong_flag, pair_twice]
+
+
+def setting_of(seed):
+    """The fault of a recording, and how many percent of its calls are lost."""
+    return FAULTS[seed % len(FAULTS)], LOST[seed % len(LOST)]
+
+
+def recording(seed):
+    """The events of a recording of 20 to 160 calls, of one document or four, with one fault."""
+    fault, lost = setting_of(seed)
+    cluster = Cluster(seed, 1 if seed % 4 < 2 else 4)
+    cluster.calls, cluster.lost = cluster.draws.below(141) + 20, lost
+    cluster.faults = [Due(cluster.draws.below(cluster.calls * 3 // 4), fault)]
+    return cluster.recorded()
+
+
+def small_history(seed):
+    """The events of six to nine calls, of one document or two, with one to three faults; a third of the calls are lost."""
+    cluster = Cluster(seed, seed % 2 + 1)
+    cluster.calls, cluster.lost = CALLS - cluster.draws.below(4), 33
+    for _ in range(cluster.draws.below(3) + 1):
+        cluster.faults.append(Due(cluster.draws.below(cluster.calls), cluster.draws.one_of(FAULTS)))
+    return cluster.recorded()
+
+
+# What is told of them.
+
+
+def answer(program, command, text, reading, *words):
+    """The first line that a command answers to the text."""
+    status, told = said(run(program, [command, "--conflicts", reading, *words], text))
+    line = "".join(told.splitlines(keepends=True)[:1])
+    if status != status_of(line):
+        raise Wrong(f"{line} with status {status}")
+    return line
+
+
+def kind_of(line):
+    """The kind of evidence that the line tells; `no` where it tells none, and `yes`."""
+    told = OFFENCE.fullmatch(line)
+    return told["kind"] or "no" if told else line.partition(" ")[0]
+
+
+def evidence_of(line):
+    """The kind of evidence that the line tells, with the numbers of its calls; None where it tells none."""
+    told = OFFENCE.fullmatch(line)
+    return (told["kind"], tuple(map(int, told["calls"].split(",")))) if told and told["kind"] else None
+
+
+def naive_evidence(calls, reading):
+    """The evidence that the naive bodies tell: that of the four older kinds, else the least call at which a document is ruled out."""
+    number = least_ruled_out(calls.values(), reading)
+    return first_evidence(calls, reading) or (None if number is None else ("ruled-out", (number,)))
+
+
+def without_option(line):
+    """The line as it is without the option."""
+    return "no " + line[line.index("event=") :] if kind_of(line) == "ruled-out" else line
+
+
+def line_told(program, text, reading):
+    """The line of a check with the option, which agrees with that of a check without it."""
+    line, other = (answer(program, "check", text, reading, *words) for words in (["--rule-out"], []))
+    if other != without_option(line):
+        raise Wrong(f"{line}, and without the option {other}")
+    return line
+
+
+def judged(program, seed, reading):
+    """Judges a recording; tells the kind of its answer."""
+    events = recording(seed)
+    line, calls = line_told(program, text_of(events), reading), known_calls(events)
+    kind, evidence = kind_of(line), evidence_of(line)
+    # (the naive bodies take long where there are many calls; tests/evidence.py has them tell the older kinds)
+    if kind in ("no", "ruled-out") and evidence != naive_evidence(calls, reading):
+        raise Wrong(f"{line}, and the naive bodies tell {naive_evidence(calls, reading)}")
+    if kind in OLDER and not holds(kind, calls, evidence[1], reading):
+        raise Wrong(f"{line}, which doesn't hold")
+    return kind
+
+
+def judged_exactly(program, seed, reading):
+    """Judges a small history; tells the kind of its answer, and whether it has an order."""
+    events = small_history(seed)
+    text, calls = text_of(events), known_calls(events)
+    line, is_explained = line_told(program, text, reading), has_order(list(calls.values()), reading)
+    kind = kind_of(line)
+    if kind != "no" and (kind == "yes") != is_explained:
+        raise Wrong(f"{line}, and the exact search finds {'an' if is_explained else 'no'} order")
+    if kind != "yes":
+        if evidence_of(line) != naive_evidence(calls, reading):
+            raise Wrong(f"{line}, and the naive bodies tell {naive_evidence(calls, reading)}")
+        others = [answer(program, command, text, reading, "--rule-out") for command in ("witness", "explain")]
+        if others != [line, line]:
+            raise Wrong(f"{line}, and a witness and a story begin with {others}")
+    return kind, is_explained
+
+
+# The cases.
+
+
+def reply_of(row):
+    """The reply that the line of a case tells; None where it tells a loss."""
+    body = row.get("body", {})
+    pair = (body["_primary_term"], body["_seq_no"]) if "_seq_no" in body else None
+    if "result" in body:
+        kinds = {"created": ("indexed", True), "updated": ("indexed", False), "deleted": ("deleted", True), "not_found": ("deleted", False)}
+        kind, more = kinds[body["result"]]
+        return Reply(kind, pair, more)
+    if "found" in body:
+        return Reply("found", pair, body["_source"]["k"]) if body["found"] else MISSING
+    return CONFLICT if "error" in body else None
+
+
+def events_of(text):
+    """The events of a case."""
+    docs = {}
+    for row in map(json.loads, text.splitlines()):
+        if row["e"] == "call":
+            condition = (row["if_primary_term"], row["if_seq_no"]) if "if_seq_no" in row else None
+            doc = docs.setdefault(row["id"], len(docs))
+            yield Call(row["n"], doc, Op(row["op"], row.get("k"), condition))
+        else:
+            yield Ending(row["n"], reply_of(row))
+
+
+def judged_case(name, reading):
+    """Whether the history of a case has an order, and the evidence that the naive bodies tell."""
+    calls = known_calls(list(events_of(case_text(name))))
+    return has_order(list(calls.values()), reading), naive_evidence(calls, reading)
+
+
+def case_trials():
+    """The cases that have the option, each judged as its answer is."""
+    for case in sorted(CASES.glob("*.args")):
+        words, line = case.read_text().split(), case_text(case.stem, "stdout")
+        if "--rule-out" in words:
+            reading = "maybe" if "maybe" in words else "plain"
+            yield Trial(case.stem, judged_case, (case.stem, reading), (kind_of(line) == "yes", evidence_of(line)))
+
+
+# What came of them.
+
+
+def row_of(seed):
+    fault, lost = setting_of(seed)
+    return f"{fault.__name__}, {lost} % lost"
+
+
+def print_table(reading, rows):
+    """Prints how many recordings of each fault, and how many of all, get each kind of answer."""
+    counts = Counter(rows) + Counter(("all", kind) for _, kind in rows)
+    print(f"{reading:32}" + "".join(f"{kind:>12}" for kind in KINDS))
+    for fault in [*sorted({fault for fault, _ in rows}), "all"]:
+        print(f"{fault:32}" + "".join(f"{counts[fault, kind]:12}" for kind in KINDS))
+
+
+def wrong_of_recordings(reading, told):
+    """What is wrong with the answers to recordings, whose table is printed; those with their seeds are told."""
+    print_table(reading, [(row_of(seed), kind) for seed, kind in told])
+    count = sum(kind == "ruled-out" for _, kind in told)
+    return [f"{reading}: only {count} recordings are ruled out"] if count < RULED_OUT else []
+
+
+def wrong_of_small(reading, told):
+    """What is wrong with how many small histories have no order, and with how many of these get no."""
+    kinds = [kind for _, (kind, is_explained) in told if not is_explained]
+    counts = ", ".join(f"{kinds.count(kind)} {kind}" for kind in KINDS[1:])
+    print(f"{reading}: {len(kinds)} of {SMALL} small histories have no order: {counts}, which may be {MOST_NO[reading]} in a hundred")
+    missed = sum(kind == "no" and is_explained for _, (kind, is_explained) in told)
+    print(f"{reading}: {SMALL - len(kinds)} have an order, of which {missed} get no")
+    wrong = [f"{reading}: only {len(kinds)} small histories have no order"] if len(kinds) < UNORDERED else []
+    if kinds.count("no") * 100 > MOST_NO[reading] * len(kinds):
+        wrong.append(f"{reading}: {kinds.count('no')} of {len(kinds)} small histories without an order get no")
+    return wrong
+
+
+def main():
+    program = built_program(sys.argv[1:])
+    drawn = [("recording", RECORDINGS, judged, wrong_of_recordings), ("small history", SMALL, judged_exactly, wrong_of_small)]
+    with ProcessPoolExecutor() as pool:
+        answers, wrong = try_all(list(case_trials()), pool, chunksize=4)
+        passed, counted = len(answers) - len(wrong), []
+        for reading in READINGS:
+            for name, seeds, ask, wrong_of in drawn:
+                trials = [Trial(f"{name} {seed}, {reading}", ask, (program, seed, reading)) for seed in range(seeds)]
+                told, others = try_all(trials, pool, chunksize=4)
+                passed, wrong = passed + len(trials) - len(others), wrong + others
+                counted += wrong_of(reading, [(seed, it) for seed, it in enumerate(told) if it])
+    return tell(passed, wrong + counted)
+
+
+if __name__ == "__main__":
+    sys.exit(main())
