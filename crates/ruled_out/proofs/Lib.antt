@@ -5,7 +5,9 @@ mod ToldStates
 mod OrderedPositions
 pub mod PlacingLaws
 pub mod WalkLemmas
+mod ToldRecords
 mod KnownLemmas
+mod PlaceLemmas
 mod RoomLemmas
 mod WriterLemmas
 mod OfferLemmas

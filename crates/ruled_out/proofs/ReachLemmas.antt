@@ -1,6 +1,5 @@
 -- Up to which position each known pair has a call that took it.
 use Rattle.std.proofs.Common.{ℕ, zero, suc, ◌≡◌, ◌<◌, ◌≤◌, ◌⊎◌, inl, inr, List, [], ◌∷◌, length, refl, sym, subst, arith, Option, Some, None, slice_get, get_or}
-use Rattle.std.specs.Prelude.{◌↔◌}
 use Rattle.std.proofs.lemmas.Bool.{cases_lt}
 use Rattle.std.proofs.lemmas.Option.{get_or_from_slice_get, slice_get_within}
 use Rattle.version_pair.specs.declared.pair.Pair.{Pair}
@@ -27,31 +26,31 @@ reached_end records floors walk n knows past v known untold within =
     let inside : there.0 < length walk.versions.known.pairs.items = slice_get_within walk.versions.known.pairs.items there.0 v there.1 in
     untold_written records floors v untold (knows.settled there.0 v (omega arith) there.1)
 
--- else the positions before that of the first pair that no call took
-pub reached_below : (records : List Rec) (floors : List ℕ) (walk : Walk) (p : Pair) (n : ℕ) → Knows records floors walk → slice_get walk.versions.known.pairs.items walk.settled ≡ Some p → IsKnown records p → ¬ IsTaken records floors p
-    → (n < version_of records p) ↔ IsReachedBy records floors n
-reached_below records floors walk p n knows at known none = (λ below v is untold within. earlier v is untold within below, λ reached. by_order reached (cases_lt n (version_of records p))) where
+-- else the positions before that of the first pair that wasn't passed
+pub reached_below : (records : List Rec) (floors : List ℕ) (walk : Walk) (p : Pair) (n : ℕ) → Knows records floors walk → slice_get walk.versions.known.pairs.items walk.settled ≡ Some p → n < version_of records p → IsReachedBy records floors n
+reached_below records floors walk p n knows at below v is untold within = by_place (cases_lt there.0 walk.settled) where
   vs : List Pair
   vs = walk.versions.known.pairs.items
 
-  earlier : (v : Pair) → IsKnown records v → ¬ IsToldOf records v → version_of records v ≤ n → n < version_of records p → IsWritten records floors v
-  earlier v is untold within below = by_place (cases_lt there.0 walk.settled) where
-    there : (i : ℕ) × (slice_get vs i ≡ Some v)
-    there = known_there records vs v knows.versions.known is
+  there : (i : ℕ) × (slice_get vs i ≡ Some v)
+  there = known_there records vs v knows.versions.known is
 
-    by_place : ((there.0 < walk.settled) ⊎ (walk.settled ≤ there.0)) → IsWritten records floors v
-    by_place (inl before) = untold_written records floors v untold (knows.settled there.0 v before there.1)
-    by_place (inr not) =
-        let inside : there.0 < length vs = slice_get_within vs there.0 v there.1 in
-        let here : get_or vs walk.settled v ≡ p = get_or_from_slice_get vs walk.settled p v at in
-        let far : get_or vs there.0 v ≡ v = get_or_from_slice_get vs there.0 v v there.1 in
-        let no_less : ¬ IsBelow v p = λ less. later_not_below vs walk.settled there.0 v knows.versions.known.in_order not inside (subst (λ (u : Pair). IsBelow u (get_or vs walk.settled v)) (sym far) (subst (IsBelow v) (sym here) less)) in
-        let up : version_of records p ≤ version_of records v = version_grows records p v no_less in
-        absurd (omega arith)
+  by_place : ((there.0 < walk.settled) ⊎ (walk.settled ≤ there.0)) → IsWritten records floors v
+  by_place (inl before) = untold_written records floors v untold (knows.settled there.0 v before there.1)
+  by_place (inr not) =
+      let inside : there.0 < length vs = slice_get_within vs there.0 v there.1 in
+      let here : get_or vs walk.settled v ≡ p = get_or_from_slice_get vs walk.settled p v at in
+      let far : get_or vs there.0 v ≡ v = get_or_from_slice_get vs there.0 v v there.1 in
+      let no_less : ¬ IsBelow v p = λ less. later_not_below vs walk.settled there.0 v knows.versions.known.in_order not inside (subst (λ (u : Pair). IsBelow u (get_or vs walk.settled v)) (sym far) (subst (IsBelow v) (sym here) less)) in
+      let up : version_of records p ≤ version_of records v = version_grows records p v no_less in
+      absurd (omega arith)
 
-  by_order : IsReachedBy records floors n → ((n < version_of records p) ⊎ (version_of records p ≤ n)) → n < version_of records p
-  by_order reached (inl below) = below
-  by_order reached (inr not) = absurd (none (inr (reached p known (λ told. none (inl told)) not)))
+-- and no other, where no call took that pair
+pub below_reached : (records : List Rec) (floors : List ℕ) (p : Pair) (n : ℕ) → IsKnown records p → ¬ IsTaken records floors p → IsReachedBy records floors n → n < version_of records p
+below_reached records floors p n known none reached = by_order (cases_lt n (version_of records p)) where
+  by_order : ((n < version_of records p) ⊎ (version_of records p ≤ n)) → n < version_of records p
+  by_order (inl below) = below
+  by_order (inr not) = absurd (none (inr (reached p known (λ told. none (inl told)) not)))
 
 -- ---- small steps
 

@@ -1,5 +1,5 @@
 -- Where there is room for a pair that isn't known; and the known pairs beside a pair.
-use Rattle.std.proofs.Common.{ℕ, zero, suc, ◌≡◌, ◌<◌, ◌≤◌, ◌*◌, ◌⊎◌, inl, inr, List, [], ◌∷◌, ◌++◌, append-nil, length, refl, sym, ap, subst, ◌∙◌, arith, Bool, true, false, cond, Option, Some, None, slice_get, get_or}
+use Rattle.std.proofs.Common.{ℕ, zero, suc, ◌≡◌, ◌<◌, ◌≤◌, ◌+◌, ◌*◌, ◌⊎◌, inl, inr, List, [], ◌∷◌, ◌++◌, append-nil, length, refl, sym, ap, subst, ◌∙◌, arith, Bool, true, false, cond, Option, Some, None, slice_get, take, get_or}
 use Rattle.std.specs.Prelude.{◌↔◌, unwrap_or}
 use Rattle.std.proofs.lemmas.Bool.{cases_lt}
 use Rattle.std.proofs.lemmas.Option.{get_or_from_slice_get, slice_get-get_or, slice_get_within}
@@ -13,11 +13,13 @@ use Rattle.ruled_out.specs.Told.{IsKnown, known_pairs}
 use Rattle.ruled_out.specs.Positions.{count_below, gap_of, is_below, version_of}
 use Rattle.ruled_out.specs.aids.Above.{IsAbove, IsLeastAbove}
 use Rattle.ruled_out.specs.aids.KnownPairs.{AreKnown, HasRoom, IsGapAbove, IsLastKnown, IsNextKnown, IsVersionOf}
+use Rattle.ruled_out.specs.aids.Places.{Gives, RoomBehind}
 use Rattle.ruled_out.specs.aids.VersionsOf.{IsLeastAfter}
 use Rattle.ruled_out.specs.aids.Rooms.{AreRooms, IsAmong}
 use Rattle.ruled_out.specs.aids.Wild.{IsOffered}
 use Rattle.ruled_out.proofs.Counts.{below_tested, count_grows, count_same, pair_order, tested_below}
 use Rattle.ruled_out.proofs.KnownLemmas.{Has, below_first, below_inside, count_moved, inside_below, known_there, later_not_below, there_known}
+use Rattle.ruled_out.proofs.PlaceLemmas.{front_next, pair_at}
 
 -- a pair that isn't below another one, and isn't it, is above it
 above_other : (p q : Pair) → ¬ IsBelow p q → ((p ≡ q) → ⊥) → IsBelow q p
@@ -214,35 +216,46 @@ rooms_first records (Some m) gap n = (λ among. by_place among.0 among.1, by_cas
   by_case (inl room) = (0, (gap n).1 room)
   by_case (inr (i, v, at, room)) = absurd (none_is_not_some v at)
 
-pub rooms_more : (records : List Rec) (lowers : List Pair) (v : Pair) (rooms : List ℕ) (o : Option ℕ) → IsGapAbove records (Some v) o → AreRoomsOf records lowers rooms
-    → AreRoomsOf records (lowers ++ v ∷ []) (rooms ++ option_to_list o)
-rooms_more records lowers v rooms o gap are n = (forth o gap, back o gap) where
+-- and those behind one more pair, which gives its position, or stands among the others
+pub rooms_more : (records : List Rec) (lowers : List Pair) (v : Pair) (rooms : List ℕ) (o : Option ℕ) → ((n : ℕ) → (o ≡ Some n → HasRoom records (Some v) n) × (HasRoom records (Some v) n → (o ≡ Some n) ⊎ Has lowers v))
+    → AreRoomsOf records lowers rooms → AreRoomsOf records (lowers ++ v ∷ []) (rooms ++ option_to_list o)
+rooms_more records lowers v rooms o gives are n = (forth o (gives n).0, back) where
   front : IsAmong rooms n → HasRoom records None n ⊎ ((i : ℕ) × (u : Pair) × (slice_get (lowers ++ v ∷ []) i ≡ Some u) × HasRoom records (Some u) n)
   front among = by_case ((are n).0 among) where
     by_case : HasRoom records None n ⊎ ((i : ℕ) × (u : Pair) × (slice_get lowers i ≡ Some u) × HasRoom records (Some u) n) → HasRoom records None n ⊎ ((i : ℕ) × (u : Pair) × (slice_get (lowers ++ v ∷ []) i ≡ Some u) × HasRoom records (Some u) n)
     by_case (inl room) = inl room
     by_case (inr (i, u, at, room)) = inr (i, u, get_front lowers (v ∷ []) i u at, room)
 
-  forth : (o : Option ℕ) → IsGapAbove records (Some v) o → IsAmong (rooms ++ option_to_list o) n → HasRoom records None n ⊎ ((i : ℕ) × (u : Pair) × (slice_get (lowers ++ v ∷ []) i ≡ Some u) × HasRoom records (Some u) n)
-  forth None gap among = front (subst (λ (xs : List ℕ). IsAmong xs n) (append-nil rooms) among)
-  forth (Some m) gap among = by_part (among_more rooms m n among) where
+  forth : (o : Option ℕ) → (o ≡ Some n → HasRoom records (Some v) n) → IsAmong (rooms ++ option_to_list o) n → HasRoom records None n ⊎ ((i : ℕ) × (u : Pair) × (slice_get (lowers ++ v ∷ []) i ≡ Some u) × HasRoom records (Some u) n)
+  forth None gives among = front (subst (λ (xs : List ℕ). IsAmong xs n) (append-nil rooms) among)
+  forth (Some m) gives among = by_part (among_more rooms m n among) where
     by_part : IsAmong rooms n ⊎ (m ≡ n) → HasRoom records None n ⊎ ((i : ℕ) × (u : Pair) × (slice_get (lowers ++ v ∷ []) i ≡ Some u) × HasRoom records (Some u) n)
     by_part (inl old) = front old
-    by_part (inr is) = inr (length lowers, v, get_last lowers v, (gap n).0 (ap (λ x. Some x) is))
+    by_part (inr is) = inr (length lowers, v, get_last lowers v, gives (ap (λ x. Some x) is))
 
-  kept : (o : Option ℕ) → IsAmong rooms n → IsAmong (rooms ++ option_to_list o) n
-  kept o among = (among.0, get_front rooms (option_to_list o) among.0 n among.1)
+  kept : IsAmong rooms n → IsAmong (rooms ++ option_to_list o) n
+  kept among = (among.0, get_front rooms (option_to_list o) among.0 n among.1)
 
   added : (o : Option ℕ) → o ≡ Some n → IsAmong (rooms ++ option_to_list o) n
   added None is = absurd (none_is_not_some n is)
   added (Some m) is = (length rooms, get_last rooms m ∙ is)
 
-  back : (o : Option ℕ) → IsGapAbove records (Some v) o → HasRoom records None n ⊎ ((i : ℕ) × (u : Pair) × (slice_get (lowers ++ v ∷ []) i ≡ Some u) × HasRoom records (Some u) n) → IsAmong (rooms ++ option_to_list o) n
-  back o gap (inl room) = kept o ((are n).1 (inl room))
-  back o gap (inr (i, u, at, room)) = by_place (get_snoc lowers v u i at) where
+  given : HasRoom records (Some v) n → (o ≡ Some n) ⊎ Has lowers v → IsAmong (rooms ++ option_to_list o) n
+  given room (inl is) = added o is
+  given room (inr (j, at)) = kept ((are n).1 (inr (j, v, at, room)))
+
+  back : HasRoom records None n ⊎ ((i : ℕ) × (u : Pair) × (slice_get (lowers ++ v ∷ []) i ≡ Some u) × HasRoom records (Some u) n) → IsAmong (rooms ++ option_to_list o) n
+  back (inl room) = kept ((are n).1 (inl room))
+  back (inr (i, u, at, room)) = by_place (get_snoc lowers v u i at) where
     by_place : (slice_get lowers i ≡ Some u) ⊎ ((i ≡ length lowers) × (v ≡ u)) → IsAmong (rooms ++ option_to_list o) n
-    by_place (inl old) = kept o ((are n).1 (inr (i, u, old, room)))
-    by_place (inr end) = added o ((gap n).1 (subst (λ (x : Pair). HasRoom records (Some x) n) (sym end.1) room))
+    by_place (inl old) = kept ((are n).1 (inr (i, u, old, room)))
+    by_place (inr end) = let own : HasRoom records (Some v) n = subst (λ (x : Pair). HasRoom records (Some x) n) (sym end.1) room in given own ((gives n).1 own)
+
+-- one more pair is looked at, which gives its room, or stands before it too
+pub rooms_next : (records : List Rec) (vs : List Pair) (place : ℕ) (rooms : List ℕ) (o : Option ℕ) → place < length vs → Gives (RoomBehind records) vs place o → AreRoomsOf records (take place vs) rooms → AreRoomsOf records (take (place + 1) vs) (rooms ++ option_to_list o)
+rooms_next records vs place rooms o within gives are = by_pair (pair_at vs place within) where
+  by_pair : ((v : Pair) × (slice_get vs place ≡ Some v)) → AreRoomsOf records (take (place + 1) vs) (rooms ++ option_to_list o)
+  by_pair (v, at) = subst (λ (xs : List Pair). AreRoomsOf records xs (rooms ++ option_to_list o)) (sym (front_next vs place v at)) (rooms_more records (take place vs) v rooms o (λ n. gives v n at) are)
 
 -- the greatest of some pairs below a pair, or there is none
 greatest_below : (vs : List Pair) (p : Pair) → ((v : Pair) × ((i : ℕ) × (slice_get vs i ≡ Some v)) × IsBelow v p × ((u : Pair) (i : ℕ) → slice_get vs i ≡ Some u → IsBelow u p → ¬ IsBelow v u))

@@ -1,25 +1,26 @@
 -- The positions at which a document may be by what replies tell alone, pair by pair.
-use Rattle.std.proofs.Common.{ℕ, ◌≡◌, ◌⊎◌, inl, inr, List, [], ◌∷◌, ◌++◌, length, sym, ap, subst, ◌∙◌, Option, Some, None, slice_get}
+use Rattle.std.proofs.Common.{ℕ, ◌≡◌, ◌<◌, ◌+◌, ◌⊎◌, inl, inr, List, [], ◌∷◌, ◌++◌, length, sym, ap, subst, Option, Some, slice_get, take}
 use Rattle.std.specs.Prelude.{◌↔◌}
 use Rattle.std.specs.BTreeSet.{BTreeSet}
 use Rattle.version_pair.specs.declared.pair.Pair.{Pair}
 use Rattle.history.specs.declared.record.Rec.{Rec}
-use Rattle.history.proofs.ListLemmas.{get_front, get_last, get_snoc, none_is_not_some, same_some}
+use Rattle.history.proofs.ListLemmas.{get_front, get_last, get_snoc, none_is_not_some}
 use Rattle.ruled_out.specs.Told.{IsGone, IsKnown, pair_shown}
 use Rattle.ruled_out.specs.Positions.{version_of}
 use Rattle.ruled_out.specs.aids.KnownPairs.{AreKnown}
 use Rattle.ruled_out.specs.aids.Sets.{IsIn, IsWithSome}
-use Rattle.ruled_out.specs.aids.VersionsOf.{IsGoneWith, IsPresentWith}
+use Rattle.ruled_out.specs.aids.Places.{Gives, GoneAt, PresentAt}
 use Rattle.ruled_out.specs.aids.Wild.{IsToldAbsent, IsToldPresent}
 use Rattle.ruled_out.proofs.Counts.{shown_known}
-use Rattle.ruled_out.proofs.KnownLemmas.{known_there}
+use Rattle.ruled_out.proofs.KnownLemmas.{Has, known_there}
+use Rattle.ruled_out.proofs.PlaceLemmas.{front_next, pair_at}
 
 -- what the set has by the first pairs, where so is what a pair gives
 abbrev Gathers : (Pair → ℕ → Type 0) → (ℕ → Type 0) → List Pair → BTreeSet ℕ → Type 0
 Gathers P Base pairs set = (n : ℕ) → IsIn set n ↔ (Base n ⊎ ((i : ℕ) × (v : Pair) × (slice_get pairs i ≡ Some v) × P v n))
 
-gathers_more : (P : Pair → ℕ → Type 0) (Base : ℕ → Type 0) (pairs : List Pair) (v : Pair) (o : Option ℕ) (old new : BTreeSet ℕ) → ((n : ℕ) → (o ≡ Some n) ↔ P v n) → IsWithSome old new o → Gathers P Base pairs old
-    → Gathers P Base (pairs ++ v ∷ []) new
+gathers_more : (P : Pair → ℕ → Type 0) (Base : ℕ → Type 0) (pairs : List Pair) (v : Pair) (o : Option ℕ) (old new : BTreeSet ℕ) → ((n : ℕ) → (o ≡ Some n → P v n) × (P v n → (o ≡ Some n) ⊎ Has pairs v)) → IsWithSome old new o
+    → Gathers P Base pairs old → Gathers P Base (pairs ++ v ∷ []) new
 gathers_more P Base pairs v o old new gives adds are n = (λ is. forth ((adds n).0 is), λ g. (adds n).1 (back g)) where
   Given : Type 0
   Given = Base n ⊎ ((i : ℕ) × (u : Pair) × (slice_get (pairs ++ v ∷ []) i ≡ Some u) × P u n)
@@ -32,25 +33,29 @@ gathers_more P Base pairs v o old new gives adds are n = (λ is. forth ((adds n)
   forth (inl is) = inr (length pairs, v, get_last pairs v, (gives n).0 is)
   forth (inr there) = more ((are n).0 there)
 
+  given : P v n → (o ≡ Some n) ⊎ Has pairs v → (o ≡ Some n) ⊎ IsIn old n
+  given p (inl is) = inl is
+  given p (inr (j, at)) = inr ((are n).1 (inr (j, v, at, p)))
+
   by_place : (i : ℕ) (u : Pair) → P u n → (slice_get pairs i ≡ Some u) ⊎ ((i ≡ length pairs) × (v ≡ u)) → (o ≡ Some n) ⊎ IsIn old n
   by_place i u p (inl at) = inr ((are n).1 (inr (i, u, at, p)))
-  by_place i u p (inr end) = inl ((gives n).1 (subst (λ (x : Pair). P x n) (sym end.1) p))
+  by_place i u p (inr end) = let own : P v n = subst (λ (x : Pair). P x n) (sym end.1) p in given own ((gives n).1 own)
 
   back : Given → (o ≡ Some n) ⊎ IsIn old n
   back (inl base) = inr ((are n).1 (inl base))
   back (inr (i, u, at, p)) = by_place i u p (get_snoc pairs v u i at)
 
--- ---- absent
+-- one more pair is looked at, which gives its position, or stands before it too
+gathers_next : (P : Pair → ℕ → Type 0) (Base : ℕ → Type 0) (vs : List Pair) (place : ℕ) (o : Option ℕ) (old new : BTreeSet ℕ) → place < length vs → Gives P vs place o → IsWithSome old new o → Gathers P Base (take place vs) old
+    → Gathers P Base (take (place + 1) vs) new
+gathers_next P Base vs place o old new within gives adds are = by_pair (pair_at vs place within) where
+  by_pair : ((v : Pair) × (slice_get vs place ≡ Some v)) → Gathers P Base (take (place + 1) vs) new
+  by_pair (v, at) = subst (λ (xs : List Pair). Gathers P Base xs new) (sym (front_next vs place v at)) (gathers_more P Base (take place vs) v o old new (λ n. gives v n at) adds are)
 
-abbrev GoneAt : List Rec → Pair → ℕ → Type 0
-GoneAt records v n = IsGone records v × (n ≡ version_of records v)
+-- ---- absent
 
 abbrev pub IsToldAbsentSo : List Rec → List Pair → BTreeSet ℕ → Type 0
 IsToldAbsentSo records pairs set = Gathers (GoneAt records) (λ n. n ≡ 0) pairs set
-
-gone_gives : (records : List Rec) (v : Pair) (o : Option ℕ) → IsGoneWith records v o → (n : ℕ) → (o ≡ Some n) ↔ GoneAt records v n
-gone_gives records v None not n = (λ is. absurd (none_is_not_some n is), λ g. absurd (not g.0))
-gone_gives records v (Some m) is n = (λ same. (is.0, sym (same_some m n same) ∙ is.1), λ g. ap (λ k. Some k) (is.1 ∙ sym g.1))
 
 pub absent_first : (records : List Rec) (empty set : BTreeSet ℕ) → ((n : ℕ) → ¬ IsIn empty n) → ((n : ℕ) → IsIn set n ↔ ((n ≡ 0) ⊎ IsIn empty n)) → IsToldAbsentSo records [] set
 absent_first records empty set none adds n = (λ is. forth ((adds n).0 is), λ g. (adds n).1 (back g)) where
@@ -62,8 +67,9 @@ absent_first records empty set none adds n = (λ is. forth ((adds n).0 is), λ g
   back (inl is) = inl is
   back (inr (i, v, at, g)) = absurd (none_is_not_some v at)
 
-pub absent_more : (records : List Rec) (pairs : List Pair) (v : Pair) (o : Option ℕ) (old new : BTreeSet ℕ) → IsGoneWith records v o → IsWithSome old new o → IsToldAbsentSo records pairs old → IsToldAbsentSo records (pairs ++ v ∷ []) new
-absent_more records pairs v o old new is adds are = gathers_more (GoneAt records) (λ n. n ≡ 0) pairs v o old new (gone_gives records v o is) adds are
+pub absent_more : (records : List Rec) (vs : List Pair) (place : ℕ) (o : Option ℕ) (old new : BTreeSet ℕ) → place < length vs → Gives (GoneAt records) vs place o → IsWithSome old new o → IsToldAbsentSo records (take place vs) old
+    → IsToldAbsentSo records (take (place + 1) vs) new
+absent_more records vs place o old new within gives adds are = gathers_next (GoneAt records) (λ n. n ≡ 0) vs place o old new within gives adds are
 
 pub gone_known : (records : List Rec) (v : Pair) → IsGone records v → IsKnown records v
 gone_known records v g = shown_known records v (record { call = g.call; listed = g.listed; shows = inl (ap pair_shown g.heard) })
@@ -80,30 +86,24 @@ absent_all records pairs set known are n = (λ is. forth ((are n).0 is), λ g. (
 
 -- ---- there
 
-abbrev ThereAt : List Rec → Pair → ℕ → Type 0
-ThereAt records v n = IsKnown records v × (¬ IsGone records v) × (n ≡ version_of records v)
-
 abbrev pub IsToldPresentSo : List Rec → List Pair → BTreeSet ℕ → Type 0
-IsToldPresentSo records pairs set = Gathers (ThereAt records) (λ n. ⊥) pairs set
-
-there_gives : (records : List Rec) (v : Pair) (o : Option ℕ) → IsPresentWith records v o → (n : ℕ) → (o ≡ Some n) ↔ ThereAt records v n
-there_gives records v None not n = (λ is. absurd (none_is_not_some n is), λ t. absurd (t.1 (not t.0)))
-there_gives records v (Some m) is n = (λ same. (is.0, is.1, sym (same_some m n same) ∙ is.2), λ t. ap (λ k. Some k) (is.2 ∙ sym t.2))
+IsToldPresentSo records pairs set = Gathers (PresentAt records) (λ n. ⊥) pairs set
 
 pub present_first : (records : List Rec) (set : BTreeSet ℕ) → ((n : ℕ) → ¬ IsIn set n) → IsToldPresentSo records [] set
 present_first records set none n = (λ is. absurd (none n is), by_case) where
-  by_case : ⊥ ⊎ ((i : ℕ) × (v : Pair) × (slice_get [] i ≡ Some v) × ThereAt records v n) → IsIn set n
+  by_case : ⊥ ⊎ ((i : ℕ) × (v : Pair) × (slice_get [] i ≡ Some v) × PresentAt records v n) → IsIn set n
   by_case (inl never) = absurd never
   by_case (inr (i, v, at, t)) = absurd (none_is_not_some v at)
 
-pub present_more : (records : List Rec) (pairs : List Pair) (v : Pair) (o : Option ℕ) (old new : BTreeSet ℕ) → IsPresentWith records v o → IsWithSome old new o → IsToldPresentSo records pairs old → IsToldPresentSo records (pairs ++ v ∷ []) new
-present_more records pairs v o old new is adds are = gathers_more (ThereAt records) (λ n. ⊥) pairs v o old new (there_gives records v o is) adds are
+pub present_more : (records : List Rec) (vs : List Pair) (place : ℕ) (o : Option ℕ) (old new : BTreeSet ℕ) → place < length vs → Gives (PresentAt records) vs place o → IsWithSome old new o → IsToldPresentSo records (take place vs) old
+    → IsToldPresentSo records (take (place + 1) vs) new
+present_more records vs place o old new within gives adds are = gathers_next (PresentAt records) (λ n. ⊥) vs place o old new within gives adds are
 
 pub present_all : (records : List Rec) (pairs : List Pair) (set : BTreeSet ℕ) → AreKnown records pairs → IsToldPresentSo records pairs set → IsToldPresent records set
 present_all records pairs set known are n = (λ is. forth ((are n).0 is), λ t. (are n).1 (back t)) where
-  forth : ⊥ ⊎ ((i : ℕ) × (v : Pair) × (slice_get pairs i ≡ Some v) × ThereAt records v n) → (v : Pair) × IsKnown records v × (¬ IsGone records v) × (n ≡ version_of records v)
+  forth : ⊥ ⊎ ((i : ℕ) × (v : Pair) × (slice_get pairs i ≡ Some v) × PresentAt records v n) → (v : Pair) × IsKnown records v × (¬ IsGone records v) × (n ≡ version_of records v)
   forth (inl never) = absurd never
   forth (inr (i, v, at, t)) = (v, t.0, t.1, t.2)
 
-  back : (v : Pair) × IsKnown records v × (¬ IsGone records v) × (n ≡ version_of records v) → ⊥ ⊎ ((i : ℕ) × (v : Pair) × (slice_get pairs i ≡ Some v) × ThereAt records v n)
+  back : (v : Pair) × IsKnown records v × (¬ IsGone records v) × (n ≡ version_of records v) → ⊥ ⊎ ((i : ℕ) × (v : Pair) × (slice_get pairs i ≡ Some v) × PresentAt records v n)
   back (v, is, stays, same) = let there = known_there records pairs v known is in inr (there.0, v, there.1, (is, stays, same))

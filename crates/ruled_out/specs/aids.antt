@@ -1,6 +1,7 @@
 pub mod Walks
 pub mod Answers
 pub mod KnownPairs
+pub mod Places
 pub mod Above
 pub mod Sets
 pub mod Versions

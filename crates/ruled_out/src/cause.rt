@@ -61,7 +61,7 @@ fn unmet_by(versions: &Versions, write: Write, asked: Pair) -> Unmet {
     }
     match versions.known.last_below(write.pair) {
         Some(last) if asked.is_below(last) => Unmet::Replaced(last),
-        _ if versions.gone_with(asked).is_some() => Unmet::Deleted,
+        _ if versions.told_of(asked).gone => Unmet::Deleted,
         _ => Unmet::Changed,
     }
 }

@@ -36,6 +36,16 @@ fn first_without_position(
     Ok(None)
 }
 
+// The number of the call at which the document is ruled out, by its calls as they are told.
+fn ruled_out_as_told(alloc: Global, told: &[Rec]) -> Result<Option<u64>, NoMemory>
+    requires { AreInOrder told.now }
+    ensures { IfOk result (IsRuledOutAt told.now) }
+{
+    let answers = answers_of(alloc, told)?;
+    let mut walk = Walk::new(alloc, told)?;
+    first_without_position(&mut walk, told, &answers)
+}
+
 /// The number of the call at which the document of the records is ruled out, where it is: its answered calls are taken in the
 /// order of their replies, each with the least position that it may have, and this one has none.
 pub fn ruled_out_at(
@@ -46,8 +56,12 @@ pub fn ruled_out_at(
     requires { AreInOrder (told conflicts records.now) }
     ensures { IfOk result (IsRuledOutAt (told conflicts records.now)) }
 {
-    let told = told_records(alloc, records, conflicts)?;
-    let answers = answers_of(alloc, &told)?;
-    let mut walk = Walk::new(alloc, &told)?;
-    first_without_position(&mut walk, &told, &answers)
+    match conflicts {
+        // Each call is told as it is.
+        Conflicts::Plain => ruled_out_as_told(alloc, records),
+        Conflicts::Maybe => {
+            let told = told_records(alloc, records, conflicts)?;
+            ruled_out_as_told(alloc, &told)
+        }
+    }
 }

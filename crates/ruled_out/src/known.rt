@@ -1,15 +1,25 @@
-ghost use Rattle.std.specs.Prelude.{◌≡◌, ◌≤◌, ◌<◌, ◌+◌, ◌^◌, ◌↔◌, ◌++◌, length, IfOk, IfSome, OnOk, IsTrue, List};
+ghost use Rattle.std.specs.Prelude.{◌≡◌, ◌≤◌, ◌<◌, ◌+◌, ◌*◌, ◌^◌, ◌↔◌, ◌++◌, length, IfOk, IfSome, OnOk, IsTrue, List};
 ghost use Rattle.std.specs.Option.{option_to_list};
 ghost use Rattle.history.specs.declared.record.Rec.{Rec as Record};
 ghost use Rattle.ruled_out.specs.Positions.{count_below, gap_of, is_below};
-ghost use Rattle.ruled_out.specs.Told.{IsKnown, condition_met, known_pairs, pair_shown};
+ghost use Rattle.ruled_out.specs.Told.{condition_met, known_pairs, pair_shown};
 ghost use Rattle.ruled_out.specs.aids.KnownPairs.{AreKnown, IsGapAbove, IsLastKnown, IsNextKnown, IsVersionOf};
+ghost use Rattle.ruled_out.specs.aids.Places.{Gives, IsPlaceOf, IsRepeated, RoomBehind};
 
 use crate::above::least_above;
 use doc_register::Reply;
 use history::Rec;
 use std::alloc::Global;
 use version_pair::{NoMemory, Pair};
+
+// Where a pair stands among the known ones.
+#[derive(Clone, Copy)]
+struct Place {
+    // How many known pairs are below it.
+    below: usize,
+    // Whether it is known.
+    known: bool,
+}
 
 /// The known pairs of a document: those that replies show to be those of its changes, each as often as a reply shows it.
 #[derive(Drop)]
@@ -93,26 +103,37 @@ impl Known {
         2 * self.count_below(pair) + 1
     }
 
+    // Where the pair stands among the known ones.
+    fn find(&self, pair: Pair) -> Place
+        ensures exact { (records : List Record) → AreKnown records self.now.pairs.items → IsPlaceOf records pair result }
+        ensures fits { 2 * result.below + 1 < 2 ^ 64 }
+        ensures fits_known { IsTrue result.known → 2 * result.below + 3 < 2 ^ 64 }
+    {
+        let below = self.count_below(pair);
+        let known = below < self.pairs.len() && self.pairs[below] == pair;
+        Place { below, known }
+    }
+
     /// The position of a document that has the pair, where it is known.
     pub fn version_of(&self, pair: Pair) -> Option<usize>
         ensures exact { (records : List Record) → AreKnown records self.now.pairs.items
             → IsVersionOf records pair result }
         ensures fits { IfSome result (λ n. n + 1 < 2 ^ 64) }
     {
-        let below = self.count_below(pair);
-        if below < self.pairs.len() && self.pairs[below] == pair {
-            Some(2 * below + 2)
+        let place = self.find(pair);
+        if place.known {
+            Some(2 * place.below + 2)
         } else {
             None
         }
     }
 
-    /// Whether the pair is known.
-    pub fn is_known(&self, pair: Pair) -> bool
-        ensures { (records : List Record) → AreKnown records self.now.pairs.items
-            → (IsTrue result ↔ IsKnown records pair) }
+    /// Whether the pair at the place is that of the place before it.
+    pub fn is_repeated(&self, place: usize) -> bool
+        requires { place < length self.now.pairs.items }
+        ensures { IsRepeated self.now.pairs.items place result }
     {
-        self.version_of(pair).is_some()
+        place > 0 && self.pairs[place - 1] == self.pairs[place]
     }
 
     /// The position of the calls that may take a pair which isn't known, and which lies behind the lower one, if there is one,
@@ -121,10 +142,25 @@ impl Known {
         ensures { (records : List Record) → AreKnown records self.now.pairs.items → IsGapAbove records lower result }
     {
         let next = least_above(lower)?;
-        if self.is_known(next) {
+        let place = self.find(next);
+        if place.known {
             None
         } else {
-            Some(self.gap_of(next))
+            Some(2 * place.below + 1)
+        }
+    }
+
+    /// The position of the calls that may take a pair which isn't known behind the known pair at the place, with no known pair
+    /// between; `None` where there is no such pair, and where the place before has the same pair.
+    pub fn gap_behind(&self, place: usize) -> Option<usize>
+        requires { place < length self.now.pairs.items }
+        ensures { (records : List Record) → AreKnown records self.now.pairs.items
+            → Gives (RoomBehind records) self.now.pairs.items place result }
+    {
+        if self.is_repeated(place) {
+            None
+        } else {
+            self.gap_above(Some(self.pairs[place]))
         }
     }
 

@@ -1,4 +1,4 @@
-ghost use Rattle.std.specs.Prelude.{◌≡◌, ◌+◌, ◌<◌, ◌^◌, ◌++◌, IfOk, IfSome, OnOk, List};
+ghost use Rattle.std.specs.Prelude.{◌≡◌, ◌+◌, ◌<◌, ◌^◌, ◌++◌, IfOk, IfSome, OnOk, List, length};
 ghost use Rattle.std.specs.Option.{option_to_list};
 ghost use Rattle.history.specs.declared.record.Rec.{Rec as Record};
 ghost use Rattle.ruled_out.specs.Told.{IsKnown};
@@ -66,14 +66,15 @@ fn rooms_among(alloc: Global, known: &Known) -> Result<Vec<usize>, NoMemory>
 {
     let mut rooms = Vec::new(alloc);
     push_room(&mut rooms, known.gap_above(None))?;
-    for pair in known.pairs() {
-        push_room(&mut rooms, known.gap_above(Some(*pair)))?;
+    for place in 0..known.pairs().len() {
+        push_room(&mut rooms, known.gap_behind(place))?;
     }
     Ok(rooms)
 }
 
 impl Versions {
-    ghost use Rattle.ruled_out.specs.aids.VersionsOf.{AreOf, IsGoneWith, IsLeastAfter, IsPresentWith};
+    ghost use Rattle.ruled_out.specs.aids.VersionsOf.{AreOf, IsLeastAfter, IsPresentWith};
+    ghost use Rattle.ruled_out.specs.aids.Places.{Gives, GoneAt, IsVersionAt, PresentAt};
 
     /// The versions of a document's records.
     pub fn of(alloc: Global, records: &[Rec]) -> Result<Versions, NoMemory>
@@ -97,6 +98,49 @@ impl Versions {
         }
     }
 
+    // What is told of the known pair at the place; `None` where the place before has the same pair.
+    fn version_at(&self, place: usize) -> Option<Version>
+        requires { place < length self.now.known.pairs.items }
+        ensures { (records : List Record) → AreOf records self.now
+            → IsVersionAt records self.now.known.pairs.items place result }
+    {
+        if self.known.is_repeated(place) {
+            None
+        } else {
+            self.told.get(place).copied()
+        }
+    }
+
+    /// The position of a document that has the known pair at the place, where a reply tells that it was deleted with it; `None`
+    /// where none does, and where the place before has the same pair.
+    pub fn gone_at(&self, place: usize) -> Option<usize>
+        requires { place < length self.now.known.pairs.items }
+        ensures { (records : List Record) → AreOf records self.now
+            → Gives (GoneAt records) self.now.known.pairs.items place result }
+    {
+        let version = self.version_at(place)?;
+        if version.gone {
+            Some(2 * place + 2)
+        } else {
+            None
+        }
+    }
+
+    /// The position of a document that has the known pair at the place, where no reply tells that it was deleted with it; `None`
+    /// where one does, and where the place before has the same pair.
+    pub fn present_at(&self, place: usize) -> Option<usize>
+        requires { place < length self.now.known.pairs.items }
+        ensures { (records : List Record) → AreOf records self.now
+            → Gives (PresentAt records) self.now.known.pairs.items place result }
+    {
+        let version = self.version_at(place)?;
+        if version.gone {
+            None
+        } else {
+            Some(2 * place + 2)
+        }
+    }
+
     /// The position of a document that has the pair, where it is known and no reply tells that the document was deleted with it.
     pub fn present_with(&self, pair: Pair) -> Option<usize>
         ensures exact { (records : List Record) → AreOf records self.now → IsPresentWith records pair result }
@@ -107,18 +151,6 @@ impl Versions {
             None
         } else {
             Some(n)
-        }
-    }
-
-    /// The position of a document that has the pair, where a reply tells that it was deleted with it.
-    pub fn gone_with(&self, pair: Pair) -> Option<usize>
-        ensures { (records : List Record) → AreOf records self.now → IsGoneWith records pair result }
-    {
-        let n = self.known.version_of(pair)?;
-        if self.told_of(pair).gone {
-            Some(n)
-        } else {
-            None
         }
     }
 

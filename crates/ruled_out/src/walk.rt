@@ -42,8 +42,8 @@ fn told_absent(alloc: Global, versions: &Versions) -> Result<Possible, NoMemory>
 {
     let mut away = Possible::new(alloc);
     away.insert(0)?;
-    for pair in versions.known.pairs() {
-        away.insert_some(versions.gone_with(*pair))?;
+    for place in 0..versions.known.pairs().len() {
+        away.insert_some(versions.gone_at(place))?;
     }
     Ok(away)
 }
@@ -55,8 +55,8 @@ fn told_present(alloc: Global, versions: &Versions) -> Result<Possible, NoMemory
         → IsToldPresent records there.positions) }
 {
     let mut there = Possible::new(alloc);
-    for pair in versions.known.pairs() {
-        there.insert_some(versions.present_with(*pair))?;
+    for place in 0..versions.known.pairs().len() {
+        there.insert_some(versions.present_at(place))?;
     }
     Ok(there)
 }

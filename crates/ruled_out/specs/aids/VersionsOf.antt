@@ -20,11 +20,6 @@ abbrev pub IsPresentWith : List Rec → Pair → Option ℕ → Type 0
 IsPresentWith records b None = IsKnown records b → IsGone records b
 IsPresentWith records b (Some n) = IsKnown records b × (¬ IsGone records b) × (n ≡ version_of records b)
 
--- the position of a document that was deleted with the pair, if it was
-abbrev pub IsGoneWith : List Rec → Pair → Option ℕ → Type 0
-IsGoneWith records b None = ¬ IsGone records b
-IsGoneWith records b (Some n) = IsGone records b × (n ≡ version_of records b)
-
 -- the least position at which each known pair below the pair was taken
 abbrev pub IsLeastAfter : List Rec → Pair → ℕ → Type 0
 IsLeastAfter records q n = ((v : Pair) → IsKnown records v → IsBelow v q → version_of records v ≤ n)

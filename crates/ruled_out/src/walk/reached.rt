@@ -46,14 +46,13 @@ impl Walk {
         self.settled = self.first_untaken();
     }
 
-    /// Whether each known pair up to the position has a call that took it.
-    pub fn is_reached(&mut self, n: usize) -> bool
-        ensures known { (records : List Record) → IsAt records self.old → IsAt records self.new }
-        ensures keeps { KeepsFloors self.old self.new }
-        ensures reached { (records : List Record) → IsAt records self.old
-            → (IsTrue result ↔ IsReachedBy records self.new.floors.items n) }
+    // Whether each known pair up to the position is among those that were passed.
+    fn has_settled(&self, n: usize) -> bool
+        ensures reached { (records : List Record) → IsAt records self.now → IsTrue result
+            → IsReachedBy records self.now.floors.items n }
+        ensures settled { (records : List Record) → IsAt records self.now → IsUntaken records self.now self.now.settled
+            → IsReachedBy records self.now.floors.items n → IsTrue result }
     {
-        self.settle();
         let Some(pair) = self.versions.known.pairs().get(self.settled).copied() else {
             return true;
         };
@@ -61,5 +60,19 @@ impl Walk {
             return true;
         };
         n < position
+    }
+
+    /// Whether each known pair up to the position has a call that took it.
+    pub fn is_reached(&mut self, n: usize) -> bool
+        ensures known { (records : List Record) → IsAt records self.old → IsAt records self.new }
+        ensures keeps { KeepsFloors self.old self.new }
+        ensures reached { (records : List Record) → IsAt records self.old
+            → (IsTrue result ↔ IsReachedBy records self.new.floors.items n) }
+    {
+        if self.has_settled(n) {
+            return true;
+        }
+        self.settle();
+        self.has_settled(n)
     }
 }

@@ -4,5 +4,5 @@ use Rattle.std.proofs.Common.{List, take}
 use Rattle.history.specs.declared.record.Rec.{Rec}
 use Rattle.ruled_out.proofs.versions.rooms_among.Given as goal
 
-abbrev pub invariant-loop-pair : goal.invariant-loop-pair
-invariant-loop-pair l = (records : List Rec) → AreKnown records l.known.pairs.items → AreRoomsOf records (take l.pair-index l.known.pairs.items) l.rooms.items
+abbrev pub invariant-loop-place : goal.invariant-loop-place
+invariant-loop-place l = (records : List Rec) → AreKnown records l.known.pairs.items → AreRoomsOf records (take l.place l.known.pairs.items) l.rooms.items

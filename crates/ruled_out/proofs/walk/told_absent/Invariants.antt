@@ -5,5 +5,5 @@ use Rattle.ruled_out.specs.aids.VersionsOf.{AreOf}
 use Rattle.ruled_out.proofs.StartLemmas.{IsToldAbsentSo}
 use Rattle.ruled_out.proofs.walk.told_absent.Given as goal
 
-abbrev pub invariant-loop-pair : goal.invariant-loop-pair
-invariant-loop-pair l = ((records : List Rec) → KeepsRooms records l.away) × ((records : List Rec) → AreOf records l.versions → IsToldAbsentSo records (take l.pair-index l.versions.known.pairs.items) l.away.positions)
+abbrev pub invariant-loop-place : goal.invariant-loop-place
+invariant-loop-place l = ((records : List Rec) → KeepsRooms records l.away) × ((records : List Rec) → AreOf records l.versions → IsToldAbsentSo records (take l.place l.versions.known.pairs.items) l.away.positions)

@@ -5,5 +5,5 @@ use Rattle.ruled_out.specs.aids.VersionsOf.{AreOf}
 use Rattle.ruled_out.proofs.StartLemmas.{IsToldPresentSo}
 use Rattle.ruled_out.proofs.walk.told_present.Given as goal
 
-abbrev pub invariant-loop-pair : goal.invariant-loop-pair
-invariant-loop-pair l = ((records : List Rec) → KeepsRooms records l.there) × ((records : List Rec) → AreOf records l.versions → IsToldPresentSo records (take l.pair-index l.versions.known.pairs.items) l.there.positions)
+abbrev pub invariant-loop-place : goal.invariant-loop-place
+invariant-loop-place l = ((records : List Rec) → KeepsRooms records l.there) × ((records : List Rec) → AreOf records l.versions → IsToldPresentSo records (take l.place l.versions.known.pairs.items) l.there.positions)
