@@ -1,6 +1,7 @@
 use crate::event_lines::EventLines;
 use crate::link_words::{reached_words, reply_line};
 use crate::reason::Reason;
+use crate::told_line::ToldLine;
 use crate::words::pair_words;
 use doc_register::Op;
 use ruled_out::{Cause, Stage, Unmet};
@@ -20,7 +21,7 @@ fn shower_words(alloc: Global, reason: &Reason, lines: &EventLines) -> Result<St
 }
 
 // That the condition asks for a version which the document had all the time.
-fn still_there(alloc: Global, asked: Pair, line: u64) -> Result<String, NoMemory> {
+fn still_there(alloc: Global, asked: Pair, line: ToldLine) -> Result<String, NoMemory> {
     let pair = pair_words(alloc, asked)?;
     format!(in alloc;
         "So something must have replaced {pair} before line {line}. But no reply shows a later version of the document."
@@ -31,7 +32,7 @@ fn still_there(alloc: Global, asked: Pair, line: u64) -> Result<String, NoMemory
 fn otherwise(
     alloc: Global,
     reason: &Reason,
-    line: u64,
+    line: ToldLine,
     needed: &str,
     known: &str,
 ) -> Result<String, NoMemory> {

@@ -255,9 +255,9 @@ pub fn drawing_of(
     };
     Ok(Drawing {
         height,
-        first_line: lines.line(places.first().copied().unwrap_or(event)),
+        first_line: lines.number(places.first().copied().unwrap_or(event)),
         here: x_of(&places, event),
-        here_line: lines.line(event),
+        here_line: lines.number(event),
         lanes_end,
         bars,
         boxes,

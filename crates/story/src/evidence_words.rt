@@ -1,5 +1,6 @@
 use crate::calls::{Call, call_of, id_words};
 use crate::event_lines::EventLines;
+use crate::told_line::ToldLine;
 use crate::words::{op_words, pair_words};
 use doc_register::Conflicts;
 use evidence::Refuted;
@@ -8,7 +9,7 @@ use std::alloc::Global;
 use version_pair::{NoMemory, Pair};
 
 // The line of the reply to a call; of the call where there is none.
-fn reply_line(call: &Call<'_>, lines: &EventLines) -> u64 {
+fn reply_line(call: &Call<'_>, lines: &EventLines) -> ToldLine {
     lines.line(call.reply_place().unwrap_or(call.record.call_at))
 }
 
@@ -86,7 +87,7 @@ fn first_because(
     let one = first.record.no;
     let two = second.record.no;
     let called = lines.line(second.record.call_at);
-    if reply_line(first, lines) < called {
+    if reply_line(first, lines).number < called.number {
         format!(in alloc; "call {one} was answered before call {two} was made (line {called})")
     } else {
         format!(in alloc;

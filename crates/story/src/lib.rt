@@ -32,6 +32,7 @@ mod stop_words;
 mod subject;
 mod subjects;
 mod telling;
+mod told_line;
 mod undecided;
 mod untold_words;
 mod weight;

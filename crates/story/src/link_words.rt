@@ -1,5 +1,6 @@
 use crate::event_lines::EventLines;
 use crate::reason::Link;
+use crate::told_line::ToldLine;
 use crate::words::{op_words, pair_words};
 use doc_register::{Op, Reply};
 use history::Rec;
@@ -8,7 +9,7 @@ use std::alloc::Global;
 use version_pair::NoMemory;
 
 /// The line of the reply to the call; of the call where there is none.
-pub fn reply_line(record: &Rec, lines: &EventLines) -> u64 {
+pub fn reply_line(record: &Rec, lines: &EventLines) -> ToldLine {
     lines.line(record.heard.map_or(record.call_at, |heard| heard.0))
 }
 
@@ -32,7 +33,7 @@ pub fn reached_words(alloc: Global, stage: Stage) -> Result<String, NoMemory> {
 }
 
 // What a call that shows no version was answered, and what follows of the document, on which line.
-fn said_words(alloc: Global, record: &Rec, line: u64) -> Result<String, NoMemory> {
+fn said_words(alloc: Global, record: &Rec, line: ToldLine) -> Result<String, NoMemory> {
     match (record.op, record.op.condition()) {
         (Op::Get, _) => format!(in alloc;
             "was answered \"not found\" (line {line}), so the document had been deleted by then"

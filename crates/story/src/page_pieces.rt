@@ -3,6 +3,7 @@ ghost use Rattle.page.specs.Pages.{IsPage};
 
 use crate::drawing::{BAR_HEIGHT, BOX_HEIGHT, Bar, Drawing, VersionBox};
 use crate::parts::{CallTold, Mark, Part, PlaceTold, Story};
+use crate::told_line::ToldLine;
 use page::{Markup, Piece, page_bytes};
 use std::alloc::Global;
 use version_pair::NoMemory;
@@ -70,6 +71,16 @@ impl Pieces {
         self.fixed(Markup::MarkEnd)
     }
 
+    // Adds the cell of a line, with when it was written where it tells that.
+    fn line_cell(&mut self, line: ToldLine) -> Result<(), NoMemory> {
+        self.at(Markup::CellBreak, line.number)?;
+        if let Some(time) = line.time {
+            let written = format!(in self.alloc; " at {time}")?;
+            self.text(written.as_str())?;
+        }
+        Ok(())
+    }
+
     // Adds a row of the table of calls.
     fn call_row(&mut self, call: &CallTold) -> Result<(), NoMemory> {
         let (start, sign) = match call.mark {
@@ -79,7 +90,7 @@ impl Pieces {
         };
         self.fixed(start)?;
         self.text(sign)?;
-        self.at(Markup::CellBreak, call.line)?;
+        self.line_cell(call.line)?;
         self.at(Markup::CellBreak, call.no)?;
         self.fixed(Markup::CellBreak)?;
         self.text(call.asked.as_str())?;

@@ -1,4 +1,5 @@
 use crate::drawing::Drawing;
+use crate::told_line::ToldLine;
 
 /// How a call stands out among the others.
 #[derive(Clone, Copy, Debug, PartialEq, Eq)]
@@ -16,7 +17,7 @@ pub enum Mark {
 pub struct CallTold {
     pub mark: Mark,
     /// The line of the call.
-    pub line: u64,
+    pub line: ToldLine,
     /// The number of the call.
     pub no: u64,
     /// What was asked.
