@@ -9,6 +9,7 @@ texts below are told too: one with an id that is markup, two that are too long t
 hand for the reasons that a story gives. What is wanted of those follows from the rules of the register, and not from the program.
 """
 
+import datetime
 import pathlib
 import sys
 import tempfile
@@ -33,8 +34,40 @@ OPEN_CALLS = "".join(map(index, range(1_000))) + get(1_000) + found(1_000, 1, 0,
 # A hundred writes, one after the other, and then a get of the first version.
 LONG_ORDER = "".join(map(a_write, range(100))) + get(100) + found(100, 1, 0, k=0)
 
+# When the calls of the next text were made, in milliseconds since 1970, and in words.
+MADE = 1_764_079_389_123
+
+
+def written(line, time):
+    """The line of an event, with when it was written."""
+    return line.replace('{"e":', f'{{"t":{time},"e":', 1)
+
+
+def at(time):
+    """When a line was written, in words."""
+    return datetime.datetime.fromtimestamp(time / 1000, datetime.timezone.utc).strftime("%Y-%m-%dT%H:%M:%S.%f")[:-3] + "Z"
+
+
+# A get of an old version. Of some lines it is told when they were written; of others that is no time.
+TIMED = (
+    written(index(0, k=0), MADE) + created(0, 1, 0) + written(index(1), '"soon"') + written(updated(1, 1, 1), -1.5)
+    + written(get(2), MADE + 2_000) + written(found(2, 1, 0, k=0), MADE + 86_400_007)
+)
+
 # Name, text, how the story begins, what it has, and how often the page has what.
 TOLD = [
+    (
+        "lines that tell when they were written",
+        TIMED,
+        refuted("stale-get", "2,1", 5, 2),
+        [
+            f"\n! line 5 at {at(MADE + 2_000)}, call 2: get -> line 6 at {at(MADE + 86_400_007)}: k=0 at 1/0\n",
+            "\n* line 3, call 1: index k=1 -> line 4: updated as 1/1\n",
+            f"(line 4) before call 2, a get, was made (line 5 at {at(MADE + 2_000)}).",
+            f"  line 1 at {at(MADE)}, call 0: index k=0 -> line 2: created as 1/0\n",
+        ],
+        {f"5 at {at(MADE + 2_000)}": range(2, 100), f"1 at {at(MADE)}": [1]},
+    ),
     (
         "an id of markup",
         MARKUP,
