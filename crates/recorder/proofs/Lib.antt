@@ -6,6 +6,7 @@ mod ClockLemmas
 mod CountLemmas
 mod DrawLemmas
 mod DenseLemmas
+mod FoundLemmas
 mod UnrefusedLemmas
 mod GatherLemmas
 mod RefusalLemmas

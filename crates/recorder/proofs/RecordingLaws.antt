@@ -31,7 +31,7 @@ stands events n e found =
     let at : slice_get events found.0 ≡ Some e = slice_get-get_or events found.0 e within ∙ ap (λ x. Some x) here in
     subst (λ (k : ℕ). slice_get events k ≡ Some e) (let k : found.0 ≡ n = omega arith in k) at
 
-by_number : (lists : List (List (ℕ × Event))) (events : List Event) → IsRecordingOf lists events → IsByNumber (entries_of lists) events
+pub by_number : (lists : List (List (ℕ × Event))) (events : List Event) → IsRecordingOf lists events → IsByNumber (entries_of lists) events
 by_number lists events recording = record {
   placed = λ n e found. stands events n e (Contains-permutation (entries_of lists) (enumerate_from 0 events) (n, e) recording found);
   entered = λ n e at. Contains-permutation (enumerate_from 0 events) (entries_of lists) (n, e) (IsPermutation-sym (entries_of lists) (enumerate_from 0 events) recording) (listed events n e at);

@@ -32,9 +32,11 @@ pub fn is_any_full(pens: &[Pen]) -> bool
     pens.iter().any(|pen| pen.notes.is_full())
 }
 
-/// Whether these events are the recording of the strands. The entries that were met are taken from the strands.
+/// Whether these events are the recording of the strands, whose numbers rise. The entries that were met are taken from
+/// the strands.
 pub fn is_recording(strands: &mut Vec<Strand>, events: &[Event]) -> bool
     ensures recording { IsTrue result → IsRecordingOf strands.old.items events.now }
+    ensures found { All IsRising strands.old.items → IsRecordingOf strands.old.items events.now → IsTrue result }
     ensures shards { IsTrue result → All HasShard events.now }
 {
     for (place, event) in events.iter().enumerate() {

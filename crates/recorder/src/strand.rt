@@ -88,7 +88,7 @@ pub fn take_numbered(strands: &mut Vec<Strand>, number: u64) -> Option<Event>
 /// Whether each entry of each strand was met.
 #[tactic(auto, using(crate::proofs::MergeLemmas::entries_none))]
 pub fn are_all_met(strands: &[Strand]) -> bool
-    ensures { IsTrue result → entries_of strands.now ≡ [] }
+    ensures { IsTrue result ↔ (entries_of strands.now ≡ []) }
 {
     for strand in strands {
         if !strand.is_empty() {

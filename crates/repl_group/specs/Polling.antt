@@ -13,7 +13,7 @@ use Rattle.repl_group.specs.declared.step.Answer.{Answer}
 use Rattle.repl_group.specs.declared.step.Answer.TheVariants as answer
 use Rattle.repl_group.specs.declared.step.Step.{Step}
 use Rattle.repl_group.specs.declared.step.Step.TheVariants as step
-use Rattle.repl_group.specs.Group.{GroupState, Takes, most_tickets, result_of}
+use Rattle.repl_group.specs.Group.{GroupState, MayTake, Takes, most_tickets, result_of}
 use Rattle.repl_group.specs.Requests.{in_flight_from}
 
 -- the generator of a group, by its seed
@@ -50,10 +50,12 @@ IsKnown progress.Unknown = ⊥
 abbrev pub progress_of : GroupState → ℕ → Progress
 progress_of w t = option_map_or progress.Done (result_of w t) progress.Waiting
 
--- The step is taken, and it is told what has become of the ticket; or it is refused memory, which changes nothing.
+-- The step is taken, and it is told what has become of the ticket; or, where the table lets the group take it, it is refused memory,
+-- which changes nothing.
 abbrev pub TellsAfter : GroupState → Step → ℕ → Result Progress TargetFault → GroupState → Type 0
 TellsAfter w s t told n =
-    MatchResult told (λ p. (a : Answer) × Takes w s a n × (p ≡ progress_of n t)) (λ fault. (fault ≡ refusal.NoMemory) × (n ≡ w))
+    MatchResult told (λ p. (a : Answer) × Takes w s a n × (p ≡ progress_of n t))
+    (λ fault. (fault ≡ refusal.NoMemory) × (n ≡ w) × MayTake w s)
 
 -- A poll of a ticket with a result tells it, and changes nothing. Any other draws one word, and makes the step that the
 -- word says, if it says one.

@@ -1,4 +1,4 @@
-ghost use Rattle.std.specs.Prelude.{◌≡◌, ◌+◌, ◌<◌, ◌≤◌, ◌^◌, ◌*◌, All, IfOk, IfSome, List, Some, slice_get, take, length, map, nat_lt, option_map, sum_by};
+ghost use Rattle.std.specs.Prelude.{◌≡◌, ◌≢◌, ◌+◌, ◌<◌, ◌≤◌, ◌^◌, ◌*◌, All, Err, IfOk, IfSome, List, Some, slice_get, take, length, map, nat_lt, option_map, sum_by};
 ghost use Rattle.std.specs.List.{list_any};
 ghost use Rattle.workload.specs.Plans.{is_far, is_idle, is_too_large, lacks_turns, refusal_of, refusal_told, turn_at, turn_count};
 ghost use Rattle.workload.specs.declared.turn.Turn.{Turn};
@@ -99,6 +99,7 @@ impl Plan {
     pub fn of(clients: Vec<Vec<Turn>>) -> Result<Plan, PlanFault>
         ensures refused { refusal_told result ≡ refusal_of (map (λ turns. turns.items) clients.items) }
         ensures plan { IfOk result (λ plan. plan ≡ map (λ turns. turns.items) clients.items) }
+        ensures memory { result ≢ Err PlanFault.NoMemory }
     {
         if is_lacking(&clients) {
             return Err(PlanFault::Zero);
