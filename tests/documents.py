@@ -64,7 +64,7 @@ def is_as_wanted(printed, wanted):
 
 def copied_checkout(program, to):
     """Makes a copy of what the documents name, in which ./casbench is the program."""
-    for name in ("docs", "examples", "tests"):
+    for name in ("docs", "examples", "recording", "tests"):
         shutil.copytree(TOP / name, to / name, ignore=shutil.ignore_patterns("__pycache__"))
     os.symlink(program, to / "casbench")
 

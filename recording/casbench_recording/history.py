@@ -299,6 +299,16 @@ def members_of(pair: Pair) -> Dict[str, int]:
     return {"_seq_no": seq, "_primary_term": term}
 
 
+def pair_of(body: Any) -> Optional[Pair]:
+    """The pair that a body tells, if any."""
+    if not isinstance(body, dict):
+        return None
+    term, seq = body.get("_primary_term"), body.get("_seq_no")
+    if not is_whole(term, 1, 2**63 - 1) or not is_whole(seq, 0, 2**63 - 1):
+        return None
+    return Pair(term, seq)
+
+
 def members_of_call(it: Operation) -> str:
     """The members of a call's line behind its number, up to the line's end. Raises CallError where it can't be a call."""
     if it.op not in OPERATIONS:
