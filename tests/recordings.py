@@ -5,10 +5,12 @@ It is no test itself.
 
 import json
 import os
+import signal
 import subprocess
 import sys
 import tempfile
 import unittest
+import urllib.request
 
 from program import TOP, built_program
 
@@ -20,6 +22,51 @@ def judged(program, file, *words):
     """What the program says of a history."""
     ran = subprocess.run([program, "check", file, *words], stdout=subprocess.PIPE, text=True)
     return ran.stdout.strip()
+
+
+def environment(**more):
+    """The environment of the package's commands, without a word of who asks but those given."""
+    kept = {key: it for key, it in os.environ.items() if not key.startswith("OPENSEARCH_")}
+    return {**kept, "PYTHONPATH": str(PACKAGE), **more}
+
+
+class Started:
+    """A command of the package that listens, and runs until the block ends. The first line that it says is its address."""
+
+    def __init__(self, name, *words, **more):
+        words = [sys.executable, "-m", f"casbench_recording.{name}", *words]
+        pipes = {"stdin": subprocess.DEVNULL, "stdout": subprocess.PIPE, "stderr": subprocess.PIPE}
+        self.process = subprocess.Popen(words, **pipes, text=True, env=environment(**more))
+        self.url = self.process.stderr.readline().strip()
+        self.port = int(self.url.rpartition(":")[2] or 0) if self.url.startswith("http") else None
+
+    def __enter__(self):
+        return self
+
+    def __exit__(self, *_):
+        self.process.kill()
+        self.process.wait()
+        for pipe in (self.process.stdout, self.process.stderr):
+            pipe.close()
+
+    def ended(self, sent=signal.SIGTERM):
+        """Ends it by a signal; what it says after its address, on both outputs."""
+        self.process.send_signal(sent)
+        told = self.process.communicate(timeout=60)
+        return "".join(told).strip()
+
+    def processor_time(self):
+        """How many seconds of a processor it took so far."""
+        with open(f"/proc/{self.process.pid}/stat", encoding="ascii") as file:
+            fields = file.read().rpartition(")")[2].split()
+        return (int(fields[11]) + int(fields[12])) / os.sysconf("SC_CLK_TCK")
+
+    def make(self, index, **settings):
+        """Makes an index on it, which has these settings."""
+        body = json.dumps({"settings": settings}).encode()
+        asked = urllib.request.Request(f"{self.url}/{index}", body, {"Content-Type": "application/json"}, method="PUT")
+        with urllib.request.urlopen(asked, timeout=60):
+            pass
 
 
 class FolderTest(unittest.TestCase):

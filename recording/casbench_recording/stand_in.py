@@ -10,6 +10,7 @@ Where OPENSEARCH_USER and OPENSEARCH_PASSWORD are set, or OPENSEARCH_HEADER, who
 """
 
 import argparse
+import asyncio
 import base64
 import contextlib
 import gzip
@@ -18,15 +19,11 @@ import json
 import os
 import random
 import re
-import socket
-import socketserver
 import ssl
 import sys
-import threading
-import time
 import urllib.parse
 from http import HTTPStatus
-from typing import Any, Callable, Dict, Iterator, List, Mapping, NamedTuple, Optional, Sequence, Tuple
+from typing import Any, Callable, Dict, Iterator, List, Mapping, NamedTuple, Optional, Sequence, Set, Tuple, cast
 
 from .http1 import BadMessage, Request, decoded, request_of, split_head
 from .routing import shard_of
@@ -48,6 +45,11 @@ TERM = 1
 
 MOST_BODY = 100 * 1024 * 1024
 """The most bytes of a request's body."""
+
+PHRASES = {it.value: it.phrase for it in HTTPStatus}
+
+PACKED = re.compile(rb"\r\naccept-encoding:[^\r]*gzip", re.IGNORECASE)
+"""What asks for a packed answer."""
 
 Answer = Tuple[int, Any]
 """A status and a body."""
@@ -71,20 +73,18 @@ class Faults:
     def __init__(self, name: str, every: int) -> None:
         self.name = name
         self.every = every
-        self.lock = threading.Lock()
         self.seen = 0
 
     def strikes(self, name: str) -> bool:
         """Whether the fault of this name happens to the request at hand, to which it could."""
         if name != self.name:
             return False
-        with self.lock:
-            self.seen += 1
-            return self.seen % self.every == 0
+        self.seen += 1
+        return self.seen % self.every == 0
 
 
 class Shard:
-    """One shard of an index. Its methods answer with a status and a body, and are called under the store's lock."""
+    """One shard of an index. Its methods answer with a status and a body."""
 
     def __init__(self, name: str, faults: Faults) -> None:
         self.name = name
@@ -217,48 +217,45 @@ def shown_source(source: Dict[str, Any], words: Words) -> Dict[str, Any]:
 
 
 class Store:
-    """The indexes. One lock makes each request on a document, and each item of a request on several, one step."""
+    """The indexes. There is one thread, so each request is one step."""
 
     def __init__(self, faults: Faults) -> None:
         self.faults = faults
-        self.lock = threading.Lock()
         self.indexes: Dict[str, Index] = {}
         self.ids = itertools.count()
 
     def make(self, name: str, asked: Dict[str, Any]) -> Answer:
         """Answers a request to make an index."""
-        with self.lock:
-            if name in self.indexes:
-                return error(400, "resource_already_exists_exception", f"index [{name}] already exists")
-            self.indexes[name] = Index(name, self.faults, asked)
+        if name in self.indexes:
+            return error(400, "resource_already_exists_exception", f"index [{name}] already exists")
+        self.indexes[name] = Index(name, self.faults, asked)
         return 200, {"acknowledged": True, "shards_acknowledged": True, "index": name}
 
     def remove(self, name: str) -> Answer:
         """Answers a request to delete an index."""
-        with self.lock:
-            if self.indexes.pop(name, None) is None:
-                return no_index(name)
+        if self.indexes.pop(name, None) is None:
+            return no_index(name)
         return 200, {"acknowledged": True}
 
     def index(self, name: str) -> Optional[Index]:
         """The index of this name, or the one with this alias."""
-        aliased = [it for it in self.indexes.values() if name in it.aliases]
-        return self.indexes.get(name, aliased[0] if aliased else None)
+        if name in self.indexes:
+            return self.indexes[name]
+        return next((it for it in self.indexes.values() if name in it.aliases), None)
 
     def act(self, name: str, kind: str, document: str, source: Any = None, words: Words = {}) -> Answer:
         """Answers one call."""
-        with self.lock:
-            index = self.index(name)
-            if index is None and kind != "get" and kind != "delete":
-                index = self.indexes[name] = Index(name, self.faults, {})
-            if index is None:
-                return no_index(name)
-            shard = index.shard(document, words)
-            if kind == "get":
-                return shard.get(document, words)
-            if kind == "update":
-                return shard.update(document, source, words)
-            return shard.write(kind, document, source, words)
+        index = self.index(name)
+        if index is None and kind in ("index", "create"):
+            index = self.indexes[name] = Index(name, self.faults, {})
+        if index is None:
+            return no_index(name)
+        shard = index.shard(document, words)
+        if kind == "get":
+            return shard.get(document, words)
+        if kind == "update":
+            return shard.update(document, source, words)
+        return shard.write(kind, document, source, words)
 
     def new_id(self) -> str:
         """The id of a document that is given none: 20 letters."""
@@ -285,12 +282,11 @@ class Store:
 
     def by_query(self, name: str, kind: str) -> Answer:
         """Answers a change of every document of an index: each is deleted, or written again."""
-        with self.lock:
-            index = self.index(name)
-            for shard in index.shards if index else ():
-                for document, versions in list(shard.versions.items()):
-                    if versions[-1].source is not None:
-                        shard.write(kind, document, versions[-1].source, {})
+        index = self.index(name)
+        for shard in index.shards if index else ():
+            for document, versions in list(shard.versions.items()):
+                if versions[-1].source is not None:
+                    shard.write(kind, document, versions[-1].source, {})
         return 200, {"took": 1, "failures": []}
 
 
@@ -316,104 +312,113 @@ class Asked(NamedTuple):
         return value
 
 
-class Requests(socketserver.BaseRequestHandler):
-    """Answers the requests of one connection, on a thread of its own."""
+class Requests(asyncio.Protocol):
+    """Answers the requests of one connection, one after the other."""
 
-    server: "Server"
+    transport: asyncio.Transport
 
-    def setup(self) -> None:
-        """Makes the connection secure where the stand-in has a certificate."""
-        self.request.setsockopt(socket.IPPROTO_TCP, socket.TCP_NODELAY, 1)
-        if self.server.trust is not None:
-            self.request = self.server.trust.wrap_socket(self.request, server_side=True)
+    def __init__(self, server: "Server") -> None:
+        self.server = server
+        self.data = b""
+        self.head = b""
+        self.request: Optional[Request] = None
+        self.is_busy = False
 
-    def handle(self) -> None:
-        """Answers one request after the other, until the other side or a fault closes the connection."""
-        with contextlib.suppress(OSError, BadMessage):
-            for head, request in self.requests():
-                content = decoded(request.body.content(), request.encoding, MOST_BODY)
-                if not self.answer(head, request, (content or b"").decode("utf-8", "replace")):
-                    return
+    def connection_made(self, transport: asyncio.BaseTransport) -> None:
+        """Keeps what the answers are written to."""
+        self.transport = cast(asyncio.Transport, transport)
 
-    def requests(self) -> Iterator[Tuple[bytes, Request]]:
-        """The requests of the connection, whole."""
-        data = b""
-        while True:
-            head, data = split_head(data)
-            if head:
-                request = request_of(head)
-                if request.expects:
-                    self.request.sendall(b"HTTP/1.1 100 Continue\r\n\r\n")
-                data = data[request.body.take(data) :]
-                while not request.body.is_done:
-                    data = self.request.recv(1 << 18)
-                    if not data:
-                        return
-                    data = data[request.body.take(data) :]
-                yield head, request
-            else:
-                more = self.request.recv(1 << 18)
-                if not more:
-                    return
-                data += more
+    def data_received(self, data: bytes) -> None:
+        """Takes what came."""
+        self.data += data
+        self.go_on()
 
-    def answer(self, head: bytes, request: Request, body: str) -> bool:
-        """Answers a request; tells whether the connection stays."""
+    def go_on(self) -> None:
+        """Answers the requests that are whole. One that is none ends the connection."""
+        try:
+            while not self.is_busy and not self.transport.is_closing() and self.has_request():
+                self.is_busy = True
+                self.step(self.answer())
+        except BadMessage:
+            self.transport.close()
+
+    def has_request(self) -> bool:
+        """Whether a request is whole; it is read as far as it came."""
+        if self.request is None:
+            self.head, self.data = split_head(self.data)
+            if not self.head:
+                return False
+            self.request = request_of(self.head)
+            if self.request.expects:
+                self.transport.write(b"HTTP/1.1 100 Continue\r\n\r\n")
+        self.data = self.data[self.request.body.take(self.data) :]
+        return self.request.body.is_done
+
+    def step(self, waits: Iterator[float]) -> None:
+        """Goes on with the request at hand, up to where it waits for some seconds, or to its end."""
+        for seconds in waits:
+            asyncio.get_running_loop().call_later(seconds, self.go_on_after, waits)
+            return
+        self.is_busy, self.request = False, None
+
+    def go_on_after(self, waits: Iterator[float]) -> None:
+        """Goes on with the request, and with those behind it."""
+        self.step(waits)
+        self.go_on()
+
+    def answer(self) -> Iterator[float]:
+        """Answers the request; yields for how many seconds it waits, as often as it does."""
         setting, faults = self.server.setting, self.server.store.faults
-        asked = read_request(request, body)
-        wait_a_while(setting.delay)
-        if not self.is_known(head):
-            return self.send(request, *error(401, "security_exception", "it is not known who asks"))
+        asked = read_request(cast(Request, self.request))
+        if setting.delay:
+            yield random.random() * setting.delay
+        if not self.is_known():
+            self.send(*error(401, "security_exception", "it is not known who asks"))
+            return
         if not is_of_documents(asked):
-            return self.send(request, *self.act(asked))
+            self.send(*self.server.act(asked))
+            return
         if faults.strikes("drop-before"):
-            return False
-        answer = self.act(asked)
-        wait_a_while(setting.delay)
+            self.transport.close()
+            return
+        answer = self.server.act(asked)
+        if setting.delay:
+            yield random.random() * setting.delay
         if faults.strikes("drop-after"):
-            return False
+            self.transport.close()
+            return
         if faults.strikes("garbled"):
-            return self.send_bytes(request, 502, "text/html", b"<html>no upstream</html>")
+            self.send_bytes(502, "text/html", b"<html>no upstream</html>")
+            return
         if faults.strikes("late"):
-            time.sleep(setting.late)
-        return self.send(request, *answer, is_packed=b"gzip" in head)
+            yield setting.late
+        self.send(*answer)
 
-    def is_known(self, head: bytes) -> bool:
+    def is_known(self) -> bool:
         """Whether the request has the header that the environment asks for."""
         wanted = self.server.wanted
-        return wanted is None or re.search(wanted, head) is not None
+        return wanted is None or re.search(wanted, self.head) is not None
 
-    def act(self, asked: Asked) -> Answer:
-        """Does what is asked for, and returns the answer."""
-        try:
-            for method, path, do in ROUTES:
-                if asked.method in method.split() and len(path) == len(asked.path):
-                    if all(it in ("*", word) for it, word in zip(path, asked.path)):
-                        return do(self.server, asked)
-        except (KeyError, TypeError, ValueError, AttributeError, StopIteration) as fault:
-            return error(400, "parse_exception", str(fault))
-        return error(400, "illegal_argument_exception", f"the stand-in has no {asked.method} /{'/'.join(asked.path)}")
-
-    def send(self, request: Request, status: int, body: Any, is_packed: bool = False) -> bool:
+    def send(self, status: int, body: Any) -> None:
         """Sends an answer."""
-        text = json.dumps(body, separators=(",", ":")).encode()
-        return self.send_bytes(request, status, "application/json; charset=UTF-8", text, is_packed)
+        self.send_bytes(status, "application/json; charset=UTF-8", json.dumps(body, separators=(",", ":")).encode())
 
-    def send_bytes(self, request: Request, status: int, kind: str, body: bytes, is_packed: bool = False) -> bool:
-        """Sends the bytes of an answer in one piece; where that is asked for, packed."""
-        fields = [f"HTTP/1.1 {status} {HTTPStatus(status).phrase}", f"content-type: {kind}", *self.server.fields]
-        if is_packed:
+    def send_bytes(self, status: int, kind: str, body: bytes) -> None:
+        """Sends the bytes of an answer in one piece; packed, where that is asked for."""
+        fields = [f"HTTP/1.1 {status} {PHRASES[status]}", f"content-type: {kind}", *self.server.fields]
+        if PACKED.search(self.head):
             body = gzip.compress(body, 1)
             fields.append("content-encoding: gzip")
         head = "\r\n".join([*fields, f"content-length: {len(body)}", "", ""]).encode()
-        self.request.sendall(head if request.method == "HEAD" else head + body)
-        return True
+        self.transport.write(head if cast(Request, self.request).method == "HEAD" else head + body)
 
 
-def read_request(request: Request, body: str) -> Asked:
-    """Reads the words of a request."""
+def read_request(request: Request) -> Asked:
+    """Reads the words of a request, and its body."""
     path, _, query = request.target.decode("utf-8", "replace").partition("?")
     words = dict(urllib.parse.parse_qsl(query, keep_blank_values=True)) if query else {}
+    content = decoded(request.body.content(), request.encoding, MOST_BODY) or b""
+    body = content.decode("utf-8", "replace")
     return Asked(request.method, [urllib.parse.unquote(it) for it in path.strip("/").split("/")], words, body)
 
 
@@ -476,41 +481,36 @@ def greet(server: "Server", asked: Asked) -> Answer:
     return 200, {"name": "stand-in", "version": version, "tagline": "You Know, for Search"}
 
 
-ROUTES: List[Tuple[str, Tuple[str, ...], Callable[["Server", Asked], Answer]]] = [
-    ("GET HEAD", ("*", "_doc", "*"), get),
-    ("PUT POST", ("*", "_doc", "*"), write_by("index")),
-    ("PUT POST", ("*", "_create", "*"), write_by("create")),
-    ("DELETE", ("*", "_doc", "*"), write_by("delete")),
-    ("POST", ("*", "_doc"), write_by("index")),
-    ("POST", ("*", "_update", "*"), write_by("update")),
-    ("POST PUT", ("_bulk",), lambda server, asked: server.store.bulk("", asked.body)),
-    ("POST PUT", ("*", "_bulk"), lambda server, asked: server.store.bulk(asked.path[0], asked.body)),
-    ("GET POST", ("_mget",), lambda server, asked: server.store.multiple_get("", asked.value, asked.words)),
-    ("GET POST", ("*", "_mget"), lambda server, asked: server.store.multiple_get(asked.path[0], asked.value, asked.words)),
-    ("POST", ("*", "_update_by_query"), lambda server, asked: server.store.by_query(asked.path[0], "index")),
-    ("POST", ("*", "_delete_by_query"), lambda server, asked: server.store.by_query(asked.path[0], "delete")),
-    ("GET POST", ("*", "_refresh"), lambda server, asked: (200, {"_shards": {"failed": 0}})),
-    ("GET HEAD", ("",), greet),
-    ("GET HEAD", ("*",), describe),
-    ("PUT", ("*",), lambda server, asked: server.store.make(asked.path[0], asked.value)),
-    ("DELETE", ("*",), lambda server, asked: server.store.remove(asked.path[0])),
-    ("GET", ("*", "_stats", "seq_no"), tell_stats),
-    ("GET", ("*", "_stats"), tell_stats),
-    ("GET", ("_alias", "*"), tell_aliases),
-    ("GET", ("_cluster", "state", "metadata", "*"), tell_state),
-    ("GET", ("*", "_search_shards"), tell_shard),
+ROUTES: List[Tuple[Set[str], Tuple[str, ...], Callable[["Server", Asked], Answer]]] = [
+    ({"GET", "HEAD"}, ("*", "_doc", "*"), get),
+    ({"PUT", "POST"}, ("*", "_doc", "*"), write_by("index")),
+    ({"PUT", "POST"}, ("*", "_create", "*"), write_by("create")),
+    ({"DELETE"}, ("*", "_doc", "*"), write_by("delete")),
+    ({"POST"}, ("*", "_doc"), write_by("index")),
+    ({"POST"}, ("*", "_update", "*"), write_by("update")),
+    ({"POST", "PUT"}, ("_bulk",), lambda server, asked: server.store.bulk("", asked.body)),
+    ({"POST", "PUT"}, ("*", "_bulk"), lambda server, asked: server.store.bulk(asked.path[0], asked.body)),
+    ({"GET", "POST"}, ("_mget",), lambda server, asked: server.store.multiple_get("", asked.value, asked.words)),
+    ({"GET", "POST"}, ("*", "_mget"), lambda server, asked: server.store.multiple_get(asked.path[0], asked.value, asked.words)),
+    ({"POST"}, ("*", "_update_by_query"), lambda server, asked: server.store.by_query(asked.path[0], "index")),
+    ({"POST"}, ("*", "_delete_by_query"), lambda server, asked: server.store.by_query(asked.path[0], "delete")),
+    ({"GET", "POST"}, ("*", "_refresh"), lambda server, asked: (200, {"_shards": {"failed": 0}})),
+    ({"GET", "HEAD"}, ("",), greet),
+    ({"GET", "HEAD"}, ("*",), describe),
+    ({"PUT"}, ("*",), lambda server, asked: server.store.make(asked.path[0], asked.value)),
+    ({"DELETE"}, ("*",), lambda server, asked: server.store.remove(asked.path[0])),
+    ({"GET"}, ("*", "_stats", "seq_no"), tell_stats),
+    ({"GET"}, ("*", "_stats"), tell_stats),
+    ({"GET"}, ("_alias", "*"), tell_aliases),
+    ({"GET"}, ("_cluster", "state", "metadata", "*"), tell_state),
+    ({"GET"}, ("*", "_search_shards"), tell_shard),
 ]
 
 
-class Server(socketserver.ThreadingTCPServer):
-    """The server, a thread for each connection."""
-
-    daemon_threads = True
-    allow_reuse_address = True
-    request_queue_size = 256
+class Server:
+    """What is served, and how."""
 
     def __init__(self, setting: argparse.Namespace) -> None:
-        super().__init__(("127.0.0.1", setting.port), Requests)
         self.setting = setting
         self.store = Store(Faults(setting.fault, setting.every))
         self.wanted = wanted_header(os.environ)
@@ -520,16 +520,24 @@ class Server(socketserver.ThreadingTCPServer):
             self.trust = ssl.SSLContext(ssl.PROTOCOL_TLS_SERVER)
             self.trust.load_cert_chain(setting.certificate)
 
-    def handle_error(self, request: Any, address: Any) -> None:
-        """Passes over connections that were broken off, and tells anything else."""
-        if not isinstance(sys.exc_info()[1], OSError):
-            super().handle_error(request, address)
+    def act(self, asked: Asked) -> Answer:
+        """Does what is asked for, and returns the answer."""
+        try:
+            for method, path, do in ROUTES:
+                if asked.method in method and len(path) == len(asked.path):
+                    if all(it in ("*", word) for it, word in zip(path, asked.path)):
+                        return do(self, asked)
+        except (KeyError, TypeError, ValueError, AttributeError, StopIteration) as fault:
+            return error(400, "parse_exception", str(fault))
+        return error(400, "illegal_argument_exception", f"the stand-in has no {asked.method} /{'/'.join(asked.path)}")
 
-
-def wait_a_while(seconds: float) -> None:
-    """Waits for a time that is drawn, at most the seconds given."""
-    if seconds:
-        time.sleep(random.random() * seconds)
+    async def serve(self) -> None:
+        """Serves until it is stopped."""
+        make, port = lambda: Requests(self), self.setting.port
+        server = await asyncio.get_running_loop().create_server(make, "127.0.0.1", port, ssl=self.trust, backlog=256)
+        scheme = "http" if self.trust is None else "https"
+        print(f"{scheme}://127.0.0.1:{server.sockets[0].getsockname()[1]}", file=sys.stderr, flush=True)
+        await server.serve_forever()
 
 
 def wanted_header(environment: Mapping[str, str]) -> Optional[bytes]:
@@ -564,12 +572,9 @@ def words_of(arguments: Sequence[str]) -> argparse.Namespace:
 
 def main(arguments: Sequence[str]) -> int:
     """Serves until it is stopped."""
-    setting = words_of(arguments)
-    server = Server(setting)
-    scheme = "http" if server.trust is None else "https"
-    print(f"{scheme}://127.0.0.1:{server.server_address[1]}", file=sys.stderr, flush=True)
+    server = Server(words_of(arguments))
     with contextlib.suppress(KeyboardInterrupt):
-        server.serve_forever()
+        asyncio.run(server.serve())
     return 0
 
 
