@@ -20,7 +20,7 @@ import sys
 import tempfile
 import time
 
-from recordings import judged, Started
+from recordings import Started, judged
 
 NUMBERS = re.compile(rb'"_seq_no":(\d+),"_primary_term":(\d+)')
 LENGTH = re.compile(rb"content-length: (\d+)", re.IGNORECASE)

@@ -14,7 +14,7 @@ import os
 import re
 import threading
 import time
-from typing import Any, Callable, Dict, List, NamedTuple, Optional, Sequence, Set, Union
+from typing import Any, Callable, Dict, List, NamedTuple, Optional, Sequence, Set, Tuple, Union
 
 MOST_EVENTS = 1_048_576
 """The most events of a history. A call takes room for two, itself and its ending."""
@@ -166,6 +166,15 @@ class History:
 
     def __exit__(self, *_: object) -> None:
         self.end()
+
+    @property
+    def histories(self) -> Tuple["History", ...]:
+        """The histories of the recording: this one."""
+        return (self,)
+
+    def of_shard(self, shard: int) -> "History":
+        """The history of a shard's calls: this one, as that of every shard's."""
+        return self
 
     @property
     def unanswered(self) -> int:
@@ -350,14 +359,17 @@ def rest_of_reply(status: int, text: Optional[str]) -> str:
 def shortened(text: str) -> str:
     """The text of a body with its members that count alone."""
     value = value_of(text)
-    if not isinstance(value, dict):
-        return "null"
-    kept = {key: value[key] for key in ("_id", "_seq_no", "_primary_term", "result", "found") if key in value}
+    return json.dumps(counting_members(value), separators=(",", ":")) if isinstance(value, dict) else "null"
+
+
+def counting_members(body: Dict[str, Any]) -> Dict[str, Any]:
+    """The members of a body that count."""
+    kept = {key: body[key] for key in ("_id", "_seq_no", "_primary_term", "result", "found") if key in body}
     for name, key in (("_source", "k"), ("error", "type")):
-        member = value.get(name)
+        member = body.get(name)
         if isinstance(member, dict) and key in member:
             kept[name] = {key: member[key]}
-    return json.dumps(kept, separators=(",", ":"))
+    return kept
 
 
 def text_of(body: Body) -> Optional[str]:

@@ -27,9 +27,13 @@ class BadMessage(Exception):
 
 
 class Body:
-    """The body of a message, whose bytes are handed in as they come. This one has none."""
+    """The body of a message, whose bytes are handed in as they come. Its content is kept, unless somebody says otherwise.
+
+    This one has no bytes.
+    """
 
     is_done = True
+    is_kept = True
 
     def __init__(self) -> None:
         self.pieces: List[bytes] = []
@@ -39,8 +43,13 @@ class Body:
         return 0
 
     def content(self) -> bytes:
-        """What was kept of the content so far."""
+        """The content that was kept so far."""
         return b"".join(self.pieces)
+
+    def keep(self, piece: bytes) -> None:
+        """Takes a piece of the content."""
+        if self.is_kept:
+            self.pieces.append(piece)
 
     def at_close(self) -> bool:
         """Whether the body is whole where the connection closes now."""
@@ -59,7 +68,7 @@ class LengthBody(Body):
         count = min(self.left, len(data))
         self.left -= count
         self.is_done = not self.left
-        self.pieces.append(data[:count])
+        self.keep(data[:count])
         return count
 
 
@@ -69,7 +78,7 @@ class ClosedBody(Body):
     is_done = False
 
     def take(self, data: bytes) -> int:
-        self.pieces.append(data)
+        self.keep(data)
         return len(data)
 
     def at_close(self) -> bool:
@@ -92,7 +101,7 @@ class ChunkedBody(Body):
         while at < len(data) and not self.is_done:
             if self.left:
                 count = min(self.left, len(data) - at)
-                self.pieces.append(data[at : at + count])
+                self.keep(data[at : at + count])
                 self.left -= count
                 at += count
             else:

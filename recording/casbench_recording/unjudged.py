@@ -1,0 +1,43 @@
+"""The list of what a recorder that watches doesn't judge: documents, each with the reason, and why a recording ended early."""
+
+import json
+from typing import Dict, List, Optional
+
+MOST_TOLD = 20
+"""How many documents are told at the end; the list has all of them."""
+
+
+class Unjudged:
+    """A file beside the history, with a line for each document that isn't judged, from then on or at all. Without any there is no file."""
+
+    def __init__(self, history: str) -> None:
+        self.path = f"{history}.not-judged"
+        self.reasons: Dict[str, str] = {}
+        self.ended: List[str] = []
+
+    def names(self, document: str, why: str) -> None:
+        """Names a document."""
+        self.reasons[document] = why
+        self._write({"id": document, "why": why})
+
+    def ends(self, why: str) -> None:
+        """Tells why the recording ended before its time."""
+        self.ended.append(why)
+        self._write({"ended": True, "why": why})
+
+    def _write(self, line: Dict[str, object]) -> None:
+        """Puts a line at the end of the file. A disk that is full keeps nobody from going on: all is told at the end too."""
+        try:
+            with open(self.path, "ab", buffering=0) as file:
+                file.write(json.dumps(line).encode() + b"\n")
+        except OSError:
+            pass
+
+    def told(self) -> Optional[str]:
+        """What is told at the end, or nothing."""
+        lines = [f"the recording ended early: {it}" for it in self.ended]
+        if self.reasons:
+            lines.append(f"{len(self.reasons)} documents are not judged, from some moment on or at all ({self.path}):")
+            lines += [f"  {document}: {why}" for document, why in list(self.reasons.items())[:MOST_TOLD]]
+            lines += [f"  and {len(self.reasons) - MOST_TOLD} more"] if len(self.reasons) > MOST_TOLD else []
+        return "\n".join(lines) or None
