@@ -361,7 +361,8 @@ class Judge:
                 if member == "items":
                     told = next(iter(item.values())) if isinstance(item, dict) and len(item) == 1 else None
                 is_its = isinstance(told, dict) and (not part.id or told.get("_id") == part.id)
-                self._answered(part, item_status(member, told) if is_its else 0, told if is_its else None)
+                status = item_status(member, told) if is_its else 0
+                self._answered(part, status, told if status else None)
 
     def _answered(self, part: Part, status: int, body: Optional[Body]) -> None:
         """Writes what the reply to a call says."""
@@ -471,7 +472,7 @@ def told_true(body: Body) -> FrozenSet[str]:
 
 
 def item_status(member: str, told: Body) -> int:
-    """The status of an item of an answer. A get of several gives none; what it found tells it."""
+    """The status of an item of an answer, 0 where there is none. That of a get of several is told by what it found."""
     if member == "items":
         status = told.get("status")
         return status if is_whole(status, 0, 65_535) else 0
