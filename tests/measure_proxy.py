@@ -10,6 +10,7 @@ together ask so many times a second and no more, evenly, so that the times tell 
 """
 
 import argparse
+import contextlib
 import json
 import os
 import re
@@ -51,7 +52,10 @@ class Client:
 
     def hears(self):
         """Takes what came; tells whether the answer is whole."""
-        self.data += self.socket.recv(1 << 16)
+        more = self.socket.recv(1 << 16)
+        if not more:
+            raise ConnectionResetError
+        self.data += more
         end = self.data.find(b"\r\n\r\n")
         found = LENGTH.search(self.data, 0, end) if end >= 0 else None
         if found is None or len(self.data) < end + 4 + int(found[1]):
@@ -65,25 +69,23 @@ class Client:
 
 def run_clients(port, setting):
     """Runs the clients; tells how many answers a second came, and the times, in milliseconds, that they took, in order."""
-    selector, clients = selectors.DefaultSelector(), [Client(it, port) for it in range(setting.clients)]
-    for it in clients:
-        selector.register(it.socket, selectors.EVENT_READ, it)
-    times, idle, began = [], list(clients), time.perf_counter()
-    sent, end = 0, began + setting.seconds
-    while time.perf_counter() < end or len(idle) < len(clients):
-        now = time.perf_counter()
-        due = sent + len(idle) if setting.rate is None else int((now - began) * setting.rate)
-        while idle and sent < due and now < end:
-            idle.pop(0).ask()
-            sent += 1
-        for key, _ in selector.select(0.0002 if setting.rate else 0.01):
-            if key.data.hears():
-                times.append((time.perf_counter() - key.data.began) * 1000)
-                idle.append(key.data)
-    seconds = time.perf_counter() - began
-    for it in clients:
-        it.socket.close()
-    return len(times) / seconds, sorted(times)
+    with contextlib.ExitStack() as opened, selectors.DefaultSelector() as selector:
+        clients = [Client(it, port) for it in range(setting.clients)]
+        for it in clients:
+            selector.register(opened.enter_context(it.socket), selectors.EVENT_READ, it)
+        times, idle, began = [], list(clients), time.perf_counter()
+        sent, end = 0, began + setting.seconds
+        while time.perf_counter() < end or len(idle) < len(clients):
+            now = time.perf_counter()
+            due = sent + len(idle) if setting.rate is None else int((now - began) * setting.rate)
+            while idle and sent < due and now < end:
+                idle.pop(0).ask()
+                sent += 1
+            for key, _ in selector.select(0.0002 if setting.rate else 0.01):
+                if key.data.hears():
+                    times.append((time.perf_counter() - key.data.began) * 1000)
+                    idle.append(key.data)
+        return len(times) / (time.perf_counter() - began), sorted(times)
 
 
 def tell(name, rate, times):

@@ -33,12 +33,12 @@ def environment(**more):
 class Started:
     """A command of the package that listens, and runs until the block ends. The first line that it says is its address."""
 
-    def __init__(self, name, *words, **more):
-        words = [sys.executable, "-m", f"casbench_recording.{name}", *words]
-        pipes = {"stdin": subprocess.DEVNULL, "stdout": subprocess.PIPE, "stderr": subprocess.PIPE}
+    def __init__(self, name, *words, start=(), stderr=subprocess.PIPE, **more):
+        words = [*(start or (sys.executable, "-m", f"casbench_recording.{name}")), *words]
+        pipes = {"stdin": subprocess.DEVNULL, "stdout": subprocess.PIPE, "stderr": stderr}
         self.process = subprocess.Popen(words, **pipes, text=True, env=environment(**more))
-        self.url = self.process.stderr.readline().strip()
-        self.port = int(self.url.rpartition(":")[2] or 0) if self.url.startswith("http") else None
+        self.url = self.process.stderr.readline().strip() if self.process.stderr else ""
+        self.port = int(self.url.rpartition(":")[2]) if self.url.startswith("http") else None
 
     def __enter__(self):
         return self
@@ -46,14 +46,14 @@ class Started:
     def __exit__(self, *_):
         self.process.kill()
         self.process.wait()
-        for pipe in (self.process.stdout, self.process.stderr):
+        for pipe in filter(None, (self.process.stdout, self.process.stderr)):
             pipe.close()
 
     def ended(self, sent=signal.SIGTERM):
         """Ends it by a signal; what it says after its address, on both outputs."""
         self.process.send_signal(sent)
         told = self.process.communicate(timeout=60)
-        return "".join(told).strip()
+        return "".join(filter(None, told)).strip()
 
     def processor_time(self):
         """How many seconds of a processor it took so far."""

@@ -16,15 +16,13 @@ import asyncio
 import gc
 import os
 import signal
-import socket
-import ssl
 import sys
-from typing import Any, Callable, Dict, FrozenSet, List, Optional, Sequence, Set, Tuple, Union, cast
+from typing import Callable, List, Optional, Sequence, Set, Tuple, Union, cast
 
 from .cluster import Cluster, ClusterError, Connection, credentials_of, port_of, trust_of, url_of
 from .documents import State
-from .history import Ended, History, HistoryError
-from .http1 import BadMessage, ClosedBody, Request, Response, decoded, request_of, response_of, split_head
+from .history import History, HistoryError
+from .http1 import BadMessage, Request, Response, decoded, request_of, response_of, split_head
 from .inspection import Inspector, Shape
 from .judge import Asked, Judge
 from .parts import Parts
@@ -39,6 +37,9 @@ MOST_AHEAD = 1024 * 1024
 """How many bytes of later requests are taken while one is open."""
 
 CONTINUE = b"HTTP/1.1 100 Continue\r\n\r\n"
+
+START_PATIENCE = 5.0
+"""For how many seconds the first connection to the cluster is tried."""
 
 SECONDS_TO_ASK = 30.0
 """How long the proxy's own questions may take."""
@@ -340,7 +341,6 @@ class Proxy:
         self.inspector = inspector
         self.judge = judge
         self.clients: Set[ClientSide] = set()
-        self.is_over = asyncio.Event()
 
     async def connect(self, client: ClientSide) -> ClusterSide:
         """Makes a connection to the cluster for a client."""
@@ -362,19 +362,25 @@ class Proxy:
             if shape is not None:
                 judge.found(shape)
 
-    async def serve(self) -> None:
-        """Serves until it is told to end."""
-        loop = asyncio.get_running_loop()
-        for kind in (signal.SIGINT, signal.SIGTERM):
-            loop.add_signal_handler(kind, self.is_over.set)
+    async def serve(self, is_over: asyncio.Event, tell: Callable[[str], None]) -> None:
+        """Serves until it is over; tells its address first. What is open then is lost, and every connection is closed."""
         host, port = self.setting.listen
+        loop = asyncio.get_running_loop()
         server = await loop.create_server(lambda: ClientSide(self), host, port, backlog=1024)
-        print(f"http://{host}:{server.sockets[0].getsockname()[1]}", file=sys.stderr, flush=True)
-        await self.is_over.wait()
+        tell(f"http://{host}:{server.sockets[0].getsockname()[1]}")
+        await is_over.wait()
         server.close()
         self.judge.close()
         for client in list(self.clients):
             client.transport.abort()
+
+
+async def serve_until_signalled(proxy: Proxy) -> None:
+    """Serves until somebody sends a signal that asks for the end."""
+    is_over = asyncio.Event()
+    for kind in (signal.SIGINT, signal.SIGTERM):
+        asyncio.get_running_loop().add_signal_handler(kind, is_over.set)
+    await proxy.serve(is_over, lambda address: print(address, file=sys.stderr, flush=True))
 
 
 # The words
@@ -408,7 +414,7 @@ def words_of(arguments: Sequence[str]) -> argparse.Namespace:
 
 def begin(setting: argparse.Namespace, inspector: Inspector) -> Tuple[Optional[Shape], State]:
     """Looks at the index; tells what it is, and what is known of a document that is seen first. One that isn't empty is refused."""
-    inspector.connection.open(5.0)
+    inspector.connection.open(START_PATIENCE)
     shape = inspector.inspect(setting.index)
     if shape is None or shape.is_empty:
         return shape, State.JUDGED
@@ -421,28 +427,18 @@ def begin(setting: argparse.Namespace, inspector: Inspector) -> Tuple[Optional[S
     return shape, State.UNSURE if setting.created_only else State.JUDGED
 
 
-def record(setting: argparse.Namespace) -> Judge:
-    """Records until it is told to end."""
+def proxy_of(setting: argparse.Namespace) -> Proxy:
+    """Looks at the cluster, begins the history, and gives the proxy that the words ask for."""
     cluster = Cluster(setting.cluster, SECONDS_TO_ASK, credentials_of(os.environ), trust_of(setting.cluster, setting.ca_file))
     inspector = Inspector(Connection(cluster))
     shape, first = begin(setting, inspector)
     history: Union[History, Parts] = Parts(setting.file) if setting.by_shard else History(setting.file)
-    judge = Judge(shape, setting.index, history, Unjudged(setting.file), first, setting.documents)
-
-    async def serve() -> None:
-        await Proxy(setting, cluster, inspector, judge).serve()
-
-    try:
-        with Progress(lambda: counts_of(history)):
-            asyncio.run(serve())
-    finally:
-        judge.close()
-    return judge
+    return Proxy(setting, cluster, inspector, Judge(shape, setting.index, history, Unjudged(setting.file), first, setting.documents))
 
 
-def counts_of(history: Union[History, Parts]) -> Tuple[int, int]:
+def counts_of(judge: Judge) -> Tuple[int, int]:
     """How many calls were recorded, and how many of them are lost."""
-    histories = history.histories
+    histories = judge.history.histories
     return sum(it.calls for it in histories), sum(it.lost for it in histories)
 
 
@@ -451,11 +447,22 @@ def main(arguments: Sequence[str]) -> int:
     setting = words_of(arguments)
     gc.set_threshold(100_000, 50, 50)
     try:
-        judge = record(setting)
+        proxy = proxy_of(setting)
+        try:
+            with Progress(lambda: counts_of(proxy.judge)):
+                asyncio.run(serve_until_signalled(proxy))
+        finally:
+            proxy.judge.close()
     except (ClusterError, HistoryError, OSError) as fault:
         print(f"casbench_recording.proxy: {fault}", file=sys.stderr)
         return 1
-    calls = sum(it.calls for it in judge.history.histories)
+    tell_end(setting, proxy.judge)
+    return 0
+
+
+def tell_end(setting: argparse.Namespace, judge: Judge) -> None:
+    """Tells what was recorded, and what isn't judged."""
+    calls, _ = counts_of(judge)
     unanswered = sum(it.unanswered for it in judge.history.histories)
     if calls:
         print(f"recorded {calls} calls in {setting.file}, {unanswered} of them without a reply")
@@ -464,7 +471,6 @@ def main(arguments: Sequence[str]) -> int:
     told = judge.unjudged.told()
     if told:
         print(told, file=sys.stderr)
-    return 0
 
 
 if __name__ == "__main__":
