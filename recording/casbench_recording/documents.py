@@ -15,6 +15,12 @@ LONGEST_ID = 512
 """The most bytes of an id that a cluster takes."""
 
 
+canonical = json.JSONEncoder(sort_keys=True, separators=(",", ":")).encode
+"""The text of a source, which is the same for equal ones."""
+
+read_json = json.JSONDecoder().decode
+"""The value of a JSON text."""
+
 UNKNOWN = 1
 """The number of all sources of a document that nobody can know; those of sources that are known are greater."""
 
@@ -86,14 +92,13 @@ class Document:
 
 def digest_of(source: Any) -> bytes:
     """What equal sources have in common, and others don't."""
-    text = json.dumps(source, sort_keys=True, separators=(",", ":"))
-    return hashlib.blake2b(text.encode(), digest_size=16).digest()
+    return hashlib.blake2b(canonical(source).encode(), digest_size=16).digest()
 
 
 def object_of(content: Optional[bytes]) -> Optional[Dict[str, Any]]:
     """The object that a content is, or None where it is none that can be read."""
     try:
-        value = json.loads(content.decode("utf-8")) if content is not None else None
+        value = read_json(content.decode("utf-8")) if content is not None else None
     except (ValueError, RecursionError):
         return None
     return value if isinstance(value, dict) else None

@@ -10,6 +10,7 @@ The line of a call is in the file before `call` returns, so before its request c
 """
 
 import json
+import json.encoder
 import os
 import re
 import threading
@@ -33,6 +34,12 @@ WRITES_A_VALUE = ("index", "create")
 TAKES_A_CONDITION = ("index", "delete")
 
 CONFLICT = "version_conflict_engine_exception"
+
+compact = json.JSONEncoder(separators=(",", ":")).encode
+"""The JSON text of a value, without spaces."""
+
+quoted = json.encoder.encode_basestring_ascii
+"""The JSON text of a string."""
 
 HALF_OF_A_PAIR = re.compile(r"\\u[dD][89a-fA-F]|[\ud800-\udfff]")
 """What may be half of a surrogate pair, in the text of a JSON value."""
@@ -130,7 +137,7 @@ class Call:
 
     def tell(self, status: int, body: Dict[str, Any]) -> None:
         """Writes a reply with a body that was made here."""
-        self.history.reply(self, status, json.dumps(body, separators=(",", ":")))
+        self.history.reply(self, status, compact(body))
 
     def says(self, operations: Sequence[str], reply: str) -> None:
         """Refuses a reply that is none to this operation."""
@@ -198,23 +205,21 @@ class History:
         with self._lock:
             if self.room < len(operations):
                 raise Ended
-            shards = self._shards_with(operations)
+            shards = self._shards_of(operations)
             first, now = self.calls, self._now()
-            calls = [Call(self, number, it) for number, it in enumerate(operations, first)]
-            self._write("".join(f'{{"e":"call","n":{call.number},"t":{now},{it}\n' for call, it in zip(calls, members)))
+            self._write("".join([f'{{"e":"call","n":{number},"t":{now},{it}\n' for number, it in enumerate(members, first)]))
             self._shards.update(shards)
-            self.calls += len(calls)
-            self._open.update(call.number for call in calls)
-        return calls
+            self.calls += len(members)
+            self._open.update(range(first, self.calls))
+        return [Call(self, number, it) for number, it in enumerate(operations, first)]
 
-    def _shards_with(self, operations: Sequence[Operation]) -> Dict[str, int]:
-        """The shards that these calls name for documents. A document stays on the one that its first call names."""
-        shards: Dict[str, int] = {}
+    def _shards_of(self, operations: Sequence[Operation]) -> Dict[str, int]:
+        """The shards of the documents of these calls. Each stays on the one that its first call named."""
+        shards = {it.id: it.shard for it in operations}
         for it in operations:
-            known = self._shards.get(it.id, shards.get(it.id, it.shard))
-            if known != it.shard:
+            known = self._shards.get(it.id, shards[it.id])
+            if it.shard != known:
                 raise CallError(f"the document {it.id!r} is on shard {known}, and not on {it.shard}")
-            shards[it.id] = it.shard
         return shards
 
     def is_open(self, call: Call) -> bool:
@@ -326,19 +331,17 @@ def members_of_call(it: Operation) -> str:
         raise CallError(f"an id is a text of 1 to {LONGEST_ID} bytes, and not {it.id!r}")
     if not is_whole(it.shard, 0, 1023):
         raise CallError(f"a shard is a whole number up to 1023, and not {it.shard!r}")
-    members: Dict[str, Any] = {"id": it.id, "op": it.op}
+    members = f'"id":{quoted(it.id)},"op":"{it.op}"'
     if it.op in WRITES_A_VALUE:
         if not is_whole(it.value, 0, 2**64 - 1):
             raise CallError(f"the value of a write is a whole number below 2^64, and not {it.value!r}")
-        members["k"] = it.value
+        members += f',"k":{it.value}'
     if it.condition is not None:
         if it.op not in TAKES_A_CONDITION:
             raise CallError(f"a {it.op} has no condition")
         pair = members_of(it.condition)
-        members.update(if_seq_no=pair["_seq_no"], if_primary_term=pair["_primary_term"])
-    if it.shard:
-        members["shard"] = it.shard
-    return json.dumps(members, separators=(",", ":"))[1:]
+        members += f',"if_seq_no":{pair["_seq_no"]},"if_primary_term":{pair["_primary_term"]}'
+    return f'{members},"shard":{it.shard}}}' if it.shard else members + "}"
 
 
 def rest_of_reply(status: int, text: Optional[str]) -> str:
@@ -359,7 +362,7 @@ def rest_of_reply(status: int, text: Optional[str]) -> str:
 def shortened(text: str) -> str:
     """The text of a body with its members that count alone."""
     value = value_of(text)
-    return json.dumps(counting_members(value), separators=(",", ":")) if isinstance(value, dict) else "null"
+    return compact(counting_members(value)) if isinstance(value, dict) else "null"
 
 
 def counting_members(body: Dict[str, Any]) -> Dict[str, Any]:
@@ -380,7 +383,7 @@ def text_of(body: Body) -> Optional[str]:
         elif isinstance(body, str) or body is None:
             text = body or ""
         else:
-            text = json.dumps(body, separators=(",", ":"))
+            text = compact(body)
         value_of(text)
         # (between the tokens of a JSON text a line feed is a space, and within a string there is none)
         return text.replace("\n", " ").replace("\r", " ") if is_readable(text) else None

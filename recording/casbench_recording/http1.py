@@ -169,7 +169,7 @@ class Response(NamedTuple):
 
 def fields_of(head: bytes) -> Fields:
     """The fields of a head. A field that is told twice with two values, or on two lines, is refused."""
-    if head.count(b"\n") != head.count(b"\r\n") or b"\n " in head or b"\n\t" in head:
+    if not head.count(b"\n") == head.count(b"\r") == head.count(b"\r\n") or b"\n " in head or b"\n\t" in head:
         raise BadMessage("a line of the head ends or goes on as it may not")
     length: Optional[int] = None
     is_chunked = expects = False

@@ -198,21 +198,25 @@ class Judge:
 
     def _write_calls(self, made: Sequence[Tuple[Part, Operation]]) -> None:
         """Writes the lines of calls, those of one shard together. A history that is full ends, and with it what is open."""
-        for shard in sorted({operation.shard for _, operation in made}):
-            its = [it for it in made if it[1].shard == shard]
-            history = self.history.of_shard(shard)
-            try:
-                calls = history.call_all([operation for _, operation in its])
-            except Ended:
-                self._end_part(history, f"{history.path} is full")
-                continue
-            except HistoryError as fault:
-                self._end_part(history, str(fault))
-                continue
-            for (part, _), call in zip(its, calls):
-                part.call = call
-                if part.document is not None:
-                    part.document.open.append(call)
+        shards = {operation.shard for _, operation in made}
+        for shard in shards:
+            its = made if len(shards) == 1 else [it for it in made if it[1].shard == shard]
+            self._write_calls_of(self.history.of_shard(shard), its)
+
+    def _write_calls_of(self, history: History, made: Sequence[Tuple[Part, Operation]]) -> None:
+        """Writes the lines of calls to a history."""
+        try:
+            calls = history.call_all([operation for _, operation in made])
+        except Ended:
+            self._end_part(history, f"{history.path} is full")
+            return
+        except HistoryError as fault:
+            self._end_part(history, str(fault))
+            return
+        for (part, _), call in zip(made, calls):
+            part.call = call
+            if part.document is not None:
+                part.document.open.append(call)
 
     def _end_part(self, history: History, why: str) -> None:
         """Ends the history of a shard, or the one of all."""

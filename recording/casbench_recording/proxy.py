@@ -86,7 +86,7 @@ class ClientSide(asyncio.Protocol):
         self.cluster: Optional[ClusterSide] = None
         self.connecting: Optional["asyncio.Task[None]"] = None
         self.is_tunnel = False
-        self.is_cluster_full = False
+        self.is_cluster_full = self.is_paused = False
 
     def connection_made(self, transport: asyncio.BaseTransport) -> None:
         """Keeps what answers are written to."""
@@ -178,10 +178,10 @@ class ClientSide(asyncio.Protocol):
     def heed_flow(self) -> None:
         """Takes no more from the client while the cluster is slow to take it, or while an answer is waited for and much has come."""
         is_waiting = self.cluster is None or self.exchange is not None and self.exchange.is_sent
-        if self.is_cluster_full or is_waiting and len(self.data) > MOST_AHEAD:
-            self.transport.pause_reading()
-        else:
-            self.transport.resume_reading()
+        is_paused = self.is_cluster_full or is_waiting and len(self.data) > MOST_AHEAD
+        if is_paused != self.is_paused:
+            self.is_paused = is_paused
+            (self.transport.pause_reading if is_paused else self.transport.resume_reading)()
 
     def pause_writing(self) -> None:
         """Takes no more from the cluster while the client is slow to take it."""

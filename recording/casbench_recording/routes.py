@@ -4,6 +4,8 @@ Requests that write, and of which it isn't known what they write, are never take
 """
 
 import fnmatch
+import functools
+import re
 import urllib.parse
 from enum import Enum
 from typing import Dict, List, Mapping, NamedTuple, Tuple
@@ -57,6 +59,9 @@ class Names:
 
 PASS = Route(Kind.PASS)
 
+PLAIN_QUERY = re.compile(rb"\w+=\w*(?:&\w+=\w*)*")
+"""A query in which nothing is encoded."""
+
 READS = ("GET", "HEAD", "OPTIONS")
 
 HARMLESS_OF_AN_INDEX = {
@@ -86,6 +91,7 @@ PARTS_OF_A_SOURCE = {"_source", "_source_includes", "_source_excludes", "_source
 OF_A_GET = MEANS_NOTHING | PARTS_OF_A_SOURCE | {"version", "version_type", "routing", "parent", "realtime"}
 
 
+@functools.lru_cache(maxsize=8192)
 def route_of(method: str, target: bytes, names: Names) -> Route:
     """Reads the first line of a request."""
     path, _, query = target.partition(b"?")
@@ -116,6 +122,9 @@ def words_of(query: bytes) -> Dict[str, str]:
     """The words of a query; of a word that comes twice the last one counts."""
     if not query:
         return {}
+    if PLAIN_QUERY.fullmatch(query):
+        pairs = [it.partition("=") for it in query.decode("ascii").split("&")]
+        return {name: value for name, _, value in pairs}
     return dict(urllib.parse.parse_qsl(query.decode("utf-8", "replace").replace(";", "&"), keep_blank_values=True))
 
 
