@@ -7,6 +7,7 @@ PROGRAM is the built casbench; where it is not named, the one that ./casbench wo
 passed and failed.
 """
 
+import importlib.util
 import json
 import os
 import resource
@@ -15,7 +16,7 @@ import sys
 import threading
 import unittest
 
-from recordings import PACKAGE, FolderTest, judged, run_tests
+from recordings import PACKAGE, FolderTest, environment, judged, run_tests
 
 from casbench_recording.history import LONGEST_LINE, CallError, Ended, History, HistoryError, Operation, Pair
 from casbench_recording.parts import Indexes, Parts
@@ -257,6 +258,23 @@ class InParts(FolderTest):
         self.assertRaises(Ended, indexes.call, "get", "d")
         answers = [judged(self.program, it.path) for it in parts.histories]
         self.assertEqual(answers, [f"yes docs=1 calls={it} left_out=0" for it in (2, 2, 1)])
+
+
+@unittest.skipUnless(importlib.util.find_spec("pip"), "this Python has no pip")
+class Installed(FolderTest):
+    """The package as pip installs it."""
+
+    def test_it_is_installed_without_a_network(self):
+        installed = os.path.join(self.folder, "installed")
+        words = [sys.executable, "-m", "pip", "install", "--quiet", "--no-index", "--disable-pip-version-check", "--target", installed, str(PACKAGE)]
+        ran = subprocess.run(words, capture_output=True, text=True, env=environment())
+        self.assertEqual(ran.returncode, 0, ran.stderr)
+        words = [sys.executable, "-c", "import casbench_recording.proxy, sys; print(casbench_recording.__file__)"]
+        ran = subprocess.run(words, capture_output=True, text=True, env=environment(PYTHONPATH=installed), cwd=self.folder)
+        self.assertEqual(ran.stdout.strip(), os.path.join(installed, "casbench_recording", "__init__.py"), ran.stderr)
+        own = {it.name for it in (PACKAGE / "casbench_recording").iterdir() if it.is_file()}
+        self.assertEqual({it for it in os.listdir(os.path.join(installed, "casbench_recording")) if it != "__pycache__"}, own)
+        self.assertEqual(sorted(it.name for it in PACKAGE.iterdir() if it.name != "__pycache__"), ["README.md", "casbench_recording", "pyproject.toml", "wheel_builder.py"])
 
 
 if __name__ == "__main__":
