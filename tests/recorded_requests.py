@@ -10,12 +10,13 @@ passed and failed.
 import json
 import os
 import sys
+from unittest import mock
 
 from recordings import FolderTest, run_tests
 
 from casbench_recording.cluster import Answer, ClusterError
 from casbench_recording.documents import State
-from casbench_recording.history import History
+from casbench_recording.history import History, HistoryError
 from casbench_recording.inspection import Inspector, Shape
 from casbench_recording.judge import Judge
 from casbench_recording.parts import Parts
@@ -204,6 +205,11 @@ class Calls(JudgeTest):
         self.assertEqual([it[2:] for it in lines if " 200 1/" in it], ["200 1/0 k=2"] * len(ways))
         self.assertEqual(lines[-4:], ["8 get d", "8 404", "9 get d", "9 lost"])
 
+    def test_a_get_that_shows_no_source(self):
+        judge = self.judge()
+        self.talk(judge, ("PUT /carts/_doc/d", {"a": 1}, written(0)), ("GET /carts/_doc/d", None, found(0, None)), ("GET /carts/_doc/d", None, found(1, None)))
+        self.assertEqual(self.ended(judge)[2:], ["1 get d", "1 200 1/0 k=2", "2 get d", "2 lost"])
+
     def test_heads_tell_a_document_that_is_missing_by_its_length(self):
         judge, length = self.judge(), len('{"_index":"carts","_id":"é","found":false}'.encode())
         for status, told in ((404, length), (404, length + len(',"_type":"_doc"')), (404, length + 1), (404, None), (200, length)):
@@ -298,6 +304,14 @@ class UnknownSources(JudgeTest):
         endings = [it for it in lines if "get" not in it and "index" not in it]
         self.assertEqual(endings[1:], ["1 lost", "2 200 1/0 k=2", "3 lost", "4 lost", "5 200 updated 1/2", "6 200 1/2 k=3"])
         self.assertRegex(self.check(), "^yes ")
+
+    def test_an_update_that_changed_nothing_hides_nothing(self):
+        judge = self.judge()
+        noop = (200, {**written(0)[1], "result": "noop"})
+        self.talk(judge, ("PUT /carts/_doc/d", {"a": 1}, written(0)), ("POST /carts/_update/d", {"doc": {"a": 1}}, noop))
+        self.talk(judge, ("GET /carts/_doc/d", None, found(1, {"a": 9})))
+        self.ended(judge)
+        self.assertRegex(self.check(), "^refuted kind=no-writer calls=2 ")
 
     def test_an_update_that_is_open_is_not_told_either(self):
         judge = self.judge()
@@ -506,6 +520,21 @@ class NotJudged(JudgeTest):
             self.assertEqual(self.names(), {})
             self.tidy()
 
+    def test_a_fault_of_the_recorder_ends_the_recording(self):
+        for at, name in enumerate(("_operation", "_reply")):
+            judge = self.judge()
+            get = self.ask(judge, "GET", "/carts/_doc/d")
+            with mock.patch.object(Judge, name, side_effect=KeyError("x")):
+                self.talk(judge, ("GET /carts/_doc/e", None, missing("e")))
+            self.answer(judge, get, missing())
+            self.assertEqual([it for it in self.ended(judge) if it[2:5] != "get"], ["0 lost", "1 lost"][: at + 1])
+            self.assertEqual(self.names(), {"ended": "a fault of the recorder: KeyError('x')"})
+            self.tidy()
+
+    def test_a_list_that_is_there_is_not_gone_on_with(self):
+        open(self.file + ".not-judged", "x").close()
+        self.assertRaisesRegex(HistoryError, "not-judged: File exists", Unjudged, self.file)
+
     def test_a_history_that_is_full(self):
         judge = self.judge(history=History(self.file, most_events=4))
         get = self.ask(judge, "GET", "/carts/_doc/d")
@@ -640,7 +669,6 @@ class Answers:
             "/carts": {"carts": index.described()},
             "/shop": {"carts": index.described()},
             "/carts/_stats": {"indices": {"carts": index.stats()}},
-            "/_alias/shop": {"carts": {}},
             "/_cluster/state/metadata/carts": {"metadata": {"indices": {"carts": {"routing_num_shards": index.routing_shards}}}},
             **self.told,
         }
@@ -656,9 +684,11 @@ class Inspections(JudgeTest):
         return Inspector(Answers(asked, told)).inspect(name)
 
     def test_the_names_and_shards_of_an_index(self):
-        shape = self.inspect({"settings": {"number_of_shards": 3}, "aliases": {"shop": {"index_routing": "x"}, "old": {}}}, [("/_alias/old", {"carts": {}, "b": {}})])
-        self.assertEqual((shape.names.all, shape.names.routed, shape.shards, shape.is_empty), ({"carts", "shop"}, {"shop"}, 3, True))
-        self.assertEqual(self.inspect({}, name="shop").index, "carts")
+        shape = self.inspect({"settings": {"number_of_shards": 3}, "aliases": {"shop": {"index_routing": "x"}, "old": {}}})
+        self.assertEqual((shape.names.all, shape.names.routed, shape.shards, shape.is_empty), ({"carts", "shop", "old"}, {"shop"}, 3, True))
+        # (the name of a stream of data is none of the aliases)
+        shape = self.inspect({}, name="shop")
+        self.assertEqual((shape.index, shape.names.all), ("carts", {"carts", "shop"}))
         self.assertIsNone(self.inspect({}, name="other"))
 
     def test_indexes_that_can_not_be_judged(self):

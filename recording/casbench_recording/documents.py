@@ -9,10 +9,7 @@ import json
 from enum import Enum
 from typing import Any, Dict, List, Optional
 
-from .history import Call, Pair
-
-LONGEST_ID = 512
-"""The most bytes of an id that a cluster takes."""
+from .history import LONGEST_ID, Call, Pair, length_of
 
 
 canonical = json.JSONEncoder(sort_keys=True, separators=(",", ":")).encode
@@ -76,6 +73,11 @@ class Document:
         if number == UNKNOWN:
             self._pending -= 1
 
+    def wrote_nothing(self, number: int) -> None:
+        """Notes that a write with this number was answered as one that changed nothing."""
+        if number == UNKNOWN:
+            self._pending -= 1
+
     def number_shown(self, pair: Pair, source: Any, is_whole: bool) -> Optional[int]:
         """The number that a get shows which found this pair; None where it can't be told.
 
@@ -106,4 +108,4 @@ def object_of(content: Optional[bytes]) -> Optional[Dict[str, Any]]:
 
 def is_id(text: str) -> bool:
     """Whether the text may be the id of a document."""
-    return 1 <= len(text.encode(errors="surrogatepass")) <= LONGEST_ID and not any("\ud800" <= it <= "\udfff" for it in text)
+    return 1 <= length_of(text) <= LONGEST_ID

@@ -197,7 +197,20 @@ class History:
         self, op: str, id: str, value: Optional[int] = None, condition: Optional[Pair] = None, shard: int = 0
     ) -> Call:
         """Writes the line of a call. Raises Ended where there is room for no more, CallError where it can't be a call."""
-        return self.call_all([Operation(op, id, value, condition, shard)])[0]
+        return self.call_one(Operation(op, id, value, condition, shard))
+
+    def call_one(self, operation: Operation) -> Call:
+        """The same of an operation."""
+        members = members_of_call(operation)
+        with self._lock:
+            if self.has_ended or self.calls == self._most_calls:
+                raise Ended
+            self._keep_shard(operation)
+            number = self.calls
+            self._write(f'{{"e":"call","n":{number},"t":{self._now()},{members}\n')
+            self.calls += 1
+            self._open.add(number)
+        return Call(self, number, operation)
 
     def call_all(self, operations: Sequence[Operation]) -> List[Call]:
         """Writes the lines of several calls, such as the items of a bulk request: all of them or, where it raises, none."""
@@ -205,22 +218,19 @@ class History:
         with self._lock:
             if self.room < len(operations):
                 raise Ended
-            shards = self._shards_of(operations)
+            for it in operations:
+                self._keep_shard(it)
             first, now = self.calls, self._now()
             self._write("".join([f'{{"e":"call","n":{number},"t":{now},{it}\n' for number, it in enumerate(members, first)]))
-            self._shards.update(shards)
             self.calls += len(members)
             self._open.update(range(first, self.calls))
         return [Call(self, number, it) for number, it in enumerate(operations, first)]
 
-    def _shards_of(self, operations: Sequence[Operation]) -> Dict[str, int]:
-        """The shards of the documents of these calls. Each stays on the one that its first call named."""
-        shards = {it.id: it.shard for it in operations}
-        for it in operations:
-            known = self._shards.get(it.id, shards[it.id])
-            if it.shard != known:
-                raise CallError(f"the document {it.id!r} is on shard {known}, and not on {it.shard}")
-        return shards
+    def _keep_shard(self, operation: Operation) -> None:
+        """Sees to it that a document stays on the shard that it was named on first."""
+        shard = self._shards.setdefault(operation.id, operation.shard)
+        if shard != operation.shard:
+            raise CallError(f"the document {operation.id!r} is on shard {shard}, and not on {operation.shard}")
 
     def is_open(self, call: Call) -> bool:
         """Whether the call has no ending yet, and may be given one."""
@@ -327,7 +337,7 @@ def members_of_call(it: Operation) -> str:
     """The members of a call's line behind its number, up to the line's end. Raises CallError where it can't be a call."""
     if it.op not in OPERATIONS:
         raise CallError(f"an operation is one of {', '.join(OPERATIONS)}, and not {it.op!r}")
-    if not isinstance(it.id, str) or not is_text(it.id) or not 1 <= len(it.id.encode()) <= LONGEST_ID:
+    if not isinstance(it.id, str) or not 1 <= length_of(it.id) <= LONGEST_ID:
         raise CallError(f"an id is a text of 1 to {LONGEST_ID} bytes, and not {it.id!r}")
     if not is_whole(it.shard, 0, 1023):
         raise CallError(f"a shard is a whole number up to 1023, and not {it.shard!r}")
@@ -410,9 +420,12 @@ def other_number(digits: str) -> float:
     return number
 
 
-def is_text(value: str) -> bool:
-    """Whether the text has no half of a surrogate pair."""
-    return not any("\ud800" <= sign <= "\udfff" for sign in value)
+def length_of(text: str) -> int:
+    """How many bytes a text has; 0 where it is none, since it has half of a surrogate pair."""
+    try:
+        return len(text.encode())
+    except UnicodeEncodeError:
+        return 0
 
 
 def is_readable(text: str) -> bool:
@@ -429,4 +442,4 @@ def is_readable_value(value: Any, levels: int) -> bool:
         return levels > 0 and all(is_readable_value(part, levels - 1) for part in value)
     if isinstance(value, tuple):
         return all(is_readable_value(part, levels) for part in value)
-    return not isinstance(value, str) or is_text(value)
+    return not isinstance(value, str) or not value or length_of(value) > 0

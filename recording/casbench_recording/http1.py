@@ -60,7 +60,7 @@ class LengthBody(Body):
     """A body of so many bytes."""
 
     def __init__(self, length: int) -> None:
-        super().__init__()
+        self.pieces = []
         self.left = length
         self.is_done = not length
 

@@ -1,7 +1,7 @@
 """What a cluster tells of an index before it is recorded: its names and its shards, and what would keep it from being judged."""
 
 import urllib.parse
-from typing import Any, Dict, List, NamedTuple, Optional
+from typing import Any, Dict, NamedTuple, Optional
 
 from .cluster import ClusterError, Connection, NoAnswer
 from .routes import Names
@@ -40,17 +40,18 @@ class Inspector:
             raise ClusterError(f"{name} names {len(told)} indexes: name one of them")
         ((index, described),) = told.items()
         try:
-            return self.shape(index, described)
+            return self.shape(name, index, described)
         except (KeyError, TypeError, ValueError, AttributeError) as fault:
             raise ClusterError(f"what the cluster tells of {name} is not what OpenSearch tells: {fault!r}") from fault
 
-    def shape(self, index: str, described: Dict[str, Any]) -> Shape:
-        """What an index is that was described."""
+    def shape(self, name: str, index: str, described: Dict[str, Any]) -> Shape:
+        """What an index is that was asked for by this name and described."""
         settings = described["settings"]["index"]
         refuse_changed_sources(index, flattened(settings), described.get("mappings", {}))
         shards = int(settings["number_of_shards"])
         routing_shards = self.routing_shards(index) if shards > 1 else 1
-        shape = Shape(index, self.names(index, described.get("aliases", {})), shards, routing_shards, self.is_empty(index))
+        names = names_of(name, index, described.get("aliases", {}))
+        shape = Shape(index, names, shards, routing_shards, self.is_empty(index))
         self.compare_shards(shape)
         return shape
 
@@ -74,18 +75,6 @@ class Inspector:
         """Whether a document is there."""
         return self.ask(f"/{quoted(shape.index)}/_doc/{quoted(id)}") is not None
 
-    def names(self, index: str, aliases: Dict[str, Any]) -> Names:
-        """The names of the index: its own, and the aliases by which it is written to."""
-        names: List[str] = [index]
-        for alias in aliases:
-            others = self.ask(f"/_alias/{quoted(alias)}") or {}
-            if len(others) == 1 or aliases[alias].get("is_write_index"):
-                names.append(alias)
-            if aliases[alias].get("filter"):
-                raise ClusterError(f"the alias {alias} has a filter: what is read by it can't be judged")
-        routed = [it for it in names[1:] if {"routing", "index_routing", "search_routing"} & set(aliases[it])]
-        return Names(names, routed)
-
     def is_empty(self, index: str) -> bool:
         """Whether no shard of the index ever gave a sequence number."""
         told = self.ask(f"/{quoted(index)}/_stats?level=shards") or {}
@@ -103,6 +92,16 @@ class Inspector:
             told = self.ask(f"/{quoted(shape.index)}/_search_shards?routing=casbench-{number}") or {}
             if {copy["shard"] for copies in told["shards"] for copy in copies} != {shape.shard_of(f"casbench-{number}")}:
                 raise ClusterError(f"the shards of {shape.index} are not reckoned as OpenSearch does it")
+
+
+def names_of(name: str, index: str, aliases: Dict[str, Any]) -> Names:
+    """The names of an index: its own, the one that it was asked for by, and its aliases, also those that lead to another one
+    too: where an answer is of that one it says so."""
+    for alias, told in aliases.items():
+        if told.get("filter"):
+            raise ClusterError(f"the alias {alias} has a filter: what is read by it can't be judged")
+    routed = [it for it in aliases if {"routing", "index_routing", "search_routing"} & set(aliases[it])]
+    return Names([index, name, *aliases], routed)
 
 
 def flattened(settings: Dict[str, Any], prefix: str = "") -> Dict[str, str]:

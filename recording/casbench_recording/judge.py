@@ -139,6 +139,9 @@ class Judge:
             return self._ask(route, method, content)
         except Untellable as fault:
             self.end(str(fault))
+        except Exception as fault:
+            # (the application goes on, and nothing stands in the history behind what wasn't understood)
+            self.end(f"a fault of the recorder: {fault!r}")
         return None
 
     def _ask(self, route: Route, method: str, content: Optional[bytes]) -> Optional[Asked]:
@@ -206,7 +209,7 @@ class Judge:
     def _write_calls_of(self, history: History, made: Sequence[Tuple[Part, Operation]]) -> None:
         """Writes the lines of calls to a history."""
         try:
-            calls = history.call_all([operation for _, operation in made])
+            calls = [history.call_one(made[0][1])] if len(made) == 1 else history.call_all([it for _, it in made])
         except Ended:
             self._end_part(history, f"{history.path} is full")
             return
@@ -333,6 +336,12 @@ class Judge:
 
     def answered(self, asked: Asked, status: int, content: Optional[bytes], length: Optional[int]) -> None:
         """Writes what an answer says, after all of it was received. The content is None where it can't be read."""
+        try:
+            self._heed_answer(asked, status, content, length)
+        except Exception as fault:
+            self.end(f"a fault of the recorder: {fault!r}")
+
+    def _heed_answer(self, asked: Asked, status: int, content: Optional[bytes], length: Optional[int]) -> None:
         body = object_of(content)
         if asked.kind is Kind.SWEEP:
             if status == 200 and asked.is_over_at_answer and body is not None and not {"task", "timed_out"} & told_true(body):
@@ -388,7 +397,8 @@ class Judge:
         pair, result = pair_of(body), body.get("result")
         if part.op == "get":
             if status == 200 and body.get("found") is True and pair is not None:
-                number = document.number_shown(pair, body.get("_source"), part.shows_all)
+                source = body.get("_source")
+                number = document.number_shown(pair, source, part.shows_all and isinstance(source, dict))
                 if number is None:
                     return None
                 body = {**body, "_source": {"k": number}}
@@ -396,6 +406,8 @@ class Judge:
             return None
         elif pair is not None and part.number is not None and (status, result) in ((201, "created"), (200, "updated")):
             document.written(pair, part.number)
+        elif (status, result) == (200, "noop") and part.number is not None:
+            document.wrote_nothing(part.number)
         if document.state is State.UNSURE and not self._is_settled(part, status, body):
             return None
         return status, counting_members(body)

@@ -258,6 +258,7 @@ class ClusterSide(asyncio.Protocol):
             self.client.proxy.judge.end("a client and the cluster went on in another protocol")
             self.client.is_tunnel = True
             self.client.transport.write(head)
+            self.client.go_on()
         elif response.status < 200:
             if not exchange.was_continued or response.status != 100:
                 self.client.transport.write(head)
@@ -432,8 +433,9 @@ def proxy_of(setting: argparse.Namespace) -> Proxy:
     cluster = Cluster(setting.cluster, SECONDS_TO_ASK, credentials_of(os.environ), trust_of(setting.cluster, setting.ca_file))
     inspector = Inspector(Connection(cluster))
     shape, first = begin(setting, inspector)
+    unjudged = Unjudged(setting.file)
     history: Union[History, Parts] = Parts(setting.file) if setting.by_shard else History(setting.file)
-    return Proxy(setting, cluster, inspector, Judge(shape, setting.index, history, Unjudged(setting.file), first, setting.documents))
+    return Proxy(setting, cluster, inspector, Judge(shape, setting.index, history, unjudged, first, setting.documents))
 
 
 def counts_of(judge: Judge) -> Tuple[int, int]:

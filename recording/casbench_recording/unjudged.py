@@ -1,7 +1,10 @@
 """The list of what a recorder that watches doesn't judge: documents, each with the reason, and why a recording ended early."""
 
 import json
+import os
 from typing import Dict, List, Optional
+
+from .history import HistoryError
 
 MOST_TOLD = 20
 """How many documents are told at the end; the list has all of them."""
@@ -12,6 +15,8 @@ class Unjudged:
 
     def __init__(self, history: str) -> None:
         self.path = f"{history}.not-judged"
+        if os.path.exists(self.path):
+            raise HistoryError(f"{self.path}: File exists")
         self.reasons: Dict[str, str] = {}
         self.ended: List[str] = []
 
