@@ -531,6 +531,16 @@ class NotJudged(JudgeTest):
             self.assertEqual(self.names(), {"ended": "a fault of the recorder: KeyError('x')"})
             self.tidy()
 
+    def test_a_request_whose_body_comes_after_the_end(self):
+        judge = self.judge()
+        get = self.ask(judge, "GET", "/carts/_doc/d")
+        route = judge.route("PUT", b"/carts/_doc/d")
+        self.talk(judge, ("DELETE /carts", None, (200, {})))
+        self.assertIsNone(judge.ask(route, "PUT", b"{}"))
+        self.answer(judge, get, missing())
+        self.assertEqual(self.ended(judge), ["0 get d", "0 lost"])
+        self.assertEqual(self.names(), {"ended": "DELETE /carts"})
+
     def test_a_list_that_is_there_is_not_gone_on_with(self):
         open(self.file + ".not-judged", "x").close()
         self.assertRaisesRegex(HistoryError, "not-judged: File exists", Unjudged, self.file)
@@ -647,10 +657,18 @@ class NotEmpty(JudgeTest):
         judge = self.judge(shape=None)
         self.talk(judge, ("GET /carts/_doc/d", None, NOT_THERE), ("PUT /carts/_doc/d", {}, written(0)))
         for is_empty in (True, False):
-            judge.found(Shape("carts-1", Names(["carts", "carts-1"], []), 1, 1, is_empty))
+            judge.found(Shape("carts-1", Names(["carts", "carts-1"], []), 1, 1, is_empty), [])
         self.talk(judge, ("GET /carts/_doc/d", None, found(0, {})), ("PUT /carts-1/_doc/e", {}, written(1, id="e", _index="carts-1")))
         self.assertEqual(self.ended(judge), ["0 index e k=2", "0 201 created 1/1"])
         self.assertEqual(self.names(), {"d": "it was written before the index was looked at"})
+
+
+    def test_an_index_that_is_found_while_others_write(self):
+        shape = Shape("carts-1", Names(["carts", "carts-1", "shop"], []), 1, 1, True)
+        judge = self.judge(shape=None)
+        for method, target, waits in (("PUT", b"/shop/_doc/d", True), ("POST", b"/_bulk", True), ("PUT", b"/x/_doc/d", False), ("GET", b"/shop", False)):
+            judge.found(shape, [(method, target, judge.route(method, target))])
+            self.assertEqual(judge.shape is None, waits)
 
 
 class Answers:

@@ -238,6 +238,17 @@ class Passed(ProxyTest):
                 proxy.ended()
             os.path.exists(self.file) and os.remove(self.file)
 
+    def test_a_connection_that_goes_on_in_another_protocol(self):
+        request = b"GET /carts/_doc/d HTTP/1.1\r\nUpgrade: h2c\r\n\r\n"
+        switched = b"HTTP/1.1 101 Switching Protocols\r\n\r\nfrom the cluster"
+        with Scripted(lambda *_: switched) as other:
+            proxy = self.proxy(other.url)
+            with socket.create_connection(("127.0.0.1", proxy.port), timeout=30) as connection:
+                connection.sendall(request + b"GET /other HTTP/1.1\r\n\r\n")
+                self.assertEqual(received(connection, 2 * len(switched)), 2 * switched)
+            self.assertIn("went on in another protocol", proxy.ended())
+        self.assertEqual([it["e"] for it in self.lines()], ["call", "lost"])
+
     def test_connections_stay(self):
         with self.stand_in() as other, self.proxy(other.url) as proxy:
             asker = self.asker(proxy)

@@ -13,7 +13,7 @@ from .documents import Document, State, is_id, object_of
 from .history import Call, Ended, History, HistoryError, Operation, Pair, counting_members, is_whole, pair_of
 from .inspection import Shape
 from .parts import Parts
-from .routes import OF_A_GET, OF_AN_UPDATE, PARTS_OF_A_SOURCE, PASS, Kind, Names, Route, route_of
+from .routes import OF_A_GET, OF_AN_UPDATE, PARTS_OF_A_SOURCE, PASS, READS, Kind, Names, Route, route_of
 from .unjudged import Unjudged
 
 MADE_ID = re.compile(r"[A-Za-z0-9_-]{20}")
@@ -103,8 +103,16 @@ class Judge:
         """What a request asks."""
         return PASS if self.has_ended else route_of(method, target, self.names)
 
-    def found(self, shape: Shape) -> None:
-        """Takes what the index is that was not there before. If something was written to it, only what is seen created is judged."""
+    def found(self, shape: Shape, passed: Sequence[Tuple[str, bytes, Route]]) -> None:
+        """Takes what the index is that was not there before. If something was written to it, only what is seen created is judged.
+
+        Of requests that were passed on and are not answered it is told what they are. Where one may write to the index by
+        a name that wasn't known, the index isn't looked at yet.
+        """
+        for method, target, route in passed:
+            was_passed_by = route.kind is Kind.PASS and method not in READS and route_of(method, target, shape.names) is not PASS
+            if was_passed_by or route.kind is Kind.BULK:
+                return
         self.shape, self.names = shape, shape.names
         self._first = State.JUDGED if shape.is_empty else State.UNSURE
 
@@ -136,7 +144,7 @@ class Judge:
     def ask(self, route: Route, method: str, content: Optional[bytes]) -> Optional[Asked]:
         """Writes the calls of a request, before it is passed on. The content is None where it can't be read."""
         try:
-            return self._ask(route, method, content)
+            return None if self.has_ended else self._ask(route, method, content)
         except Untellable as fault:
             self.end(str(fault))
         except Exception as fault:
@@ -337,7 +345,8 @@ class Judge:
     def answered(self, asked: Asked, status: int, content: Optional[bytes], length: Optional[int]) -> None:
         """Writes what an answer says, after all of it was received. The content is None where it can't be read."""
         try:
-            self._heed_answer(asked, status, content, length)
+            if not self.has_ended:
+                self._heed_answer(asked, status, content, length)
         except Exception as fault:
             self.end(f"a fault of the recorder: {fault!r}")
 

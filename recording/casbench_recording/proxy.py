@@ -295,7 +295,7 @@ class ClusterSide(asyncio.Protocol):
         if asked is not None:
             content = decoded(response.body.content(), response.encoding, MOST_HELD)
             proxy.judge.answered(asked, response.status, content, response.length)
-        proxy.look_again(exchange.request, exchange.route)
+        proxy.look_again(exchange)
         self.pass_on(exchange)
         if exchange.is_sent:
             client.answered()
@@ -351,17 +351,18 @@ class Proxy:
         _, side = await loop.create_connection(make, host, port_of(url), ssl=self.cluster.trust)
         return side
 
-    def look_again(self, request: Request, route: Route) -> None:
+    def look_again(self, exchange: Exchange) -> None:
         """Looks whether the index is there now, after a request that may have made it."""
         judge = self.judge
-        if judge.shape is None and not judge.has_ended and request.method not in READS:
+        if judge.shape is None and not judge.has_ended and exchange.request.method not in READS:
             try:
                 shape = self.inspector.inspect(self.setting.index)
             except ClusterError as fault:
                 judge.end(str(fault))
                 return
             if shape is not None:
-                judge.found(shape)
+                others = [it.exchange for it in self.clients if it.exchange is not None and it.exchange is not exchange]
+                judge.found(shape, [(it.request.method, it.request.target, it.route) for it in others])
 
     async def serve(self, is_over: asyncio.Event, tell: Callable[[str], None]) -> None:
         """Serves until it is over; tells its address first. What is open then is lost, and every connection is closed."""
