@@ -265,7 +265,7 @@ class Installed(FolderTest):
     """The package as pip installs it."""
 
     def test_it_is_installed_without_a_network(self):
-        installed = os.path.join(self.folder, "installed")
+        installed, before = os.path.join(self.folder, "installed"), set(os.listdir(PACKAGE))
         words = [sys.executable, "-m", "pip", "install", "--quiet", "--no-index", "--disable-pip-version-check", "--target", installed, str(PACKAGE)]
         ran = subprocess.run(words, capture_output=True, text=True, env=environment())
         self.assertEqual(ran.returncode, 0, ran.stderr)
@@ -274,7 +274,7 @@ class Installed(FolderTest):
         self.assertEqual(ran.stdout.strip(), os.path.join(installed, "casbench_recording", "__init__.py"), ran.stderr)
         own = {it.name for it in (PACKAGE / "casbench_recording").iterdir() if it.is_file()}
         self.assertEqual({it for it in os.listdir(os.path.join(installed, "casbench_recording")) if it != "__pycache__"}, own)
-        self.assertEqual(sorted(it.name for it in PACKAGE.iterdir() if it.name != "__pycache__"), ["README.md", "casbench_recording", "pyproject.toml", "wheel_builder.py"])
+        self.assertLessEqual(set(os.listdir(PACKAGE)) - before, {"__pycache__"})
 
 
 if __name__ == "__main__":

@@ -706,7 +706,7 @@ class Inspections(JudgeTest):
         self.assertEqual((shape.names.all, shape.names.routed, shape.shards, shape.is_empty), ({"carts", "shop", "old"}, {"shop"}, 3, True))
         # (the name of a stream of data is none of the aliases)
         shape = self.inspect({}, name="shop")
-        self.assertEqual((shape.index, shape.names.all), ("carts", {"carts", "shop"}))
+        self.assertEqual((shape.name, shape.names.all), ("carts", {"carts", "shop"}))
         self.assertIsNone(self.inspect({}, name="other"))
 
     def test_indexes_that_can_not_be_judged(self):

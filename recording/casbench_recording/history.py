@@ -10,7 +10,6 @@ The line of a call is in the file before `call` returns, so before its request c
 """
 
 import json
-import json.encoder
 import os
 import re
 import threading
@@ -37,9 +36,6 @@ CONFLICT = "version_conflict_engine_exception"
 
 compact = json.JSONEncoder(separators=(",", ":")).encode
 """The JSON text of a value, without spaces."""
-
-quoted = json.encoder.encode_basestring_ascii
-"""The JSON text of a string."""
 
 HALF_OF_A_PAIR = re.compile(r"\\u[dD][89a-fA-F]|[\ud800-\udfff]")
 """What may be half of a surrogate pair, in the text of a JSON value."""
@@ -327,10 +323,9 @@ def pair_of(body: Any) -> Optional[Pair]:
     """The pair that a body tells, if any."""
     if not isinstance(body, dict):
         return None
-    term, seq = body.get("_primary_term"), body.get("_seq_no")
-    if not is_whole(term, 1, 2**63 - 1) or not is_whole(seq, 0, 2**63 - 1):
-        return None
-    return Pair(term, seq)
+    pair = Pair(body.get("_primary_term", 0), body.get("_seq_no", 0))
+    has_both = "_seq_no" in body and is_whole(pair.term, 1, 2**63 - 1) and is_whole(pair.seq, 0, 2**63 - 1)
+    return pair if has_both else None
 
 
 def members_of_call(it: Operation) -> str:
@@ -341,7 +336,7 @@ def members_of_call(it: Operation) -> str:
         raise CallError(f"an id is a text of 1 to {LONGEST_ID} bytes, and not {it.id!r}")
     if not is_whole(it.shard, 0, 1023):
         raise CallError(f"a shard is a whole number up to 1023, and not {it.shard!r}")
-    members = f'"id":{quoted(it.id)},"op":"{it.op}"'
+    members = f'"id":{compact(it.id)},"op":"{it.op}"'
     if it.op in WRITES_A_VALUE:
         if not is_whole(it.value, 0, 2**64 - 1):
             raise CallError(f"the value of a write is a whole number below 2^64, and not {it.value!r}")

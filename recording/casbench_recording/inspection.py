@@ -14,7 +14,7 @@ PROBES = 16
 class Shape(NamedTuple):
     """An index: its own name, all names by which it is reached, its shards, and whether nothing was ever written to it."""
 
-    index: str
+    name: str
     names: Names
     shards: int
     routing_shards: int
@@ -73,7 +73,7 @@ class Inspector:
 
     def has(self, shape: Shape, id: str) -> bool:
         """Whether a document is there."""
-        return self.ask(f"/{quoted(shape.index)}/_doc/{quoted(id)}") is not None
+        return self.ask(f"/{quoted(shape.name)}/_doc/{quoted(id)}") is not None
 
     def is_empty(self, index: str) -> bool:
         """Whether no shard of the index ever gave a sequence number."""
@@ -89,9 +89,9 @@ class Inspector:
     def compare_shards(self, shape: Shape) -> None:
         """Sees to it that shards are reckoned here as the cluster reckons them."""
         for number in range(PROBES if shape.shards > 1 else 0):
-            told = self.ask(f"/{quoted(shape.index)}/_search_shards?routing=casbench-{number}") or {}
+            told = self.ask(f"/{quoted(shape.name)}/_search_shards?routing=casbench-{number}") or {}
             if {copy["shard"] for copies in told["shards"] for copy in copies} != {shape.shard_of(f"casbench-{number}")}:
-                raise ClusterError(f"the shards of {shape.index} are not reckoned as OpenSearch does it")
+                raise ClusterError(f"the shards of {shape.name} are not reckoned as OpenSearch does it")
 
 
 def names_of(name: str, index: str, aliases: Dict[str, Any]) -> Names:

@@ -301,7 +301,7 @@ class Judge:
                     raise Untellable("a bulk request with an action that can't be read")
                 ((op, words),) = action.items()
                 source = next(lines, b"") if op != "delete" else None
-                yield self._item(op, {**route.words, **words}, source, route.index)
+                yield self._item(op, {**route.words, **words}, source, route.room)
 
     def _item(self, op: str, words: Body, source: Optional[bytes], index: str) -> Optional[Part]:
         """The call of an item, or None where it is none of the index, or can't be told."""
@@ -334,11 +334,12 @@ class Judge:
             places = [{"_id": it} for it in ids] if isinstance(ids, list) else []
         for place in places:
             words = {**route.words, **place} if isinstance(place, dict) else {}
-            index, id = words.get("_index", route.index), words.get("_id")
+            index, id = words.get("_index", route.room), words.get("_id")
             is_plain = OF_A_PLACE.issuperset(words) and words.get("realtime", True) in (True, "true")
-            is_ours = isinstance(id, str) and bool(id) and index in self.names.all and is_plain
-            routed = {"routing": index} if index in self.names.routed else {}
-            yield Part(id, "get", {**routed, **words}) if is_ours else None
+            if not isinstance(id, str) or not id or index not in self.names.all or not is_plain:
+                yield None
+            else:
+                yield Part(id, "get", {"routing": index, **words} if index in self.names.routed else words)
 
     # What is answered
 
@@ -388,7 +389,7 @@ class Judge:
 
     def _answered(self, part: Part, status: int, body: Optional[Body]) -> None:
         """Writes what the reply to a call says."""
-        if body is not None and self.shape is not None and body.get("_index", self.shape.index) != self.shape.index:
+        if body is not None and self.shape is not None and body.get("_index", self.shape.name) != self.shape.name:
             body = None
         if not part.id:
             self._answered_new(part, status, body)
@@ -499,13 +500,15 @@ def told_true(body: Body) -> FrozenSet[str]:
 def item_status(member: str, told: Body) -> int:
     """The status of an item of an answer, 0 where there is none. That of a get of several is told by what it found."""
     if member == "items":
-        status = told.get("status")
-        return status if is_whole(status, 0, 65_535) else 0
-    return {True: 200, False: 404}.get(told.get("found"), 0) if "error" not in told else 0
+        status = told.get("status", 0)
+        return int(status) if is_whole(status, 0, 65_535) else 0
+    if "error" in told or not isinstance(told.get("found"), bool):
+        return 0
+    return 200 if told["found"] else 404
 
 
 def missing_by_length(shape: Optional[Shape], id: str, length: Optional[int]) -> Body:
     """What a 404 to a HEAD says: that the document is missing, where the body that it would have is as long as that one says it."""
-    body = {"_index": shape.index if shape else "", "_id": id, "found": False}
+    body: Body = {"_index": shape.name if shape else "", "_id": id, "found": False}
     texts = [json.dumps(it, separators=(",", ":"), ensure_ascii=False) for it in (body, {**body, "_type": "_doc"})]
     return {"found": False} if length in [len(it.encode()) for it in texts] else {}

@@ -27,13 +27,14 @@ class Kind(Enum):
 
 
 class Route(NamedTuple):
-    """What is asked: for a call its operation, document and words; for a look the words of the body, for an end the reason."""
+    """What is asked: for a call its operation, document and words; for one of several the index that the path names; for a look the words of
+    the body, for an end the reason."""
 
     kind: Kind
     op: str = ""
     id: str = ""
     words: Mapping[str, str] = {}
-    index: str = ""
+    room: str = ""
     why: str = ""
     told: Tuple[bytes, ...] = ()
 
@@ -195,13 +196,13 @@ def route_of_several(method: str, first: str, rest: List[str], words: Dict[str, 
     index = first if rest else ""
     if last == "_mget":
         is_plain = OF_A_GET.issuperset(words) and words.get("realtime", "true") == "true"
-        return Route(Kind.MULTIPLE_GET, "get", words=words, index=index) if is_plain and method in ("GET", "POST") else PASS
+        return Route(Kind.MULTIPLE_GET, "get", words=words, room=index) if is_plain and method in ("GET", "POST") else PASS
     if method not in ("POST", "PUT"):
         return PASS
     strange = sorted(set(words) - OF_A_BULK)
     if strange:
         return Route(Kind.END, why=f"a bulk request with {strange[0]}={words[strange[0]]}")
-    return Route(Kind.BULK, words=words, index=index)
+    return Route(Kind.BULK, words=words, room=index)
 
 
 def route_of_cluster(method: str, first: str, rest: List[str], names: Names) -> Route:

@@ -63,7 +63,7 @@ class Version(NamedTuple):
     was deleted."""
 
     number: int
-    count: int
+    changes: int
     source: Optional[Dict[str, Any]]
 
 
@@ -101,7 +101,7 @@ class Shard:
             shown = versions[0] if len(versions) > 1 else None
         if shown is None or shown.source is None:
             return 404, {"_index": self.name, "_id": document, "found": False}
-        body = {"_index": self.name, "_id": document, "_version": shown.count, "_seq_no": shown.number}
+        body = {"_index": self.name, "_id": document, "_version": shown.changes, "_seq_no": shown.number}
         return 200, {**body, "_primary_term": TERM, "found": True, **shown_source(shown.source, words)}
 
     def write(self, kind: str, document: str, source: Optional[Dict[str, Any]], words: Words) -> Answer:
@@ -112,12 +112,12 @@ class Shard:
         if kind == "create":
             is_met = not is_there
         elif words.get("version_type", "internal").startswith("external"):
-            is_met = last is None or int(words["version"]) > last.count
+            is_met = last is None or int(words["version"]) > last.changes
         else:
             is_met = condition is None or last is not None and is_there and condition == (TERM, last.number)
         if not is_met and not (condition is not None and self.faults.strikes("lost-update")):
             return self.conflict(document)
-        count = int(words.get("version", last.count + 1 if last else 1))
+        count = int(words.get("version", last.changes + 1 if last else 1))
         version = Version(self.take_number(), count, None if kind == "delete" else source)
         self.versions[document] = [*self.versions.get(document, []), version][-2:]
         if self.faults.strikes("false-conflict"):
@@ -151,7 +151,7 @@ class Shard:
         else:
             status, result = (200, "updated") if was_there else (201, "created")
         shards = {"total": 1, "successful": 1, "failed": 0}
-        body = {"_index": self.name, "_id": document, "_version": version.count, "result": result, "_shards": shards}
+        body = {"_index": self.name, "_id": document, "_version": version.changes, "result": result, "_shards": shards}
         return status, {**body, "_seq_no": version.number, "_primary_term": TERM}
 
     def conflict(self, document: str) -> Answer:
@@ -456,12 +456,6 @@ def tell_stats(server: "Server", asked: Asked) -> Answer:
     return no_index(asked.path[0]) if index is None else (200, {"indices": {index.name: index.stats()}})
 
 
-def tell_aliases(server: "Server", asked: Asked) -> Answer:
-    """Answers which indexes have an alias."""
-    found = {it.name: {"aliases": it.aliases} for it in server.store.indexes.values() if asked.path[1] in it.aliases}
-    return (200, found) if found else (404, {"error": f"alias [{asked.path[1]}] missing", "status": 404})
-
-
 def tell_state(server: "Server", asked: Asked) -> Answer:
     """Answers what the cluster keeps of an index."""
     index = server.store.indexes[asked.path[3]]
@@ -480,31 +474,6 @@ def greet(server: "Server", asked: Asked) -> Answer:
     version = {"number": "7.17.0", "build_flavor": "default", "lucene_version": "8.11.1"}
     return 200, {"name": "stand-in", "version": version, "tagline": "You Know, for Search"}
 
-
-ROUTES: List[Tuple[Set[str], Tuple[str, ...], Callable[["Server", Asked], Answer]]] = [
-    ({"GET", "HEAD"}, ("*", "_doc", "*"), get),
-    ({"PUT", "POST"}, ("*", "_doc", "*"), write_by("index")),
-    ({"PUT", "POST"}, ("*", "_create", "*"), write_by("create")),
-    ({"DELETE"}, ("*", "_doc", "*"), write_by("delete")),
-    ({"POST"}, ("*", "_doc"), write_by("index")),
-    ({"POST"}, ("*", "_update", "*"), write_by("update")),
-    ({"POST", "PUT"}, ("_bulk",), lambda server, asked: server.store.bulk("", asked.body)),
-    ({"POST", "PUT"}, ("*", "_bulk"), lambda server, asked: server.store.bulk(asked.path[0], asked.body)),
-    ({"GET", "POST"}, ("_mget",), lambda server, asked: server.store.multiple_get("", asked.value, asked.words)),
-    ({"GET", "POST"}, ("*", "_mget"), lambda server, asked: server.store.multiple_get(asked.path[0], asked.value, asked.words)),
-    ({"POST"}, ("*", "_update_by_query"), lambda server, asked: server.store.by_query(asked.path[0], "index")),
-    ({"POST"}, ("*", "_delete_by_query"), lambda server, asked: server.store.by_query(asked.path[0], "delete")),
-    ({"GET", "POST"}, ("*", "_refresh"), lambda server, asked: (200, {"_shards": {"failed": 0}})),
-    ({"GET", "HEAD"}, ("",), greet),
-    ({"GET", "HEAD"}, ("*",), describe),
-    ({"PUT"}, ("*",), lambda server, asked: server.store.make(asked.path[0], asked.value)),
-    ({"DELETE"}, ("*",), lambda server, asked: server.store.remove(asked.path[0])),
-    ({"GET"}, ("*", "_stats", "seq_no"), tell_stats),
-    ({"GET"}, ("*", "_stats"), tell_stats),
-    ({"GET"}, ("_alias", "*"), tell_aliases),
-    ({"GET"}, ("_cluster", "state", "metadata", "*"), tell_state),
-    ({"GET"}, ("*", "_search_shards"), tell_shard),
-]
 
 
 class Server:
@@ -538,6 +507,30 @@ class Server:
         scheme = "http" if self.trust is None else "https"
         print(f"{scheme}://127.0.0.1:{server.sockets[0].getsockname()[1]}", file=sys.stderr, flush=True)
         await server.serve_forever()
+
+
+ROUTES: List[Tuple[Set[str], Tuple[str, ...], Callable[["Server", Asked], Answer]]] = [
+    ({"GET", "HEAD"}, ("*", "_doc", "*"), get),
+    ({"PUT", "POST"}, ("*", "_doc", "*"), write_by("index")),
+    ({"PUT", "POST"}, ("*", "_create", "*"), write_by("create")),
+    ({"DELETE"}, ("*", "_doc", "*"), write_by("delete")),
+    ({"POST"}, ("*", "_doc"), write_by("index")),
+    ({"POST"}, ("*", "_update", "*"), write_by("update")),
+    ({"POST", "PUT"}, ("_bulk",), lambda server, asked: server.store.bulk("", asked.body)),
+    ({"POST", "PUT"}, ("*", "_bulk"), lambda server, asked: server.store.bulk(asked.path[0], asked.body)),
+    ({"GET", "POST"}, ("_mget",), lambda server, asked: server.store.multiple_get("", asked.value, asked.words)),
+    ({"GET", "POST"}, ("*", "_mget"), lambda server, asked: server.store.multiple_get(asked.path[0], asked.value, asked.words)),
+    ({"POST"}, ("*", "_update_by_query"), lambda server, asked: server.store.by_query(asked.path[0], "index")),
+    ({"POST"}, ("*", "_delete_by_query"), lambda server, asked: server.store.by_query(asked.path[0], "delete")),
+    ({"GET", "POST"}, ("*", "_refresh"), lambda server, asked: (200, {"_shards": {"failed": 0}})),
+    ({"GET", "HEAD"}, ("",), greet),
+    ({"GET", "HEAD"}, ("*",), describe),
+    ({"PUT"}, ("*",), lambda server, asked: server.store.make(asked.path[0], asked.value)),
+    ({"DELETE"}, ("*",), lambda server, asked: server.store.remove(asked.path[0])),
+    ({"GET"}, ("*", "_stats"), tell_stats),
+    ({"GET"}, ("_cluster", "state", "metadata", "*"), tell_state),
+    ({"GET"}, ("*", "_search_shards"), tell_shard),
+]
 
 
 def wanted_header(environment: Mapping[str, str]) -> Optional[bytes]:
