@@ -484,12 +484,9 @@ class Begun(ProxyTest):
         with self.stand_in() as other, open(ours, "rb", 0) as terminal:
             proxy = self.started("proxy", "--listen", "127.0.0.1:0", "--cluster", other.url, "--index", "carts", self.file, stderr=its)
             os.close(its)
-            port = int(re.search(rb":(\d+)\r\n", terminal.read(1000))[1])
-            with Asker(port) as asker:
+            with Asker(int(shown_on(terminal, rb":(\d+)\r\n")[1])) as asker:
                 asker.ask("PUT", "/carts/_doc/d", {})
-                shown = b""
-                while b"1 calls, 0 lost, " not in shown:
-                    shown += terminal.read(1000)
+                shown_on(terminal, rb"\r\x1b\[K1 calls, 0 lost, \d calls a second")
             proxy.ended()
 
 
@@ -653,6 +650,15 @@ class Table(ProxyTest):
                 with self.subTest(fault=fault, seed=seed):
                     self.assertRegex(plain, SAID[fault][0])
                     self.assertRegex("".join(maybe), "^(yes .*|)$")
+
+
+def shown_on(terminal, pattern):
+    """Reads what a terminal shows until the pattern is there; gives where it is."""
+    shown, found = b"", None
+    while found is None:
+        shown += terminal.read(1000)
+        found = re.search(pattern, shown)
+    return found
 
 
 def wait_for_lines(path, count):
