@@ -106,34 +106,34 @@ class Call:
         """The write was performed, with this pair, and made the document or replaced a version of it."""
         self.says(WRITES_A_VALUE if created else ("index",), "indexed" if created else "indexed and not created")
         result = "created" if created else "updated"
-        self.tell(201 if created else 200, {"_id": self.operation.id, "result": result, **members_of(pair)})
+        self.tell(201 if created else 200, text_of_write(self.operation.id, result, checked_pair(pair)))
 
     def deleted(self, pair: Pair, found: bool) -> None:
         """The delete was performed, with this pair, and the document was there or not."""
         self.says(("delete",), "deleted")
         result = "deleted" if found else "not_found"
-        self.tell(200 if found else 404, {"_id": self.operation.id, "result": result, **members_of(pair)})
+        self.tell(200 if found else 404, text_of_write(self.operation.id, result, checked_pair(pair)))
 
     def found(self, pair: Pair, k: int) -> None:
         """The get found the version with this pair, which holds this value."""
         self.says(("get",), "found")
         if not is_whole(k, 0, 2**64 - 1):
             raise CallError(f"a value is a whole number below 2^64, and not {k!r}")
-        self.tell(200, {"_id": self.operation.id, **members_of(pair), "found": True, "_source": {"k": k}})
+        self.tell(200, text_of_find(self.operation.id, checked_pair(pair), k))
 
     def missing(self) -> None:
         """The get found no document."""
         self.says(("get",), "missing")
-        self.tell(404, {"_id": self.operation.id, "found": False})
+        self.tell(404, compact({"_id": self.operation.id, "found": False}))
 
     def conflict(self) -> None:
         """The write was refused, since its condition wasn't met."""
         self.says(("index", "delete", "create"), "a conflict")
-        self.tell(409, {"error": {"type": CONFLICT}})
+        self.tell(409, compact({"error": {"type": CONFLICT}}))
 
-    def tell(self, status: int, body: Dict[str, Any]) -> None:
-        """Writes a reply with a body that was made here."""
-        self.history.reply(self, status, compact(body))
+    def tell(self, status: int, text: str) -> None:
+        """Writes a reply with the text of a body that was made here."""
+        self.history.reply(self, status, text)
 
     def says(self, operations: Sequence[str], reply: str) -> None:
         """Refuses a reply that is none to this operation."""
@@ -311,12 +311,22 @@ def is_whole(value: object, least: int, most: int) -> bool:
     return type(value) is int and least <= value <= most
 
 
-def members_of(pair: Pair) -> Dict[str, int]:
-    """The members of a body that tell a pair."""
+def checked_pair(pair: Pair) -> Pair:
+    """The pair, which is refused where it can't be one."""
     term, seq = pair
     if not is_whole(term, 1, 2**63 - 1) or not is_whole(seq, 0, 2**63 - 1):
         raise CallError(f"a term is 1 to 2^63-1 and a sequence number 0 to 2^63-1, and not {term!r} and {seq!r}")
-    return {"_seq_no": seq, "_primary_term": term}
+    return Pair(term, seq)
+
+
+def text_of_write(id: str, result: str, pair: Pair) -> str:
+    """The text of a reply's body that tells a write."""
+    return f'{{"_id":{compact(id)},"result":"{result}","_seq_no":{pair.seq},"_primary_term":{pair.term}}}'
+
+
+def text_of_find(id: str, pair: Pair, k: int) -> str:
+    """The text of a reply's body that tells what a get found."""
+    return f'{{"_id":{compact(id)},"_seq_no":{pair.seq},"_primary_term":{pair.term},"found":true,"_source":{{"k":{k}}}}}'
 
 
 def pair_of(body: Any) -> Optional[Pair]:
@@ -344,8 +354,8 @@ def members_of_call(it: Operation) -> str:
     if it.condition is not None:
         if it.op not in TAKES_A_CONDITION:
             raise CallError(f"a {it.op} has no condition")
-        pair = members_of(it.condition)
-        members += f',"if_seq_no":{pair["_seq_no"]},"if_primary_term":{pair["_primary_term"]}'
+        pair = checked_pair(it.condition)
+        members += f',"if_seq_no":{pair.seq},"if_primary_term":{pair.term}'
     return f'{members},"shard":{it.shard}}}' if it.shard else members + "}"
 
 

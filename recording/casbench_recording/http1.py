@@ -4,6 +4,7 @@ Bytes are only looked at here and never changed, so that they can be passed on a
 for messages of different lengths is refused.
 """
 
+import functools
 import re
 import zlib
 from typing import List, NamedTuple, Optional, Tuple
@@ -167,8 +168,9 @@ class Response(NamedTuple):
     length: Optional[int]
 
 
+@functools.lru_cache(maxsize=4096)
 def fields_of(head: bytes) -> Fields:
-    """The fields of a head. A field that is told twice with two values, or on two lines, is refused."""
+    """The fields of a head, from the end of its first line on. A field that is told twice with two values, or on two lines, is refused."""
     if not head.count(b"\n") == head.count(b"\r") == head.count(b"\r\n") or b"\n " in head or b"\n\t" in head:
         raise BadMessage("a line of the head ends or goes on as it may not")
     length: Optional[int] = None
@@ -198,7 +200,7 @@ def request_of(head: bytes) -> Request:
     line = REQUEST_LINE.match(head)
     if line is None:
         raise BadMessage("it doesn't begin as a request of HTTP/1.1")
-    fields = fields_of(head)
+    fields = fields_of(head[line.end() - 2 :])
     body: Body = ChunkedBody() if fields.is_chunked else LengthBody(fields.length or 0)
     return Request(line[1].decode("ascii"), line[2], body, fields.encoding, fields.expects)
 
@@ -208,7 +210,7 @@ def response_of(head: bytes, method: str) -> Response:
     line = STATUS_LINE.match(head)
     if line is None:
         raise BadMessage("it doesn't begin as a response of HTTP/1.1")
-    status, fields = int(line[1]), fields_of(head)
+    status, fields = int(line[1]), fields_of(head[head.index(b"\r") :])
     body: Body = ClosedBody()
     if method == "HEAD" or status < 200 or status in (204, 304):
         body = Body()

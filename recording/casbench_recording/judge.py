@@ -10,7 +10,8 @@ import re
 from typing import Any, Dict, FrozenSet, Iterator, List, Mapping, NamedTuple, Optional, Sequence, Tuple, Union
 
 from .documents import Document, State, is_id, object_of
-from .history import Call, Ended, History, HistoryError, Operation, Pair, counting_members, is_whole, pair_of
+from .history import Call, Ended, History, HistoryError, Operation, Pair
+from .history import compact, counting_members, is_whole, pair_of, text_of_find, text_of_write
 from .inspection import Shape
 from .parts import Parts
 from .routes import OF_A_GET, OF_AN_UPDATE, PARTS_OF_A_SOURCE, PASS, READS, Kind, Names, Route, route_of
@@ -31,6 +32,7 @@ OF_A_PARTIAL_UPDATE = {"doc", "doc_as_upsert", "upsert", "detect_noop", "_source
 """What may stand in the body of an update that writes a document and can't delete it."""
 
 Body = Dict[str, Any]
+Reply = Tuple[int, str]
 
 
 class Untellable(Exception):
@@ -400,27 +402,28 @@ class Judge:
                 body = None
             self._end(part, self._reply(part, status, body) if body is not None else None)
 
-    def _reply(self, part: Part, status: int, body: Body) -> Optional[Tuple[int, Body]]:
-        """The status and the body that are written for a reply; None where it is lost."""
+    def _reply(self, part: Part, status: int, body: Body) -> Optional[Reply]:
+        """The status and the text of the body that are written for a reply; None where it is lost."""
         document = part.document
         assert document is not None
-        pair, result = pair_of(body), body.get("result")
+        pair, result, text = pair_of(body), body.get("result"), ""
         if part.op == "get":
             if status == 200 and body.get("found") is True and pair is not None:
                 source = body.get("_source")
                 number = document.number_shown(pair, source, part.shows_all and isinstance(source, dict))
                 if number is None:
                     return None
-                body = {**body, "_source": {"k": number}}
+                text = text_of_find(part.id, pair, number)
         elif status == 409 and not part.is_sure:
             return None
         elif pair is not None and part.number is not None and (status, result) in ((201, "created"), (200, "updated")):
             document.written(pair, part.number)
+            text = text_of_write(part.id, "created" if status == 201 else "updated", pair)
         elif (status, result) == (200, "noop") and part.number is not None:
             document.wrote_nothing(part.number)
         if document.state is State.UNSURE and not self._is_settled(part, status, body):
             return None
-        return status, counting_members(body)
+        return status, text or compact(counting_members(body))
 
     def _is_settled(self, part: Part, status: int, body: Body) -> bool:
         """Whether a reply settles that the document wasn't there before. One that shows that it was ends its judgement."""
@@ -457,7 +460,7 @@ class Judge:
             self._write_calls([(part, self._operation(part))])
             self._answered(part, status, body)
 
-    def _end(self, part: Part, reply: Optional[Tuple[int, Body]]) -> None:
+    def _end(self, part: Part, reply: Optional[Reply]) -> None:
         """Ends the call of a part, by a reply or as lost."""
         call, document = part.call, part.document
         if call is None or document is None:
@@ -467,7 +470,7 @@ class Judge:
         if document.state is not State.NOT_JUDGED:
             self._end_call(call, reply)
 
-    def _end_call(self, call: Call, reply: Optional[Tuple[int, Body]]) -> None:
+    def _end_call(self, call: Call, reply: Optional[Reply]) -> None:
         """Writes the ending of a call. Where the history ended in the meantime the call is lost by that."""
         try:
             if reply is None:
