@@ -171,8 +171,9 @@ class Calls(JudgeTest):
         self.assertRegex(self.check(), "^refuted kind=no-writer calls=1 ")
 
     def test_what_can_not_be_told_exactly_is_lost(self):
-        answers = [LOST, (502, "no upstream"), (200, "what"), (200, {}), (503, {"error": "x"}), NOT_THERE, (404, {}), written(0, _index="other")]
-        answers += [(201, {"result": "created", "_seq_no": 0}), (200, {"result": "created", "_seq_no": 0, "_primary_term": 1}), (429, {}), (400, {"error": {"type": "x"}})]
+        half, wrong = {"result": "created", "_seq_no": 0}, {"result": "created", "_seq_no": 0, "_primary_term": 1}
+        answers = [LOST, (502, "no upstream"), (200, "what"), (200, {}), (503, {"error": "x"}), NOT_THERE, (404, {}), (201, half)]
+        answers += [written(0, _index="other"), (200, wrong), (429, {}), (400, {"error": {"type": "x"}})]
         judge = self.judge()
         for at, told in enumerate(answers):
             self.talk(judge, (f"PUT /carts/_doc/{at}", {}, told), (f"GET /carts/_doc/{at}", None, (told or LOST) and told))
@@ -195,7 +196,8 @@ class Calls(JudgeTest):
     def test_gets_that_show_a_part_of_the_source(self):
         ways = ["_source=false", "_source=a", "_source_includes=a", "_source_excludes=b", "stored_fields=a", "filter_path=_id,found"]
         judge = self.judge()
-        self.talk(judge, ("PUT /carts/_doc/d", {"a": 1, "b": 2}, written(0)), ("PUT /carts/_doc/d", {"a": 1, "b": 3}, written(1, "updated")))
+        self.talk(judge, ("PUT /carts/_doc/d", {"a": 1, "b": 2}, written(0)))
+        self.talk(judge, ("PUT /carts/_doc/d", {"a": 1, "b": 3}, written(1, "updated")))
         for way in ways:
             self.talk(judge, (f"GET /carts/_doc/d?{way}", None, found(0, {"a": 1})))
         self.talk(judge, ("GET /carts/_doc/d?_source=false", None, missing()))
@@ -207,7 +209,8 @@ class Calls(JudgeTest):
 
     def test_a_get_that_shows_no_source(self):
         judge = self.judge()
-        self.talk(judge, ("PUT /carts/_doc/d", {"a": 1}, written(0)), ("GET /carts/_doc/d", None, found(0, None)), ("GET /carts/_doc/d", None, found(1, None)))
+        self.talk(judge, ("PUT /carts/_doc/d", {"a": 1}, written(0)))
+        self.talk(judge, ("GET /carts/_doc/d", None, found(0, None)), ("GET /carts/_doc/d", None, found(1, None)))
         self.assertEqual(self.ended(judge)[2:], ["1 get d", "1 200 1/0 k=2", "2 get d", "2 lost"])
 
     def test_heads_tell_a_document_that_is_missing_by_its_length(self):
@@ -431,7 +434,9 @@ class Several(JudgeTest):
 
     def test_such_a_request_that_may_go_on(self):
         told = (200, {"task": "x:1"}), (200, {"timed_out": True}), (504, {}), LOST
-        for target, answer in [("/carts/_delete_by_query", it) for it in told] + [("/carts/_delete_by_query?wait_for_completion=false", (200, {})), ("/ca*/_delete_by_query", (200, {}))]:
+        turns = [("/carts/_delete_by_query", it) for it in told]
+        turns += [("/carts/_delete_by_query?wait_for_completion=false", (200, {})), ("/ca*/_delete_by_query", (200, {}))]
+        for target, answer in turns:
             judge = self.judge()
             self.talk(judge, (f"POST {target}", {}, answer), ("PUT /carts/_doc/f", {}, written(3, id="f")))
             self.assertEqual(self.ended(judge), [])
@@ -459,7 +464,8 @@ class NewIds(JudgeTest):
     def test_an_answer_that_is_lost(self):
         for told in (LOST, (503, {}), (201, {"_id": MADE + "x"}), CONFLICT):
             judge = self.judge()
-            self.talk(judge, ("POST /carts/_doc", {"a": 1}, told), (f"GET /carts/_doc/{MADE}x", None, found(0, {"a": 1}, MADE + "x")))
+            self.talk(judge, ("POST /carts/_doc", {"a": 1}, told))
+            self.talk(judge, (f"GET /carts/_doc/{MADE}x", None, found(0, {"a": 1}, MADE + "x")))
             self.talk(judge, ("PUT /carts/_doc/d", {}, written(1)), ("POST /carts/_doc", {}, written(2, id=MADE + "y")))
             self.assertEqual([it for it in self.ended(judge) if "index" in it], ["0 index d k=2", f"1 index {MADE}y k=2"])
             self.assertEqual(list(self.names()), [MADE + "x"])
@@ -666,7 +672,8 @@ class NotEmpty(JudgeTest):
     def test_an_index_that_is_found_while_others_write(self):
         shape = Shape("carts-1", Names(["carts", "carts-1", "shop"], []), 1, 1, True)
         judge = self.judge(shape=None)
-        for method, target, waits in (("PUT", b"/shop/_doc/d", True), ("POST", b"/_bulk", True), ("PUT", b"/x/_doc/d", False), ("GET", b"/shop", False)):
+        others = [("PUT", b"/shop/_doc/d", True), ("POST", b"/_bulk", True), ("PUT", b"/x/_doc/d", False), ("GET", b"/shop", False)]
+        for method, target, waits in others:
             judge.found(shape, [(method, target, judge.route(method, target))])
             self.assertEqual(judge.shape is None, waits)
 
@@ -710,7 +717,8 @@ class Inspections(JudgeTest):
         self.assertIsNone(self.inspect({}, name="other"))
 
     def test_indexes_that_can_not_be_judged(self):
-        refused = [({"settings": {"index": {"default_pipeline": "p"}}}, (), "default_pipeline"), ({"settings": {"final_pipeline": "p"}}, (), "final_pipeline")]
+        refused = [({"settings": {"index": {"default_pipeline": "p"}}}, (), "default_pipeline")]
+        refused += [({"settings": {"final_pipeline": "p"}}, (), "final_pipeline")]
         refused += [({"mappings": {"_source": {"enabled": False}}}, (), "whole sources"), ({"settings": {"knn": "true"}}, (), "whole sources")]
         refused += [({"aliases": {"shop": {"filter": {"x": 1}}}}, (), "filter"), ({}, [("/carts", {"a": {}, "b": {}})], "names 2 indexes")]
         wrong = [("/carts/_search_shards", {"shards": [[{"shard": 7}]]})]

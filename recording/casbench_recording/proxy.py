@@ -369,7 +369,8 @@ class Proxy:
         host, port = self.setting.listen
         loop = asyncio.get_running_loop()
         server = await loop.create_server(lambda: ClientSide(self), host, port, backlog=1024)
-        tell(f"http://{host}:{server.sockets[0].getsockname()[1]}")
+        shown = f"[{host}]" if ":" in host else host
+        tell(f"http://{shown}:{server.sockets[0].getsockname()[1]}")
         await is_over.wait()
         server.close()
         self.judge.close()

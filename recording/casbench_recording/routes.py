@@ -27,8 +27,8 @@ class Kind(Enum):
 
 
 class Route(NamedTuple):
-    """What is asked: for a call its operation, document and words; for one of several the index that the path names; for a look the words of
-    the body, for an end the reason."""
+    """What is asked: for a call its operation, document and words; for several calls the index that the path names; for a look
+    the words of the body, for an end the reason."""
 
     kind: Kind
     op: str = ""
