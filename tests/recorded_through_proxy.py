@@ -208,6 +208,21 @@ class Passed(ProxyTest):
         self.assertEqual(seen, b"".join(requests))
         self.assertEqual(back, b"".join(it[0] if isinstance(it, tuple) else it for it in answers))
 
+    def test_lines_are_written_before_what_follows_from_them(self):
+        seen = []
+
+        def answer(request, whole):
+            seen.append([it["e"] for it in self.lines()])
+            return as_answer(200, found(0, {}))
+
+        with Scripted(answer) as other:
+            asker = self.asker(self.proxy(other.url))
+            for at in range(3):
+                self.assertEqual(asker.ask("GET", "/carts/_doc/d")[0], 200)
+                seen.append([it["e"] for it in self.lines()])
+        # the call before the request reaches the cluster, the reply before the answer reaches the client
+        self.assertEqual(seen, [["call", "reply"] * (at // 2) + (["call"] if at % 2 else []) for at in range(1, 7)])
+
     def test_a_byte_at_a_time(self):
         request = b"PUT /carts/_doc/d HTTP/1.1\r\nContent-Length: 7\r\n\r\n{\"a\":1}"
         answer = as_answer(201, {"_id": "d", "result": "created", "_seq_no": 0, "_primary_term": 1})
@@ -614,8 +629,56 @@ class Drawn:
             lines += [{op: words}] if op == "delete" else [{op: words}, self.source()]
         return self.asker.ask("POST", "/_bulk", b"".join(json.dumps(it).encode() + b"\n" for it in lines))
 
+    def script(self, id):
+        return self.asker.ask("POST", f"/{self.index}/_update/{id}", {"script": "delete"})
+
+    def sweep(self, id):
+        return self.asker.ask("POST", f"/{self.index}/_update_by_query", {})
+
+    def routed(self, id):
+        return self.asker.ask("PUT", f"/{self.index}/_doc/{id}?routing=x", self.source())
+
     def mget(self, id):
         return self.asker.ask("POST", f"/{self.index}/_mget", {"ids": [f"d{self.draw.randrange(3)}" for _ in range(2)]})
+
+
+class Meeting(ProxyTest):
+    """Several clients that meet, in all ways of asking, on a cluster that is right: nobody is accused."""
+
+    KINDS = "get put put-if put-if put-old create delete bulk mget head post update external filter " * 4 + "script sweep routed"
+
+    def run_of(self, seed):
+        """A run with some fault that breaks no promise; what check says of it, and what the list has."""
+        draw = random.Random(seed)
+        fault, shards, is_used = draw.choice(["none", "none", "drop-after", "garbled"]), draw.choice([1, 1, 3]), draw.random() < 0.3
+        words = ["--fault", fault, "--every", str(draw.choice([8, 15])), "--delay", str(draw.choice([0.002, 0.01]))]
+        file = os.path.join(self.folder, f"{seed}.ndjson")
+        with Started("stand_in", "--port", "0", *words) as other:
+            other.make("carts", number_of_shards=shards)
+            with Asker(other.port) as asker:
+                for id in ("d0", "d1") if is_used else ():
+                    asker.ask("PUT", f"/carts/_doc/{id}", {})
+            recorder = ["--listen", "127.0.0.1:0", "--cluster", other.url, "--index", "carts"]
+            with Here(*recorder, *(["--created-only"] if is_used else []), file) as proxy, ThreadPoolExecutor() as pool:
+                for done in [pool.submit(self.turns, f"{seed}/{it}", proxy.port) for it in range(4)]:
+                    done.result()
+        return judged(self.program, file, "--rule-out"), proxy.proxy.judge
+
+    def turns(self, seed, port):
+        """The turns of one client."""
+        with Drawn(seed, self.KINDS, "carts", port, 30) as drawn:
+            for _ in range(25):
+                drawn.turn()
+
+    def test_nobody_is_accused(self):
+        with ThreadPoolExecutor(2) as pool:
+            told = list(pool.map(self.run_of, range(12)))
+        for seed, (answer, judge) in enumerate(told):
+            with self.subTest(seed=seed):
+                self.assertRegex(answer, "^(yes|no) ")
+                self.assertEqual(judge.unjudged.ended, [])
+        self.assertGreater(sum(judge.history.replies for _, judge in told), 400)
+        self.assertGreater(sum(len(judge.unjudged.reasons) for _, judge in told), 10)
 
 
 class Table(ProxyTest):
