@@ -537,13 +537,14 @@ class NotJudged(JudgeTest):
             self.assertEqual(self.names(), {"ended": "a fault of the recorder: KeyError('x')"})
             self.tidy()
 
-    def test_a_request_whose_body_comes_after_the_end(self):
+    def test_what_comes_after_the_end(self):
         judge = self.judge()
         get = self.ask(judge, "GET", "/carts/_doc/d")
-        route = judge.route("PUT", b"/carts/_doc/d")
+        route, new = judge.route("PUT", b"/carts/_doc/d"), self.ask(judge, "POST", "/carts/_doc", {})
         self.talk(judge, ("DELETE /carts", None, (200, {})))
         self.assertIsNone(judge.ask(route, "PUT", b"{}"))
         self.answer(judge, get, missing())
+        self.answer(judge, new, written(0, id=MADE + "x"))
         self.assertEqual(self.ended(judge), ["0 get d", "0 lost"])
         self.assertEqual(self.names(), {"ended": "DELETE /carts"})
 

@@ -223,6 +223,16 @@ class Passed(ProxyTest):
         # the call before the request reaches the cluster, the reply before the answer reaches the client
         self.assertEqual(seen, [["call", "reply"] * (at // 2) + (["call"] if at % 2 else []) for at in range(1, 7)])
 
+    def test_an_answer_that_ends_with_its_connection(self):
+        answer = b"HTTP/1.1 200 OK\r\n\r\n" + json.dumps(found(0, {})).encode()
+        with Scripted(lambda *_: (answer, None)) as other:
+            proxy = self.proxy(other.url)
+            with socket.create_connection(("127.0.0.1", proxy.port), timeout=30) as connection:
+                connection.sendall(b"GET /carts/_doc/d HTTP/1.1\r\n\r\n")
+                self.assertEqual(received(connection), answer)
+            proxy.ended()
+        self.assertEqual([it["e"] for it in self.lines()], ["call", "reply"])
+
     def test_a_byte_at_a_time(self):
         request = b"PUT /carts/_doc/d HTTP/1.1\r\nContent-Length: 7\r\n\r\n{\"a\":1}"
         answer = as_answer(201, {"_id": "d", "result": "created", "_seq_no": 0, "_primary_term": 1})

@@ -194,11 +194,10 @@ class ClientSide(asyncio.Protocol):
             self.cluster.transport.resume_reading()
 
     def connection_lost(self, fault: Optional[Exception]) -> None:
-        """Gives up what the client asked: it will hear of no answer."""
+        """Ends the connection to the cluster, and with it what the client asked: it will hear of no answer."""
         self.proxy.clients.discard(self)
         if self.connecting is not None:
             self.connecting.cancel()
-        self.give_up()
         if self.cluster is not None:
             self.cluster.transport.abort()
 
