@@ -60,7 +60,9 @@ class JudgeTest(FolderTest):
             shape = Shape("carts", names, shards, shards * 512, True)
         self.history = history or History(self.file)
         self.addCleanup(self.history.end)
-        return Judge(shape, "carts", self.history, Unjudged(self.file), first, only)
+        unjudged = Unjudged(self.file)
+        self.addCleanup(unjudged.close)
+        return Judge(shape, "carts", self.history, unjudged, first, only)
 
     def ask(self, judge, method, target, source=None):
         """Hands in a request; gives what is asked. A source that is a list is the lines of a bulk request."""
@@ -589,6 +591,13 @@ class Shards(JudgeTest):
             self.assertEqual(len(self.ended(judge)), 0 if routed else 6)
             self.assertEqual(list(self.names()), ["d"] if routed else [])
             self.tidy()
+
+    def test_an_item_whose_document_another_one_leaves_untold(self):
+        judge = self.judge(shards=2)
+        lines = [{"index": {"_id": "d"}}, {}, {"index": {"_id": "d", "routing": "x"}}, {}]
+        self.talk(judge, ("POST /carts/_bulk", lines, (200, {"items": [{"index": {**written(0)[1], "status": 201}}] * 2})))
+        self.assertEqual(self.ended(judge), [])
+        self.assertEqual(list(self.names()), ["d"])
 
     def test_an_alias_with_a_routing(self):
         judge = self.judge(shards=2, routed=["shop"])

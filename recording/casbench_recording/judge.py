@@ -132,6 +132,7 @@ class Judge:
                 self._mark(document.id, "it was never seen created")
         self.has_ended = True
         self._end_histories()
+        self.unjudged.close()
 
     def _end_histories(self) -> None:
         """Ends each history."""
@@ -178,7 +179,9 @@ class Judge:
     def _made(self, kind: Kind, parts: List[Optional[Part]], is_head: bool = False) -> Optional[Asked]:
         """Writes the calls of the parts, all of them before the request is passed on."""
         ready = [it for it in parts if it is not None and self._is_ready(it)]
-        self._write_calls([(it, self._operation(it)) for it in ready if it.id])
+        # (another part of the request may have ended the judgement of a document)
+        judged = [it for it in ready if it.document is not None and it.document.state is not State.NOT_JUDGED]
+        self._write_calls([(it, self._operation(it)) for it in judged])
         return Asked(kind, parts, is_head) if any(it is not None for it in parts) else None
 
     def _is_ready(self, part: Part) -> bool:
@@ -236,7 +239,7 @@ class Judge:
         if why not in self.unjudged.ended:
             self.unjudged.ends(why)
         history.end()
-        self.has_ended = isinstance(self.history, History)
+        self.has_ended = self.has_ended or isinstance(self.history, History)
 
     def _document(self, id: str) -> Optional[Document]:
         """The document, or None where it isn't judged."""

@@ -1,8 +1,9 @@
 """The list of what a recorder that watches doesn't judge: documents, each with the reason, and why a recording ended early."""
 
+import contextlib
 import json
 import os
-from typing import Dict, List, Optional
+from typing import BinaryIO, Dict, List, Optional
 
 from .history import HistoryError
 
@@ -19,6 +20,7 @@ class Unjudged:
             raise HistoryError(f"{self.path}: File exists")
         self.reasons: Dict[str, str] = {}
         self.ended: List[str] = []
+        self._file: Optional[BinaryIO] = None
 
     def names(self, document: str, why: str) -> None:
         """Names a document."""
@@ -32,11 +34,18 @@ class Unjudged:
 
     def _write(self, line: Dict[str, object]) -> None:
         """Puts a line at the end of the file. A disk that is full keeps nobody from going on: all is told at the end too."""
-        try:
-            with open(self.path, "ab", buffering=0) as file:
-                file.write(json.dumps(line).encode() + b"\n")
-        except OSError:
-            pass
+        with contextlib.suppress(OSError):
+            if self._file is None:
+                self._file = open(self.path, "ab")
+            self._file.write(json.dumps(line).encode() + b"\n")
+            self._file.flush()
+
+    def close(self) -> None:
+        """Closes the file."""
+        if self._file is not None:
+            with contextlib.suppress(OSError):
+                self._file.close()
+            self._file = None
 
     def told(self) -> Optional[str]:
         """What is told at the end, or nothing."""
