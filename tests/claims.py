@@ -27,7 +27,7 @@ from typing import NamedTuple
 from program import TOP
 
 CRATES = TOP / "crates"
-DOCUMENTS = ["README.md", "examples/README.md", *sorted(f"docs/{it.name}" for it in (TOP / "docs").glob("*.md"))]
+DOCUMENTS = ["README.md", "examples/README.md", "recording/README.md", *sorted(f"docs/{it.name}" for it in (TOP / "docs").glob("*.md"))]
 
 # The files of a folder of definitions that only name others.
 LISTS = {"Lib.antt", "aids.antt"}
@@ -38,7 +38,7 @@ UNTOLD_TRAITS = {"Clone", "Copy", "Debug", "From"}
 SPELLED_TRAITS = {"==": "PartialEq", "hash": "Hash", "reader": "Read"}
 
 # Words that are files: such as begin with a folder of the checkout, and such as end so.
-FOLDERS = ("tests", "crates", "examples", "docs", "dist", ".ci")
+FOLDERS = ("tests", "crates", "examples", "recording", "docs", "dist", ".ci")
 ENDINGS = (".antt", ".c", ".html", ".md", ".ndjson", ".png", ".py", ".rt", ".txt", ".witness")
 
 

@@ -25,8 +25,8 @@ from trials import tell
 
 DOCUMENTS = ["README.md", "examples/README.md", "docs/RECORDING.md"]
 
-# The port that the documents have a stand-in listen on; each document gets one of its own.
-PORT = "9201"
+# The ports that the documents have a stand-in and a proxy listen on; each document gets some of its own.
+PORTS = ("9200", "9201")
 
 
 def free_ports(count):
@@ -64,7 +64,7 @@ def is_as_wanted(printed, wanted):
 
 def copied_checkout(program, to):
     """Makes a copy of what the documents name, in which ./casbench is the program."""
-    for name in ("docs", "examples", "tests"):
+    for name in ("docs", "examples", "recording", "tests"):
         shutil.copytree(TOP / name, to / name, ignore=shutil.ignore_patterns("__pycache__"))
     os.symlink(program, to / "casbench")
 
@@ -75,7 +75,14 @@ def sessions(document):
     return re.findall(r"^```\n(\$ .*?)^```$", text, re.MULTILINE | re.DOTALL)
 
 
-def run_document(program, document, port):
+def with_ports(block, ports):
+    """The block with these ports in the place of its own."""
+    for its, port in zip(PORTS, ports):
+        block = block.replace(its, port)
+    return block
+
+
+def run_document(program, document, ports):
     """Runs the sessions of a document, one after the other in one copy; tells how many there are, and what is wrong."""
     wrong = []
     blocks = sessions(document)
@@ -84,7 +91,7 @@ def run_document(program, document, port):
         folder = pathlib.Path(folder)
         copied_checkout(program, folder)
         for block in blocks:
-            commands, wanted = parted(block.replace(PORT, port))
+            commands, wanted = parted(with_ports(block, ports))
             how = {"cwd": folder, "env": environment, "text": True, "timeout": 600}
             ran = subprocess.run(["bash", "-c", commands], stdin=subprocess.DEVNULL, capture_output=True, **how)
             if not is_as_wanted(ran.stdout, wanted):
@@ -108,7 +115,9 @@ def main():
     program = built_program(sys.argv[1:])
     pages = sorted((TOP / "examples").glob("*.html"))
     with ThreadPoolExecutor() as pool:
-        told = list(pool.map(lambda it: run_document(program, *it), zip(DOCUMENTS, free_ports(len(DOCUMENTS)))))
+        ports = free_ports(len(DOCUMENTS) * len(PORTS))
+        shares = [ports[at :: len(DOCUMENTS)] for at in range(len(DOCUMENTS))]
+        told = list(pool.map(lambda it: run_document(program, *it), zip(DOCUMENTS, shares)))
         wrong = [it for it in pool.map(lambda page: run_page(program, page), pages) if it]
     wrong += [it for _, some in told for it in some]
     passed = sum(it for it, _ in told) + len(pages) - len(wrong)

@@ -1,67 +1,12 @@
 #!/usr/bin/env python3
-"""Splits a history text by shard, for histories of more events than one check takes.
+"""Splits a history text by shard: casbench_recording.split of recording/, for a checkout in which the package isn't installed."""
 
-    python3 split_by_shard.py carts.ndjson parts
-
-Writes parts/shard-0.ndjson and so on, one file for each shard that a call names. Each line goes, as it stands and in
-its order, to the file of its call's shard. So a part is a history text itself, and the history is right exactly where
-each part is (docs/RECORDING.md). What the parts can't show by themselves is looked at here: that each ending is of a
-call that is open, and that no document is on two shards.
-"""
-
-import json
-import os
+import pathlib
 import sys
 
+sys.path.insert(0, str(pathlib.Path(__file__).resolve().parents[2] / "recording"))
 
-class Shards:
-    """Tells the shard of each line, line after line."""
-
-    def __init__(self):
-        self.of_open_calls = {}
-        self.of_documents = {}
-
-    def of_line(self, event):
-        """The shard of an event's call. Raises ValueError, KeyError or TypeError where it is no event at this place."""
-        number = event["n"]
-        if event["e"] != "call":
-            return self.of_open_calls.pop(number)
-        shard = event.get("shard", 0)
-        if type(shard) is not int or not 0 <= shard <= 1023:
-            raise ValueError("no shard")
-        if number in self.of_open_calls or self.of_documents.setdefault(event["id"], shard) != shard:
-            raise ValueError("a call that is open already, or a document on a second shard")
-        self.of_open_calls[number] = shard
-        return shard
-
-
-def split(lines, folder):
-    """Writes each line to the file of its shard."""
-    shards, files = Shards(), {}
-    for place, line in enumerate(lines, start=1):
-        if not line.strip():
-            continue
-        try:
-            shard = shards.of_line(json.loads(line))
-        except (ValueError, KeyError, TypeError) as fault:
-            raise SystemExit(f"split_by_shard.py: line {place} can't be given to a shard: {fault}") from fault
-        if shard not in files:
-            files[shard] = open(os.path.join(folder, f"shard-{shard}.ndjson"), "xb")
-        files[shard].write(line.rstrip(b"\n") + b"\n")
-    for file in files.values():
-        file.close()
-
-
-def main(arguments):
-    """Splits the history that the words name into files of the folder that they name, which is made."""
-    if len(arguments) != 2:
-        raise SystemExit("usage: split_by_shard.py HISTORY FOLDER")
-    history, folder = arguments
-    with open(history, "rb") as lines:
-        os.mkdir(folder)
-        split(lines, folder)
-    return 0
-
+from casbench_recording.split import main
 
 if __name__ == "__main__":
     sys.exit(main(sys.argv[1:]))

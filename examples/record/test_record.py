@@ -144,8 +144,7 @@ class Honest(Test):
         texts = []
         for seed in ("7", "7", "8"):
             self.recorded("--seed", seed, calls=300, clients=1)
-            with open(self.file, encoding="utf-8") as file:
-                texts.append(file.read())
+            texts.append([{key: it for key, it in line.items() if key != "t"} for line in self.lines()])
             os.remove(self.file)
         self.assertEqual(texts[0], texts[1])
         self.assertNotEqual(texts[0], texts[2])
@@ -221,7 +220,7 @@ class Unanswered(Test):
         self.assertEqual(status, 0, said)
         self.assertEqual(self.check(), f"yes docs=1 calls={len(bodies)} left_out={len(bodies)}")
         kept = [it.get("body") for it in self.lines() if it["e"] == "reply"]
-        self.assertEqual(kept, [*[None] * 8, {"a": 1}, None, {"ö": "\u2028"}])
+        self.assertEqual(kept, [*[None] * 8, {"a": 1}, {}, {"ö": "\u2028"}])
 
     def test_odd_answers_to_bulk_requests(self):
         first = {"_id": "d0", "status": 201, "result": "created", "_seq_no": 0, "_primary_term": 1}

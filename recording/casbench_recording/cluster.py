@@ -1,0 +1,163 @@
+"""A cluster: its address, who asks, whom to believe that it is the cluster, and a connection that asks one thing at a time."""
+
+import argparse
+import base64
+import http.client
+import ssl
+import time
+import urllib.parse
+from typing import Any, Callable, Dict, Mapping, NamedTuple, Optional, Union
+
+from .history import text_of, value_of
+
+Url = urllib.parse.SplitResult
+
+PAUSE = 0.1
+"""How many seconds lie between two tries to connect."""
+
+
+class ClusterError(Exception):
+    """Why a cluster can't be asked, in words for the operator."""
+
+
+class NoAnswer(Exception):
+    """A request was sent, or part of it, and no whole answer came: whether it was performed is not known."""
+
+
+class Answer(NamedTuple):
+    """What came back for one request: the HTTP status and the bytes of the body, all of them."""
+
+    status: int
+    body: bytes
+
+    @property
+    def value(self) -> Any:
+        """The value of the body, or None where it is no JSON that casbench reads."""
+        text = text_of(self.body)
+        return None if text is None else value_of(text)
+
+    @property
+    def members(self) -> Dict[str, Any]:
+        """The members of the body, none where it is no object."""
+        value = self.value
+        return value if isinstance(value, dict) else {}
+
+
+class Cluster(NamedTuple):
+    """Where the cluster is, how long to wait for a word of it, who asks, and whom to trust."""
+
+    url: Url
+    timeout: float
+    credentials: Dict[str, str]
+    trust: Optional[ssl.SSLContext]
+
+
+class Connection:
+    """A connection to the cluster. It sends each request once."""
+
+    def __init__(self, cluster: Cluster) -> None:
+        url, timeout = cluster.url, cluster.timeout
+        self.prefix = url.path.rstrip("/")
+        self.headers = {"Content-Type": "application/json", **cluster.credentials}
+        self.http: Union[http.client.HTTPConnection, http.client.HTTPSConnection]
+        if cluster.trust is not None:
+            self.http = http.client.HTTPSConnection(str(url.hostname), port_of(url), timeout=timeout, context=cluster.trust)
+        else:
+            self.http = http.client.HTTPConnection(str(url.hostname), port_of(url), timeout=timeout)
+
+    def open(self, patience: float, is_over: Callable[[], bool] = lambda: False) -> None:
+        """Connects, where there is no connection, for as many seconds as patience says; raises ClusterError after them.
+
+        This is done before a call is recorded. So a cluster that can't be reached leaves no calls that were lost.
+        """
+        last = time.monotonic() + patience
+        while self.http.sock is None and not is_over():
+            try:
+                self.http.connect()
+            except ssl.SSLCertVerificationError as fault:
+                self.http.close()
+                raise ClusterError(f"the cluster's certificate is not trusted: {fault.verify_message}") from fault
+            except (OSError, http.client.HTTPException) as fault:
+                self.http.close()
+                if time.monotonic() > last:
+                    raise ClusterError(f"nobody answers at {self.http.host} port {self.http.port}: {fault}") from fault
+                time.sleep(PAUSE)
+
+    def ask(self, method: str, path: str, body: Optional[str] = None) -> Answer:
+        """Sends one request and returns its whole answer. Raises NoAnswer where none came in time.
+
+        Rule: no retries. `http.client` sends a request once, follows no redirection, and asks no other host. After a
+        fault the connection is closed, so that an answer that comes late is never taken for that of the next request.
+        """
+        try:
+            self.http.request(method, self.prefix + path, body, self.headers)
+            response = self.http.getresponse()
+            return Answer(response.status, response.read())
+        except (OSError, http.client.HTTPException) as fault:
+            self.http.close()
+            raise NoAnswer(str(fault) or type(fault).__name__) from fault
+
+    def close(self) -> None:
+        """Closes the connection."""
+        self.http.close()
+
+
+def port_of(url: Url) -> int:
+    """The port of the address."""
+    return url.port or (443 if url.scheme == "https" else 80)
+
+
+def url_of(text: str) -> Url:
+    """The cluster's address. It has no user and no password, since others can see the words of a command."""
+    url = urllib.parse.urlsplit(text)
+    if url.scheme not in ("http", "https") or not url.hostname or url.query or url.fragment:
+        raise argparse.ArgumentTypeError("it is no address such as https://host:9200")
+    if "@" in url.netloc:
+        raise argparse.ArgumentTypeError("name user and password by OPENSEARCH_USER and OPENSEARCH_PASSWORD")
+    if url.port == 0:
+        raise argparse.ArgumentTypeError("there is no port 0")
+    return url
+
+
+def credentials_of(environment: Mapping[str, str]) -> Dict[str, str]:
+    """The header that tells who asks, from the environment."""
+    user, password = environment.get("OPENSEARCH_USER"), environment.get("OPENSEARCH_PASSWORD")
+    header = environment.get("OPENSEARCH_HEADER")
+    if (user is None) != (password is None):
+        raise ClusterError("of OPENSEARCH_USER and OPENSEARCH_PASSWORD one is set and the other isn't")
+    if user is not None and header is not None:
+        raise ClusterError("OPENSEARCH_USER and OPENSEARCH_HEADER are both set: one says who asks")
+    if user is not None:
+        return {"Authorization": "Basic " + base64.b64encode(f"{user}:{password}".encode()).decode()}
+    if header is None:
+        return {}
+    name, colon, value = header.partition(":")
+    if not colon or not name.strip() or not header.isprintable() or not header.isascii():
+        raise ClusterError("OPENSEARCH_HEADER is no header, which is one line such as 'Authorization: Bearer ...'")
+    return {name.strip(): value.strip()}
+
+
+def trust_of(url: Url, ca_file: Optional[str]) -> Optional[ssl.SSLContext]:
+    """Whom to believe that the cluster is the cluster: its certificate and its name are verified, always.
+
+    That is by the CA file alone where there is one, and else by those whom the system trusts.
+    """
+    if url.scheme != "https":
+        return None
+    try:
+        return ssl.create_default_context(cafile=ca_file)
+    except OSError as fault:
+        raise ClusterError(f"{ca_file} holds no certificates: {fault}") from fault
+
+
+def number_from(least: float, kind: Callable[[str], float] = int) -> Callable[[str], float]:
+    """A reader of numbers of the words that are no less than the least one."""
+
+    def read(text: str) -> float:
+        number = kind(text)
+        if not least <= number < 1e9:
+            raise argparse.ArgumentTypeError(f"it is less than {least}, or very great")
+        return number
+
+    read.__name__ = "number"
+    return read

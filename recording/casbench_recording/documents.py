@@ -1,0 +1,111 @@
+"""What a recorder that watches knows of documents: which it may judge, and the numbers that stand for their sources.
+
+A history tells a version by its pair and by a number `k`. Here `k` numbers the sources of a document: equal sources have
+one number, whatever the order of their keys.
+"""
+
+import hashlib
+import json
+from enum import Enum
+from typing import Any, Dict, List, Optional
+
+from .history import LONGEST_ID, Call, Pair, length_of
+
+
+canonical = json.JSONEncoder(sort_keys=True, separators=(",", ":")).encode
+"""The text of a source, which is the same for equal ones."""
+
+read_json = json.JSONDecoder().decode
+"""The value of a JSON text."""
+
+UNKNOWN = 1
+"""The number of all sources of a document that nobody can know; those of sources that are known are greater."""
+
+
+class State(Enum):
+    """What is known of the calls on a document.
+
+    All of them are recorded; or all that were seen so far, and it isn't known yet whether the document was there before
+    them; or some are not, and no more will be.
+    """
+
+    JUDGED = 1
+    UNSURE = 2
+    NOT_JUDGED = 3
+
+
+class Document:
+    """A document: its calls that are open, and the numbers of its sources."""
+
+    __slots__ = ("id", "shard", "state", "open", "writes", "deletes", "_numbers", "_written", "_pending")
+
+    def __init__(self, id: str, shard: int, state: State) -> None:
+        self.id = id
+        self.shard = shard
+        self.state = state
+        self.open: List[Call] = []
+        # how many calls were made that may write the document, and that may delete it
+        self.writes = self.deletes = 0
+        self._numbers: Dict[bytes, int] = {}
+        # the number that each pair was given to
+        self._written: Dict[Pair, int] = {}
+        # how many writes of a source that nobody can know have no pair that is known
+        self._pending = 0
+
+    def number_of(self, source: Any) -> Optional[int]:
+        """The number of a source, or None where it is nested too deep to be compared."""
+        try:
+            return self._numbers.setdefault(digest_of(source), len(self._numbers) + 2)
+        except RecursionError:
+            return None
+
+    def number_to_write(self, source: Any) -> int:
+        """The number of a source that is written now. Of sources that nobody can know it is one for all of them."""
+        number = self.number_of(source) if source is not None else None
+        if number is None:
+            self._pending += 1
+            return UNKNOWN
+        return number
+
+    def written(self, pair: Pair, number: int) -> None:
+        """Notes that a write was answered with this pair."""
+        self._written[pair] = number
+        if number == UNKNOWN:
+            self._pending -= 1
+
+    def wrote_nothing(self, number: int) -> None:
+        """Notes that a write with this number was answered as one that changed nothing."""
+        if number == UNKNOWN:
+            self._pending -= 1
+
+    def number_shown(self, pair: Pair, source: Any, is_whole: bool) -> Optional[int]:
+        """The number that a get shows which found this pair; None where it can't be told.
+
+        Where a write of unknown source may have given the pair it is that one's, whatever is shown. Where the source isn't
+        shown as a whole it is that of the write which the pair was given to.
+        """
+        number = self._written.get(pair)
+        if number is not None and (number == UNKNOWN or not is_whole):
+            return number
+        if not is_whole or number is None and self._pending:
+            return None
+        return self.number_of(source)
+
+
+def digest_of(source: Any) -> bytes:
+    """What equal sources have in common, and others don't."""
+    return hashlib.blake2b(canonical(source).encode(), digest_size=16).digest()
+
+
+def object_of(content: Optional[bytes]) -> Optional[Dict[str, Any]]:
+    """The object that a content is, or None where it is none that can be read."""
+    try:
+        value = read_json(content.decode("utf-8")) if content is not None else None
+    except (ValueError, RecursionError):
+        return None
+    return value if isinstance(value, dict) else None
+
+
+def is_id(text: str) -> bool:
+    """Whether the text may be the id of a document."""
+    return 1 <= length_of(text) <= LONGEST_ID

@@ -1,0 +1,450 @@
+"""History texts: the lines of calls and of their endings, written as the calls are made.
+
+    with History("carts.ndjson") as history:
+        with history.call("index", "cart-17", 7, Pair(term=1, seq=4)) as call:
+            response = send(...)
+            call.reply(response.status, response.body)
+
+The line of a call is in the file before `call` returns, so before its request can leave; the line of its reply when
+`reply` returns. A call that is left without a reply is written as lost. One lock orders all lines.
+"""
+
+import json
+import os
+import re
+import threading
+import time
+from typing import Any, Callable, Dict, List, NamedTuple, Optional, Sequence, Set, Tuple, Union
+
+MOST_EVENTS = 1_048_576
+"""The most events of a history. A call takes room for two, itself and its ending."""
+
+LONGEST_LINE = 65_536
+"""The most bytes of a line, its line feed not counted."""
+
+LONGEST_ID = 512
+"""The most bytes of a document's id."""
+
+DEEPEST_BODY = 100
+"""How deep arrays and objects of a body may be nested. casbench reads 127 levels, and the line around it is one."""
+
+OPERATIONS = ("get", "index", "delete", "create")
+WRITES_A_VALUE = ("index", "create")
+TAKES_A_CONDITION = ("index", "delete")
+
+CONFLICT = "version_conflict_engine_exception"
+
+compact = json.JSONEncoder(separators=(",", ":")).encode
+"""The JSON text of a value, without spaces."""
+
+HALF_OF_A_PAIR = re.compile(r"\\u[dD][89a-fA-F]|[\ud800-\udfff]")
+"""What may be half of a surrogate pair, in the text of a JSON value."""
+
+Body = Union[bytes, str, Dict[str, Any], List[Any], None]
+"""A reply's body: its text as it was received, in bytes or as a string, or the value that it was read as, or nothing."""
+
+
+class HistoryError(Exception):
+    """Why a history could not be begun or gone on with, in words for the operator."""
+
+
+class Ended(Exception):
+    """The history takes no more calls: it is full, or it was ended."""
+
+
+class CallError(ValueError):
+    """A call, a reply or an ending that the history can't have. No line was written for it."""
+
+
+class Pair(NamedTuple):
+    """What names a version of a document: its primary term and its sequence number."""
+
+    term: int
+    seq: int
+
+
+class Operation(NamedTuple):
+    """What a call asks: the operation, the document, the value of an index or a create, the condition of an index or a delete."""
+
+    op: str
+    id: str
+    value: Optional[int] = None
+    condition: Optional[Pair] = None
+    shard: int = 0
+
+
+class Call:
+    """A call that was made. It is ended once: by a reply, or as lost, which the end of its block does where nothing else did."""
+
+    def __init__(self, history: "History", number: int, operation: Operation) -> None:
+        self.history = history
+        self.number = number
+        self.operation = operation
+
+    def __enter__(self) -> "Call":
+        return self
+
+    def __exit__(self, *_: object) -> None:
+        self.history.lose([self])
+
+    @property
+    def is_open(self) -> bool:
+        """Whether the call has no ending yet."""
+        return self.history.is_open(self)
+
+    def reply(self, status: int, body: Body = None) -> None:
+        """Writes what was received: the status, and the body as it came. What is no JSON is left out, and so is unknown."""
+        self.history.reply(self, status, text_of(body))
+
+    def lost(self) -> None:
+        """Writes that the outcome will never be known."""
+        self.history.end_once(self, "lost", "")
+
+    # Replies by what they say, for a store that answers in other words than OpenSearch.
+
+    def indexed(self, pair: Pair, created: bool) -> None:
+        """The write was performed, with this pair, and made the document or replaced a version of it."""
+        self.says(WRITES_A_VALUE if created else ("index",), "indexed" if created else "indexed and not created")
+        result = "created" if created else "updated"
+        self.tell(201 if created else 200, text_of_write(self.operation.id, result, checked_pair(pair)))
+
+    def deleted(self, pair: Pair, found: bool) -> None:
+        """The delete was performed, with this pair, and the document was there or not."""
+        self.says(("delete",), "deleted")
+        result = "deleted" if found else "not_found"
+        self.tell(200 if found else 404, text_of_write(self.operation.id, result, checked_pair(pair)))
+
+    def found(self, pair: Pair, k: int) -> None:
+        """The get found the version with this pair, which holds this value."""
+        self.says(("get",), "found")
+        if not is_whole(k, 0, 2**64 - 1):
+            raise CallError(f"a value is a whole number below 2^64, and not {k!r}")
+        self.tell(200, text_of_find(self.operation.id, checked_pair(pair), k))
+
+    def missing(self) -> None:
+        """The get found no document."""
+        self.says(("get",), "missing")
+        self.tell(404, compact({"_id": self.operation.id, "found": False}))
+
+    def conflict(self) -> None:
+        """The write was refused, since its condition wasn't met."""
+        self.says(("index", "delete", "create"), "a conflict")
+        self.tell(409, compact({"error": {"type": CONFLICT}}))
+
+    def tell(self, status: int, text: str) -> None:
+        """Writes a reply with the text of a body that was made here."""
+        self.history.reply(self, status, text)
+
+    def says(self, operations: Sequence[str], reply: str) -> None:
+        """Refuses a reply that is none to this operation."""
+        if self.operation.op not in operations:
+            raise CallError(f"call {self.number} is a {self.operation.op}, and can't be answered as {reply}")
+
+
+class History:
+    """The file that a history text is written to. Any thread may use it.
+
+    Each line is in the file, whole, when the method that writes it returns. Where a line can't be written, as on a full
+    disk, what was written of it is cut off again, HistoryError is raised, and the history is at its end.
+    """
+
+    def __init__(self, path: str, most_events: int = MOST_EVENTS, clock: Callable[[], float] = time.time) -> None:
+        self.path = path
+        self.calls = self.replies = self.lost = 0
+        self.has_ended = False
+        self._lock = threading.Lock()
+        self._clock = clock
+        self._most_calls = min(most_events, MOST_EVENTS) // 2
+        self._open: Set[int] = set()
+        self._shards: Dict[str, int] = {}
+        self._length = 0
+        try:
+            # (unbuffered, and never over a file that is there)
+            self._file = open(path, "xb", buffering=0)
+        except OSError as fault:
+            raise HistoryError(f"{path}: {fault.strerror}") from fault
+
+    def __enter__(self) -> "History":
+        return self
+
+    def __exit__(self, *_: object) -> None:
+        self.end()
+
+    @property
+    def histories(self) -> Tuple["History", ...]:
+        """The histories of the recording: this one."""
+        return (self,)
+
+    def of_shard(self, shard: int) -> "History":
+        """The history of a shard's calls: this one, as that of every shard's."""
+        return self
+
+    @property
+    def unanswered(self) -> int:
+        """How many calls have no reply: those that are open, and those that are lost."""
+        return self.calls - self.replies
+
+    @property
+    def room(self) -> int:
+        """How many more calls the history takes."""
+        return 0 if self.has_ended else self._most_calls - self.calls
+
+    def call(
+        self, op: str, id: str, value: Optional[int] = None, condition: Optional[Pair] = None, shard: int = 0
+    ) -> Call:
+        """Writes the line of a call. Raises Ended where there is room for no more, CallError where it can't be a call."""
+        return self.call_one(Operation(op, id, value, condition, shard))
+
+    def call_one(self, operation: Operation) -> Call:
+        """The same of an operation."""
+        members = members_of_call(operation)
+        with self._lock:
+            if self.has_ended or self.calls == self._most_calls:
+                raise Ended
+            self._keep_shard(operation)
+            number = self.calls
+            self._write(f'{{"e":"call","n":{number},"t":{self._now()},{members}\n')
+            self.calls += 1
+            self._open.add(number)
+        return Call(self, number, operation)
+
+    def call_all(self, operations: Sequence[Operation]) -> List[Call]:
+        """Writes the lines of several calls, such as the items of a bulk request: all of them or, where it raises, none."""
+        members = [members_of_call(it) for it in operations]
+        with self._lock:
+            if self.room < len(operations):
+                raise Ended
+            for it in operations:
+                self._keep_shard(it)
+            first, now = self.calls, self._now()
+            self._write("".join([f'{{"e":"call","n":{number},"t":{now},{it}\n' for number, it in enumerate(members, first)]))
+            self.calls += len(members)
+            self._open.update(range(first, self.calls))
+        return [Call(self, number, it) for number, it in enumerate(operations, first)]
+
+    def _keep_shard(self, operation: Operation) -> None:
+        """Sees to it that a document stays on the shard that it was named on first."""
+        shard = self._shards.setdefault(operation.id, operation.shard)
+        if shard != operation.shard:
+            raise CallError(f"the document {operation.id!r} is on shard {shard}, and not on {operation.shard}")
+
+    def is_open(self, call: Call) -> bool:
+        """Whether the call has no ending yet, and may be given one."""
+        with self._lock:
+            return call.number in self._open
+
+    def reply(self, call: Call, status: int, text: Optional[str]) -> None:
+        """Writes the line of a reply, with the JSON text of its body, or without one where that is None."""
+        if not is_whole(status, 0, 65_535):
+            raise CallError(f"a status is a whole number up to 65535, and not {status!r}")
+        self.end_once(call, "reply", rest_of_reply(status, text))
+
+    def end_once(self, call: Call, event: str, rest: str) -> None:
+        """Writes the line of an ending, for a call that is open."""
+        with self._lock:
+            if self.has_ended:
+                raise Ended
+            if call.number not in self._open:
+                raise CallError(f"call {call.number} has its ending already")
+            self._end_call(call.number, event, rest)
+
+    def lose(self, calls: Sequence[Call]) -> None:
+        """Writes those of the calls as lost that are open. At the end of the history there is nothing to write."""
+        with self._lock:
+            for call in calls:
+                if not self.has_ended and call.number in self._open:
+                    self._end_call(call.number, "lost", "")
+
+    def end(self) -> None:
+        """Writes the calls that are open as lost, all at once, and closes the file; later calls and endings raise Ended.
+
+        A file without a call is removed: an empty text would be a history, and a right one.
+        """
+        with self._lock:
+            try:
+                for number in sorted(self._open) if not self.has_ended else ():
+                    self._end_call(number, "lost", "")
+            finally:
+                self._close()
+
+    def _close(self) -> None:
+        """Closes the file, once."""
+        self.has_ended = True
+        self._open.clear()
+        if not self._file.closed:
+            self._file.close()
+            if self.calls == 0:
+                os.remove(self.path)
+
+    def _end_call(self, number: int, event: str, rest: str) -> None:
+        """Writes the line of an ending and counts it."""
+        self._write(f'{{"e":"{event}","n":{number},"t":{self._now()}{rest}}}\n')
+        self._open.discard(number)
+        if event == "reply":
+            self.replies += 1
+        else:
+            self.lost += 1
+
+    def _now(self) -> int:
+        """The time of day in milliseconds since 1970. No order is made of it."""
+        return int(self._clock() * 1000)
+
+    def _write(self, lines: str) -> None:
+        """Puts lines at the end of the file. Where that fails, what was written of them is cut off again."""
+        left = lines.encode()
+        length = len(left)
+        try:
+            while left:
+                left = left[self._file.write(left) :]
+        except OSError as fault:
+            self.has_ended = True
+            self._file.truncate(self._length)
+            raise HistoryError(f"{self.path}: {fault.strerror}. The lines before are whole") from fault
+        self._length += length
+
+
+# The text of a line
+
+
+def is_whole(value: object, least: int, most: int) -> bool:
+    """Whether the value is a whole number within these bounds."""
+    return type(value) is int and least <= value <= most
+
+
+def checked_pair(pair: Pair) -> Pair:
+    """The pair, which is refused where it can't be one."""
+    term, seq = pair
+    if not is_whole(term, 1, 2**63 - 1) or not is_whole(seq, 0, 2**63 - 1):
+        raise CallError(f"a term is 1 to 2^63-1 and a sequence number 0 to 2^63-1, and not {term!r} and {seq!r}")
+    return Pair(term, seq)
+
+
+def text_of_write(id: str, result: str, pair: Pair) -> str:
+    """The text of a reply's body that tells a write."""
+    return f'{{"_id":{compact(id)},"result":"{result}","_seq_no":{pair.seq},"_primary_term":{pair.term}}}'
+
+
+def text_of_find(id: str, pair: Pair, k: int) -> str:
+    """The text of a reply's body that tells what a get found."""
+    return f'{{"_id":{compact(id)},"_seq_no":{pair.seq},"_primary_term":{pair.term},"found":true,"_source":{{"k":{k}}}}}'
+
+
+def pair_of(body: Any) -> Optional[Pair]:
+    """The pair that a body tells, if any."""
+    if not isinstance(body, dict):
+        return None
+    pair = Pair(body.get("_primary_term", 0), body.get("_seq_no", 0))
+    has_both = "_seq_no" in body and is_whole(pair.term, 1, 2**63 - 1) and is_whole(pair.seq, 0, 2**63 - 1)
+    return pair if has_both else None
+
+
+def members_of_call(it: Operation) -> str:
+    """The members of a call's line behind its number, up to the line's end. Raises CallError where it can't be a call."""
+    if it.op not in OPERATIONS:
+        raise CallError(f"an operation is one of {', '.join(OPERATIONS)}, and not {it.op!r}")
+    if not isinstance(it.id, str) or not 1 <= length_of(it.id) <= LONGEST_ID:
+        raise CallError(f"an id is a text of 1 to {LONGEST_ID} bytes, and not {it.id!r}")
+    if not is_whole(it.shard, 0, 1023):
+        raise CallError(f"a shard is a whole number up to 1023, and not {it.shard!r}")
+    members = f'"id":{compact(it.id)},"op":"{it.op}"'
+    if it.op in WRITES_A_VALUE:
+        if not is_whole(it.value, 0, 2**64 - 1):
+            raise CallError(f"the value of a write is a whole number below 2^64, and not {it.value!r}")
+        members += f',"k":{it.value}'
+    if it.condition is not None:
+        if it.op not in TAKES_A_CONDITION:
+            raise CallError(f"a {it.op} has no condition")
+        pair = checked_pair(it.condition)
+        members += f',"if_seq_no":{pair.seq},"if_primary_term":{pair.term}'
+    return f'{members},"shard":{it.shard}}}' if it.shard else members + "}"
+
+
+def rest_of_reply(status: int, text: Optional[str]) -> str:
+    """What stands behind the number of a reply: its status, and its body as it came.
+
+    Where that is too long for a line, the members of the body that count stand for it; where they are too long, nothing.
+    """
+    start = f',"status":{status}'
+    if text is None:
+        return start
+    # (as much as the number, the time and what stands around them may take)
+    most = LONGEST_LINE - 100
+    if len(text.encode()) > most:
+        text = shortened(text)
+    return f'{start},"body":{text}' if len(text.encode()) <= most else start
+
+
+def shortened(text: str) -> str:
+    """The text of a body with its members that count alone."""
+    value = value_of(text)
+    return compact(counting_members(value)) if isinstance(value, dict) else "null"
+
+
+def counting_members(body: Dict[str, Any]) -> Dict[str, Any]:
+    """The members of a body that count."""
+    kept = {key: body[key] for key in ("_id", "_seq_no", "_primary_term", "result", "found") if key in body}
+    for name, key in (("_source", "k"), ("error", "type")):
+        member = body.get(name)
+        if isinstance(member, dict) and key in member:
+            kept[name] = {key: member[key]}
+    return kept
+
+
+def text_of(body: Body) -> Optional[str]:
+    """The JSON text of a body on one line, or None where it is none that casbench reads."""
+    try:
+        if isinstance(body, bytes):
+            text = body.decode("utf-8")
+        elif isinstance(body, str) or body is None:
+            text = body or ""
+        else:
+            text = compact(body)
+        value_of(text)
+        # (between the tokens of a JSON text a line feed is a space, and within a string there is none)
+        return text.replace("\n", " ").replace("\r", " ") if is_readable(text) else None
+    except (TypeError, ValueError, RecursionError):
+        return None
+
+
+def value_of(text: str) -> Any:
+    """The value of a JSON text. Raises ValueError where it is none, or has a number that casbench doesn't read."""
+    return json.loads(text, parse_int=whole_number, parse_float=other_number, parse_constant=other_number)
+
+
+def whole_number(digits: str) -> Union[int, float]:
+    """A number that is spelled by digits alone. With a minus sign 0 isn't whole for casbench, and stays so."""
+    other_number(digits)
+    return -0.0 if digits == "-0" else int(digits)
+
+
+def other_number(digits: str) -> float:
+    """A number that a float holds."""
+    number = float(digits)
+    if not abs(number) < 1e308:
+        raise ValueError(f"{digits} is past what a float holds")
+    return number
+
+
+def length_of(text: str) -> int:
+    """How many bytes a text has; 0 where it is none, since it has half of a surrogate pair."""
+    try:
+        return len(text.encode())
+    except UnicodeEncodeError:
+        return 0
+
+
+def is_readable(text: str) -> bool:
+    """Whether casbench's reader takes the JSON text: it has no half of a surrogate pair and isn't nested too deep."""
+    if not HALF_OF_A_PAIR.search(text) and text.count("{") + text.count("[") <= DEEPEST_BODY:
+        return True
+    # (as lists of pairs, so that a key that comes twice keeps both its values)
+    return is_readable_value(json.loads(text, object_pairs_hook=list), DEEPEST_BODY)
+
+
+def is_readable_value(value: Any, levels: int) -> bool:
+    """The same of a value that may have so many levels."""
+    if isinstance(value, list):
+        return levels > 0 and all(is_readable_value(part, levels - 1) for part in value)
+    if isinstance(value, tuple):
+        return all(is_readable_value(part, levels) for part in value)
+    return not isinstance(value, str) or not value or length_of(value) > 0

@@ -1,0 +1,128 @@
+"""What a cluster tells of an index before it is recorded: its names and its shards, and what would keep it from being judged."""
+
+import urllib.parse
+from typing import Any, Dict, NamedTuple, Optional
+
+from .cluster import ClusterError, Connection, NoAnswer
+from .routes import Names
+from .routing import shard_of
+
+PROBES = 16
+"""For how many routings the cluster is asked which shard they are on, where there are several."""
+
+
+class Shape(NamedTuple):
+    """An index: its own name, all names by which it is reached, its shards, and whether nothing was ever written to it."""
+
+    name: str
+    names: Names
+    shards: int
+    routing_shards: int
+    is_empty: bool
+
+    def shard_of(self, id: str) -> int:
+        """The shard that a document is on."""
+        return shard_of(id, self.shards, self.routing_shards) if self.shards > 1 else 0
+
+
+class Inspector:
+    """Asks a cluster about an index, on a connection of its own."""
+
+    def __init__(self, connection: Connection) -> None:
+        self.connection = connection
+
+    def inspect(self, name: str) -> Optional[Shape]:
+        """What the index is, or None where there is none. Raises ClusterError where it can't be judged."""
+        told = self.ask(f"/{quoted(name)}")
+        if told is None:
+            return None
+        if len(told) != 1:
+            raise ClusterError(f"{name} names {len(told)} indexes: name one of them")
+        ((index, described),) = told.items()
+        try:
+            return self.shape(name, index, described)
+        except (KeyError, TypeError, ValueError, AttributeError) as fault:
+            raise ClusterError(f"what the cluster tells of {name} is not what OpenSearch tells: {fault!r}") from fault
+
+    def shape(self, name: str, index: str, described: Dict[str, Any]) -> Shape:
+        """What an index is that was asked for by this name and described."""
+        settings = described["settings"]["index"]
+        refuse_changed_sources(index, flattened(settings), described.get("mappings", {}))
+        shards = int(settings["number_of_shards"])
+        routing_shards = self.routing_shards(index) if shards > 1 else 1
+        names = names_of(name, index, described.get("aliases", {}))
+        shape = Shape(index, names, shards, routing_shards, self.is_empty(index))
+        self.compare_shards(shape)
+        return shape
+
+    def ask(self, path: str) -> Optional[Dict[str, Any]]:
+        """What the cluster answers to a question, or None where it has no such thing."""
+        try:
+            self.connection.open(0)
+            answer = self.connection.ask("GET", path)
+        except NoAnswer as fault:
+            raise ClusterError(f"the cluster was asked for {path}, and no answer came: {fault}") from fault
+        if answer.status == 404:
+            return None
+        if answer.status in (401, 403):
+            names = "OPENSEARCH_USER, OPENSEARCH_PASSWORD, OPENSEARCH_HEADER"
+            raise ClusterError(f"the cluster refuses who asks (HTTP {answer.status}): see {names}")
+        if answer.status != 200 or not answer.members:
+            raise ClusterError(f"the cluster was asked for {path}, and answered with HTTP {answer.status}")
+        return answer.members
+
+    def has(self, shape: Shape, id: str) -> bool:
+        """Whether a document is there."""
+        return self.ask(f"/{quoted(shape.name)}/_doc/{quoted(id)}") is not None
+
+    def is_empty(self, index: str) -> bool:
+        """Whether no shard of the index ever gave a sequence number."""
+        told = self.ask(f"/{quoted(index)}/_stats?level=shards") or {}
+        shards = told["indices"][index]["shards"]
+        return all(copy["seq_no"]["max_seq_no"] == -1 for copies in shards.values() for copy in copies)
+
+    def routing_shards(self, index: str) -> int:
+        """The number by which the cluster reckons the shard of a document."""
+        told = self.ask(f"/_cluster/state/metadata/{quoted(index)}") or {}
+        return int(told["metadata"]["indices"][index]["routing_num_shards"])
+
+    def compare_shards(self, shape: Shape) -> None:
+        """Sees to it that shards are reckoned here as the cluster reckons them."""
+        for number in range(PROBES if shape.shards > 1 else 0):
+            told = self.ask(f"/{quoted(shape.name)}/_search_shards?routing=casbench-{number}") or {}
+            if {copy["shard"] for copies in told["shards"] for copy in copies} != {shape.shard_of(f"casbench-{number}")}:
+                raise ClusterError(f"the shards of {shape.name} are not reckoned as OpenSearch does it")
+
+
+def names_of(name: str, index: str, aliases: Dict[str, Any]) -> Names:
+    """The names of an index: its own, the one that it was asked for by, and its aliases, also those that lead to another one
+    too: where an answer is of that one it says so."""
+    for alias, told in aliases.items():
+        if told.get("filter"):
+            raise ClusterError(f"the alias {alias} has a filter: what is read by it can't be judged")
+    routed = [it for it in aliases if {"routing", "index_routing", "search_routing"} & set(aliases[it])]
+    return Names([index, name, *aliases], routed)
+
+
+def flattened(settings: Dict[str, Any], prefix: str = "") -> Dict[str, str]:
+    """The settings by their whole names."""
+    flat: Dict[str, str] = {}
+    for key, it in settings.items():
+        flat.update(flattened(it, f"{prefix}{key}.") if isinstance(it, dict) else {prefix + key: str(it)})
+    return flat
+
+
+def refuse_changed_sources(name: str, settings: Dict[str, str], mappings: Dict[str, Any]) -> None:
+    """Refuses an index that keeps other sources than it is given."""
+    for key in ("default_pipeline", "final_pipeline"):
+        if settings.get(key, "_none") != "_none":
+            raise ClusterError(f"the index {name} has a {key}: what it keeps isn't what clients write")
+    is_derived = settings.get("derived_source.enabled", "false") == "true"
+    has_vectors = settings.get("knn", "false") == "true" and settings.get("knn.derived_source.enabled", "true") == "true"
+    if is_derived or has_vectors or "_source" in mappings:
+        raise ClusterError(f"the index {name} doesn't keep whole sources: what clients write can't be compared with what they read")
+
+
+def quoted(name: str) -> str:
+    """A name as it stands in a path."""
+    return urllib.parse.quote(name, safe="")

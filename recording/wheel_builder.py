@@ -1,0 +1,49 @@
+"""Builds the package's wheel, for pip, with the standard library alone."""
+
+import base64
+import hashlib
+import os
+import pathlib
+import zipfile
+from typing import Any, Dict, List, Optional
+
+HERE = pathlib.Path(__file__).resolve().parent
+PACKAGE = "casbench_recording"
+VERSION = "0.1.0"
+FOLDER = f"{PACKAGE}-{VERSION}.dist-info"
+
+METADATA = f"""Metadata-Version: 2.1
+Name: casbench-recording
+Version: {VERSION}
+Summary: Records what clients ask of a store, and what it answers, as history texts for casbench
+Requires-Python: >=3.9
+"""
+
+WHEEL = """Wheel-Version: 1.0
+Generator: wheel_builder
+Root-Is-Purelib: true
+Tag: py3-none-any
+"""
+
+
+def contents() -> Dict[str, bytes]:
+    """What the wheel has, but for its list of it."""
+    files = sorted(it for it in (HERE / PACKAGE).iterdir() if it.suffix == ".py" or it.name == "py.typed")
+    found = {f"{PACKAGE}/{it.name}": it.read_bytes() for it in files}
+    return {**found, f"{FOLDER}/METADATA": METADATA.encode(), f"{FOLDER}/WHEEL": WHEEL.encode()}
+
+
+def row_of(name: str, content: bytes) -> str:
+    """The row of a file in the list."""
+    digest = base64.urlsafe_b64encode(hashlib.sha256(content).digest()).rstrip(b"=").decode()
+    return f"{name},sha256={digest},{len(content)}\n"
+
+
+def build_wheel(wheel_directory: str, config_settings: Optional[Dict[str, Any]] = None, metadata_directory: Optional[str] = None) -> str:
+    """Writes the wheel into the folder; gives its name."""
+    name, files = f"{PACKAGE}-{VERSION}-py3-none-any.whl", contents()
+    rows: List[str] = [row_of(*it) for it in files.items()] + [f"{FOLDER}/RECORD,,\n"]
+    with zipfile.ZipFile(os.path.join(wheel_directory, name), "w", zipfile.ZIP_DEFLATED) as wheel:
+        for path, content in {**files, f"{FOLDER}/RECORD": "".join(rows).encode()}.items():
+            wheel.writestr(path, content)
+    return name

@@ -1,0 +1,120 @@
+#!/usr/bin/env python3
+"""Measures what the recording proxy takes: how many requests a second pass, and how long each takes, with it and without.
+
+    python3 tests/measure_proxy.py [--clients 100] [--seconds 10] [--rate N] [PROGRAM]
+
+Starts the stand-in, and has so many clients ask it, each on a connection of its own and its next request after each answer:
+three gets, an index and an index under the condition of the last pair that it was told, in turn, each client on a document of its own
+and on one that all share. Then the same through the proxy, and what the program says of the history. With a rate the clients
+together ask so many times a second and no more, evenly, so that the times tell what the proxy adds to each request.
+"""
+
+import argparse
+import contextlib
+import json
+import os
+import re
+import selectors
+import socket
+import subprocess
+import sys
+import tempfile
+import time
+
+from recordings import Started, judged
+
+NUMBERS = re.compile(rb'"_seq_no":(\d+),"_primary_term":(\d+)')
+LENGTH = re.compile(rb"content-length: (\d+)", re.IGNORECASE)
+
+
+class Client:
+    """One client with its connection."""
+
+    def __init__(self, number, port):
+        self.number, self.count, self.pair = number, 0, None
+        self.socket = socket.create_connection(("127.0.0.1", port))
+        self.socket.setsockopt(socket.IPPROTO_TCP, socket.TCP_NODELAY, 1)
+        self.data, self.began = b"", 0.0
+
+    def ask(self):
+        """Sends the next request."""
+        turn, self.count = self.count % 5, self.count + 1
+        name = "shared" if turn == 2 else f"own-{self.number}"
+        if turn < 3:
+            request = f"GET /carts/_doc/{name} HTTP/1.1\r\nHost: x\r\n\r\n"
+        else:
+            condition = f"?if_seq_no={self.pair[0]}&if_primary_term={self.pair[1]}" if turn == 4 and self.pair else ""
+            body = json.dumps({"client": self.number, "items": [self.count]})
+            kind = f"Content-Type: application/json\r\nContent-Length: {len(body)}"
+            request = f"PUT /carts/_doc/{name}{condition} HTTP/1.1\r\nHost: x\r\n{kind}\r\n\r\n{body}"
+        self.began = time.perf_counter()
+        self.socket.sendall(request.encode())
+
+    def hears(self):
+        """Takes what came; tells whether the answer is whole."""
+        more = self.socket.recv(1 << 16)
+        if not more:
+            raise ConnectionResetError
+        self.data += more
+        end = self.data.find(b"\r\n\r\n")
+        found = LENGTH.search(self.data, 0, end) if end >= 0 else None
+        if found is None or len(self.data) < end + 4 + int(found[1]):
+            return False
+        pair = NUMBERS.search(self.data)
+        if pair and b'"result"' in self.data:
+            self.pair = (int(pair[1]), int(pair[2]))
+        self.data = b""
+        return True
+
+
+def run_clients(port, setting):
+    """Runs the clients; tells how many answers a second came, and the times, in milliseconds, that they took, in order."""
+    with contextlib.ExitStack() as opened, selectors.DefaultSelector() as selector:
+        clients = [Client(it, port) for it in range(setting.clients)]
+        for it in clients:
+            selector.register(opened.enter_context(it.socket), selectors.EVENT_READ, it)
+        times, idle, began = [], list(clients), time.perf_counter()
+        sent, end = 0, began + setting.seconds
+        while time.perf_counter() < end or len(idle) < len(clients):
+            now = time.perf_counter()
+            due = sent + len(idle) if setting.rate is None else int((now - began) * setting.rate)
+            while idle and sent < due and now < end:
+                idle.pop(0).ask()
+                sent += 1
+            for key, _ in selector.select(0.0002 if setting.rate else 0.01):
+                if key.data.hears():
+                    times.append((time.perf_counter() - key.data.began) * 1000)
+                    idle.append(key.data)
+        return len(times) / (time.perf_counter() - began), sorted(times)
+
+
+def tell(name, rate, times):
+    """Tells what was measured."""
+    middle, most = times[len(times) // 2], times[len(times) * 99 // 100]
+    print(f"{name}: {rate:.0f} requests a second; each {middle:.2f} ms (the middle), {most:.2f} ms (99 of 100 at most)", flush=True)
+
+
+def main():
+    parser = argparse.ArgumentParser()
+    parser.add_argument("--clients", type=int, default=100)
+    parser.add_argument("--seconds", type=float, default=10)
+    parser.add_argument("--rate", type=int)
+    parser.add_argument("program", nargs="?", default=None)
+    setting = parser.parse_args()
+    with tempfile.TemporaryDirectory() as folder:
+        with Started("stand_in", "--port", "0") as other:
+            tell("without the proxy", *run_clients(other.port, setting))
+        with Started("stand_in", "--port", "0") as other:
+            other.make("carts")
+            file = os.path.join(folder, "carts.ndjson")
+            words = ["--listen", "127.0.0.1:0", "--cluster", other.url, "--index", "carts", file]
+            with Started("proxy", *words) as proxy:
+                tell("with the proxy", *run_clients(proxy.port, setting))
+                print(f"the proxy took {proxy.processor_time():.1f} s of a processor")
+                print(proxy.ended())
+        if setting.program:
+            print(judged(os.path.realpath(setting.program), file))
+
+
+if __name__ == "__main__":
+    sys.exit(main())

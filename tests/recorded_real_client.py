@@ -1,0 +1,90 @@
+#!/usr/bin/env python3
+"""Tests the recording proxy with a client that nobody here wrote: the one of Debian's package python3-elasticsearch.
+
+    python3 tests/recorded_real_client.py [PROGRAM]
+
+PROGRAM is the built casbench; where it is not named, the one that ./casbench would run. Where the client isn't installed, neither for
+the Python that runs this nor for /usr/bin/python3, a line says so and nothing is tested. The last line says how many tests passed and
+failed.
+"""
+
+import json
+import subprocess
+import sys
+
+from program import TOP
+from recordings import FolderTest, Started, run_tests
+
+
+def python_with_client():
+    """The Python that has the client, or None."""
+    for python in (sys.executable, "/usr/bin/python3"):
+        try:
+            ran = subprocess.run([python, "-c", "import elasticsearch; print(elasticsearch.__version__[0])"], capture_output=True, text=True)
+        except OSError:
+            continue
+        if ran.stdout.strip() == "7":
+            return python
+    return None
+
+
+PYTHON = python_with_client()
+
+
+class RealClient(FolderTest):
+    """The client asks through the proxy."""
+
+    def talked(self, letters, *fault, seconds="30"):
+        """Has the client make its turns through the proxy; gives what it saw."""
+        with Started("stand_in", "--port", "0", "--product", "Elasticsearch", *fault) as other:
+            other.make("carts")
+            with Started("proxy", "--listen", "127.0.0.1:0", "--cluster", other.url, "--index", "carts", self.file) as proxy:
+                words = [PYTHON, TOP / "tests" / "real_client.py", proxy.url, seconds, letters]
+                ran = subprocess.run(words, capture_output=True, text=True, timeout=60)
+                self.assertEqual(ran.returncode, 0, ran.stderr)
+                self.said = proxy.ended()
+        return json.loads(ran.stdout)
+
+    def calls(self):
+        """The calls in short, each with its ending."""
+        lines = self.lines()
+        endings = {it["n"]: str(it.get("status", "lost")) for it in lines if it["e"] != "call"}
+        return [f"{it['op']} {it['id'][:3]} {endings[it['n']]}" for it in lines if it["e"] == "call"]
+
+    def test_each_kind_of_request(self):
+        seen = self.talked("gigccwshubmndgi")
+        wanted = ["NotFoundError", "created", 1, "created", "ConflictError", "ConflictError", {"count": 4}, [True, False], "updated"]
+        self.assertEqual(seen, [*wanted, 5, [True, True, False], True, "deleted", "NotFoundError", "created"])
+        calls = ["get d 404", "index d 201", "get d 200", "create e 201", "create e 409", "get d 200", "index d 200", "index d 409"]
+        calls += ["get d 200", "get d 200", "get now 404", "index d 200", "index b0 201", "index b1 201", "index b2 201", "delete b0 200"]
+        calls += ["index AAA 201", "get d 200", "get b1 200", "get now 404", "index AAA 201", "get AAA 200", "delete d 200", "get d 404"]
+        self.assertEqual(self.calls(), [*calls, "index d 201"])
+        # (a HEAD that found the document tells no version)
+        self.assertEqual(self.check(), "yes docs=8 calls=25 left_out=1")
+        self.assertIn("0 of them without a reply", self.said)
+
+    def test_a_retry_after_a_timeout_is_a_second_call(self):
+        seen = self.talked("icgwgcg", "--fault", "late", "--every", "4", "--late", "1.5", seconds="0.5")
+        # the first try of a create was performed, and the second meets it
+        self.assertEqual(seen, ["created", "created", 1, "ConflictError", 3, "ConflictError", 3])
+        calls = ["index d 201", "create e 201", "get d 200", "get d lost", "get d 200", "index d 200", "index d 409", "get d lost"]
+        self.assertEqual(self.calls(), [*calls, "get d 200", "create e 409", "get d 200"])
+        self.assertRegex(self.check(), "^yes docs=2 calls=11 ")
+
+    def test_a_retry_after_a_connection_that_broke(self):
+        for fault in ("drop-after", "garbled"):
+            seen = self.talked("cciidg", "--fault", fault, "--every", "3")
+            # the third request was performed, and is made again by the client itself
+            self.assertEqual(seen, ["created", "ConflictError", "updated", "updated", "NotFoundError", "NotFoundError"])
+            calls = ["create e 201", "create e 409", "index d lost", "index d 200", "index d 200", "delete d lost"]
+            self.assertEqual(self.calls(), [*calls, "delete d 404", "get d 404"])
+            self.assertEqual(self.check(), "yes docs=2 calls=8 left_out=0")
+            self.setUp()
+
+
+if __name__ == "__main__":
+    if PYTHON is None:
+        print("SKIPPED: the client of python3-elasticsearch 7.17 isn't installed here, so the proxy was not tried with it")
+        print("0 passed, 0 failed")
+        sys.exit(0)
+    sys.exit(run_tests())

@@ -1,0 +1,101 @@
+"""What the tests of recorders have in common: the package in recording/, folders of their own, and what casbench says of a file.
+
+It is no test itself.
+"""
+
+import json
+import os
+import signal
+import subprocess
+import sys
+import tempfile
+import unittest
+import urllib.request
+
+from program import TOP, built_program
+
+PACKAGE = TOP / "recording"
+sys.path.insert(0, str(PACKAGE))
+
+
+def judged(program, file, *words):
+    """What the program says of a history."""
+    ran = subprocess.run([program, "check", file, *words], stdout=subprocess.PIPE, text=True)
+    return ran.stdout.strip()
+
+
+def environment(**more):
+    """The environment of the package's commands, without a word of who asks but those given."""
+    kept = {key: it for key, it in os.environ.items() if not key.startswith("OPENSEARCH_")}
+    return {**kept, "PYTHONPATH": str(PACKAGE), **more}
+
+
+class Started:
+    """A command of the package that listens, and runs until the block ends. The first line that it says is its address."""
+
+    def __init__(self, name, *words, start=(), stderr=subprocess.PIPE, **more):
+        words = [*(start or (sys.executable, "-m", f"casbench_recording.{name}")), *words]
+        pipes = {"stdin": subprocess.DEVNULL, "stdout": subprocess.PIPE, "stderr": stderr}
+        self.process = subprocess.Popen(words, **pipes, text=True, env=environment(**more))
+        self.url = self.process.stderr.readline().strip() if self.process.stderr else ""
+        self.port = int(self.url.rpartition(":")[2]) if self.url.startswith("http") else None
+
+    def __enter__(self):
+        return self
+
+    def __exit__(self, *_):
+        self.process.kill()
+        self.process.wait()
+        for pipe in filter(None, (self.process.stdout, self.process.stderr)):
+            pipe.close()
+
+    def ended(self, sent=signal.SIGTERM):
+        """Ends it by a signal; what it says after its address, on both outputs."""
+        self.process.send_signal(sent)
+        told = self.process.communicate(timeout=60)
+        return "".join(filter(None, told)).strip()
+
+    def processor_time(self):
+        """How many seconds of a processor it took so far."""
+        with open(f"/proc/{self.process.pid}/stat", encoding="ascii") as file:
+            fields = file.read().rpartition(")")[2].split()
+        return (int(fields[11]) + int(fields[12])) / os.sysconf("SC_CLK_TCK")
+
+    def make(self, index, **settings):
+        """Makes an index on it, which has these settings."""
+        body = json.dumps({"settings": settings}).encode()
+        asked = urllib.request.Request(f"{self.url}/{index}", body, {"Content-Type": "application/json"}, method="PUT")
+        with urllib.request.urlopen(asked, timeout=60):
+            pass
+
+
+class FolderTest(unittest.TestCase):
+    """A test with a folder of its own, in which a history is recorded."""
+
+    program = ""
+
+    def setUp(self):
+        folder = tempfile.TemporaryDirectory(prefix="casbench-recorded-")
+        self.addCleanup(folder.cleanup)
+        self.folder = folder.name
+        self.file = os.path.join(folder.name, "carts.ndjson")
+
+    def check(self, *words):
+        """What the program says of the history."""
+        return judged(self.program, self.file, *words)
+
+    def lines(self):
+        """The lines of the history."""
+        with open(self.file, encoding="utf-8") as lines:
+            return [json.loads(it) for it in lines]
+
+
+def run_tests():
+    """Runs the tests of the script on the program that its words name, and tells in the last line how many passed and failed."""
+    words = sys.argv[1:]
+    has_program = bool(words) and not words[0].startswith("-")
+    FolderTest.program = built_program(words[:1] if has_program else [])
+    told = unittest.main(argv=[sys.argv[0], *words[has_program:]], exit=False).result
+    failed = len(told.failures) + len(told.errors) + len(told.unexpectedSuccesses)
+    print(f"{told.testsRun - len(told.skipped) - failed} passed, {failed} failed")
+    return 0 if told.wasSuccessful() else 1
