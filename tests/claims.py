@@ -502,11 +502,12 @@ def hold_rooms(page, rows, sources, tally):
 
 def hold_gate(page, rows, sources, tally):
     """Holds the table of what the gate takes: its crates, the crates of tests, and how many edits must fail."""
-    for row in (it for it in rows if it.head[0] == "crate" and it.head[-1] == "edits"):
+    for row in (it for it in rows if it.head[0] == "crate" and "edits" in it.head):
         for name in (row.cells[0], *re.findall(r"\w+_tests", " ".join(row.cells))):
             tally.hold(name in sources.crates, page, row.line, f"there is no crate {name}")
         edits = len(list((CRATES / row.cells[0]).glob("must-fail/*.edit")))
-        tally.hold(row.cells[-1] == (str(edits) if edits else ""), page, row.line, f"{row.cells[0]} has {edits or 'no'} edits")
+        told = row.cells[row.head.index("edits")]
+        tally.hold(told == (str(edits) if edits else ""), page, row.line, f"{row.cells[0]} has {edits or 'no'} edits")
 
 
 # ---- what is cited

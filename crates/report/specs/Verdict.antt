@@ -127,6 +127,10 @@ IsVerifyAnswer conflicts history witness No line = (fault : VerifyFault) × (lin
 IsVerifyAnswer conflicts history witness Refuted line = ⊥
 IsVerifyAnswer conflicts history witness Refused line = IsRefusedHistory history line ⊎ IsRefusedWitness history witness line
 
+-- nothing is taken of the witness where the history's text is refused
+abbrev pub LeavesUnread : Option (List ℕ) → Option (List ℕ) → Option (List ℕ) → Type 0
+LeavesUnread history old new = IfSome history (λ h. (told : TextFault) → history_text h ≡ Err told → new ≡ old)
+
 -- ---- what the writer holds
 
 -- an answer to the bytes that the reader had

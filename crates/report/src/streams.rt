@@ -1,7 +1,7 @@
-ghost use Rattle.std.specs.Prelude.{◌≢◌, ◌≤◌, IfErr, IfOk, IsErrOf};
-ghost use Rattle.std.specs.Io.KnownBytes.{Keeps};
+ghost use Rattle.std.specs.Prelude.{◌≢◌, ◌≤◌, IfErr, IfOk, IsErrOf, OnOk, OnSome};
+ghost use Rattle.std.specs.Io.KnownBytes.{IsAtEnd, Keeps};
 ghost use Rattle.report.specs.Bulk.{AnswersBulk};
-ghost use Rattle.report.specs.Verdict.{IsAnswered, IsCutOff, VerifiesInputs, WitnessesInput};
+ghost use Rattle.report.specs.Verdict.{IsAnswered, IsCutOff, LeavesUnread, VerifiesInputs, WitnessesInput};
 ghost use Rattle.report.specs.Workers.{NamesOwnDocument};
 ghost use Rattle.stream_io.specs.Faults.{IsStreamFault, IsWorkedFault};
 ghost use Rattle.stream_io.specs.Taken.{TakesHistory, TakesWitness};
@@ -65,7 +65,8 @@ pub fn check_stream<T: Threads + Wait + Sync, R: Read, W: Write>(
     // A document that a fault names is one of the history whose text the reader had.
     ensures named { IfErr result (NamesOwnDocument (R.remaining reader.old)) }
     // Of the bytes of the reader no line behind the first that is refused is taken, and nothing behind that one but what the
-    // last read brought, 32,768 bytes at most; and no more than the limits allow. So it is of each stream below.
+    // last read brought, 32,768 bytes at most; and no more than the limits allow. So it is of the two streams below, of each of
+    // their readers.
     ensures taken { TakesHistory (R.remaining reader.old) (R.remaining reader.new) }
 {
     match check_answer(rt, alloc, keys, reader, workers, conflicts, ruling_out) {
@@ -131,6 +132,8 @@ pub fn verify_stream<R: Read, Q: Read, W: Write>(
     ensures told { IfErr result IsStreamFault }
     ensures taken { TakesHistory (R.remaining history.old) (R.remaining history.new) }
     ensures witness_taken { TakesWitness (Q.remaining witness.old) (Q.remaining witness.new) }
+    // Of the witness nothing is where the history's text is refused.
+    ensures unread { LeavesUnread (R.remaining history.old) (Q.remaining witness.old) (Q.remaining witness.new) }
 {
     match verify_input(alloc, keys, history, witness, conflicts) {
         Ok(answer) => write_answer(writer, &answer),
@@ -161,6 +164,9 @@ pub fn bulk_stream<R: Read, Q: Read, W: Write>(
     ensures kept { IfErr result (λ fault. fault ≢ StreamFault.Write
         → Keeps (W.contents writer.old) (W.contents writer.new)) }
     ensures told { IfErr result IsStreamFault }
+    // Where it answers, nothing is left of either.
+    ensures end { OnOk result (OnSome (R.remaining body.old) (IsAtEnd (R.remaining body.new))
+        × OnSome (Q.remaining reply.old) (IsAtEnd (Q.remaining reply.new))) }
 {
     let body = match read_all(alloc, body) {
         Ok(bytes) => bytes,

@@ -2,7 +2,7 @@ ghost use Rattle.std.specs.Prelude.{IfErr, IfOk, IfSome, ℕ, List};
 ghost use Rattle.history.specs.Text.{IsHistoryText};
 ghost use Rattle.stream_io.specs.Faults.{IsReadingFault};
 ghost use Rattle.stream_io.specs.Taken.{TakesHistory, TakesWitness};
-ghost use Rattle.report.specs.Verdict.{IsVerifyAnswer, VerifiesInputs};
+ghost use Rattle.report.specs.Verdict.{IsVerifyAnswer, LeavesUnread, VerifiesInputs};
 
 use crate::verify_answer::{entries_answer, refused_history, refused_witness};
 use doc_register::Conflicts;
@@ -51,6 +51,7 @@ pub fn verify_input<R: Read, Q: Read>(
     ensures told { IfErr result IsReadingFault }
     ensures taken { TakesHistory (R.remaining history.old) (R.remaining history.new) }
     ensures witness_taken { TakesWitness (Q.remaining witness.old) (Q.remaining witness.new) }
+    ensures unread { LeavesUnread (R.remaining history.old) (Q.remaining witness.old) (Q.remaining witness.new) }
 {
     match read_history(alloc, keys, history) {
         Ok(Ok(found)) => read_witness_answer(alloc, found, witness, conflicts),

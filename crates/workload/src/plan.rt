@@ -142,7 +142,7 @@ impl Plan {
     pub fn clients(&self) -> usize
         ensures count { result ≡ length self.now }
         ensures some { 1 ≤ result }
-        ensures few { result ≤ MOST_CLIENTS }
+        ensures few { result ≤ 8 }
     {
         self.clients.len()
     }

@@ -1,4 +1,4 @@
-use Rattle.std.proofs.Common.{◌≡◌, subst, Ok, Err}
+use Rattle.std.proofs.Common.{◌≡◌, refl, subst, Ok, Err}
 use Rattle.std.proofs.lemmas.Result.{IfOk-weaker}
 use Rattle.std.specs.Prelude.{IfOk, IfSome, MatchResult}
 use Rattle.history.specs.Reading.{history_text}
@@ -30,3 +30,20 @@ returns-in_ok-answer-in-Ok-Err-clause-witness_taken g c = witness_unasked (g.Q.R
 
 pub returns-in-Err-clause-witness_taken : goal.returns-in-Err-clause-witness_taken
 returns-in-Err-clause-witness_taken g c = witness_unasked (g.Q.Read.remaining c.args.witness.now)
+
+-- where the history is a text, it isn't refused
+
+pub returns-in-Ok-Ok-clause-unread : goal.returns-in-Ok-Ok-clause-unread
+returns-in-Ok-Ok-clause-unread g c =
+    let input = g.R.Read.remaining c.args.history.now in
+    let read = subst (λ told. IfSome input (λ text. MatchResult told (λ h. history_text text ≡ Ok h) (λ f. history_text text ≡ Err f))) c.in-Ok-Ok.field-0-is c.in-Ok-Ok.ensures.told in
+    if_each input read (λ history is told refused. cc)
+
+pub returns-in_err-answer-in-Ok-Err-clause-unread : goal.returns-in_err-answer-in-Ok-Err-clause-unread
+returns-in_err-answer-in-Ok-Err-clause-unread g c = if_any (g.R.Read.remaining c.args.history.now) (λ history told refused. refl)
+
+pub returns-in_ok-answer-in-Ok-Err-clause-unread : goal.returns-in_ok-answer-in-Ok-Err-clause-unread
+returns-in_ok-answer-in-Ok-Err-clause-unread g c = if_any (g.R.Read.remaining c.args.history.now) (λ history told refused. refl)
+
+pub returns-in-Err-clause-unread : goal.returns-in-Err-clause-unread
+returns-in-Err-clause-unread g c = if_any (g.R.Read.remaining c.args.history.now) (λ history told refused. refl)
