@@ -44,8 +44,8 @@ def written(line, time):
 
 
 def at(time):
-    """When a line was written, in words."""
-    return datetime.datetime.fromtimestamp(time / 1000, datetime.timezone.utc).strftime("%Y-%m-%dT%H:%M:%S.%f")[:-3] + "Z"
+    """When a line was written, in words: no zero ends the fraction of a second."""
+    return datetime.datetime.fromtimestamp(time / 1000, datetime.timezone.utc).strftime("%Y-%m-%dT%H:%M:%S.%f").rstrip("0") + "Z"
 
 
 # A get of an old version. Of some lines it is told when they were written; of others that is no time.
