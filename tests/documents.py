@@ -8,36 +8,23 @@ with `$ ` is a session: its commands are those behind `$ ` and `> `, and the lin
 what they print on standard output. A line `..` stands for any lines. The example pages are made again too.
 """
 
-import contextlib
 import os
 import pathlib
 import re
 import shutil
-import socketserver
 import subprocess
 import sys
 import tempfile
 from concurrent.futures import ThreadPoolExecutor
 
 from program import TOP, built_program
-from running import run
+from running import free_ports, run
 from trials import tell
 
 DOCUMENTS = ["README.md", "examples/README.md", "docs/RECORDING.md"]
 
 # The ports that the documents have a stand-in and a proxy listen on; each document gets some of its own.
 PORTS = ("9200", "9201")
-
-
-def free_ports(count):
-    """Ports of the loopback that nobody has now, and that are not among those which connections are given."""
-    ports = []
-    for port in range(21_901, 30_000):
-        with contextlib.suppress(OSError), socketserver.TCPServer(("127.0.0.1", port), None):
-            ports.append(str(port))
-        if len(ports) == count:
-            break
-    return ports
 
 
 def parted(block):

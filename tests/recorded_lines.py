@@ -82,6 +82,19 @@ class Lines(FolderTest):
                 file.write(text.replace(right, wrong))
             self.assertNotEqual(self.check(), "yes docs=1 calls=8 left_out=0")
 
+    def test_a_value_that_is_the_number_of_its_call(self):
+        with History(self.file) as history:
+            history.call("get", "d").missing()
+            call = history.write("create", "d")
+            self.assertEqual(call.operation, Operation("create", "d", 1))
+            call.indexed(Pair(1, 0), created=True)
+            history.write("index", "d", Pair(1, 0), 0).indexed(Pair(1, 1), created=False)
+            history.call("get", "d").found(Pair(1, 1), 2)
+            for wrong in (("get", "d"), ("delete", "d"), ("create", "d", Pair(1, 0)), ("index", "e", None, 1024)):
+                self.assertRaises(CallError, history.write, *wrong)
+        self.assertEqual([it.get("k") for it in self.lines() if it["e"] == "call"], [None, 1, 2, None])
+        self.assertEqual(self.check(), "yes docs=1 calls=4 left_out=0")
+
     def test_a_call_ends_once_and_as_its_operation_may(self):
         with History(self.file) as history:
             call = history.call("get", "d")

@@ -6,8 +6,10 @@ It is no test itself. A run ends with its status and what was written on standar
 import contextlib
 import os
 import pathlib
+import random
 import shutil
 import socket
+import socketserver
 import subprocess
 import tempfile
 
@@ -105,6 +107,17 @@ def run_on_parts(program, words, text, size):
     its, ours = os.pipe2(os.O_DIRECT | os.O_CLOEXEC)
     words = [program, *words, f"/dev/fd/{its}"]
     return fed(words, open(its, "rb", 0), open(ours, "wb", 0), text, size, True, stdin=subprocess.DEVNULL, pass_fds=[its])
+
+
+def free_ports(count):
+    """Ports of the loopback that nobody has now, and that are not among those which connections are given."""
+    ports = []
+    for port in random.sample(range(10_000, 30_000), 1_000):
+        with contextlib.suppress(OSError), socketserver.TCPServer(("127.0.0.1", port), None):
+            ports.append(str(port))
+        if len(ports) == count:
+            break
+    return ports
 
 
 def has_compiler(undone):

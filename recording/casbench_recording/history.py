@@ -199,13 +199,28 @@ class History:
         """The same of an operation."""
         members = members_of_call(operation)
         with self._lock:
-            if self.has_ended or self.calls == self._most_calls:
-                raise Ended
-            self._keep_shard(operation)
-            number = self.calls
-            self._write(f'{{"e":"call","n":{number},"t":{self._now()},{members}\n')
-            self.calls += 1
-            self._open.add(number)
+            return self._begin(operation, members)
+
+    def write(self, op: str, id: str, condition: Optional[Pair] = None, shard: int = 0) -> Call:
+        """Writes the line of an index or a create whose value is the number of its call, and so that of no other call.
+
+        So what a get shows, and a log of the store, tells which call wrote it, also where nobody was told.
+        """
+        if op not in WRITES_A_VALUE:
+            raise CallError(f"a {op} writes no value")
+        with self._lock:
+            operation = Operation(op, id, self.calls, condition, shard)
+            return self._begin(operation, members_of_call(operation))
+
+    def _begin(self, operation: Operation, members: str) -> Call:
+        """Writes the line of the next call, which has these members."""
+        if self.has_ended or self.calls == self._most_calls:
+            raise Ended
+        self._keep_shard(operation)
+        number = self.calls
+        self._write(f'{{"e":"call","n":{number},"t":{self._now()},{members}\n')
+        self.calls += 1
+        self._open.add(number)
         return Call(self, number, operation)
 
     def call_all(self, operations: Sequence[Operation]) -> List[Call]:
