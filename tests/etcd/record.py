@@ -9,6 +9,7 @@ Neither file may be there. The witness is made of the store's own log. docs/RECO
 import argparse
 import json
 import pathlib
+import re
 import signal
 import sys
 import tempfile
@@ -20,6 +21,10 @@ from members import Members, is_installed
 from store_log import effects_in, witness_by_log
 
 from casbench_recording.history import History
+
+
+# What is said at the end: how many calls there are, how many were lost, and how many of these took effect by the store's log.
+SAID = re.compile(r"recorded (\d+) calls in \S+, (\d+) of them without a reply, of which (\d+) took effect\n")
 
 
 def interrupted(*_):

@@ -13,7 +13,6 @@ this test.
 import contextlib
 import os
 import pathlib
-import re
 import signal
 import subprocess
 import sys
@@ -26,6 +25,7 @@ sys.path.insert(0, str(HERE.parent))
 
 from members import is_installed
 from program import built_program
+from record import SAID, interrupted
 from recordings import environment, judged
 from running import SECONDS, asked, ended, started
 from trials import Trial, Wrong, tell, try_all
@@ -35,8 +35,6 @@ CALLS = 5000
 # How many recordings are made at once, and the commands that run now.
 AT_ONCE = 3
 RUNNING = set()
-
-SAID = re.compile(r"recorded (\d+) calls in \S+, (\d+) of them without a reply, of which (\d+) took effect\n")
 
 
 @contextlib.contextmanager
@@ -132,11 +130,6 @@ def trials(folder):
     yield Trial("Ctrl-C", left_behind, ("killed", [], signal.SIGINT), "yes")
     yield Trial("ended", left_behind, ("stopped", [], signal.SIGTERM), "yes")
     yield Trial("its parent killed", left_behind, ("none", A_SHELL, signal.SIGKILL), "yes")
-
-
-def interrupted(*_):
-    """Ends the test, as Ctrl-C does where it isn't ignored."""
-    raise KeyboardInterrupt
 
 
 def main():

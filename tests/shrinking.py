@@ -1,0 +1,127 @@
+#!/usr/bin/env python3
+"""Cuts drawn recordings down by the package's `shrink`, and looks at what is left.
+
+    python3 tests/shrinking.py [PROGRAM]
+
+PROGRAM is the built casbench; where it is not named, the one that ./casbench would run. The recordings are those of tests/ruled_out.py,
+with one fault each, that get another answer than yes. What is left has to be lines of the recording as they stood, to get the same
+answer, to be few calls where evidence of two calls alone is told, and to lose that answer where any one call more is left out.
+"""
+
+import json
+import subprocess
+import sys
+from concurrent.futures import ThreadPoolExecutor
+
+from orders import text_of
+from program import built_program
+from recordings import environment  # (for the package too)
+from ruled_out import answer, evidence_of, kind_of, recording
+from texts import OFFENCE, READINGS, created, get, index, missing
+from trials import Trial, Wrong, tell, try_all
+
+from casbench_recording.shrink import Program, Shrinker
+
+# How many recordings are drawn for each reading of a conflict and each way to ask.
+RECORDINGS = 60
+
+# The most calls that are left by the kind of evidence. A get that is stale shows what a third call wrote.
+MOST = {"no-writer": 1, "pair-twice": 2, "stale-get": 3, "stale-swap": 2}
+
+# The kinds of answers that have to be among those that are cut down.
+KINDS = {*MOST, "ruled-out", "no"}
+
+
+def numbers_of(text):
+    """The numbers of the calls of a text."""
+    return [it["n"] for it in map(json.loads, text.splitlines()) if it["e"] == "call"]
+
+
+def without(text, number):
+    """The text without a call."""
+    return "".join(it for it in text.splitlines(keepends=True) if json.loads(it)["n"] != number)
+
+
+def is_proved(text, number):
+    """Whether each write of the document of this call was answered, so that its having no order is proved."""
+    rows = [json.loads(it) for it in text.splitlines()]
+    calls = {it["n"]: it for it in rows if it["e"] == "call"}
+    answered = {it["n"] for it in rows if it["e"] == "reply"}
+    return all(n in answered for n, it in calls.items() if it["id"] == calls[number]["id"] and it["op"] != "get")
+
+
+def told_of(program, text, reading, words):
+    """What an answer says that has to stay: the kind and the calls of evidence, else the call that is named and whether that is proved."""
+    line = answer(program, "check", text, reading, *words)
+    if kind_of(line) != "no":
+        return kind_of(line), evidence_of(line)
+    number = int(OFFENCE.fullmatch(line)["call"])
+    return "no", (number, is_proved(text, number))
+
+
+def cut_down(program, text, reading, words):
+    """The text of the calls that are left."""
+    shrinker = Shrinker(text.encode().splitlines(keepends=True), Program(program, ["--conflicts", reading, *words]))
+    shrinker.shrink()
+    return shrinker.text_of(shrinker.kept).decode()
+
+
+def shrunk(program, seed, reading, words):
+    """Cuts a recording down; tells the kind of its answer, nothing where that is yes."""
+    text = text_of(recording(seed))
+    wanted = told_of(program, text, reading, words)
+    if wanted[0] == "yes":
+        return "yes"
+    few = cut_down(program, text, reading, words)
+    numbers = numbers_of(few)
+    if few != "".join(it for it in text.splitlines(keepends=True) if json.loads(it)["n"] in numbers):
+        raise Wrong(f"other lines are left: {few}")
+    if told_of(program, few, reading, words) != wanted:
+        raise Wrong(f"{told_of(program, few, reading, words)}, and not {wanted}")
+    if len(numbers) > MOST.get(wanted[0], len(numbers)):
+        raise Wrong(f"{len(numbers)} calls are left of {wanted}")
+    for number in numbers:
+        if told_of(program, without(few, number), reading, words) == wanted:
+            raise Wrong(f"the call {number} can be left out too, of {few}")
+    return wanted[0]
+
+
+# The command.
+
+
+OTHER, WROTE, MISSED = index(0, doc="a") + created(0, 1, 0), index(1) + created(1, 1, 1), get(2) + missing(2)
+
+
+def commanded(program, text, *words):
+    """How the command ends on this text."""
+    words = [sys.executable, "-m", "casbench_recording.shrink", *words, "--program", program, "/dev/stdin"]
+    ran = subprocess.run(words, input=text, capture_output=True, text=True, env=environment())
+    return ran.returncode, ran.stdout, ran.stderr.partition(" after ")[0]
+
+
+def command_trials(program):
+    """What the command is asked, and how it has to end."""
+    left = (0, WROTE + MISSED, "3 calls, 2 of them left,")
+    for words in ((), ("--rule-out",), ("--conflicts", "maybe")):
+        yield Trial(f"a get that misses a write {words}", commanded, (program, f"\n{OTHER} \n{WROTE}{MISSED[:-1]}", *words), left)
+    nothing = "so there is nothing to cut down\n"
+    for text, told in ((OTHER, "yes docs=1 calls=1 left_out=0"), ("{}", "refused line=1 cause=shape")):
+        yield Trial(told, commanded, (program, text), (1, "", f"shrink.py: it gets {told}, {nothing}"))
+    absent = "/dev/null/casbench"
+    told = f"shrink.py: [Errno 20] Not a directory: '{absent}'\n"
+    yield Trial("no program", commanded, (absent, OTHER), (1, "", told))
+
+
+def main():
+    program = built_program(sys.argv[1:])
+    drawn = [(seed, reading, words) for seed in range(RECORDINGS) for reading in READINGS for words in ((), ("--rule-out",))]
+    trials = [Trial(f"recording {it}", shrunk, (program, *it)) for it in drawn]
+    with ThreadPoolExecutor() as pool:
+        answers, wrong = try_all([*trials, *command_trials(program)], pool)
+    passed = len(answers) - len(wrong)
+    wrong += [f"no recording with the answer {it} was cut down" for it in sorted(KINDS - set(answers[: len(trials)]))]
+    return tell(passed, wrong)
+
+
+if __name__ == "__main__":
+    sys.exit(main())
