@@ -102,6 +102,12 @@ class Connection:
         self.http.close()
 
 
+def connection_to(url: str, timeout: float = 10.0) -> Connection:
+    """A connection to this address, for a harness: it waits so many seconds for each word of an answer, and tells nobody who asks."""
+    address = url_of(url)
+    return Connection(Cluster(address, timeout, {}, trust_of(address, None)))
+
+
 def port_of(url: Url) -> int:
     """The port of the address."""
     return url.port or (443 if url.scheme == "https" else 80)

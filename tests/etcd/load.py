@@ -4,14 +4,15 @@ It is no test itself.
 """
 
 import contextlib
+import functools
 import random
 import threading
 import time
 
-from members import COUNT, connection_to
+from members import COUNT
 from store import answer_of, checked, request_of, tell
 
-from casbench_recording.cluster import ClusterError, Connection, NoAnswer
+from casbench_recording.cluster import ClusterError, NoAnswer, connection_to
 from casbench_recording.history import Ended, Operation
 
 # How often each kind of turn is drawn. Behind `-if` the document is read, and written under the pair that was read.
@@ -27,21 +28,15 @@ DROPPED = 4
 CALLS_BETWEEN = 600
 
 
-class Dropping(Connection):
-    """A connection on which some answers get lost: it breaks before the answer, or when that is there."""
-
-    draw = random.Random("dropped")
-
-    def ask(self, method, path, body=None):
-        if self.draw.random() * 100 >= DROPPED:
-            return super().ask(method, path, body)
-        if self.draw.random() < 0.5:
-            super().ask(method, path, body)
+def ask_and_drop(draw, connection, path, body):
+    """Asks, and loses the answer: the connection breaks before it, or when it is there."""
+    with contextlib.closing(connection), contextlib.suppress(OSError):
+        if draw.random() < 0.5:
+            answer_of(connection, path, body)
         else:
-            self.http.request(method, path, body, self.headers)
-            time.sleep(self.draw.random() / 500)
-        self.close()
-        raise NoAnswer("dropped")
+            connection.http.request("POST", path, body, connection.headers)
+            time.sleep(draw.random() / 500)
+    raise NoAnswer("dropped")
 
 
 class Client(threading.Thread):
@@ -83,12 +78,17 @@ class Client(threading.Thread):
         history, it = self.load.history, checked(operation)
         writes_value = it.op in ("index", "create")
         with history.write(it.op, it.id, it.condition) if writes_value else history.call_one(it) as call:
+            ask = functools.partial(ask_and_drop, self.draw) if self.loses_answer() else answer_of
             try:
-                answer = answer_of(self.connection, *request_of(call, self.is_serializable()))
+                answer = ask(self.connection, *request_of(call, self.is_serializable()))
             except NoAnswer:
                 return self.go_on()
             self.load.revisions[call.number], pair = tell(call, answer)
             return pair
+
+    def loses_answer(self):
+        """Whether the answer of a call gets lost."""
+        return self.load.setting.disturbance == "dropped" and self.draw.random() * 100 < DROPPED
 
     def is_serializable(self):
         """Whether gets are asked for as serializable: of what the member knows, without asking the others."""
@@ -100,8 +100,7 @@ class Client(threading.Thread):
     def get_ready(self):
         """Connects, before the call is recorded, to the next member that can be reached."""
         while self.connection is None and not self.load.is_over():
-            kind = Dropping if self.load.setting.disturbance == "dropped" else Connection
-            self.connection = connection_to(self.load.members.urls[self.member], self.timeout(), kind)
+            self.connection = connection_to(self.load.members.urls[self.member], self.timeout())
             try:
                 self.connection.open(0)
             except ClusterError:

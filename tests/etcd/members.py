@@ -13,7 +13,7 @@ import time
 import recordings  # (for the package)
 from running import free_ports
 
-from casbench_recording.cluster import Cluster, ClusterError, Connection, NoAnswer, url_of
+from casbench_recording.cluster import ClusterError, NoAnswer, connection_to
 
 # How many members there are, and how many seconds they may take to get ready.
 COUNT, PATIENCE = 3, 60
@@ -24,11 +24,6 @@ PROGRAMS = ("etcd", "setpriv")
 def is_installed():
     """Whether etcd can be started here."""
     return all(shutil.which(it) for it in PROGRAMS)
-
-
-def connection_to(url, timeout, kind=Connection):
-    """A connection to a member. It asks each thing once."""
-    return kind(Cluster(url_of(url), timeout, {}, None))
 
 
 class Members:

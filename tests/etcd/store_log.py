@@ -9,9 +9,10 @@ import contextlib
 import json
 import time
 
-from members import connection_to
-from store import MARK, TERM, coded, decoded, put
+from store import TERM, coded, decoded, put
 from texts import witness_of
+
+from casbench_recording.cluster import connection_to
 
 # How many seconds a write may take whose client went away.
 SETTLED = 0.5
