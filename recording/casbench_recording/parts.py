@@ -5,13 +5,14 @@ of its own; each is a file, under a lock of its own, and is checked by itself. T
 second are no parts: the second doesn't begin on an empty index.
 """
 
+import contextlib
 import os
 import threading
 import time
 import urllib.parse
-from typing import Callable, Dict, Optional, Tuple
+from typing import Callable, Dict, List, Optional, Sequence, Tuple, Union
 
-from .history import MOST_EVENTS, Call, History, HistoryError, Pair
+from .history import MOST_EVENTS, Call, History, HistoryError, Operation, Pair
 
 
 class Parts:
@@ -55,9 +56,11 @@ class Parts:
         return self.of_shard(shard).call(op, id, value, condition, shard)
 
     def end(self) -> None:
-        """Ends each history."""
+        """Ends each history. Where none has a call no file is left, and so no folder."""
         for history in self.histories:
             history.end()
+        with contextlib.suppress(OSError):
+            os.rmdir(self.folder)
 
     def _named(self, name: str) -> History:
         """The history of this name, begun where there is none yet."""
@@ -84,11 +87,25 @@ class Indexes:
 
     def call(self, op: str, id: str, value: Optional[int] = None, condition: Optional[Pair] = None) -> Tuple[str, Call]:
         """Writes the line of a call; gives the index that its request goes to, and the call."""
+        return self.call_one(Operation(op, id, value, condition))
+
+    def call_one(self, operation: Operation) -> Tuple[str, Call]:
+        """The same of an operation."""
         with self._lock:
-            if not self._count or self._history.room == 0 and not self._history.has_ended:
-                self._make(f"{self.name}-{self._count + 1}")
-                self._count += 1
-            return self._index, self._history.call(op, id, value, condition)
+            self._find_room(1)
+            return self._index, self._history.call_one(operation)
+
+    def call_all(self, operations: Sequence[Operation]) -> Tuple[str, List[Call]]:
+        """The same of several, such as the items of a bulk request: all of them go to one index."""
+        with self._lock:
+            self._find_room(len(operations))
+            return self._index, self._history.call_all(operations)
+
+    def _find_room(self, calls: int) -> None:
+        """Begins the next index where there is none yet, or this one's history has no room for so many calls."""
+        if not self._count or self._history.room < calls and not self._history.has_ended:
+            self._make(f"{self.name}-{self._count + 1}")
+            self._count += 1
 
     @property
     def _index(self) -> str:
@@ -99,3 +116,23 @@ class Indexes:
     def _history(self) -> History:
         """Its history."""
         return self.parts.of_index(self._index)
+
+
+class OneIndex:
+    """An index with one history, used as `Indexes` are."""
+
+    def __init__(self, history: History, name: str) -> None:
+        self.history = history
+        self.name = name
+
+    def call_one(self, operation: Operation) -> Tuple[str, Call]:
+        """Writes the line of a call; gives the index, and the call."""
+        return self.name, self.history.call_one(operation)
+
+    def call_all(self, operations: Sequence[Operation]) -> Tuple[str, List[Call]]:
+        """The same of several."""
+        return self.name, self.history.call_all(operations)
+
+
+Target = Union[OneIndex, Indexes]
+"""Where the calls of a recording go."""

@@ -14,6 +14,7 @@ OPENSEARCH_HEADER, a whole header such as `Authorization: Bearer ...`. Python 3.
 
 import argparse
 import contextlib
+import functools
 import json
 import os
 import random
@@ -22,14 +23,18 @@ import sys
 import threading
 import time
 import urllib.parse
-from typing import Any, Dict, List, Optional, Sequence, Tuple
+from typing import Any, Dict, List, Optional, Sequence, Tuple, Union
 
 from .cluster import Answer, Cluster, ClusterError, Connection, NoAnswer, credentials_of, number_from, trust_of, url_of
 from .history import MOST_EVENTS, Ended, History, HistoryError, Operation, Pair, pair_of
+from .parts import Indexes, OneIndex, Parts, Target
 from .progress import Progress
 
 MOST_CALLS = MOST_EVENTS // 2
-"""The most calls of one recording: a call with its ending is two events."""
+"""The most calls of one history: a call with its ending is two events."""
+
+ANY_NUMBER = 2**62
+"""The calls of a client that goes on until its time is over, or the history is full."""
 
 MIXTURE = "get=6,index=2,create=1,delete=1,index-if=6,delete-if=1,bulk=1"
 """How often each kind of turn is drawn, where the words don't say."""
@@ -149,9 +154,9 @@ class Plan:
 class Client:
     """One client: it makes its calls one after another, and records each."""
 
-    def __init__(self, setting: argparse.Namespace, history: History, number: int, stop: Stop) -> None:
+    def __init__(self, setting: argparse.Namespace, target: Target, number: int, stop: Stop) -> None:
         self.setting = setting
-        self.history = history
+        self.target = target
         self.number = number
         self.stop = stop
         self.connection = Connection(setting.cluster)
@@ -222,10 +227,11 @@ class Client:
         Rule: what was not answered is lost, and nothing is guessed: a call without a reply is lost at its block's end.
         """
         self.get_ready()
-        with self.history.call(*operation) as call:
+        index, call = self.target.call_one(operation)
+        with call:
             self.calls += 1
             with contextlib.suppress(NoAnswer):
-                answer = self.connection.ask(*request_of(self.setting.index, operation))
+                answer = self.connection.ask(*request_of(index, operation))
                 call.reply(answer.status, answer.body)
                 told = answer.members
                 self.learn(operation.id, told)
@@ -235,10 +241,10 @@ class Client:
     def make_bulk(self, operations: Sequence[Operation]) -> None:
         """Makes one bulk request. Its items are calls of their own, all made before any is answered."""
         self.get_ready()
-        calls = self.history.call_all(operations)
+        index, calls = self.target.call_all(operations)
         self.calls += len(calls)
         try:
-            told = items_of(operations, self.connection.ask(*bulk_of(self.setting.index, operations)))
+            told = items_of(operations, self.connection.ask(*bulk_of(index, operations)))
         except NoAnswer:
             told = [None] * len(calls)
         for call, item in zip(calls, told):
@@ -259,8 +265,8 @@ class Client:
 # The recording
 
 
-def make_index(connection: Connection, setting: argparse.Namespace) -> None:
-    """Makes the index, empty and with one shard.
+def make_index(connection: Connection, setting: argparse.Namespace, index: str) -> None:
+    """Makes an index, empty and with one shard.
 
     Rule: a history begins on an empty index. So one that exists is refused.
     """
@@ -269,12 +275,12 @@ def make_index(connection: Connection, setting: argparse.Namespace) -> None:
         shape["number_of_replicas"] = setting.replicas
     body = {"settings": {"index": shape}, "mappings": {"properties": {"k": {"type": "long"}}}}
     try:
-        answer = connection.ask("PUT", f"/{setting.index}", json.dumps(body))
+        answer = connection.ask("PUT", f"/{index}", json.dumps(body))
     except NoAnswer as fault:
-        raise ClusterError(f"the index {setting.index} was asked for, and no answer came: {fault}") from fault
+        raise ClusterError(f"the index {index} was asked for, and no answer came: {fault}") from fault
     told = answer.members
     if answer.status != 200 or told.get("acknowledged") is not True or told.get("shards_acknowledged") is False:
-        raise ClusterError(why_no_index(setting.index, answer.status, told))
+        raise ClusterError(why_no_index(index, answer.status, told))
 
 
 def why_no_index(index: str, status: int, told: Dict[str, Any]) -> str:
@@ -291,17 +297,43 @@ def why_no_index(index: str, status: int, told: Dict[str, Any]) -> str:
     return f"the index {index} was not made (HTTP {status}): {json.dumps(kind)} {json.dumps(reason)}"
 
 
-def record(setting: argparse.Namespace) -> Tuple[History, bool]:
-    """Makes the index and records the clients' calls. Returns the history, and whether somebody asked for its end."""
+def record(setting: argparse.Namespace) -> Tuple[Tuple[History, ...], bool]:
+    """Makes the index and records the clients' calls. Returns the histories, and whether somebody asked for their end."""
     stop = Stop()
-    with History(setting.file) as history, Progress(lambda: (history.calls, history.lost)):
-        clients = [Client(setting, history, number, stop) for number in range(setting.clients)]
+    with recording_of(setting) as recording, Progress(lambda: counts_of(recording.histories)):
+        target = target_of(setting, recording)
+        clients = [Client(setting, target, number, stop) for number in range(setting.clients)]
         first = clients[0].connection
         first.open(START_PATIENCE)
-        make_index(first, setting)
+        if isinstance(target, OneIndex):
+            make_index(first, setting, target.name)
         setting.end = time.monotonic() + setting.seconds if setting.seconds is not None else None
         run_clients(clients, stop)
-    return history, stop.was_asked
+    return recording.histories, stop.was_asked
+
+
+def recording_of(setting: argparse.Namespace) -> Union[History, Parts]:
+    """The file that is written, or the folder with one for each part."""
+    return History(setting.file) if setting.part is None else Parts(setting.file, 2 * setting.part)
+
+
+def target_of(setting: argparse.Namespace, recording: Union[History, Parts]) -> Target:
+    """The index, or those that follow one another, each made before its first call."""
+    if isinstance(recording, Parts):
+        return Indexes(recording, setting.index, functools.partial(make_next_index, setting))
+    return OneIndex(recording, setting.index)
+
+
+def make_next_index(setting: argparse.Namespace, index: str) -> None:
+    """Makes an index while clients wait for it, on a connection for that alone."""
+    with contextlib.closing(Connection(setting.cluster)) as connection:
+        connection.open(setting.patience)
+        make_index(connection, setting, index)
+
+
+def counts_of(histories: Sequence[History]) -> Tuple[int, int]:
+    """How many calls there are, and how many of them are lost."""
+    return sum(it.calls for it in histories), sum(it.lost for it in histories)
 
 
 def run_clients(clients: Sequence[Client], stop: Stop) -> None:
@@ -354,16 +386,19 @@ def words_of(arguments: Sequence[str]) -> argparse.Namespace:
     add("--bulk-items", type=number_from(1), default=4, help="how many items a bulk request has (4)")
     add("--timeout", type=number_from(0.001, float), default=10.0, help="seconds to wait for an answer (10)")
     add("--patience", type=number_from(0, float), default=60.0, help="seconds to wait for a connection (60)")
+    add("--part", type=number_from(1), help="FILE is a folder: so many calls go to each of INDEX-1, INDEX-2 and on, with a history each")
     add("--replicas", type=number_from(0), help="how many replicas the index has (the cluster's default)")
     add("--ca-file", help="the certificates of who is trusted to vouch for the cluster")
     setting = parser.parse_args(arguments)
     if setting.calls is None:
-        setting.calls = 1000 if setting.seconds is None else MOST_CALLS
+        setting.calls = 1000 if setting.seconds is None else ANY_NUMBER
     setting.index = urllib.parse.quote(setting.index, safe="")
     if setting.ca_file is not None and setting.url.scheme != "https":
         parser.error("--ca-file is for an address that begins with https")
-    if setting.seconds is None and setting.clients * setting.calls > MOST_CALLS:
-        parser.error(f"over {MOST_CALLS} calls, the most of one history: record several, each on an index of its own")
+    if setting.part is None and setting.seconds is None and setting.clients * setting.calls > MOST_CALLS:
+        parser.error(f"over {MOST_CALLS} calls, the most of one history: record it in parts, by --part")
+    if setting.part is not None and not setting.bulk_items <= setting.part <= MOST_CALLS:
+        parser.error(f"a part has at least the items of one bulk request, and at most {MOST_CALLS} calls")
     return setting
 
 
@@ -373,14 +408,15 @@ def main(arguments: Sequence[str]) -> int:
     try:
         trust = trust_of(setting.url, setting.ca_file)
         setting.cluster = Cluster(setting.url, setting.timeout, credentials_of(os.environ), trust)
-        history, was_asked = record(setting)
+        histories, was_asked = record(setting)
     except (ClusterError, HistoryError, OSError) as fault:
         print(f"record.py: {fault}", file=sys.stderr)
         return 1
     except KeyboardInterrupt:
         return 130
-    if history.calls:
-        print(f"recorded {history.calls} calls in {history.path}, {history.unanswered} of them without a reply")
+    calls = sum(it.calls for it in histories)
+    if calls:
+        print(f"recorded {calls} calls in {setting.file}, {sum(it.unanswered for it in histories)} of them without a reply")
     else:
         print("no call was made, so there is no file", file=sys.stderr)
     return 130 if was_asked else 0

@@ -1,0 +1,127 @@
+#!/usr/bin/env python3
+"""Tests recordings in parts that are longer than one history, and what checks a folder of parts side by side.
+
+    python3 tests/recorded_parts.py [PROGRAM]
+
+PROGRAM is the built casbench; where it is not named, the one that ./casbench would run. GNU parallel is tried where it is installed; else
+a line says so. The last line says how many tests passed and failed.
+"""
+
+import os
+import pathlib
+import re
+import subprocess
+import sys
+import unittest
+
+from program import TOP
+from recordings import FolderTest, Started, environment, judged, run_tests
+from texts import created, found, get, index, updated
+
+from casbench_recording.history import MOST_EVENTS, Pair
+from casbench_recording.parts import Indexes, Parts
+
+
+def is_gnu_parallel():
+    """Whether there is GNU parallel here."""
+    try:
+        ran = subprocess.run(["parallel", "--version"], stdin=subprocess.DEVNULL, capture_output=True, text=True)
+    except OSError:
+        return False
+    return ran.stdout.startswith("GNU parallel")
+
+
+class Long(FolderTest):
+    """Recordings that go on in a new index where a history is full."""
+
+    def test_the_recorder_goes_on_in_the_next_index(self):
+        parts = pathlib.Path(self.folder) / "parts"
+        with Started("stand_in", "--port", "0") as store:
+            words = [store.url, "carts", str(parts), "--calls", "500", "--part", "300"]
+            ran = subprocess.run([sys.executable, "-m", "casbench_recording.record", *words], capture_output=True, text=True, env=environment())
+            self.assertEqual(ran.stdout, f"recorded 2000 calls in {parts}, 0 of them without a reply\n", ran.stderr)
+            # (an index that is there is refused, also where it isn't the first)
+            again = [*words[:2], os.path.join(self.folder, "again"), *words[3:]]
+            ran = subprocess.run([sys.executable, "-m", "casbench_recording.record", *again], capture_output=True, text=True, env=environment())
+            self.assertIn("the index carts-1 exists", ran.stderr)
+            self.assertFalse(os.path.exists(again[2]))
+        counts = []
+        for number in range(1, 8):
+            told = judged(self.program, parts / f"carts-{number}.ndjson")
+            counts.append(int(re.fullmatch(r"yes docs=8 calls=(\d+) left_out=0", told)[1]))
+        # (a bulk request that a history has no room for goes to the next one)
+        self.assertEqual((sum(counts), max(counts), min(counts[:6]) > 296), (2000, 300, True), counts)
+
+    def test_a_part_that_no_history_is(self):
+        for part in ("3", "524289", "0"):
+            words = ["http://127.0.0.1:9", "carts", self.file, "--part", part]
+            ran = subprocess.run([sys.executable, "-m", "casbench_recording.record", *words], capture_output=True, text=True, env=environment())
+            self.assertEqual((ran.returncode, os.path.exists(self.file)), (2, False), ran.stderr)
+
+    def test_calls_past_the_most_of_a_history(self):
+        most, more = MOST_EVENTS // 2, 1000
+        with Parts(os.path.join(self.folder, "parts")) as parts:
+            indexes = Indexes(parts, "carts", lambda _: None)
+            for number in range(most + more):
+                _, call = indexes.call("index", "d", number)
+                call.indexed(Pair(1, number), created=number in (0, most))
+        answers = [judged(self.program, it.path) for it in parts.histories]
+        self.assertEqual(answers, [f"yes docs=1 calls={it} left_out=0" for it in (most, more)])
+
+
+WRITES = index(0) + created(0, 1, 0, "d") + index(1) + updated(1, 1, 1, "d")
+
+# What a folder has: right histories, one of which has a space in its name, a refuted one, and a text that is none.
+RIGHT = {f"{name}.ndjson": WRITES for name in ("shard-0", "shard-1", "carts 2")}
+WRONG = {"shard-7.ndjson": WRITES + get(2) + found(2, 1, 0)}
+NO_TEXT = {"shard-8.ndjson": "{}\n"}
+
+YES, REFUTED, REFUSED = "yes docs=1 calls=2 left_out=0\n", "refuted kind=stale-get calls=2,1 event=5 call=2 before=shown\n", "refused line=1 cause=shape\n"
+
+
+def commands_shown():
+    """The commands by which docs/RECORDING.md checks a folder, by the names of what runs them."""
+    page = (TOP / "docs" / "RECORDING.md").read_text(encoding="utf-8")
+    section = page[page.index("### Side by side") :]
+    return dict(re.findall(r"^\*\*By ([\w ]+)\.\*\*.*?^```\n(.*?)^```$", section, re.MULTILINE | re.DOTALL))
+
+
+class SideBySide(FolderTest):
+    """The commands of docs/RECORDING.md that check a folder."""
+
+    def ended(self, name, *folders, **more):
+        """How a command ends that checks the files of these folders: its status, and the lines that it writes."""
+        parts = pathlib.Path(self.folder) / "out" / "parts"
+        parts.mkdir(parents=True, exist_ok=True)
+        for file in parts.iterdir():
+            file.unlink()
+        for file, text in (it for folder in folders for it in folder.items()):
+            (parts / file).write_text(text)
+        program = pathlib.Path(self.folder) / "casbench"
+        if not program.exists():
+            program.symlink_to(self.program)
+        how = {"cwd": self.folder, "capture_output": True, "text": True, "timeout": 100, "env": environment(HOME=self.folder, **more)}
+        ran = subprocess.run(["sh", "-c", commands_shown()[name]], stdin=subprocess.DEVNULL, **how)
+        return ran.returncode, sorted(ran.stdout.splitlines(keepends=True))
+
+    def test_by_xargs(self):
+        self.assertEqual(self.ended("xargs", RIGHT), (0, [YES] * 3))
+        self.assertEqual(self.ended("xargs", RIGHT, WRONG, NO_TEXT), (123, [REFUSED, REFUTED] + [YES] * 3))
+
+    @unittest.skipUnless(is_gnu_parallel(), "there is no GNU parallel here")
+    def test_by_gnu_parallel(self):
+        names = [f"out/parts/{it}" for it in sorted(RIGHT)]
+        self.assertEqual(self.ended("GNU parallel", RIGHT), (0, [f"{it}\t{YES}" for it in names]))
+        wrong = [f"out/parts/shard-7.ndjson\t{REFUTED}", f"out/parts/shard-8.ndjson\t{REFUSED}"]
+        # (its status is how many jobs failed)
+        self.assertEqual(self.ended("GNU parallel", RIGHT, WRONG, NO_TEXT), (2, sorted([f"{it}\t{YES}" for it in names] + wrong)))
+
+    def test_by_an_array(self):
+        told = [self.ended("an array of a batch queue", RIGHT, WRONG, SLURM_ARRAY_TASK_ID=str(it)) for it in range(1, 5)]
+        self.assertEqual(told, [(0, [YES])] * 3 + [(1, [REFUTED])])
+
+
+if __name__ == "__main__":
+    if not is_gnu_parallel():
+        print("SKIPPED: GNU parallel isn't installed here, so no folder was checked by it")
+    sys.exit(run_tests())
