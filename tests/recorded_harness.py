@@ -67,7 +67,8 @@ class Replies(FolderTest):
     def test_the_table(self):
         self.count = 0
         rows = list(rows_of_table())
-        self.assertEqual([it[0] for it in rows], ["get", "index", "index under the pair `c`", "create", "delete", "delete under the pair `c`"])
+        under = "under the pair `c`"
+        self.assertEqual([it[0] for it in rows], ["get", "index", f"index {under}", "create", "delete", f"delete {under}"])
         for (name, absent, there), state, condition, reply in itertools.product(rows, ("never", "gone", "here"), (P, OTHER), REPLIES):
             is_swap = "under" in name
             wanted = absent if state != "here" else there[0] if condition == P else there[-1]

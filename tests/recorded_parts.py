@@ -16,7 +16,7 @@ import unittest
 
 from program import TOP
 from recordings import FolderTest, Started, environment, judged, run_tests
-from texts import created, found, get, index, updated
+from texts import created, found, get, index, refused, refuted, updated, yes
 
 from casbench_recording.history import MOST_EVENTS, Pair
 from casbench_recording.parts import Indexes, Parts
@@ -31,6 +31,12 @@ def is_gnu_parallel():
     return ran.stdout.startswith("GNU parallel")
 
 
+def record(*words):
+    """How the recorder ends with these words."""
+    words = [sys.executable, "-m", "casbench_recording.record", *words]
+    return subprocess.run(words, capture_output=True, text=True, env=environment())
+
+
 class Long(FolderTest):
     """Recordings that go on in a new index where a history is full."""
 
@@ -38,12 +44,11 @@ class Long(FolderTest):
         parts = pathlib.Path(self.folder) / "parts"
         with Started("stand_in", "--port", "0") as store:
             words = [store.url, "carts", str(parts), "--calls", "500", "--part", "300"]
-            ran = subprocess.run([sys.executable, "-m", "casbench_recording.record", *words], capture_output=True, text=True, env=environment())
+            ran = record(*words)
             self.assertEqual(ran.stdout, f"recorded 2000 calls in {parts}, 0 of them without a reply\n", ran.stderr)
             # (an index that is there is refused, also where it isn't the first)
             again = [*words[:2], os.path.join(self.folder, "again"), *words[3:]]
-            ran = subprocess.run([sys.executable, "-m", "casbench_recording.record", *again], capture_output=True, text=True, env=environment())
-            self.assertIn("the index carts-1 exists", ran.stderr)
+            self.assertIn("the index carts-1 exists", record(*again).stderr)
             self.assertFalse(os.path.exists(again[2]))
         counts = []
         for number in range(1, 8):
@@ -54,8 +59,7 @@ class Long(FolderTest):
 
     def test_a_part_that_no_history_is(self):
         for part in ("3", "524289", "0"):
-            words = ["http://127.0.0.1:9", "carts", self.file, "--part", part]
-            ran = subprocess.run([sys.executable, "-m", "casbench_recording.record", *words], capture_output=True, text=True, env=environment())
+            ran = record("http://127.0.0.1:9", "carts", self.file, "--part", part)
             self.assertEqual((ran.returncode, os.path.exists(self.file)), (2, False), ran.stderr)
 
     def test_calls_past_the_most_of_a_history(self):
@@ -76,7 +80,9 @@ RIGHT = {f"{name}.ndjson": WRITES for name in ("shard-0", "shard-1", "carts 2")}
 WRONG = {"shard-7.ndjson": WRITES + get(2) + found(2, 1, 0)}
 NO_TEXT = {"shard-8.ndjson": "{}\n"}
 
-YES, REFUTED, REFUSED = "yes docs=1 calls=2 left_out=0\n", "refuted kind=stale-get calls=2,1 event=5 call=2 before=shown\n", "refused line=1 cause=shape\n"
+YES = yes(2)
+REFUTED = refuted("stale-get", "2,1", 5, 2)
+REFUSED = refused(1, "shape")
 
 
 def commands_shown():

@@ -18,8 +18,11 @@ from casbench_recording.history import Ended, Operation
 # How often each kind of turn is drawn. Behind `-if` the document is read, and written under the pair that was read.
 MIXTURE = {"get": 6, "index": 2, "create": 1, "delete": 1, "index-if": 6, "delete-if": 1}
 
-# How many seconds a client waits for an answer; one that asks a member which is stopped, until it asks again.
-TIMEOUT, SHORT_TIMEOUT = 1.0, 0.2
+# How many seconds a client waits for an answer, and one that asks a member which was stopped.
+TIMEOUT, LONG_TIMEOUT = 1.0, 10.0
+
+# How many clients read from a member that is stopped, and how many calls the others make before these ask.
+READERS, CALLS_MEANWHILE = 4, 200
 
 # Of a hundred answers so many get lost, where answers get lost.
 DROPPED = 4
@@ -122,16 +125,18 @@ class Client(threading.Thread):
 
 
 class Reader(Client):
-    """A client that reads from one member alone, and is content with what that one knows."""
+    """A client that reads from one member alone, and is content with what that one knows. It asks while the gate is open."""
 
     def take_turn(self):
-        self.make(Operation("get", f"d{self.draw.randrange(self.load.setting.documents)}"))
+        self.load.gate.wait(0.05)
+        if self.load.gate.is_set() or self.load.is_over():
+            self.make(Operation("get", f"d{self.draw.randrange(self.load.setting.documents)}"))
 
     def is_serializable(self):
         return True
 
     def timeout(self):
-        return SHORT_TIMEOUT
+        return LONG_TIMEOUT
 
     def go_on(self):
         self.leave()
@@ -142,7 +147,8 @@ class Load:
 
     def __init__(self, setting, members, history):
         self.setting, self.members, self.history = setting, members, history
-        self.revisions, self.faults = {}, []
+        self.revisions, self.faults, self.gate = {}, [], threading.Event()
+        self.gate.set()
         self.draw = random.Random(f"{setting.seed}/disturbance")
         self.clients = [Client(self, it) for it in range(setting.clients)]
 
@@ -155,9 +161,7 @@ class Load:
         disturb = DISTURBANCES[self.setting.disturbance]
         target = (self.members.leader() + 1) % COUNT
         if disturb is stopped_follower:
-            for number in range(2):
-                reader = Reader(self, COUNT * number + target)
-                self.clients[number] = reader
+            self.clients[:READERS] = [Reader(self, COUNT * it + target) for it in range(READERS)]
         for client in self.clients:
             client.start()
         while self.waits_for(self.history.calls + CALLS_BETWEEN):
@@ -207,11 +211,13 @@ def stopped_leader(load, _):
 
 
 def stopped_follower(load, target):
-    """A member that its readers go on asking is stopped, and goes on when the others have written."""
+    """A member that its readers ask is stopped. When the others have written they ask again, and then it goes on."""
+    load.gate.clear()
+    load.waits(0.1, 0.2)
     load.members.stop(target)
-    calls = load.history.calls
-    load.waits_for(calls + 200)
-    load.waits(0.3, 0.4)
+    load.waits_for(load.history.calls + CALLS_MEANWHILE)
+    load.gate.set()
+    load.waits(0.1, 0.2)
     load.members.go_on(target)
 
 

@@ -1,7 +1,7 @@
 #!/usr/bin/env python3
 """Measures what the program says of many recordings of etcd, and how many of their lost calls took effect by the store's own log.
 
-    python3 tests/etcd/measure.py FOLDER [--recordings 20] [--calls 20000] [--at-once 2] [--disturbances killed,stopped,dropped] [PROGRAM]
+    python3 tests/etcd/measure.py FOLDER [PROGRAM] [--recordings 20] [--calls 20000] [--at-once 2] [--disturbances killed,dropped]
 
 FOLDER is made; a recording is kept there where the answer is another than yes. For each recording a row is printed: its disturbance
 and its seed, its calls, how many were lost, how many of these took effect, the answer, the seconds of a processor that it took, and what the
@@ -36,10 +36,18 @@ def words_of(arguments):
     return parser.parse_args(arguments)
 
 
+# Runs the words behind it, and prints how many seconds of a processor they took.
+TIMED = """
+import resource, subprocess, sys
+subprocess.run(sys.argv[1:])
+print(sum(resource.getrusage(resource.RUSAGE_CHILDREN)[:2]))
+"""
+
+
 def timed(program, history):
     """What the program says of a history, and how many seconds of a processor that takes."""
-    words = [sys.executable, "-c", "import resource, subprocess, sys; subprocess.run(sys.argv[1:]); print(sum(resource.getrusage(resource.RUSAGE_CHILDREN)[:2]))"]
-    ran = subprocess.run([*words, program, "check", "--rule-out", history], stdout=subprocess.PIPE, text=True, check=True)
+    words = [sys.executable, "-c", TIMED, program, "check", "--rule-out", history]
+    ran = subprocess.run(words, stdout=subprocess.PIPE, text=True, check=True)
     *answer, seconds = ran.stdout.splitlines()
     return "".join(answer), float(seconds)
 

@@ -33,7 +33,7 @@ def interrupted(*_):
 
 
 def recorded(setting):
-    """Records; gives the history, the revisions of the calls that had an effect by the store's log, and the witness."""
+    """Records; gives the history, its lines, by the store's log the revisions of the calls that had an effect, and the witness."""
     with tempfile.TemporaryDirectory(prefix="casbench-etcd-") as folder, Members(folder) as members:
         with History(setting.file, most_events=2 * setting.calls) as history:
             load = Load(setting, members, history)
@@ -73,7 +73,8 @@ def main(arguments):
         with open(setting.witness, "x", encoding="utf-8") as file:
             file.write(witness)
     lost = {it["n"] for it in lines if it["e"] == "lost"}
-    print(f"recorded {history.calls} calls in {history.path}, {len(lost)} of them without a reply, of which {len(lost & set(effects))} took effect")
+    effects_of_lost = len(lost & set(effects))
+    print(f"recorded {history.calls} calls in {history.path}, {len(lost)} of them without a reply, of which {effects_of_lost} took effect")
     return 0
 
 
