@@ -12,12 +12,12 @@ Who asks is a matter of the clients. For what the proxy asks itself, before it l
 """
 
 import argparse
-import asyncio
 import gc
 import os
 import signal
+import socket
 import sys
-from typing import Callable, List, Optional, Sequence, Set, Tuple, Union, cast
+from typing import Callable, List, Optional, Sequence, Set, Tuple, Union
 
 from .cluster import Cluster, ClusterError, Connection, credentials_of, port_of, trust_of, url_of
 from .documents import State
@@ -25,9 +25,11 @@ from .history import History, HistoryError
 from .http1 import BadMessage, Request, Response, decoded, request_of, response_of, split_head
 from .inspection import Inspector, Shape
 from .judge import Asked, Judge
+from .loop import Loop, Stream
 from .parts import Parts
 from .progress import Progress
 from .routes import READS, Kind, Route
+from .tls import NO_RENEGOTIATION, TlsStream
 from .unjudged import Unjudged
 
 MOST_HELD = 128 * 1024 * 1024
@@ -74,48 +76,53 @@ class Exchange:
         self.has_begun = False
 
 
-class ClientSide(asyncio.Protocol):
+class ClientSide:
     """A client's connection. It has one to the cluster of its own, which lives as long."""
 
-    transport: asyncio.Transport
-
-    def __init__(self, proxy: "Proxy") -> None:
+    def __init__(self, proxy: "Proxy", connection: socket.socket) -> None:
         self.proxy = proxy
+        self.stream = Stream(proxy.loop, connection, self)
         self.data = b""
         self.exchange: Optional[Exchange] = None
         self.cluster: Optional[ClusterSide] = None
-        self.connecting: Optional["asyncio.Task[None]"] = None
+        self.is_connecting = self.is_connected = False
         self.is_tunnel = False
         self.is_cluster_full = self.is_paused = False
+        proxy.clients.add(self)
 
-    def connection_made(self, transport: asyncio.BaseTransport) -> None:
-        """Keeps what answers are written to."""
-        self.transport = cast(asyncio.Transport, transport)
-        self.proxy.clients.add(self)
-
-    def data_received(self, data: bytes) -> None:
-        """Takes what the client sent. With its first bytes a connection to the cluster is made."""
+    def received(self, data: bytes) -> None:
+        """Takes what the client sent. With its first bytes a connection to the cluster is made, before anything is recorded."""
         self.data = self.data + data if self.data else data
-        if self.cluster is not None:
+        if self.is_connected:
             self.go_on()
-        elif self.connecting is None:
-            self.connecting = asyncio.ensure_future(self.connect())
+            return
+        if not self.is_connecting:
+            self.is_connecting = True
+            self.proxy.connect(self.connection_made)
         self.heed_flow()
 
-    async def connect(self) -> None:
-        """Connects to the cluster, before anything is recorded."""
-        try:
-            self.cluster = await self.proxy.connect(self)
-        except OSError as fault:
-            self.transport.write(refusal("502 Bad Gateway", f"the cluster can't be reached: {fault}"))
-            self.transport.close()
-            return
-        self.go_on()
+    def connection_made(self, made: Union[socket.socket, OSError]) -> None:
+        """Takes the connection to the cluster, or the fault for which there is none."""
+        if isinstance(made, OSError):
+            self.has_cluster(made)
+        elif self.stream.is_closing:
+            made.close()
+        else:
+            self.cluster = ClusterSide(self, made)
+
+    def has_cluster(self, fault: Optional[OSError]) -> None:
+        """Goes on once the cluster can be asked, or tells the client why it can't."""
+        if fault is None:
+            self.is_connected = True
+            self.go_on()
+        else:
+            self.stream.write(refusal("502 Bad Gateway", f"the cluster can't be reached: {fault}"))
+            self.stream.close()
 
     def go_on(self) -> None:
         """Passes on what it can of what the client sent."""
         try:
-            while not self.transport.is_closing() and self.has_step():
+            while not self.stream.is_closing and self.has_step():
                 pass
         except BadMessage as fault:
             self.refuse(f"the request can't be read: {fault}")
@@ -124,14 +131,14 @@ class ClientSide(asyncio.Protocol):
     def refuse(self, why: str) -> None:
         """Ends the connection where the client's messages can't be told apart."""
         if self.exchange is None:
-            self.transport.write(refusal("400 Bad Request", why))
-        self.transport.close()
+            self.stream.write(refusal("400 Bad Request", why))
+        self.stream.close()
 
     def has_step(self) -> bool:
         """Does the next step with what the client sent; tells whether there may be another one."""
         assert self.cluster is not None
         if self.is_tunnel:
-            self.cluster.transport.write(self.data)
+            self.cluster.stream.write(self.data)
             self.data = b""
             return False
         exchange = self.exchange
@@ -158,7 +165,7 @@ class ClientSide(asyncio.Protocol):
             if not request.body.is_done and exchange.length <= MOST_HELD:
                 if request.expects and not exchange.was_continued:
                     exchange.was_continued = True
-                    self.transport.write(CONTINUE)
+                    self.stream.write(CONTINUE)
                 return
             content = decoded(request.body.content(), request.encoding, MOST_HELD) if request.body.is_done else None
             exchange.asked = self.proxy.judge.ask(route, request.method, content)
@@ -166,7 +173,7 @@ class ClientSide(asyncio.Protocol):
             request.body.pieces.clear()
         assert self.cluster is not None
         exchange.is_sent = request.body.is_done
-        self.cluster.transport.write(b"".join(exchange.held))
+        self.cluster.stream.write(b"".join(exchange.held))
         exchange.held.clear()
 
     def answered(self) -> None:
@@ -177,29 +184,27 @@ class ClientSide(asyncio.Protocol):
 
     def heed_flow(self) -> None:
         """Takes no more from the client while the cluster is slow to take it, or while an answer is waited for and much has come."""
-        is_waiting = self.cluster is None or self.exchange is not None and self.exchange.is_sent
+        is_waiting = not self.is_connected or self.exchange is not None and self.exchange.is_sent
         is_paused = self.is_cluster_full or is_waiting and len(self.data) > MOST_AHEAD
         if is_paused != self.is_paused:
             self.is_paused = is_paused
-            (self.transport.pause_reading if is_paused else self.transport.resume_reading)()
+            (self.stream.pause_reading if is_paused else self.stream.resume_reading)()
 
     def pause_writing(self) -> None:
         """Takes no more from the cluster while the client is slow to take it."""
         if self.cluster is not None:
-            self.cluster.transport.pause_reading()
+            self.cluster.stream.pause_reading()
 
     def resume_writing(self) -> None:
         """Takes from the cluster again."""
         if self.cluster is not None:
-            self.cluster.transport.resume_reading()
+            self.cluster.stream.resume_reading()
 
-    def connection_lost(self, fault: Optional[Exception]) -> None:
+    def connection_lost(self) -> None:
         """Ends the connection to the cluster, and with it what the client asked: it will hear of no answer."""
         self.proxy.clients.discard(self)
-        if self.connecting is not None:
-            self.connecting.cancel()
         if self.cluster is not None:
-            self.cluster.transport.abort()
+            self.cluster.stream.abort()
 
     def give_up(self) -> None:
         """Writes the calls that are open as lost."""
@@ -208,20 +213,22 @@ class ClientSide(asyncio.Protocol):
             self.exchange.asked = None
 
 
-class ClusterSide(asyncio.Protocol):
+class ClusterSide:
     """The connection to the cluster that a client's has."""
 
-    transport: asyncio.Transport
+    stream: Union[Stream, TlsStream]
 
-    def __init__(self, client: ClientSide) -> None:
+    def __init__(self, client: ClientSide, connection: socket.socket) -> None:
         self.client = client
         self.data = b""
+        loop, cluster = client.proxy.loop, client.proxy.cluster
+        if cluster.trust is None:
+            self.stream = Stream(loop, connection, self)
+            loop.soon(lambda: client.has_cluster(None))
+        else:
+            self.stream = TlsStream(loop, connection, self, cluster.trust, str(cluster.url.hostname), client.has_cluster)
 
-    def connection_made(self, transport: asyncio.BaseTransport) -> None:
-        """Keeps what requests are written to."""
-        self.transport = cast(asyncio.Transport, transport)
-
-    def data_received(self, data: bytes) -> None:
+    def received(self, data: bytes) -> None:
         """Takes what the cluster sent, and passes it on."""
         self.data = self.data + data if self.data else data
         try:
@@ -235,7 +242,7 @@ class ClusterSide(asyncio.Protocol):
         client = self.client
         exchange = client.exchange
         if client.is_tunnel:
-            client.transport.write(self.data)
+            client.stream.write(self.data)
             self.data = b""
             return False
         if exchange is None:
@@ -256,11 +263,11 @@ class ClusterSide(asyncio.Protocol):
         if response.status == 101:
             self.client.proxy.judge.end("a client and the cluster went on in another protocol")
             self.client.is_tunnel = True
-            self.client.transport.write(head)
+            self.client.stream.write(head)
             self.client.go_on()
         elif response.status < 200:
             if not exchange.was_continued or response.status != 100:
-                self.client.transport.write(head)
+                self.client.stream.write(head)
             return bool(self.data) and self.has_head(exchange)
         else:
             exchange.response = response
@@ -284,7 +291,7 @@ class ClusterSide(asyncio.Protocol):
     def pass_on(self, exchange: Exchange) -> None:
         """Passes on what came of the answer."""
         exchange.has_begun = True
-        self.client.transport.write(b"".join(exchange.answer))
+        self.client.stream.write(b"".join(exchange.answer))
         exchange.answer.clear()
 
     def finish(self, exchange: Exchange, response: Response) -> None:
@@ -300,17 +307,17 @@ class ClusterSide(asyncio.Protocol):
             client.answered()
         else:
             # (the cluster didn't want the rest of the request, and the client's next one can't be told from it)
-            client.transport.close()
+            client.stream.close()
 
     def fail(self, why: str) -> None:
         """Gives up: what was asked is lost, and the client is told, unless it has a part of an answer."""
         client = self.client
         client.give_up()
         if client.exchange is not None and not client.exchange.has_begun:
-            client.transport.write(refusal("502 Bad Gateway", why))
+            client.stream.write(refusal("502 Bad Gateway", why))
         client.exchange = None
-        client.transport.close()
-        self.transport.close()
+        client.stream.close()
+        self.stream.close()
 
     def pause_writing(self) -> None:
         """Takes no more from the client while the cluster is slow to take it."""
@@ -322,14 +329,14 @@ class ClusterSide(asyncio.Protocol):
         self.client.is_cluster_full = False
         self.client.heed_flow()
 
-    def connection_lost(self, fault: Optional[Exception]) -> None:
+    def connection_lost(self) -> None:
         """Ends the client's connection too: with the end of an answer that ends so, or with word that there is none."""
         exchange = self.client.exchange
         if exchange is not None and exchange.response is not None and exchange.response.body.at_close():
             self.finish(exchange, exchange.response)
         if self.client.exchange is not None and not self.client.is_tunnel:
             self.fail("the cluster closed the connection and gave no whole answer")
-        self.client.transport.close()
+        self.client.stream.close()
 
 
 class Proxy:
@@ -341,14 +348,11 @@ class Proxy:
         self.inspector = inspector
         self.judge = judge
         self.clients: Set[ClientSide] = set()
+        self.loop = Loop()
 
-    async def connect(self, client: ClientSide) -> ClusterSide:
-        """Makes a connection to the cluster for a client."""
-        url = self.cluster.url
-        loop, host = asyncio.get_running_loop(), str(url.hostname)
-        make = lambda: ClusterSide(client)
-        _, side = await loop.create_connection(make, host, port_of(url), ssl=self.cluster.trust)
-        return side
+    def connect(self, made: Callable[[Union[socket.socket, OSError]], None]) -> None:
+        """Makes a connection to the cluster."""
+        self.loop.connect((str(self.cluster.url.hostname), port_of(self.cluster.url)), made)
 
     def look_again(self, exchange: Exchange) -> None:
         """Looks whether the index is there now, after a request that may have made it."""
@@ -363,26 +367,26 @@ class Proxy:
                 others = [it.exchange for it in self.clients if it.exchange is not None and it.exchange is not exchange]
                 judge.found(shape, [(it.request.method, it.request.target, it.route) for it in others])
 
-    async def serve(self, is_over: asyncio.Event, tell: Callable[[str], None]) -> None:
-        """Serves until it is over; tells its address first. What is open then is lost, and every connection is closed."""
+    def serve(self, tell: Callable[[str], None]) -> None:
+        """Serves until the loop is stopped; tells its address first. What is open then is lost, and every connection is closed."""
         host, port = self.setting.listen
-        loop = asyncio.get_running_loop()
-        server = await loop.create_server(lambda: ClientSide(self), host, port, backlog=1024)
+        listeners = self.loop.listen(host, port, lambda connection: ClientSide(self, connection))
         shown = f"[{host}]" if ":" in host else host
-        tell(f"http://{shown}:{server.sockets[0].getsockname()[1]}")
-        await is_over.wait()
-        server.close()
+        tell(f"http://{shown}:{listeners[0].port}")
+        self.loop.run()
+        for it in listeners:
+            it.close()
         self.judge.close()
         for client in list(self.clients):
-            client.transport.abort()
+            client.stream.abort()
+        self.loop.close()
 
 
-async def serve_until_signalled(proxy: Proxy) -> None:
+def serve_until_signalled(proxy: Proxy) -> None:
     """Serves until somebody sends a signal that asks for the end."""
-    is_over = asyncio.Event()
     for kind in (signal.SIGINT, signal.SIGTERM):
-        asyncio.get_running_loop().add_signal_handler(kind, is_over.set)
-    await proxy.serve(is_over, lambda address: print(address, file=sys.stderr, flush=True))
+        signal.signal(kind, lambda *_: proxy.loop.stop())
+    proxy.serve(lambda address: print(address, file=sys.stderr, flush=True))
 
 
 # The words
@@ -432,6 +436,8 @@ def begin(setting: argparse.Namespace, inspector: Inspector) -> Tuple[Optional[S
 def proxy_of(setting: argparse.Namespace) -> Proxy:
     """Looks at the cluster, begins the history, and gives the proxy that the words ask for."""
     cluster = Cluster(setting.cluster, SECONDS_TO_ASK, credentials_of(os.environ), trust_of(setting.cluster, setting.ca_file))
+    if cluster.trust is not None:
+        cluster.trust.options |= NO_RENEGOTIATION
     inspector = Inspector(Connection(cluster))
     shape, first = begin(setting, inspector)
     unjudged = Unjudged(setting.file)
@@ -453,7 +459,7 @@ def main(arguments: Sequence[str]) -> int:
         proxy = proxy_of(setting)
         try:
             with Progress(lambda: counts_of(proxy.judge)):
-                asyncio.run(serve_until_signalled(proxy))
+                serve_until_signalled(proxy)
         finally:
             proxy.judge.close()
     except (ClusterError, HistoryError, OSError) as fault:
