@@ -103,11 +103,12 @@ def read_requests(connection):
             data += more
             continue
         request, pieces = request_of(head), [head]
+        body = request.body()
         while True:
-            count = request.body.take(data)
+            count = body.take(data)
             pieces.append(data[:count])
             data = data[count:]
-            if request.body.is_done:
+            if body.is_done:
                 break
             data = connection.recv(1 << 18)
             if not data:

@@ -22,7 +22,7 @@ from typing import Callable, List, Optional, Sequence, Set, Tuple, Union
 from .cluster import Cluster, ClusterError, Connection, credentials_of, port_of, trust_of, url_of
 from .documents import State
 from .history import History, HistoryError
-from .http1 import BadMessage, Request, Response, decoded, request_of, response_of, split_head
+from .http1 import BadMessage, Body, Request, Response, decoded, head_end, request_of, response_of
 from .inspection import Inspector, Shape
 from .judge import Asked, Judge
 from .loop import Loop, Stream
@@ -57,23 +57,33 @@ def refusal(status: str, why: str) -> bytes:
 class Exchange:
     """A request and its answer, as far as they have come."""
 
-    def __init__(self, head: bytes, request: Request, route: Route) -> None:
+    def __init__(self, request: Request, route: Route) -> None:
         self.request = request
         self.route = route
-        # what came of the request and waits to be passed on, and how much that is
-        self.held: List[bytes] = [head]
-        self.length = len(head)
-        self.holds_request = route.kind is not Kind.PASS
-        request.body.is_kept = self.holds_request
+        # what came of a request that is taken in pieces
+        self.coming: Optional[Coming] = None
         self.is_sent = False
         # the client was told to go on with its request
         self.was_continued = False
         self.asked: Optional[Asked] = None
+        # the answer, where it is taken in pieces
         self.response: Optional[Response] = None
+        self.body: Optional[Body] = None
         self.answer: List[bytes] = []
         self.answer_length = 0
         # whether anything of the answer was passed on
         self.has_begun = False
+
+
+class Coming:
+    """What came of a request and waits to be passed on, and how much that is."""
+
+    def __init__(self, head: bytes, body: Body, is_read: bool) -> None:
+        self.held: List[bytes] = [head]
+        self.length = len(head)
+        self.body = body
+        # whether it is held back until it can be read
+        self.is_read = body.is_kept = is_read
 
 
 class ClientSide:
@@ -141,40 +151,63 @@ class ClientSide:
             self.cluster.stream.write(self.data)
             self.data = b""
             return False
-        exchange = self.exchange
-        if exchange is None:
-            head, self.data = split_head(self.data)
-            if not head:
-                return False
-            request = request_of(head)
-            exchange = self.exchange = Exchange(head, request, self.proxy.judge.route(request.method, request.target))
-        if exchange.is_sent:
+        if self.exchange is None:
+            return self.has_request()
+        if self.exchange.is_sent or self.exchange.coming is None:
             return False
-        self.take_request(exchange)
-        return exchange.is_sent
+        self.take_piece(self.exchange, self.exchange.coming)
+        return self.exchange.is_sent
 
-    def take_request(self, exchange: Exchange) -> None:
-        """Takes what came of the request, holds it back where it has to be read, and passes it on."""
+    def has_request(self) -> bool:
+        """Takes the head of a request, and all of it where it came in one piece; tells whether a head is there."""
+        data = self.data
+        end = head_end(data)
+        if not end:
+            return False
+        request = request_of(data[:end])
+        route = self.proxy.judge.route(request.method, request.target)
+        exchange = self.exchange = Exchange(request, route)
+        if request.length is not None and len(data) >= end + request.length:
+            self.data = data[end + request.length :]
+            self.ask(exchange, data[end : end + request.length])
+            self.send(exchange, data[: end + request.length], True)
+        else:
+            exchange.coming = Coming(data[:end], request.body(), route.kind is not Kind.PASS)
+            self.data = data[end:]
+        return True
+
+    def ask(self, exchange: Exchange, content: Optional[bytes]) -> None:
+        """Has the calls of a request written. The content is None where too much of it came to be read."""
         request, route = exchange.request, exchange.route
-        count = request.body.take(self.data)
+        if route.kind is not Kind.PASS:
+            content = decoded(content, request.fields.encoding, MOST_HELD) if content is not None else None
+            exchange.asked = self.proxy.judge.ask(route, request.method, content)
+
+    def send(self, exchange: Exchange, data: bytes, is_sent: bool) -> None:
+        """Passes on what came of a request, perhaps the last of it."""
+        assert self.cluster is not None
+        exchange.is_sent = is_sent
+        self.cluster.stream.write(data)
+
+    def take_piece(self, exchange: Exchange, coming: Coming) -> None:
+        """Takes what came of a request, holds it back where it has to be read, and passes it on."""
+        body = coming.body
+        count = body.take(self.data)
         if count:
-            exchange.held.append(self.data[:count])
-            exchange.length += count
+            coming.held.append(self.data[:count])
+            coming.length += count
             self.data = self.data[count:]
-        if exchange.holds_request:
-            if not request.body.is_done and exchange.length <= MOST_HELD:
-                if request.expects and not exchange.was_continued:
+        if coming.is_read:
+            if not body.is_done and coming.length <= MOST_HELD:
+                if exchange.request.fields.expects and not exchange.was_continued:
                     exchange.was_continued = True
                     self.stream.write(CONTINUE)
                 return
-            content = decoded(request.body.content(), request.encoding, MOST_HELD) if request.body.is_done else None
-            exchange.asked = self.proxy.judge.ask(route, request.method, content)
-            exchange.holds_request = request.body.is_kept = False
-            request.body.pieces.clear()
-        assert self.cluster is not None
-        exchange.is_sent = request.body.is_done
-        self.cluster.stream.write(b"".join(exchange.held))
-        exchange.held.clear()
+            self.ask(exchange, body.content() if body.is_done else None)
+            coming.is_read = body.is_kept = False
+            body.pieces.clear()
+        self.send(exchange, b"".join(coming.held), body.is_done)
+        coming.held.clear()
 
     def answered(self) -> None:
         """Goes on with the next request, after an answer was passed on."""
@@ -250,42 +283,54 @@ class ClusterSide:
             return False
         if exchange.response is None and not self.has_head(exchange):
             return client.is_tunnel
-        if exchange.response is not None:
-            self.take_answer(exchange, exchange.response)
+        if exchange.response is not None and exchange.body is not None:
+            self.take_piece(exchange, exchange.response, exchange.body)
         return True
 
     def has_head(self, exchange: Exchange) -> bool:
-        """Takes the head of an answer; tells whether one is there. One that goes before the answer is passed on by itself."""
-        head, self.data = split_head(self.data)
-        if not head:
+        """Takes the head of an answer, and all of it where it came in one piece; tells whether an answer has begun."""
+        data = self.data
+        end = head_end(data)
+        if not end:
             return False
-        response = response_of(head, exchange.request.method)
+        response, method = response_of(data[:end]), exchange.request.method
+        if response.status < 200:
+            self.data = data[end:]
+            return self.has_begun(exchange, response, data[:end])
+        if len(data) - end == response.length(method):
+            self.data = b""
+            exchange.answer.append(data)
+            self.finish(exchange, response, data[end:])
+        else:
+            self.data = data[end:]
+            exchange.response, exchange.body = response, response.body(method)
+            exchange.body.is_kept = exchange.asked is not None
+            exchange.answer.append(data[:end])
+        return True
+
+    def has_begun(self, exchange: Exchange, response: Response, head: bytes) -> bool:
+        """Passes on by itself what goes before an answer; tells whether the answer has begun behind it."""
         if response.status == 101:
             self.client.proxy.judge.end("a client and the cluster went on in another protocol")
             self.client.is_tunnel = True
             self.client.stream.write(head)
             self.client.go_on()
-        elif response.status < 200:
-            if not exchange.was_continued or response.status != 100:
-                self.client.stream.write(head)
-            return bool(self.data) and self.has_head(exchange)
-        else:
-            exchange.response = response
-            response.body.is_kept = exchange.asked is not None
-            exchange.answer.append(head)
-        return exchange.response is not None
+            return False
+        if not exchange.was_continued or response.status != 100:
+            self.client.stream.write(head)
+        return bool(self.data) and self.has_head(exchange)
 
-    def take_answer(self, exchange: Exchange, response: Response) -> None:
+    def take_piece(self, exchange: Exchange, response: Response, body: Body) -> None:
         """Takes what came of the answer. That to calls is held back until their replies are written."""
-        count = response.body.take(self.data)
+        count = body.take(self.data)
         exchange.answer.append(self.data[:count])
         exchange.answer_length += count
         self.data = self.data[count:]
-        if response.body.is_done:
-            self.finish(exchange, response)
+        if body.is_done:
+            self.finish(exchange, response, body.content())
         elif exchange.asked is None or exchange.answer_length > MOST_HELD:
             self.client.give_up()
-            response.body.is_kept = False
+            body.is_kept = False
             self.pass_on(exchange)
 
     def pass_on(self, exchange: Exchange) -> None:
@@ -294,13 +339,13 @@ class ClusterSide:
         self.client.stream.write(b"".join(exchange.answer))
         exchange.answer.clear()
 
-    def finish(self, exchange: Exchange, response: Response) -> None:
+    def finish(self, exchange: Exchange, response: Response, content: bytes) -> None:
         """Writes what a whole answer says of calls, and passes it on."""
         proxy, client = self.client.proxy, self.client
         asked, exchange.asked = exchange.asked, None
         if asked is not None:
-            content = decoded(response.body.content(), response.encoding, MOST_HELD)
-            proxy.judge.answered(asked, response.status, content, response.length)
+            fields = response.fields
+            proxy.judge.answered(asked, response.status, decoded(content, fields.encoding, MOST_HELD), fields.length)
         proxy.look_again(exchange)
         self.pass_on(exchange)
         if exchange.is_sent:
@@ -332,8 +377,8 @@ class ClusterSide:
     def connection_lost(self) -> None:
         """Ends the client's connection too: with the end of an answer that ends so, or with word that there is none."""
         exchange = self.client.exchange
-        if exchange is not None and exchange.response is not None and exchange.response.body.at_close():
-            self.finish(exchange, exchange.response)
+        if exchange is not None and exchange.response is not None and exchange.body is not None and exchange.body.at_close():
+            self.finish(exchange, exchange.response, exchange.body.content())
         if self.client.exchange is not None and not self.client.is_tunnel:
             self.fail("the cluster closed the connection and gave no whole answer")
         self.client.stream.close()

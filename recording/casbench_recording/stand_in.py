@@ -25,7 +25,7 @@ import urllib.parse
 from http import HTTPStatus
 from typing import Any, Callable, Dict, Iterator, List, Mapping, NamedTuple, Optional, Sequence, Set, Tuple, cast
 
-from .http1 import BadMessage, Request, decoded, request_of, split_head
+from .http1 import BadMessage, Body, Request, decoded, request_of, split_head
 from .routing import shard_of
 
 FAULTS = {
@@ -322,6 +322,7 @@ class Requests(asyncio.Protocol):
         self.data = b""
         self.head = b""
         self.request: Optional[Request] = None
+        self.body: Optional[Body] = None
         self.is_busy = False
 
     def connection_made(self, transport: asyncio.BaseTransport) -> None:
@@ -344,22 +345,23 @@ class Requests(asyncio.Protocol):
 
     def has_request(self) -> bool:
         """Whether a request is whole; it is read as far as it came."""
-        if self.request is None:
+        if self.body is None:
             self.head, self.data = split_head(self.data)
             if not self.head:
                 return False
             self.request = request_of(self.head)
-            if self.request.expects:
+            self.body = self.request.body()
+            if self.request.fields.expects:
                 self.transport.write(b"HTTP/1.1 100 Continue\r\n\r\n")
-        self.data = self.data[self.request.body.take(self.data) :]
-        return self.request.body.is_done
+        self.data = self.data[self.body.take(self.data) :]
+        return self.body.is_done
 
     def step(self, waits: Iterator[float]) -> None:
         """Goes on with the request at hand, up to where it waits for some seconds, or to its end."""
         for seconds in waits:
             asyncio.get_running_loop().call_later(seconds, self.go_on_after, waits)
             return
-        self.is_busy, self.request = False, None
+        self.is_busy, self.body = False, None
 
     def go_on_after(self, waits: Iterator[float]) -> None:
         """Goes on with the request, and with those behind it."""
@@ -369,7 +371,7 @@ class Requests(asyncio.Protocol):
     def answer(self) -> Iterator[float]:
         """Answers the request; yields for how many seconds it waits, as often as it does."""
         setting, faults = self.server.setting, self.server.store.faults
-        asked = read_request(cast(Request, self.request))
+        asked = read_request(cast(Request, self.request), cast(Body, self.body).content())
         if setting.delay:
             yield random.random() * setting.delay
         if not self.is_known():
@@ -413,12 +415,11 @@ class Requests(asyncio.Protocol):
         self.transport.write(head if cast(Request, self.request).method == "HEAD" else head + body)
 
 
-def read_request(request: Request) -> Asked:
+def read_request(request: Request, content: bytes) -> Asked:
     """Reads the words of a request, and its body."""
     path, _, query = request.target.decode("utf-8", "replace").partition("?")
     words = dict(urllib.parse.parse_qsl(query, keep_blank_values=True)) if query else {}
-    content = decoded(request.body.content(), request.encoding, MOST_BODY) or b""
-    body = content.decode("utf-8", "replace")
+    body = (decoded(content, request.fields.encoding, MOST_BODY) or b"").decode("utf-8", "replace")
     return Asked(request.method, [urllib.parse.unquote(it) for it in path.strip("/").split("/")], words, body)
 
 
