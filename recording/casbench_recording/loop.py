@@ -6,6 +6,7 @@ it takes it: there is no task and no queue between. For a message that takes a t
 
 import errno
 import selectors
+import signal
 import socket
 import threading
 import traceback
@@ -44,7 +45,7 @@ class Loop:
     """The loop. `call` and `stop` are for any thread, and for signals; all else is for the thread that runs it."""
 
     def __init__(self) -> None:
-        self.is_over = False
+        self.is_over = self._has_signals = False
         self._selector = selectors.DefaultSelector()
         self._calls: Deque[Callable[[], None]] = deque()
         # what is called when a connection was closed
@@ -74,6 +75,8 @@ class Loop:
     def close(self) -> None:
         """Makes the calls that are due, and gives back what the loop has of the system."""
         self._make_calls()
+        if self._has_signals:
+            signal.set_wakeup_fd(-1)
         self._selector.close()
         self._woken.close()
         self._waker.close()
@@ -91,6 +94,13 @@ class Loop:
         """Has the loop end."""
         self.is_over = True
         self._wake_up()
+
+    def stop_at(self, *signals: int) -> None:
+        """Has the loop end at a signal, whichever thread the system gives it to. The main thread says so, and runs the loop."""
+        self._has_signals = True
+        signal.set_wakeup_fd(self._waker.fileno(), warn_on_full_buffer=False)
+        for it in signals:
+            signal.signal(it, lambda *_: self.stop())
 
     def _wake_up(self) -> None:
         """Ends the waiting."""

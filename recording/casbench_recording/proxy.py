@@ -296,7 +296,7 @@ class ClusterSide:
         response, method = response_of(data[:end]), exchange.request.method
         if response.status < 200:
             self.data = data[end:]
-            return self.has_begun(exchange, response, data[:end])
+            return self.has_more(exchange, response, data[:end])
         if len(data) - end == response.length(method):
             self.data = b""
             exchange.answer.append(data)
@@ -308,7 +308,7 @@ class ClusterSide:
             exchange.answer.append(data[:end])
         return True
 
-    def has_begun(self, exchange: Exchange, response: Response, head: bytes) -> bool:
+    def has_more(self, exchange: Exchange, response: Response, head: bytes) -> bool:
         """Passes on by itself what goes before an answer; tells whether the answer has begun behind it."""
         if response.status == 101:
             self.client.proxy.judge.end("a client and the cluster went on in another protocol")
@@ -429,8 +429,7 @@ class Proxy:
 
 def serve_until_signalled(proxy: Proxy) -> None:
     """Serves until somebody sends a signal that asks for the end."""
-    for kind in (signal.SIGINT, signal.SIGTERM):
-        signal.signal(kind, lambda *_: proxy.loop.stop())
+    proxy.loop.stop_at(signal.SIGINT, signal.SIGTERM)
     proxy.serve(lambda address: print(address, file=sys.stderr, flush=True))
 
 
