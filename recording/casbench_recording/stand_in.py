@@ -312,7 +312,7 @@ class Asked(NamedTuple):
         return value
 
 
-class Requests(asyncio.Protocol):
+class Requests(asyncio.BufferedProtocol):
     """Answers the requests of one connection, one after the other."""
 
     transport: asyncio.Transport
@@ -329,9 +329,13 @@ class Requests(asyncio.Protocol):
         """Keeps what the answers are written to."""
         self.transport = cast(asyncio.Transport, transport)
 
-    def data_received(self, data: bytes) -> None:
+    def get_buffer(self, sizehint: int) -> bytearray:
+        """Where what comes is put. It is one place for all connections, since it is taken from there at once."""
+        return self.server.buffer
+
+    def buffer_updated(self, nbytes: int) -> None:
         """Takes what came."""
-        self.data += data
+        self.data += self.server.buffer[:nbytes]
         self.go_on()
 
     def go_on(self) -> None:
@@ -484,6 +488,7 @@ class Server:
         self.setting = setting
         self.store = Store(Faults(setting.fault, setting.every))
         self.wanted = wanted_header(os.environ)
+        self.buffer = bytearray(65_536)
         self.fields = [f"X-Elastic-Product: {setting.product}"] if setting.product else []
         self.trust: Optional[ssl.SSLContext] = None
         if setting.certificate is not None:
