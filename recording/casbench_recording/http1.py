@@ -145,38 +145,43 @@ class Fields(NamedTuple):
     expects: bool
 
 
-class Request(NamedTuple):
+class Request:
     """The head of a request."""
 
-    method: str
-    target: bytes
-    fields: Fields
+    __slots__ = ("method", "target", "fields", "length")
 
-    @property
-    def length(self) -> Optional[int]:
-        """How many bytes the body has, or None where that is told behind the head."""
-        return None if self.fields.is_chunked else self.fields.length or 0
+    def __init__(self, method: str, target: bytes, fields: Fields) -> None:
+        self.method = method
+        self.target = target
+        self.fields = fields
+        # how many bytes the body has, or None where that is told behind the head
+        self.length = None if fields.is_chunked else fields.length or 0
 
     def body(self) -> Body:
         """Its body, of which nothing came yet."""
-        return ChunkedBody() if self.fields.is_chunked else LengthBody(self.fields.length or 0)
+        return ChunkedBody() if self.length is None else LengthBody(self.length)
 
 
-class Response(NamedTuple):
+class Response:
     """The head of a response."""
 
-    status: int
-    fields: Fields
+    __slots__ = ("status", "fields", "length", "is_bodiless")
 
-    def length(self, method: str) -> Optional[int]:
-        """How many bytes the body has in the answer to this method, or None where that is told behind the head."""
-        if method == "HEAD" or self.status < 200 or self.status in (204, 304):
-            return 0
-        return None if self.fields.is_chunked else self.fields.length
+    def __init__(self, status: int, fields: Fields) -> None:
+        self.status = status
+        self.fields = fields
+        # how many bytes the body has, or None where that is told behind the head
+        self.length = None if fields.is_chunked else fields.length
+        # whether there is no body, whatever is told of its length
+        self.is_bodiless = status < 200 or status in (204, 304)
+
+    def length_for(self, method: str) -> Optional[int]:
+        """The length of the body in the answer to this method."""
+        return 0 if method == "HEAD" or self.is_bodiless else self.length
 
     def body(self, method: str) -> Body:
         """Its body in the answer to this method, of which nothing came yet."""
-        length = self.length(method)
+        length = self.length_for(method)
         if length is not None:
             return LengthBody(length)
         return ChunkedBody() if self.fields.is_chunked else ClosedBody()

@@ -7,7 +7,7 @@ told which documents are written, the recording ends. So what was recorded stays
 
 import json
 import re
-from typing import Any, Dict, FrozenSet, Iterator, List, Mapping, NamedTuple, Optional, Sequence, Tuple, Union
+from typing import Any, Dict, FrozenSet, Iterator, List, Mapping, Optional, Sequence, Tuple, Union
 
 from .documents import Document, State, digest_of, digest_of_text, is_id, object_of
 from .history import Call, Ended, History, HistoryError, Operation, Pair
@@ -70,13 +70,16 @@ class Part:
         return not words or words.get("_source", True) in (True, "true") and not (PARTS_OF_A_SOURCE - {"_source"} | {"filter_path"}) & set(words)
 
 
-class Asked(NamedTuple):
+class Asked:
     """A request that is passed on: its kind, its calls, or None for an item that is none of ours, and whether its answer is its end."""
 
-    kind: Kind
-    parts: Sequence[Optional[Part]]
-    is_head: bool = False
-    is_over_at_answer: bool = True
+    __slots__ = ("kind", "parts", "is_head", "is_over_at_answer")
+
+    def __init__(self, kind: Kind, parts: Sequence[Optional[Part]], is_head: bool = False, is_over_at_answer: bool = True) -> None:
+        self.kind = kind
+        self.parts = parts
+        self.is_head = is_head
+        self.is_over_at_answer = is_over_at_answer
 
 
 class Judge:

@@ -229,7 +229,7 @@ class Stream:
         try:
             if events & WRITE:
                 self._send_waiting()
-            if events & READ and self._events & READ:
+            if events & self._events & READ:
                 self._receive()
         except Exception:
             traceback.print_exc()

@@ -57,22 +57,23 @@ def refusal(status: str, why: str) -> bytes:
 class Exchange:
     """A request and its answer, as far as they have come."""
 
+    # what came of a request that is taken in pieces
+    coming: Optional["Coming"] = None
+    is_sent = False
+    # the client was told to go on with its request
+    was_continued = False
+    asked: Optional[Asked] = None
+    # the answer, where it is taken in pieces
+    response: Optional[Response] = None
+    body: Optional[Body] = None
+    answer_length = 0
+    # whether anything of the answer was passed on
+    has_begun = False
+
     def __init__(self, request: Request, route: Route) -> None:
         self.request = request
         self.route = route
-        # what came of a request that is taken in pieces
-        self.coming: Optional[Coming] = None
-        self.is_sent = False
-        # the client was told to go on with its request
-        self.was_continued = False
-        self.asked: Optional[Asked] = None
-        # the answer, where it is taken in pieces
-        self.response: Optional[Response] = None
-        self.body: Optional[Body] = None
         self.answer: List[bytes] = []
-        self.answer_length = 0
-        # whether anything of the answer was passed on
-        self.has_begun = False
 
 
 class Coming:
@@ -159,7 +160,7 @@ class ClientSide:
         return self.exchange.is_sent
 
     def has_request(self) -> bool:
-        """Takes the head of a request, and all of it where it came in one piece; tells whether a head is there."""
+        """Takes the head of a request, and all of it where it came in one piece; tells whether there may be another step."""
         data = self.data
         end = head_end(data)
         if not end:
@@ -171,9 +172,9 @@ class ClientSide:
             self.data = data[end + request.length :]
             self.ask(exchange, data[end : end + request.length])
             self.send(exchange, data[: end + request.length], True)
-        else:
-            exchange.coming = Coming(data[:end], request.body(), route.kind is not Kind.PASS)
-            self.data = data[end:]
+            return False
+        exchange.coming = Coming(data[:end], request.body(), route.kind is not Kind.PASS)
+        self.data = data[end:]
         return True
 
     def ask(self, exchange: Exchange, content: Optional[bytes]) -> None:
@@ -297,7 +298,7 @@ class ClusterSide:
         if response.status < 200:
             self.data = data[end:]
             return self.has_more(exchange, response, data[:end])
-        if len(data) - end == response.length(method):
+        if len(data) - end == response.length_for(method):
             self.data = b""
             exchange.answer.append(data)
             self.finish(exchange, response, data[end:])
@@ -346,7 +347,8 @@ class ClusterSide:
         if asked is not None:
             fields = response.fields
             proxy.judge.answered(asked, response.status, decoded(content, fields.encoding, MOST_HELD), fields.length)
-        proxy.look_again(exchange)
+        if proxy.judge.shape is None:
+            proxy.look_again(exchange)
         self.pass_on(exchange)
         if exchange.is_sent:
             client.answered()
@@ -402,7 +404,7 @@ class Proxy:
     def look_again(self, exchange: Exchange) -> None:
         """Looks whether the index is there now, after a request that may have made it."""
         judge = self.judge
-        if judge.shape is None and not judge.has_ended and exchange.request.method not in READS:
+        if not judge.has_ended and exchange.request.method not in READS:
             try:
                 shape = self.inspector.inspect(self.setting.index)
             except ClusterError as fault:
