@@ -377,10 +377,9 @@ class Judge:
         (part,) = asked.parts
         assert part is not None
         if asked.is_head:
-            body = missing_by_length(self.shape, part.id, length) if status == 404 else {}
+            self._answered(part, status, missing_by_length(self.shape, part.id, length) if status == 404 else {})
         else:
-            body = read_reply(part.op, status, content) or object_of(content)
-        self._answered(part, status, body)
+            self._answered(part, status, read_reply(part.op, status, content) or object_of(content))
 
     def _heed_answer_to_several(self, asked: Asked, status: int, body: Optional[Body]) -> None:
         """Writes what an answer says to a request on several documents."""

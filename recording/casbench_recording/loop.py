@@ -1,7 +1,7 @@
 """One loop that waits for many connections at once, on one thread.
 
 What comes on a connection is handed on in the same turn, and what is written is given to the operating system at once as far as
-it takes it: there is no task and no queue between. For a message that takes a third of what asyncio takes.
+it takes it: there is no task and no queue between.
 """
 
 import errno
