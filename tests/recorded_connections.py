@@ -210,7 +210,7 @@ class Listening(LoopTest):
             resource.setrlimit(resource.RLIMIT_NOFILE, (second.fileno() + 1, most))
             try:
                 second.connect(("127.0.0.1", listener.port))
-                used = time.thread_time() and self.make(time.thread_time)
+                used = self.make(time.thread_time)
                 time.sleep(0.2)
                 self.assertLess(self.make(time.thread_time) - used, 0.1)
                 self.assertEqual(len(takers), 1)
@@ -219,6 +219,15 @@ class Listening(LoopTest):
             finally:
                 resource.setrlimit(resource.RLIMIT_NOFILE, (least, most))
         self.until(lambda: takers[1].heard == ["lost"])
+        self.make(listener.close)
+
+    def test_a_connection_that_nobody_can_use_is_closed(self):
+        (listener,) = self.make(lambda: self.loop.listen("127.0.0.1", 0, mock.Mock(side_effect=ValueError("a fault of the test"))))
+        with contextlib.redirect_stderr(io.StringIO()) as told:
+            for _ in range(2):
+                with socket.create_connection(("127.0.0.1", listener.port), timeout=30) as connection:
+                    self.assertEqual(connection.recv(1), b"")
+        self.assertEqual(told.getvalue().count("ValueError: a fault of the test"), 2)
         self.make(listener.close)
 
     def test_a_signal_ends_it(self):

@@ -4,6 +4,7 @@ What comes on a connection is handed on in the same turn, and what is written is
 it takes it: there is no task and no queue between.
 """
 
+import contextlib
 import errno
 import selectors
 import signal
@@ -11,7 +12,7 @@ import socket
 import threading
 import traceback
 from collections import deque
-from typing import Any, Callable, Deque, List, Optional, Protocol, Tuple, Union
+from typing import Any, Callable, Deque, List, Protocol, Tuple, Union
 
 PIECE = 65_536
 """The most bytes that are taken at once. For larger pieces the memory is asked of the system anew each time."""
@@ -104,11 +105,9 @@ class Loop:
 
     def _wake_up(self) -> None:
         """Ends the waiting."""
-        try:
-            self._waker.send(b"!")
-        except OSError:
+        with contextlib.suppress(OSError):
             # (so many wake it already, or it has ended)
-            pass
+            self._waker.send(b"!")
 
     def _wake(self, events: int) -> None:
         """Takes what ended the waiting."""
@@ -193,7 +192,11 @@ class Listener:
                 self._watch(0)
                 self._loop.wait_for_room(lambda: self._watch(READ))
             return
-        self._accepted(connection)
+        try:
+            self._accepted(connection)
+        except Exception:
+            traceback.print_exc()
+            connection.close()
 
     def _watch(self, events: int) -> None:
         """Has these events heeded, as long as it listens."""
@@ -216,7 +219,9 @@ class Stream:
         self._socket = connection
         connection.setblocking(False)
         if connection.family in (socket.AF_INET, socket.AF_INET6):
-            connection.setsockopt(socket.IPPROTO_TCP, socket.TCP_NODELAY, 1)
+            with contextlib.suppress(OSError):
+                # (the other side may have closed it; that is seen when it is read)
+                connection.setsockopt(socket.IPPROTO_TCP, socket.TCP_NODELAY, 1)
         self._waiting = bytearray()
         self._is_paused = False
         self.is_closing = self._is_closed = False
