@@ -329,7 +329,7 @@ class Requests(asyncio.BufferedProtocol):
         """Keeps what the answers are written to."""
         self.transport = cast(asyncio.Transport, transport)
 
-    def get_buffer(self, sizehint: int) -> bytearray:
+    def get_buffer(self, sizehint: int) -> memoryview:
         """Where what comes is put. It is one place for all connections, since it is taken from there at once."""
         return self.server.buffer
 
@@ -488,7 +488,8 @@ class Server:
         self.setting = setting
         self.store = Store(Faults(setting.fault, setting.every))
         self.wanted = wanted_header(os.environ)
-        self.buffer = bytearray(65_536)
+        # (a view, since asyncio writes encrypted messages into slices of it, and those of the bytes themselves are copies)
+        self.buffer = memoryview(bytearray(65_536))
         self.fields = [f"X-Elastic-Product: {setting.product}"] if setting.product else []
         self.trust: Optional[ssl.SSLContext] = None
         if setting.certificate is not None:
