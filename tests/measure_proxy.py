@@ -1,12 +1,13 @@
 #!/usr/bin/env python3
 """Measures what the recording proxy takes: how many requests a second pass, and how long each takes, with it and without.
 
-    python3 tests/measure_proxy.py [--clients 100] [--seconds 10] [--rate N] [PROGRAM]
+    python3 tests/measure_proxy.py [--clients 100] [--seconds 10] [--rate N] [--apart] [PROGRAM]
 
 Starts the stand-in, and has so many clients ask it, each on a connection of its own and its next request after each answer:
 three gets, an index and an index under the condition of the last pair that it was told, in turn, each client on a document of its own
 and on one that all share. Then the same through the proxy, and what the program says of the history. With a rate the clients
-together ask so many times a second and no more, evenly, so that the times tell what the proxy adds to each request.
+together ask so many times a second and no more, evenly, so that the times tell what the proxy adds to each request. What each takes of a
+processor is told too, since the times of the clock say little where other work is done beside.
 """
 
 import argparse
@@ -16,7 +17,6 @@ import os
 import re
 import selectors
 import socket
-import subprocess
 import sys
 import tempfile
 import time
@@ -88,10 +88,47 @@ def run_clients(port, setting):
         return len(times) / (time.perf_counter() - began), sorted(times)
 
 
-def tell(name, rate, times):
-    """Tells what was measured."""
+class Taken:
+    """How many seconds of a processor the load and some commands take while a block runs."""
+
+    def __init__(self, **commands):
+        self.commands = commands
+
+    def now(self):
+        own = os.times()
+        return {**{name: it.processor_time() for name, it in self.commands.items()}, "load": own.user + own.system}
+
+    def __enter__(self):
+        self.before = self.now()
+        return self
+
+    def __exit__(self, *_):
+        after = self.now()
+        self.seconds = {name: after[name] - self.before[name] for name in after}
+
+
+def measure(name, port, setting, **commands):
+    """Runs the clients, and tells what was measured."""
+    with Taken(**commands) as taken:
+        rate, times = run_clients(port, setting)
     middle, most = times[len(times) // 2], times[len(times) * 99 // 100]
-    print(f"{name}: {rate:.0f} requests a second; each {middle:.2f} ms (the middle), {most:.2f} ms (99 of 100 at most)", flush=True)
+    print(f"{name}: {rate:.0f} requests a second; each {middle:.2f} ms (the middle), {most:.2f} ms (99 of 100 at most)")
+    shares = [f"{it} {seconds / len(times) * 1000:.3f}" for it, seconds in taken.seconds.items()]
+    print(f"  ms of a processor for a request: {', '.join(shares)}", flush=True)
+
+
+def keep_apart(proxy):
+    """Gives the proxy a processor of its own, and all else the others."""
+    first, *others = sorted(os.sched_getaffinity(0))
+    os.sched_setaffinity(proxy.process.pid, {first})
+    for process in (os.getpid(), *children_but(proxy.process.pid)):
+        os.sched_setaffinity(process, others)
+
+
+def children_but(one):
+    """The processes that this one started, but one."""
+    with open(f"/proc/self/task/{os.getpid()}/children", encoding="ascii") as file:
+        return [int(it) for it in file.read().split() if int(it) != one]
 
 
 def main():
@@ -99,18 +136,20 @@ def main():
     parser.add_argument("--clients", type=int, default=100)
     parser.add_argument("--seconds", type=float, default=10)
     parser.add_argument("--rate", type=int)
+    parser.add_argument("--apart", action="store_true", help="gives the proxy a processor of its own")
     parser.add_argument("program", nargs="?", default=None)
     setting = parser.parse_args()
     with tempfile.TemporaryDirectory() as folder:
         with Started("stand_in", "--port", "0") as other:
-            tell("without the proxy", *run_clients(other.port, setting))
+            measure("without the proxy", other.port, setting, stand_in=other)
         with Started("stand_in", "--port", "0") as other:
             other.make("carts")
             file = os.path.join(folder, "carts.ndjson")
             words = ["--listen", "127.0.0.1:0", "--cluster", other.url, "--index", "carts", file]
             with Started("proxy", *words) as proxy:
-                tell("with the proxy", *run_clients(proxy.port, setting))
-                print(f"the proxy took {proxy.processor_time():.1f} s of a processor")
+                if setting.apart:
+                    keep_apart(proxy)
+                measure("with the proxy", proxy.port, setting, proxy=proxy, stand_in=other)
                 print(proxy.ended())
         if setting.program:
             print(judged(os.path.realpath(setting.program), file))

@@ -8,7 +8,6 @@ passed and failed.
 """
 
 import argparse
-import asyncio
 import contextlib
 import gzip
 import http.client
@@ -104,11 +103,12 @@ def read_requests(connection):
             data += more
             continue
         request, pieces = request_of(head), [head]
+        body = request.body()
         while True:
-            count = request.body.take(data)
+            count = body.take(data)
             pieces.append(data[:count])
             data = data[count:]
-            if request.body.is_done:
+            if body.is_done:
                 break
             data = connection.recv(1 << 18)
             if not data:
@@ -548,11 +548,7 @@ class Here:
     def __init__(self, *words):
         self.proxy = proxy_of(words_of(words))
         self.addresses = queue.Queue()
-        self.thread = threading.Thread(target=asyncio.run, args=(self.serve(),))
-
-    async def serve(self):
-        self.loop, self.is_over = asyncio.get_running_loop(), asyncio.Event()
-        await self.proxy.serve(self.is_over, self.addresses.put)
+        self.thread = threading.Thread(target=self.proxy.serve, args=(self.addresses.put,))
 
     def __enter__(self):
         self.thread.start()
@@ -560,7 +556,7 @@ class Here:
         return self
 
     def __exit__(self, *_):
-        self.loop.call_soon_threadsafe(self.is_over.set)
+        self.proxy.loop.stop()
         self.thread.join()
         self.proxy.inspector.connection.close()
 

@@ -4,6 +4,7 @@ A history tells a version by its pair and by a number `k`. Here `k` numbers the 
 one number, whatever the order of their keys.
 """
 
+import functools
 import hashlib
 import json
 from enum import Enum
@@ -17,6 +18,12 @@ canonical = json.JSONEncoder(sort_keys=True, separators=(",", ":")).encode
 
 read_json = json.JSONDecoder().decode
 """The value of a JSON text."""
+
+MOST_REMEMBERED = 8192
+"""Of how many texts the digest is remembered."""
+
+LONGEST_REMEMBERED = 2048
+"""The most bytes of such a text."""
 
 UNKNOWN = 1
 """The number of all sources of a document that nobody can know; those of sources that are known are greater."""
@@ -52,16 +59,13 @@ class Document:
         # how many writes of a source that nobody can know have no pair that is known
         self._pending = 0
 
-    def number_of(self, source: Any) -> Optional[int]:
-        """The number of a source, or None where it is nested too deep to be compared."""
-        try:
-            return self._numbers.setdefault(digest_of(source), len(self._numbers) + 2)
-        except RecursionError:
-            return None
+    def number_of(self, digest: Optional[bytes]) -> Optional[int]:
+        """The number of the sources with a digest, or None where there is none."""
+        return self._numbers.setdefault(digest, len(self._numbers) + 2) if digest is not None else None
 
-    def number_to_write(self, source: Any) -> int:
+    def number_to_write(self, digest: Optional[bytes]) -> int:
         """The number of a source that is written now. Of sources that nobody can know it is one for all of them."""
-        number = self.number_of(source) if source is not None else None
+        number = self.number_of(digest)
         if number is None:
             self._pending += 1
             return UNKNOWN
@@ -78,7 +82,7 @@ class Document:
         if number == UNKNOWN:
             self._pending -= 1
 
-    def number_shown(self, pair: Pair, source: Any, is_whole: bool) -> Optional[int]:
+    def number_shown(self, pair: Pair, digest: Optional[bytes], is_whole: bool) -> Optional[int]:
         """The number that a get shows which found this pair; None where it can't be told.
 
         Where a write of unknown source may have given the pair it is that one's, whatever is shown. Where the source isn't
@@ -89,12 +93,30 @@ class Document:
             return number
         if not is_whole or number is None and self._pending:
             return None
-        return self.number_of(source)
+        return self.number_of(digest)
 
 
-def digest_of(source: Any) -> bytes:
-    """What equal sources have in common, and others don't."""
-    return hashlib.blake2b(canonical(source).encode(), digest_size=16).digest()
+def digest_of(source: Any) -> Optional[bytes]:
+    """What equal sources have in common, and others don't; None of a source that is nested too deep to be compared."""
+    try:
+        return hashlib.blake2b(canonical(source).encode(), digest_size=16).digest()
+    except RecursionError:
+        return None
+
+
+def digest_of_object(text: Optional[bytes]) -> Optional[bytes]:
+    """The digest of the object that a text is, or None where it is none that can be read and compared."""
+    source = object_of(text)
+    return digest_of(source) if source is not None else None
+
+
+digest_of_short = functools.lru_cache(maxsize=MOST_REMEMBERED)(digest_of_object)
+"""The same, remembered."""
+
+
+def digest_of_text(text: Optional[bytes]) -> Optional[bytes]:
+    """The same, remembered where the text is short: what is written is read again, mostly byte for byte."""
+    return digest_of_short(text) if text is not None and len(text) <= LONGEST_REMEMBERED else digest_of_object(text)
 
 
 def object_of(content: Optional[bytes]) -> Optional[Dict[str, Any]]:

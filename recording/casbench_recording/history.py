@@ -9,6 +9,7 @@ The line of a call is in the file before `call` returns, so before its request c
 `reply` returns. A call that is left without a reply is written as lost. One lock orders all lines.
 """
 
+import functools
 import json
 import os
 import re
@@ -36,6 +37,9 @@ CONFLICT = "version_conflict_engine_exception"
 
 compact = json.JSONEncoder(separators=(",", ":")).encode
 """The JSON text of a value, without spaces."""
+
+text_of_id = functools.lru_cache(maxsize=8192)(compact)
+"""The same of an id, remembered."""
 
 HALF_OF_A_PAIR = re.compile(r"\\u[dD][89a-fA-F]|[\ud800-\udfff]")
 """What may be half of a surrogate pair, in the text of a JSON value."""
@@ -336,12 +340,12 @@ def checked_pair(pair: Pair) -> Pair:
 
 def text_of_write(id: str, result: str, pair: Pair) -> str:
     """The text of a reply's body that tells a write."""
-    return f'{{"_id":{compact(id)},"result":"{result}","_seq_no":{pair.seq},"_primary_term":{pair.term}}}'
+    return f'{{"_id":{text_of_id(id)},"result":"{result}","_seq_no":{pair.seq},"_primary_term":{pair.term}}}'
 
 
 def text_of_find(id: str, pair: Pair, k: int) -> str:
     """The text of a reply's body that tells what a get found."""
-    return f'{{"_id":{compact(id)},"_seq_no":{pair.seq},"_primary_term":{pair.term},"found":true,"_source":{{"k":{k}}}}}'
+    return f'{{"_id":{text_of_id(id)},"_seq_no":{pair.seq},"_primary_term":{pair.term},"found":true,"_source":{{"k":{k}}}}}'
 
 
 def pair_of(body: Any) -> Optional[Pair]:
@@ -361,7 +365,7 @@ def members_of_call(it: Operation) -> str:
         raise CallError(f"an id is a text of 1 to {LONGEST_ID} bytes, and not {it.id!r}")
     if not is_whole(it.shard, 0, 1023):
         raise CallError(f"a shard is a whole number up to 1023, and not {it.shard!r}")
-    members = f'"id":{compact(it.id)},"op":"{it.op}"'
+    members = f'"id":{text_of_id(it.id)},"op":"{it.op}"'
     if it.op in WRITES_A_VALUE:
         if not is_whole(it.value, 0, 2**64 - 1):
             raise CallError(f"the value of a write is a whole number below 2^64, and not {it.value!r}")

@@ -14,6 +14,9 @@ HEAD_END = b"\r\n\r\n"
 LONGEST_HEAD = 65_536
 """The most bytes of the head of a message."""
 
+MOST_REMEMBERED = 2048
+"""Of how many heads it is remembered what they say. Clients and clusters repeat theirs, byte for byte."""
+
 LONGEST_CHUNK_LINE = 16_384
 """The most bytes of a line between chunks."""
 
@@ -28,12 +31,9 @@ class BadMessage(Exception):
 
 
 class Body:
-    """The body of a message, whose bytes are handed in as they come. Its content is kept, unless somebody says otherwise.
+    """The body of a message, whose bytes are handed in as they come. Its content is kept, unless somebody says otherwise."""
 
-    This one has no bytes.
-    """
-
-    is_done = True
+    is_done = False
     is_kept = True
 
     def __init__(self) -> None:
@@ -41,7 +41,7 @@ class Body:
 
     def take(self, data: bytes) -> int:
         """How many of the bytes, from the first on, belong to the body."""
-        return 0
+        raise NotImplementedError
 
     def content(self) -> bytes:
         """The content that was kept so far."""
@@ -61,7 +61,7 @@ class LengthBody(Body):
     """A body of so many bytes."""
 
     def __init__(self, length: int) -> None:
-        self.pieces = []
+        super().__init__()
         self.left = length
         self.is_done = not length
 
@@ -76,8 +76,6 @@ class LengthBody(Body):
 class ClosedBody(Body):
     """A body that ends with its connection."""
 
-    is_done = False
-
     def take(self, data: bytes) -> int:
         self.keep(data)
         return len(data)
@@ -88,8 +86,6 @@ class ClosedBody(Body):
 
 class ChunkedBody(Body):
     """A body in chunks, each behind a line with its length; behind the last one there may be more fields."""
-
-    is_done = False
 
     def __init__(self) -> None:
         super().__init__()
@@ -149,26 +145,49 @@ class Fields(NamedTuple):
     expects: bool
 
 
-class Request(NamedTuple):
+class Request:
     """The head of a request."""
 
-    method: str
-    target: bytes
-    body: Body
-    encoding: bytes
-    expects: bool
+    __slots__ = ("method", "target", "fields", "length")
+
+    def __init__(self, method: str, target: bytes, fields: Fields) -> None:
+        self.method = method
+        self.target = target
+        self.fields = fields
+        # how many bytes the body has, or None where that is told behind the head
+        self.length = None if fields.is_chunked else fields.length or 0
+
+    def body(self) -> Body:
+        """Its body, of which nothing came yet."""
+        return ChunkedBody() if self.length is None else LengthBody(self.length)
 
 
-class Response(NamedTuple):
+class Response:
     """The head of a response."""
 
-    status: int
-    body: Body
-    encoding: bytes
-    length: Optional[int]
+    __slots__ = ("status", "fields", "length", "is_bodiless")
+
+    def __init__(self, status: int, fields: Fields) -> None:
+        self.status = status
+        self.fields = fields
+        # how many bytes the body has, or None where that is told behind the head
+        self.length = None if fields.is_chunked else fields.length
+        # whether there is no body, whatever is told of its length
+        self.is_bodiless = status < 200 or status in (204, 304)
+
+    def length_for(self, method: str) -> Optional[int]:
+        """The length of the body in the answer to this method."""
+        return 0 if method == "HEAD" or self.is_bodiless else self.length
+
+    def body(self, method: str) -> Body:
+        """Its body in the answer to this method, of which nothing came yet."""
+        length = self.length_for(method)
+        if length is not None:
+            return LengthBody(length)
+        return ChunkedBody() if self.fields.is_chunked else ClosedBody()
 
 
-@functools.lru_cache(maxsize=4096)
+@functools.lru_cache(maxsize=MOST_REMEMBERED)
 def fields_of(head: bytes) -> Fields:
     """The fields of a head, from the end of its first line on. A field that is told twice with two values, or on two lines, is refused."""
     if not head.count(b"\n") == head.count(b"\r") == head.count(b"\r\n") or b"\n " in head or b"\n\t" in head:
@@ -195,40 +214,38 @@ def fields_of(head: bytes) -> Fields:
     return Fields(length, is_chunked, encoding, expects)
 
 
+@functools.lru_cache(maxsize=MOST_REMEMBERED)
 def request_of(head: bytes) -> Request:
     """Reads the head of a request."""
     line = REQUEST_LINE.match(head)
     if line is None:
         raise BadMessage("it doesn't begin as a request of HTTP/1.1")
-    fields = fields_of(head[line.end() - 2 :])
-    body: Body = ChunkedBody() if fields.is_chunked else LengthBody(fields.length or 0)
-    return Request(line[1].decode("ascii"), line[2], body, fields.encoding, fields.expects)
+    return Request(line[1].decode("ascii"), line[2], fields_of(head[line.end() - 2 :]))
 
 
-def response_of(head: bytes, method: str) -> Response:
-    """Reads the head of a response to a request of this method."""
+@functools.lru_cache(maxsize=MOST_REMEMBERED)
+def response_of(head: bytes) -> Response:
+    """Reads the head of a response."""
     line = STATUS_LINE.match(head)
     if line is None:
         raise BadMessage("it doesn't begin as a response of HTTP/1.1")
-    status, fields = int(line[1]), fields_of(head[head.index(b"\r") :])
-    body: Body = ClosedBody()
-    if method == "HEAD" or status < 200 or status in (204, 304):
-        body = Body()
-    elif fields.is_chunked:
-        body = ChunkedBody()
-    elif fields.length is not None:
-        body = LengthBody(fields.length)
-    return Response(status, body, fields.encoding, fields.length)
+    return Response(int(line[1]), fields_of(head[head.index(b"\r") :]))
+
+
+def head_end(data: bytes) -> int:
+    """The place behind the head at the front of the bytes; 0 where it isn't whole yet."""
+    end = data.find(HEAD_END)
+    if end >= 0:
+        return end + 4
+    if len(data) > LONGEST_HEAD:
+        raise BadMessage("the head is too long")
+    return 0
 
 
 def split_head(data: bytes) -> Tuple[bytes, bytes]:
     """The head at the front of the bytes, its end with it, and what stands behind it; no head where it isn't whole yet."""
-    end = data.find(HEAD_END)
-    if end < 0:
-        if len(data) > LONGEST_HEAD:
-            raise BadMessage("the head is too long")
-        return b"", data
-    return data[: end + 4], data[end + 4 :]
+    end = head_end(data)
+    return data[:end], data[end:]
 
 
 def decoded(content: bytes, encoding: bytes, most: int) -> Optional[bytes]:

@@ -7,15 +7,16 @@ told which documents are written, the recording ends. So what was recorded stays
 
 import json
 import re
-from typing import Any, Dict, FrozenSet, Iterator, List, Mapping, NamedTuple, Optional, Sequence, Tuple, Union
+from typing import Any, Dict, FrozenSet, Iterator, List, Mapping, Optional, Sequence, Tuple, Union
 
-from .documents import Document, State, is_id, object_of
+from .documents import Document, State, digest_of, digest_of_text, is_id, object_of
 from .history import Call, Ended, History, HistoryError, Operation, Pair
 from .history import compact, counting_members, is_whole, pair_of, text_of_find, text_of_write
 from .inspection import Shape
 from .parts import Parts
 from .routes import OF_A_GET, OF_AN_UPDATE, PARTS_OF_A_SOURCE, PASS, READS, Kind, Names, Route, route_of
 from .unjudged import Unjudged
+from .usual import read_reply
 
 MADE_ID = re.compile(r"[A-Za-z0-9_-]{20}")
 """An id as a cluster makes one for a document that is given none."""
@@ -31,6 +32,9 @@ OF_A_PLACE = {"_index", "_type", "_id", *OF_A_GET}
 OF_A_PARTIAL_UPDATE = {"doc", "doc_as_upsert", "upsert", "detect_noop", "_source"}
 """What may stand in the body of an update that writes a document and can't delete it."""
 
+OF_SEVERAL = (Kind.BULK, Kind.MULTIPLE_GET, Kind.SWEEP)
+"""Requests on several documents, or on ones that nobody names."""
+
 Body = Dict[str, Any]
 Reply = Tuple[int, str]
 
@@ -42,14 +46,15 @@ class Untellable(Exception):
 class Part:
     """A call that a request makes, and how its reply is read."""
 
-    __slots__ = ("id", "op", "words", "source", "document", "call", "number", "is_sure", "sweeps")
+    __slots__ = ("id", "op", "words", "digest", "document", "call", "number", "is_sure", "sweeps")
 
-    def __init__(self, id: str, op: str, words: Mapping[str, Any], source: Optional[Body] = None) -> None:
+    def __init__(self, id: str, op: str, words: Mapping[str, Any], digest: Optional[bytes] = None) -> None:
         # (an empty id where the answer tells it)
         self.id = id
         self.op = op
         self.words = words
-        self.source = source
+        # of the source that is written, where it can be known
+        self.digest = digest
         self.document: Optional[Document] = None
         self.call: Optional[Call] = None
         self.number: Optional[int] = None
@@ -62,16 +67,19 @@ class Part:
     def shows_all(self) -> bool:
         """Whether the reply to a get shows the whole source."""
         words = self.words
-        return words.get("_source", True) in (True, "true") and not (PARTS_OF_A_SOURCE - {"_source"} | {"filter_path"}) & set(words)
+        return not words or words.get("_source", True) in (True, "true") and not (PARTS_OF_A_SOURCE - {"_source"} | {"filter_path"}) & set(words)
 
 
-class Asked(NamedTuple):
+class Asked:
     """A request that is passed on: its kind, its calls, or None for an item that is none of ours, and whether its answer is its end."""
 
-    kind: Kind
-    parts: Sequence[Optional[Part]]
-    is_head: bool = False
-    is_over_at_answer: bool = True
+    __slots__ = ("kind", "parts", "is_head", "is_over_at_answer")
+
+    def __init__(self, kind: Kind, parts: Sequence[Optional[Part]], is_head: bool = False, is_over_at_answer: bool = True) -> None:
+        self.kind = kind
+        self.parts = parts
+        self.is_head = is_head
+        self.is_over_at_answer = is_over_at_answer
 
 
 class Judge:
@@ -158,10 +166,10 @@ class Judge:
     def _ask(self, route: Route, method: str, content: Optional[bytes]) -> Optional[Asked]:
         kind = route.kind
         if kind is Kind.CALL:
-            source = object_of(content) if route.op in ("index", "create") else None
-            return self._made(kind, [Part(route.id, route.op, route.words, source)], method == "HEAD")
+            digest = digest_of_text(content) if route.op in ("index", "create") else None
+            return self._made_one(kind, Part(route.id, route.op, route.words, digest), method == "HEAD")
         if kind is Kind.NEW:
-            return self._made(kind, [Part("", route.op, route.words, object_of(content))])
+            return self._made_one(kind, Part("", route.op, route.words, digest_of_text(content)))
         if kind is Kind.UPDATE:
             return self._made(kind, [self._update(route.id, route.words, object_of(content))])
         if kind is Kind.BULK:
@@ -176,13 +184,19 @@ class Judge:
             raise Untellable(route.why)
         return None
 
-    def _made(self, kind: Kind, parts: List[Optional[Part]], is_head: bool = False) -> Optional[Asked]:
+    def _made_one(self, kind: Kind, part: Part, is_head: bool = False) -> Asked:
+        """Writes the call of a request that makes one, before the request is passed on."""
+        if self._is_ready(part) and part.document is not None:
+            self._write_calls_of(self.history.of_shard(part.document.shard), [(part, self._operation(part))])
+        return Asked(kind, (part,), is_head)
+
+    def _made(self, kind: Kind, parts: List[Optional[Part]]) -> Optional[Asked]:
         """Writes the calls of the parts, all of them before the request is passed on."""
         ready = [it for it in parts if it is not None and self._is_ready(it)]
         # (another part of the request may have ended the judgement of a document)
         judged = [it for it in ready if it.document is not None and it.document.state is not State.NOT_JUDGED]
         self._write_calls([(it, self._operation(it)) for it in judged])
-        return Asked(kind, parts, is_head) if any(it is not None for it in parts) else None
+        return Asked(kind, parts) if any(it is not None for it in parts) else None
 
     def _is_ready(self, part: Part) -> bool:
         """Whether a part is a call of a document that is judged. A write that can't be told ends that."""
@@ -206,7 +220,7 @@ class Judge:
         assert document is not None
         condition, part.is_sure = condition_of(part.op, part.words)
         if part.op in ("index", "create"):
-            part.number = document.number_to_write(part.source)
+            part.number = document.number_to_write(part.digest)
             document.writes += 1
         elif part.op == "delete":
             document.deletes += 1
@@ -329,7 +343,7 @@ class Judge:
         if op == "update":
             return self._update(id, words, object_of(source))
         op = "create" if op == "index" and words.get("op_type") == "create" else op
-        return Part(id, op, words, object_of(source))
+        return Part(id, op, words, digest_of_text(source))
 
     def _places(self, route: Route, body: Optional[Body]) -> Iterator[Optional[Part]]:
         """The calls of a get of several documents."""
@@ -357,20 +371,25 @@ class Judge:
             self.end(f"a fault of the recorder: {fault!r}")
 
     def _heed_answer(self, asked: Asked, status: int, content: Optional[bytes], length: Optional[int]) -> None:
-        body = object_of(content)
+        if asked.kind in OF_SEVERAL:
+            self._heed_answer_to_several(asked, status, object_of(content))
+            return
+        (part,) = asked.parts
+        assert part is not None
+        if asked.is_head:
+            self._answered(part, status, missing_by_length(self.shape, part.id, length) if status == 404 else {})
+        else:
+            self._answered(part, status, read_reply(part.op, status, content) or object_of(content))
+
+    def _heed_answer_to_several(self, asked: Asked, status: int, body: Optional[Body]) -> None:
+        """Writes what an answer says to a request on several documents."""
         if asked.kind is Kind.SWEEP:
             if status == 200 and asked.is_over_at_answer and body is not None and not {"task", "timed_out"} & told_true(body):
                 self._open_sweeps -= 1
         elif asked.kind is Kind.BULK:
             self._answered_items(asked.parts, status, body, "items")
-        elif asked.kind is Kind.MULTIPLE_GET:
-            self._answered_items(asked.parts, status, body, "docs")
         else:
-            (part,) = asked.parts
-            assert part is not None
-            if asked.is_head:
-                body = missing_by_length(self.shape, part.id, length) if status == 404 else {}
-            self._answered(part, status, body)
+            self._answered_items(asked.parts, status, body, "docs")
 
     def lost(self, asked: Asked) -> None:
         """Writes that no whole answer came. A write without an id, or a request on unnamed documents, stays open for good."""
@@ -413,7 +432,9 @@ class Judge:
         if part.op == "get":
             if status == 200 and body.get("found") is True and pair is not None:
                 source = body.get("_source")
-                number = document.number_shown(pair, source, part.shows_all and isinstance(source, dict))
+                # (a reply of the usual form has its digest there)
+                digest = source if isinstance(source, bytes) else digest_of(source) if isinstance(source, dict) else None
+                number = document.number_shown(pair, digest, part.shows_all and isinstance(source, (dict, bytes)))
                 if number is None:
                     return None
                 text = text_of_find(part.id, pair, number)
@@ -488,6 +509,8 @@ class Judge:
 
 def condition_of(op: str, words: Mapping[str, Any]) -> Tuple[Optional[Pair], bool]:
     """The condition that the words of a write tell, and whether that is all that it depends on."""
+    if not words:
+        return None, True
     seq, term = words.get("if_seq_no"), words.get("if_primary_term")
     is_sure = not {"version", "version_type", "if_seq_no", "if_primary_term"} & set(words)
     if op not in ("index", "delete") or not (DIGITS.fullmatch(str(seq)) and DIGITS.fullmatch(str(term))):

@@ -12,22 +12,24 @@ Who asks is a matter of the clients. For what the proxy asks itself, before it l
 """
 
 import argparse
-import asyncio
 import gc
 import os
 import signal
+import socket
 import sys
-from typing import Callable, List, Optional, Sequence, Set, Tuple, Union, cast
+from typing import Callable, List, Optional, Sequence, Set, Tuple, Union
 
 from .cluster import Cluster, ClusterError, Connection, credentials_of, port_of, trust_of, url_of
 from .documents import State
 from .history import History, HistoryError
-from .http1 import BadMessage, Request, Response, decoded, request_of, response_of, split_head
+from .http1 import BadMessage, Body, Request, Response, decoded, head_end, request_of, response_of
 from .inspection import Inspector, Shape
 from .judge import Asked, Judge
+from .loop import Loop, Stream
 from .parts import Parts
 from .progress import Progress
 from .routes import READS, Kind, Route
+from .tls import NO_RENEGOTIATION, TlsStream
 from .unjudged import Unjudged
 
 MOST_HELD = 128 * 1024 * 1024
@@ -55,67 +57,83 @@ def refusal(status: str, why: str) -> bytes:
 class Exchange:
     """A request and its answer, as far as they have come."""
 
-    def __init__(self, head: bytes, request: Request, route: Route) -> None:
+    # what came of a request that is taken in pieces
+    coming: Optional["Coming"] = None
+    is_sent = False
+    # the client was told to go on with its request
+    was_continued = False
+    asked: Optional[Asked] = None
+    # the answer, where it is taken in pieces
+    response: Optional[Response] = None
+    body: Optional[Body] = None
+    answer_length = 0
+    # whether anything of the answer was passed on
+    has_begun = False
+
+    def __init__(self, request: Request, route: Route) -> None:
         self.request = request
         self.route = route
-        # what came of the request and waits to be passed on, and how much that is
+        self.answer: List[bytes] = []
+
+
+class Coming:
+    """What came of a request and waits to be passed on, and how much that is."""
+
+    def __init__(self, head: bytes, body: Body, is_read: bool) -> None:
         self.held: List[bytes] = [head]
         self.length = len(head)
-        self.holds_request = route.kind is not Kind.PASS
-        request.body.is_kept = self.holds_request
-        self.is_sent = False
-        # the client was told to go on with its request
-        self.was_continued = False
-        self.asked: Optional[Asked] = None
-        self.response: Optional[Response] = None
-        self.answer: List[bytes] = []
-        self.answer_length = 0
-        # whether anything of the answer was passed on
-        self.has_begun = False
+        self.body = body
+        # whether it is held back until it can be read
+        self.is_read = body.is_kept = is_read
 
 
-class ClientSide(asyncio.Protocol):
+class ClientSide:
     """A client's connection. It has one to the cluster of its own, which lives as long."""
 
-    transport: asyncio.Transport
-
-    def __init__(self, proxy: "Proxy") -> None:
+    def __init__(self, proxy: "Proxy", connection: socket.socket) -> None:
         self.proxy = proxy
+        self.stream = Stream(proxy.loop, connection, self)
         self.data = b""
         self.exchange: Optional[Exchange] = None
         self.cluster: Optional[ClusterSide] = None
-        self.connecting: Optional["asyncio.Task[None]"] = None
+        self.is_connecting = self.is_connected = False
         self.is_tunnel = False
         self.is_cluster_full = self.is_paused = False
+        proxy.clients.add(self)
 
-    def connection_made(self, transport: asyncio.BaseTransport) -> None:
-        """Keeps what answers are written to."""
-        self.transport = cast(asyncio.Transport, transport)
-        self.proxy.clients.add(self)
-
-    def data_received(self, data: bytes) -> None:
-        """Takes what the client sent. With its first bytes a connection to the cluster is made."""
+    def received(self, data: bytes) -> None:
+        """Takes what the client sent. With its first bytes a connection to the cluster is made, before anything is recorded."""
         self.data = self.data + data if self.data else data
-        if self.cluster is not None:
+        if self.is_connected:
             self.go_on()
-        elif self.connecting is None:
-            self.connecting = asyncio.ensure_future(self.connect())
+            return
+        if not self.is_connecting:
+            self.is_connecting = True
+            self.proxy.connect(self.connection_made)
         self.heed_flow()
 
-    async def connect(self) -> None:
-        """Connects to the cluster, before anything is recorded."""
-        try:
-            self.cluster = await self.proxy.connect(self)
-        except OSError as fault:
-            self.transport.write(refusal("502 Bad Gateway", f"the cluster can't be reached: {fault}"))
-            self.transport.close()
-            return
-        self.go_on()
+    def connection_made(self, made: Union[socket.socket, OSError]) -> None:
+        """Takes the connection to the cluster, or the fault for which there is none."""
+        if isinstance(made, OSError):
+            self.has_cluster(made)
+        elif self.stream.is_closing:
+            made.close()
+        else:
+            self.cluster = ClusterSide(self, made)
+
+    def has_cluster(self, fault: Optional[OSError]) -> None:
+        """Goes on once the cluster can be asked, or tells the client why it can't."""
+        if fault is None:
+            self.is_connected = True
+            self.go_on()
+        else:
+            self.stream.write(refusal("502 Bad Gateway", f"the cluster can't be reached: {fault}"))
+            self.stream.close()
 
     def go_on(self) -> None:
         """Passes on what it can of what the client sent."""
         try:
-            while not self.transport.is_closing() and self.has_step():
+            while not self.stream.is_closing and self.has_step():
                 pass
         except BadMessage as fault:
             self.refuse(f"the request can't be read: {fault}")
@@ -124,50 +142,73 @@ class ClientSide(asyncio.Protocol):
     def refuse(self, why: str) -> None:
         """Ends the connection where the client's messages can't be told apart."""
         if self.exchange is None:
-            self.transport.write(refusal("400 Bad Request", why))
-        self.transport.close()
+            self.stream.write(refusal("400 Bad Request", why))
+        self.stream.close()
 
     def has_step(self) -> bool:
         """Does the next step with what the client sent; tells whether there may be another one."""
         assert self.cluster is not None
         if self.is_tunnel:
-            self.cluster.transport.write(self.data)
+            self.cluster.stream.write(self.data)
             self.data = b""
             return False
-        exchange = self.exchange
-        if exchange is None:
-            head, self.data = split_head(self.data)
-            if not head:
-                return False
-            request = request_of(head)
-            exchange = self.exchange = Exchange(head, request, self.proxy.judge.route(request.method, request.target))
-        if exchange.is_sent:
+        if self.exchange is None:
+            return self.has_request()
+        if self.exchange.is_sent or self.exchange.coming is None:
             return False
-        self.take_request(exchange)
-        return exchange.is_sent
+        self.take_piece(self.exchange, self.exchange.coming)
+        return self.exchange.is_sent
 
-    def take_request(self, exchange: Exchange) -> None:
-        """Takes what came of the request, holds it back where it has to be read, and passes it on."""
+    def has_request(self) -> bool:
+        """Takes the head of a request, and all of it where it came in one piece; tells whether there may be another step."""
+        data = self.data
+        end = head_end(data)
+        if not end:
+            return False
+        request = request_of(data[:end])
+        route = self.proxy.judge.route(request.method, request.target)
+        exchange = self.exchange = Exchange(request, route)
+        if request.length is not None and len(data) >= end + request.length:
+            self.data = data[end + request.length :]
+            self.ask(exchange, data[end : end + request.length])
+            self.send(exchange, data[: end + request.length], True)
+            return False
+        exchange.coming = Coming(data[:end], request.body(), route.kind is not Kind.PASS)
+        self.data = data[end:]
+        return True
+
+    def ask(self, exchange: Exchange, content: Optional[bytes]) -> None:
+        """Has the calls of a request written. The content is None where too much of it came to be read."""
         request, route = exchange.request, exchange.route
-        count = request.body.take(self.data)
-        if count:
-            exchange.held.append(self.data[:count])
-            exchange.length += count
-            self.data = self.data[count:]
-        if exchange.holds_request:
-            if not request.body.is_done and exchange.length <= MOST_HELD:
-                if request.expects and not exchange.was_continued:
-                    exchange.was_continued = True
-                    self.transport.write(CONTINUE)
-                return
-            content = decoded(request.body.content(), request.encoding, MOST_HELD) if request.body.is_done else None
+        if route.kind is not Kind.PASS:
+            content = decoded(content, request.fields.encoding, MOST_HELD) if content is not None else None
             exchange.asked = self.proxy.judge.ask(route, request.method, content)
-            exchange.holds_request = request.body.is_kept = False
-            request.body.pieces.clear()
+
+    def send(self, exchange: Exchange, data: bytes, is_sent: bool) -> None:
+        """Passes on what came of a request, perhaps the last of it."""
         assert self.cluster is not None
-        exchange.is_sent = request.body.is_done
-        self.cluster.transport.write(b"".join(exchange.held))
-        exchange.held.clear()
+        exchange.is_sent = is_sent
+        self.cluster.stream.write(data)
+
+    def take_piece(self, exchange: Exchange, coming: Coming) -> None:
+        """Takes what came of a request, holds it back where it has to be read, and passes it on."""
+        body = coming.body
+        count = body.take(self.data)
+        if count:
+            coming.held.append(self.data[:count])
+            coming.length += count
+            self.data = self.data[count:]
+        if coming.is_read:
+            if not body.is_done and coming.length <= MOST_HELD:
+                if exchange.request.fields.expects and not exchange.was_continued:
+                    exchange.was_continued = True
+                    self.stream.write(CONTINUE)
+                return
+            self.ask(exchange, body.content() if body.is_done else None)
+            coming.is_read = body.is_kept = False
+            body.pieces.clear()
+        self.send(exchange, b"".join(coming.held), body.is_done)
+        coming.held.clear()
 
     def answered(self) -> None:
         """Goes on with the next request, after an answer was passed on."""
@@ -177,29 +218,27 @@ class ClientSide(asyncio.Protocol):
 
     def heed_flow(self) -> None:
         """Takes no more from the client while the cluster is slow to take it, or while an answer is waited for and much has come."""
-        is_waiting = self.cluster is None or self.exchange is not None and self.exchange.is_sent
+        is_waiting = not self.is_connected or self.exchange is not None and self.exchange.is_sent
         is_paused = self.is_cluster_full or is_waiting and len(self.data) > MOST_AHEAD
         if is_paused != self.is_paused:
             self.is_paused = is_paused
-            (self.transport.pause_reading if is_paused else self.transport.resume_reading)()
+            (self.stream.pause_reading if is_paused else self.stream.resume_reading)()
 
     def pause_writing(self) -> None:
         """Takes no more from the cluster while the client is slow to take it."""
         if self.cluster is not None:
-            self.cluster.transport.pause_reading()
+            self.cluster.stream.pause_reading()
 
     def resume_writing(self) -> None:
         """Takes from the cluster again."""
         if self.cluster is not None:
-            self.cluster.transport.resume_reading()
+            self.cluster.stream.resume_reading()
 
-    def connection_lost(self, fault: Optional[Exception]) -> None:
+    def connection_lost(self) -> None:
         """Ends the connection to the cluster, and with it what the client asked: it will hear of no answer."""
         self.proxy.clients.discard(self)
-        if self.connecting is not None:
-            self.connecting.cancel()
         if self.cluster is not None:
-            self.cluster.transport.abort()
+            self.cluster.stream.abort()
 
     def give_up(self) -> None:
         """Writes the calls that are open as lost."""
@@ -208,20 +247,22 @@ class ClientSide(asyncio.Protocol):
             self.exchange.asked = None
 
 
-class ClusterSide(asyncio.Protocol):
+class ClusterSide:
     """The connection to the cluster that a client's has."""
 
-    transport: asyncio.Transport
+    stream: Union[Stream, TlsStream]
 
-    def __init__(self, client: ClientSide) -> None:
+    def __init__(self, client: ClientSide, connection: socket.socket) -> None:
         self.client = client
         self.data = b""
+        loop, cluster = client.proxy.loop, client.proxy.cluster
+        if cluster.trust is None:
+            self.stream = Stream(loop, connection, self)
+            loop.soon(lambda: client.has_cluster(None))
+        else:
+            self.stream = TlsStream(loop, connection, self, cluster.trust, str(cluster.url.hostname), client.has_cluster)
 
-    def connection_made(self, transport: asyncio.BaseTransport) -> None:
-        """Keeps what requests are written to."""
-        self.transport = cast(asyncio.Transport, transport)
-
-    def data_received(self, data: bytes) -> None:
+    def received(self, data: bytes) -> None:
         """Takes what the cluster sent, and passes it on."""
         self.data = self.data + data if self.data else data
         try:
@@ -235,7 +276,7 @@ class ClusterSide(asyncio.Protocol):
         client = self.client
         exchange = client.exchange
         if client.is_tunnel:
-            client.transport.write(self.data)
+            client.stream.write(self.data)
             self.data = b""
             return False
         if exchange is None:
@@ -243,74 +284,87 @@ class ClusterSide(asyncio.Protocol):
             return False
         if exchange.response is None and not self.has_head(exchange):
             return client.is_tunnel
-        if exchange.response is not None:
-            self.take_answer(exchange, exchange.response)
+        if exchange.response is not None and exchange.body is not None:
+            self.take_piece(exchange, exchange.response, exchange.body)
         return True
 
     def has_head(self, exchange: Exchange) -> bool:
-        """Takes the head of an answer; tells whether one is there. One that goes before the answer is passed on by itself."""
-        head, self.data = split_head(self.data)
-        if not head:
+        """Takes the head of an answer, and all of it where it came in one piece; tells whether an answer has begun."""
+        data = self.data
+        end = head_end(data)
+        if not end:
             return False
-        response = response_of(head, exchange.request.method)
+        response, method = response_of(data[:end]), exchange.request.method
+        if response.status < 200:
+            self.data = data[end:]
+            return self.has_more(exchange, response, data[:end])
+        if len(data) - end == response.length_for(method):
+            self.data = b""
+            exchange.answer.append(data)
+            self.finish(exchange, response, data[end:])
+        else:
+            self.data = data[end:]
+            exchange.response, exchange.body = response, response.body(method)
+            exchange.body.is_kept = exchange.asked is not None
+            exchange.answer.append(data[:end])
+        return True
+
+    def has_more(self, exchange: Exchange, response: Response, head: bytes) -> bool:
+        """Passes on by itself what goes before an answer; tells whether the answer has begun behind it."""
         if response.status == 101:
             self.client.proxy.judge.end("a client and the cluster went on in another protocol")
             self.client.is_tunnel = True
-            self.client.transport.write(head)
+            self.client.stream.write(head)
             self.client.go_on()
-        elif response.status < 200:
-            if not exchange.was_continued or response.status != 100:
-                self.client.transport.write(head)
-            return bool(self.data) and self.has_head(exchange)
-        else:
-            exchange.response = response
-            response.body.is_kept = exchange.asked is not None
-            exchange.answer.append(head)
-        return exchange.response is not None
+            return False
+        if not exchange.was_continued or response.status != 100:
+            self.client.stream.write(head)
+        return bool(self.data) and self.has_head(exchange)
 
-    def take_answer(self, exchange: Exchange, response: Response) -> None:
+    def take_piece(self, exchange: Exchange, response: Response, body: Body) -> None:
         """Takes what came of the answer. That to calls is held back until their replies are written."""
-        count = response.body.take(self.data)
+        count = body.take(self.data)
         exchange.answer.append(self.data[:count])
         exchange.answer_length += count
         self.data = self.data[count:]
-        if response.body.is_done:
-            self.finish(exchange, response)
+        if body.is_done:
+            self.finish(exchange, response, body.content())
         elif exchange.asked is None or exchange.answer_length > MOST_HELD:
             self.client.give_up()
-            response.body.is_kept = False
+            body.is_kept = False
             self.pass_on(exchange)
 
     def pass_on(self, exchange: Exchange) -> None:
         """Passes on what came of the answer."""
         exchange.has_begun = True
-        self.client.transport.write(b"".join(exchange.answer))
+        self.client.stream.write(b"".join(exchange.answer))
         exchange.answer.clear()
 
-    def finish(self, exchange: Exchange, response: Response) -> None:
+    def finish(self, exchange: Exchange, response: Response, content: bytes) -> None:
         """Writes what a whole answer says of calls, and passes it on."""
         proxy, client = self.client.proxy, self.client
         asked, exchange.asked = exchange.asked, None
         if asked is not None:
-            content = decoded(response.body.content(), response.encoding, MOST_HELD)
-            proxy.judge.answered(asked, response.status, content, response.length)
-        proxy.look_again(exchange)
+            fields = response.fields
+            proxy.judge.answered(asked, response.status, decoded(content, fields.encoding, MOST_HELD), fields.length)
+        if proxy.judge.shape is None:
+            proxy.look_again(exchange)
         self.pass_on(exchange)
         if exchange.is_sent:
             client.answered()
         else:
             # (the cluster didn't want the rest of the request, and the client's next one can't be told from it)
-            client.transport.close()
+            client.stream.close()
 
     def fail(self, why: str) -> None:
         """Gives up: what was asked is lost, and the client is told, unless it has a part of an answer."""
         client = self.client
         client.give_up()
         if client.exchange is not None and not client.exchange.has_begun:
-            client.transport.write(refusal("502 Bad Gateway", why))
+            client.stream.write(refusal("502 Bad Gateway", why))
         client.exchange = None
-        client.transport.close()
-        self.transport.close()
+        client.stream.close()
+        self.stream.close()
 
     def pause_writing(self) -> None:
         """Takes no more from the client while the cluster is slow to take it."""
@@ -322,14 +376,14 @@ class ClusterSide(asyncio.Protocol):
         self.client.is_cluster_full = False
         self.client.heed_flow()
 
-    def connection_lost(self, fault: Optional[Exception]) -> None:
+    def connection_lost(self) -> None:
         """Ends the client's connection too: with the end of an answer that ends so, or with word that there is none."""
         exchange = self.client.exchange
-        if exchange is not None and exchange.response is not None and exchange.response.body.at_close():
-            self.finish(exchange, exchange.response)
+        if exchange is not None and exchange.response is not None and exchange.body is not None and exchange.body.at_close():
+            self.finish(exchange, exchange.response, exchange.body.content())
         if self.client.exchange is not None and not self.client.is_tunnel:
             self.fail("the cluster closed the connection and gave no whole answer")
-        self.client.transport.close()
+        self.client.stream.close()
 
 
 class Proxy:
@@ -341,19 +395,16 @@ class Proxy:
         self.inspector = inspector
         self.judge = judge
         self.clients: Set[ClientSide] = set()
+        self.loop = Loop()
 
-    async def connect(self, client: ClientSide) -> ClusterSide:
-        """Makes a connection to the cluster for a client."""
-        url = self.cluster.url
-        loop, host = asyncio.get_running_loop(), str(url.hostname)
-        make = lambda: ClusterSide(client)
-        _, side = await loop.create_connection(make, host, port_of(url), ssl=self.cluster.trust)
-        return side
+    def connect(self, made: Callable[[Union[socket.socket, OSError]], None]) -> None:
+        """Makes a connection to the cluster."""
+        self.loop.connect((str(self.cluster.url.hostname), port_of(self.cluster.url)), made)
 
     def look_again(self, exchange: Exchange) -> None:
         """Looks whether the index is there now, after a request that may have made it."""
         judge = self.judge
-        if judge.shape is None and not judge.has_ended and exchange.request.method not in READS:
+        if not judge.has_ended and exchange.request.method not in READS:
             try:
                 shape = self.inspector.inspect(self.setting.index)
             except ClusterError as fault:
@@ -363,26 +414,25 @@ class Proxy:
                 others = [it.exchange for it in self.clients if it.exchange is not None and it.exchange is not exchange]
                 judge.found(shape, [(it.request.method, it.request.target, it.route) for it in others])
 
-    async def serve(self, is_over: asyncio.Event, tell: Callable[[str], None]) -> None:
-        """Serves until it is over; tells its address first. What is open then is lost, and every connection is closed."""
+    def serve(self, tell: Callable[[str], None]) -> None:
+        """Serves until the loop is stopped; tells its address first. What is open then is lost, and every connection is closed."""
         host, port = self.setting.listen
-        loop = asyncio.get_running_loop()
-        server = await loop.create_server(lambda: ClientSide(self), host, port, backlog=1024)
+        listeners = self.loop.listen(host, port, lambda connection: ClientSide(self, connection))
         shown = f"[{host}]" if ":" in host else host
-        tell(f"http://{shown}:{server.sockets[0].getsockname()[1]}")
-        await is_over.wait()
-        server.close()
+        tell(f"http://{shown}:{listeners[0].port}")
+        self.loop.run()
+        for it in listeners:
+            it.close()
         self.judge.close()
         for client in list(self.clients):
-            client.transport.abort()
+            client.stream.abort()
+        self.loop.close()
 
 
-async def serve_until_signalled(proxy: Proxy) -> None:
+def serve_until_signalled(proxy: Proxy) -> None:
     """Serves until somebody sends a signal that asks for the end."""
-    is_over = asyncio.Event()
-    for kind in (signal.SIGINT, signal.SIGTERM):
-        asyncio.get_running_loop().add_signal_handler(kind, is_over.set)
-    await proxy.serve(is_over, lambda address: print(address, file=sys.stderr, flush=True))
+    proxy.loop.stop_at(signal.SIGINT, signal.SIGTERM)
+    proxy.serve(lambda address: print(address, file=sys.stderr, flush=True))
 
 
 # The words
@@ -432,6 +482,8 @@ def begin(setting: argparse.Namespace, inspector: Inspector) -> Tuple[Optional[S
 def proxy_of(setting: argparse.Namespace) -> Proxy:
     """Looks at the cluster, begins the history, and gives the proxy that the words ask for."""
     cluster = Cluster(setting.cluster, SECONDS_TO_ASK, credentials_of(os.environ), trust_of(setting.cluster, setting.ca_file))
+    if cluster.trust is not None:
+        cluster.trust.options |= NO_RENEGOTIATION
     inspector = Inspector(Connection(cluster))
     shape, first = begin(setting, inspector)
     unjudged = Unjudged(setting.file)
@@ -453,7 +505,7 @@ def main(arguments: Sequence[str]) -> int:
         proxy = proxy_of(setting)
         try:
             with Progress(lambda: counts_of(proxy.judge)):
-                asyncio.run(serve_until_signalled(proxy))
+                serve_until_signalled(proxy)
         finally:
             proxy.judge.close()
     except (ClusterError, HistoryError, OSError) as fault:

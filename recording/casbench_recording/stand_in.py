@@ -25,7 +25,7 @@ import urllib.parse
 from http import HTTPStatus
 from typing import Any, Callable, Dict, Iterator, List, Mapping, NamedTuple, Optional, Sequence, Set, Tuple, cast
 
-from .http1 import BadMessage, Request, decoded, request_of, split_head
+from .http1 import BadMessage, Body, Request, decoded, request_of, split_head
 from .routing import shard_of
 
 FAULTS = {
@@ -312,7 +312,7 @@ class Asked(NamedTuple):
         return value
 
 
-class Requests(asyncio.Protocol):
+class Requests(asyncio.BufferedProtocol):
     """Answers the requests of one connection, one after the other."""
 
     transport: asyncio.Transport
@@ -322,15 +322,20 @@ class Requests(asyncio.Protocol):
         self.data = b""
         self.head = b""
         self.request: Optional[Request] = None
+        self.body: Optional[Body] = None
         self.is_busy = False
 
     def connection_made(self, transport: asyncio.BaseTransport) -> None:
         """Keeps what the answers are written to."""
         self.transport = cast(asyncio.Transport, transport)
 
-    def data_received(self, data: bytes) -> None:
+    def get_buffer(self, sizehint: int) -> memoryview:
+        """Where what comes is put. It is one place for all connections, since it is taken from there at once."""
+        return self.server.buffer
+
+    def buffer_updated(self, nbytes: int) -> None:
         """Takes what came."""
-        self.data += data
+        self.data += self.server.buffer[:nbytes]
         self.go_on()
 
     def go_on(self) -> None:
@@ -344,22 +349,23 @@ class Requests(asyncio.Protocol):
 
     def has_request(self) -> bool:
         """Whether a request is whole; it is read as far as it came."""
-        if self.request is None:
+        if self.body is None:
             self.head, self.data = split_head(self.data)
             if not self.head:
                 return False
             self.request = request_of(self.head)
-            if self.request.expects:
+            self.body = self.request.body()
+            if self.request.fields.expects:
                 self.transport.write(b"HTTP/1.1 100 Continue\r\n\r\n")
-        self.data = self.data[self.request.body.take(self.data) :]
-        return self.request.body.is_done
+        self.data = self.data[self.body.take(self.data) :]
+        return self.body.is_done
 
     def step(self, waits: Iterator[float]) -> None:
         """Goes on with the request at hand, up to where it waits for some seconds, or to its end."""
         for seconds in waits:
             asyncio.get_running_loop().call_later(seconds, self.go_on_after, waits)
             return
-        self.is_busy, self.request = False, None
+        self.is_busy, self.body = False, None
 
     def go_on_after(self, waits: Iterator[float]) -> None:
         """Goes on with the request, and with those behind it."""
@@ -369,7 +375,7 @@ class Requests(asyncio.Protocol):
     def answer(self) -> Iterator[float]:
         """Answers the request; yields for how many seconds it waits, as often as it does."""
         setting, faults = self.server.setting, self.server.store.faults
-        asked = read_request(cast(Request, self.request))
+        asked = read_request(cast(Request, self.request), cast(Body, self.body).content())
         if setting.delay:
             yield random.random() * setting.delay
         if not self.is_known():
@@ -413,12 +419,11 @@ class Requests(asyncio.Protocol):
         self.transport.write(head if cast(Request, self.request).method == "HEAD" else head + body)
 
 
-def read_request(request: Request) -> Asked:
+def read_request(request: Request, content: bytes) -> Asked:
     """Reads the words of a request, and its body."""
     path, _, query = request.target.decode("utf-8", "replace").partition("?")
     words = dict(urllib.parse.parse_qsl(query, keep_blank_values=True)) if query else {}
-    content = decoded(request.body.content(), request.encoding, MOST_BODY) or b""
-    body = content.decode("utf-8", "replace")
+    body = (decoded(content, request.fields.encoding, MOST_BODY) or b"").decode("utf-8", "replace")
     return Asked(request.method, [urllib.parse.unquote(it) for it in path.strip("/").split("/")], words, body)
 
 
@@ -483,6 +488,8 @@ class Server:
         self.setting = setting
         self.store = Store(Faults(setting.fault, setting.every))
         self.wanted = wanted_header(os.environ)
+        # (a view, since asyncio writes encrypted messages into slices of it, and those of the bytes themselves are copies)
+        self.buffer = memoryview(bytearray(65_536))
         self.fields = [f"X-Elastic-Product: {setting.product}"] if setting.product else []
         self.trust: Optional[ssl.SSLContext] = None
         if setting.certificate is not None:

@@ -1,0 +1,64 @@
+"""Replies to calls in the form that clusters usually give them, read without reading all of their JSON.
+
+What is read here has the same members that count, with the same values, as the JSON reader would find: the pattern spells the
+whole reply, with no member twice and no text in which anything is escaped, but for a source; and that is read by the JSON reader, unless
+it was read before. Anything else isn't read here.
+"""
+
+import re
+from typing import Any, Dict, Optional
+
+from .documents import digest_of_text
+
+Body = Dict[str, Any]
+
+TEXT = rb'"([ !#-\[\]-~]*)"'
+COUNT = rb"(?:0|[1-9][0-9]{0,17})"
+START = rb'\{"_index":' + TEXT + rb',(?:"_type":"_doc",)?"_id":' + TEXT
+PAIR = rb'"_seq_no":(' + COUNT + rb'),"_primary_term":(' + COUNT + rb")"
+SHARDS = rb'"_shards":\{"total":' + COUNT + rb',"successful":' + COUNT + rb',"failed":' + COUNT + rb"\}"
+
+WRITTEN = re.compile(
+    START + rb',"_version":' + COUNT + rb',"result":"(created|updated|deleted|not_found)",'
+    rb'(?:"forced_refresh":(?:true|false),)?' + SHARDS + rb"," + PAIR + rb"\}"
+)
+"""The reply to a write that was performed."""
+
+FOUND = re.compile(START + rb',"_version":' + COUNT + rb"," + PAIR + rb',"found":true,"_source":')
+"""The reply to a get that found a version, up to its source; behind that one brace is left."""
+
+MISSING = re.compile(START + rb',"found":false\}')
+"""The reply to a get that found nothing."""
+
+
+def read_reply(op: str, status: int, content: Optional[bytes]) -> Optional[Body]:
+    """The members that count of a reply to a call, or None where it isn't of the usual form.
+
+    In the place of a source its digest stands.
+    """
+    if content is None:
+        return None
+    if op != "get":
+        told = WRITTEN.fullmatch(content)
+        return written(told) if told is not None else None
+    if status == 200:
+        told = FOUND.match(content)
+        return found(told, content) if told is not None else None
+    told = MISSING.fullmatch(content)
+    return {"_index": told[1].decode(), "_id": told[2].decode(), "found": False} if told is not None else None
+
+
+def written(told: "re.Match[bytes]") -> Body:
+    """What a write's reply says."""
+    index, id, result, seq, term = told.groups()
+    return {"_index": index.decode(), "_id": id.decode(), "result": result.decode(), "_seq_no": int(seq), "_primary_term": int(term)}
+
+
+def found(told: "re.Match[bytes]", content: bytes) -> Optional[Body]:
+    """What the reply says of a get that found a version."""
+    digest = digest_of_text(content[told.end() : -1]) if content.endswith(b"}") else None
+    if digest is None:
+        return None
+    index, id, seq, term = told.groups()
+    pair = {"_seq_no": int(seq), "_primary_term": int(term)}
+    return {"_index": index.decode(), "_id": id.decode(), **pair, "found": True, "_source": digest}
