@@ -28,10 +28,6 @@ converted_some : {A B : Type 0} (f : A → Option B) (o : Option (A × List Toke
 converted_some f None b r e = absurd (cc)
 converted_some f (Some p) b r e = let both = found p.0 p.1 r (f p.0) b e in (p.0, ap (λ s. Some (p.0, s)) both.0, both.1)
 
-pub IfSome-map : {A : Type 0} (P Q : A → Type 0) (o : Option A) → ((a : A) → P a → Q a) → IfSome o P → IfSome o Q
-IfSome-map P Q None f h = tt
-IfSome-map P Q (Some a) f h = f a h
-
 pub OnSome-map : {A : Type 0} (P Q : Type 0) (o : Option A) → (P → Q) → OnSome o P → OnSome o Q
 OnSome-map P Q None f h = tt
 OnSome-map P Q (Some a) f h = f h

@@ -1,5 +1,5 @@
 -- The fields that a line names, taken out of its value.
-use Rattle.std.specs.Prelude.{ℕ, List, option_and_then, unwrap_or, codes}
+use Rattle.std.specs.Prelude.{ℕ, List, false, option_and_then, true, unwrap_or, codes}
 use Rattle.serde_json.specs.Data.{Data, null}
 use Rattle.serde_json.specs.Find.{get}
 use Rattle.api_lines.specs.Json.{FieldValue, absent, whole, not_whole, text, truth, other, field, field_value}
@@ -71,7 +71,8 @@ value_of field.Absent = absent
 value_of (field.Whole n) = whole n
 value_of field.NotWhole = not_whole
 value_of (field.Text t) = text t.now
-value_of (field.Bool b) = truth b
+value_of field.True = truth true
+value_of field.False = truth false
 value_of field.Other = other
 
 abbrev pub body_seen : BodyFields → BodyValues

@@ -1,4 +1,5 @@
 ghost use Rattle.std.specs.Prelude.{◌≡◌, MatchResult, Some, Ok, Err};
+ghost use Rattle.serde_json.specs.Data.{boolean};
 ghost use Rattle.serde_json.specs.View.{view};
 ghost use Rattle.api_lines.specs.Fields.{inner_field, value_of};
 ghost use Rattle.api_lines.specs.Json.{field, field_value};
@@ -19,8 +20,10 @@ pub enum Field<'v> {
     NotWhole,
     /// A text.
     Text(&'v str),
-    /// True or false.
-    Bool(bool),
+    /// True.
+    True,
+    /// False. (Each has a variant of its own: a variant that holds a byte makes all the others slower to copy.)
+    False,
     /// Of another kind, as null is.
     Other,
 }
@@ -34,7 +37,7 @@ impl<'v> Field<'v> {
             Field::Absent => Ok(None),
             Field::Whole(n) => Ok(Some(Number::Whole(n))),
             Field::NotWhole => Ok(Some(Number::NotWhole)),
-            Field::Text(_) | Field::Bool(_) | Field::Other => Err(TextCause::Shape),
+            Field::Text(_) | Field::True | Field::False | Field::Other => Err(TextCause::Shape),
         }
     }
 
@@ -45,7 +48,9 @@ impl<'v> Field<'v> {
         match self {
             Field::Whole(n) => Ok(Number::Whole(n)),
             Field::NotWhole => Ok(Number::NotWhole),
-            Field::Absent | Field::Text(_) | Field::Bool(_) | Field::Other => Err(TextCause::Shape),
+            Field::Absent | Field::Text(_) | Field::True | Field::False | Field::Other => Err(
+                TextCause::Shape,
+            ),
         }
     }
 
@@ -74,9 +79,17 @@ impl<'v> Field<'v> {
         ensures { result ≡ is_truth wanted (value_of self.entry) }
     {
         match self {
-            Field::Bool(found) => found == wanted,
+            Field::True => wanted,
+            Field::False => !wanted,
             _ => false,
         }
+    }
+
+    /// The field that true or false is.
+    pub fn of_bool(truth: bool) -> Field<'v>
+        ensures { value_of result ≡ field_value (Some (boolean truth)) }
+    {
+        if truth { Field::True } else { Field::False }
     }
 }
 
@@ -85,7 +98,7 @@ fn kind_of(value: &Value) -> Field<'_>
     ensures { value_of result ≡ field_value (Some (view value.now)) }
 {
     match value {
-        Value::Bool(b) => Field::Bool(*b),
+        Value::Bool(truth) => Field::of_bool(*truth),
         Value::Number(number) => match number.as_u64() {
             Some(n) => Field::Whole(n),
             None => Field::NotWhole,

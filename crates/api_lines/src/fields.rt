@@ -70,6 +70,26 @@ pub(crate) fn no_body<'v>() -> BodyFields<'v>
     }
 }
 
+impl<'v> LineFields<'v> {
+    /// The fields of a line that has none of them.
+    pub fn absent() -> LineFields<'v>
+        ensures { line_seen result ≡ line_values null }
+    {
+        LineFields {
+            e: Field::Absent,
+            n: Field::Absent,
+            id: Field::Absent,
+            op: Field::Absent,
+            k: Field::Absent,
+            if_seq_no: Field::Absent,
+            if_primary_term: Field::Absent,
+            shard: Field::Absent,
+            status: Field::Absent,
+            body: no_body(),
+        }
+    }
+}
+
 // The fields of the body of a line.
 fn body_of_line(value: &Value) -> BodyFields<'_>
     ensures { body_seen result ≡ (line_values (view value.now)).body }

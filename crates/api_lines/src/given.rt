@@ -1,4 +1,4 @@
-ghost use Rattle.std.specs.Prelude.{◌≡◌, IfSome, MatchResult, Some, Ok, Err, option_map};
+ghost use Rattle.std.specs.Prelude.{◌≡◌, IsTrue, MatchResult, Some, Ok, Err, option_map};
 ghost use Rattle.serde_json.specs.Data.{Data};
 ghost use Rattle.serde_json.specs.View.{view};
 ghost use Rattle.api_lines.specs.Faults.{IfTold};
@@ -34,18 +34,19 @@ pub fn given_line(alloc: Global, number: u64, line: &[u8]) -> Result<Option<Valu
     }
 }
 
-/// The fields of the line of a text with this number, from 1, where `quick_fields` tells them. Nothing is said of a
-/// line that gives none: it may be blank, or refused, or have a value of another form. Then `given_line` tells.
-pub fn given_fields(number: u64, line: &[u8]) -> Option<LineFields<'_>>
-    ensures { IfSome result (λ fields. (v : Data)
+/// Whether `quick_fields` tells the fields of the line of a text with this number, from 1: then they are put in the place
+/// of `fields`. Nothing is said of another line: it may be blank, or refused, or have a value of another form. Then
+/// `given_line` tells.
+pub fn given_fields<'v>(number: u64, line: &'v [u8], fields: &mut LineFields<'v>) -> bool
+    ensures { IsTrue result → ((v : Data)
         × (line_given number line.now ≡ Ok (Some v))
-        × (line_seen fields ≡ line_values v)) }
+        × (line_seen fields.new ≡ line_values v)) }
 {
     if number > MOST_LINES || line.len() > LONGEST_LINE || is_blank(line) {
-        return None;
+        return false;
     }
     match str::from_utf8(line) {
-        Ok(text) => quick_fields(text),
-        Err(_) => None,
+        Ok(text) => quick_fields(text, fields),
+        Err(_) => false,
     }
 }

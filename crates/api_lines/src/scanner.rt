@@ -34,9 +34,9 @@ fn plain_end(bytes: &[u8]) -> Option<usize>
     bytes.iter().position(|byte| is_stop(*byte))
 }
 
-// The plain text up to its closing quote, and the bytes after that.
+// The plain text up to its closing quote, and the bytes after that, found a byte at a time.
 #[inline(always)]
-fn plain_text(bytes: &[u8]) -> Option<(&str, &[u8])>
+fn scanned_text(bytes: &[u8]) -> Option<(&str, &[u8])>
     ensures { IfSome result (λ parts. (bytes.now ≡ parts.0.now ++ 34 ∷ parts.1.now)
         × (list_all (λ b. not (stop b)) parts.0.now ≡ true)) }
 {
@@ -46,6 +46,84 @@ fn plain_text(bytes: &[u8]) -> Option<(&str, &[u8])>
     }
     let text = unsafe { str::from_utf8_unchecked(&bytes[..end]) };
     Some((text, &bytes[end + 1..]))
+}
+
+// The word up to its quote that most lines have among their keys, where one begins here.
+#[inline(always)]
+fn line_word(bytes: &[u8]) -> Option<(&str, &[u8])>
+    ensures { IfSome result (λ parts. (bytes.now ≡ parts.0.now ++ 34 ∷ parts.1.now)
+        × (list_all (λ b. not (stop b)) parts.0.now ≡ true)) }
+{
+    match bytes {
+        [b'e', b'"', rest @ ..] => Some(("e", rest)),
+        [b'n', b'"', rest @ ..] => Some(("n", rest)),
+        [b'k', b'"', rest @ ..] => Some(("k", rest)),
+        [b'i', b'd', b'"', rest @ ..] => Some(("id", rest)),
+        [b'o', b'p', b'"', rest @ ..] => Some(("op", rest)),
+        _ => long_word(bytes),
+    }
+}
+
+// The same of longer words.
+#[inline(always)]
+fn long_word(bytes: &[u8]) -> Option<(&str, &[u8])>
+    ensures { IfSome result (λ parts. (bytes.now ≡ parts.0.now ++ 34 ∷ parts.1.now)
+        × (list_all (λ b. not (stop b)) parts.0.now ≡ true)) }
+{
+    match bytes {
+        [b'c', b'a', b'l', b'l', b'"', rest @ ..] => Some(("call", rest)),
+        [b'r', b'e', b'p', b'l', b'y', b'"', rest @ ..] => Some(("reply", rest)),
+        [b'g', b'e', b't', b'"', rest @ ..] => Some(("get", rest)),
+        [b'i', b'n', b'd', b'e', b'x', b'"', rest @ ..] => Some(("index", rest)),
+        [b'b', b'o', b'd', b'y', b'"', rest @ ..] => Some(("body", rest)),
+        [b's', b't', b'a', b't', b'u', b's', b'"', rest @ ..] => Some(("status", rest)),
+        _ => body_word(bytes),
+    }
+}
+
+// The same of the words of bodies.
+#[inline(always)]
+fn body_word(bytes: &[u8]) -> Option<(&str, &[u8])>
+    ensures { IfSome result (λ parts. (bytes.now ≡ parts.0.now ++ 34 ∷ parts.1.now)
+        × (list_all (λ b. not (stop b)) parts.0.now ≡ true)) }
+{
+    match bytes {
+        [b'_', b'i', b'd', b'"', rest @ ..] => Some(("_id", rest)),
+        [b'_', b's', b'e', b'q', b'_', b'n', b'o', b'"', rest @ ..] => Some(("_seq_no", rest)),
+        [
+            b'_',
+            b'p',
+            b'r',
+            b'i',
+            b'm',
+            b'a',
+            b'r',
+            b'y',
+            b'_',
+            b't',
+            b'e',
+            b'r',
+            b'm',
+            b'"',
+            rest @ ..,
+        ] => Some(("_primary_term", rest)),
+        [b'r', b'e', b's', b'u', b'l', b't', b'"', rest @ ..] => Some(("result", rest)),
+        [b'f', b'o', b'u', b'n', b'd', b'"', rest @ ..] => Some(("found", rest)),
+        [b'_', b's', b'o', b'u', b'r', b'c', b'e', b'"', rest @ ..] => Some(("_source", rest)),
+        _ => None,
+    }
+}
+
+// The plain text up to its closing quote, and the bytes after that. Words of most lines are known as they are.
+#[inline(always)]
+fn plain_text(bytes: &[u8]) -> Option<(&str, &[u8])>
+    ensures { IfSome result (λ parts. (bytes.now ≡ parts.0.now ++ 34 ∷ parts.1.now)
+        × (list_all (λ b. not (stop b)) parts.0.now ≡ true)) }
+{
+    match line_word(bytes) {
+        Some(word) => Some(word),
+        None => scanned_text(bytes),
+    }
 }
 
 // The bytes after this one, where it is next.

@@ -1,5 +1,5 @@
 //! A field taken from the tokens of its value.
-ghost use Rattle.std.specs.Prelude.{◌≡◌, ◌<◌, IfSome, OnSome, Some, length};
+ghost use Rattle.std.specs.Prelude.{◌≡◌, ◌<◌, OnSome, Some, length};
 ghost use Rattle.serde_json.specs.Data.{Data};
 ghost use Rattle.api_lines.specs.Fields.{value_of};
 ghost use Rattle.api_lines.specs.Json.{field_value, other};
@@ -9,32 +9,45 @@ ghost use Rattle.api_lines.specs.aids.Tokens.{BeginsWithValue};
 use crate::field::Field;
 use crate::scanner::Scanner;
 
-/// The field that the next value is, nested no deeper than `depth`.
-#[inline(always)]
+/// Takes the next value, nested no deeper than `depth`, and puts what it is as a field in the place of `found`. It is
+/// written where it stays: to hand a field back and to copy it costs more than to read it.
+#[inline(never)]
 #[cycle(field)]
-pub fn field<'a>(scanner: &mut Scanner<'a>, depth: usize) -> Option<Field<'a>>
-    ensures read { IfSome result (λ f. (v : Data)
+pub fn field<'a>(scanner: &mut Scanner<'a>, depth: usize, found: &mut Field<'a>) -> Option<()>
+    ensures read { OnSome result ((v : Data)
         × BeginsWithValue depth (tokens_left scanner.old) v (tokens_left scanner.new)
-        × (value_of f ≡ field_value (Some v))) }
+        × (value_of found.new ≡ field_value (Some v))) }
     ensures shorter { OnSome result
         (length (tokens_left scanner.new) < length (tokens_left scanner.old)) }
 {
     match scanner.first()? {
-        b'"' => Some(Field::Text(scanner.text()?)),
-        b't' | b'f' => Some(Field::Bool(scanner.truth()?)),
+        b'"' => {
+            *found = Field::Text(scanner.text()?);
+            Some(())
+        }
+        b't' | b'f' => {
+            *found = Field::of_bool(scanner.truth()?);
+            Some(())
+        }
         b'n' => {
             scanner.null()?;
-            Some(Field::Other)
+            *found = Field::Other;
+            Some(())
         }
         b'[' => {
             pass_array(scanner, depth)?;
-            Some(Field::Other)
+            *found = Field::Other;
+            Some(())
         }
         b'{' => {
             pass_object(scanner, depth)?;
-            Some(Field::Other)
+            *found = Field::Other;
+            Some(())
         }
-        _ => Some(Field::Whole(scanner.whole()?)),
+        _ => {
+            *found = Field::Whole(scanner.whole()?);
+            Some(())
+        }
     }
 }
 
@@ -52,8 +65,9 @@ fn pass_array(scanner: &mut Scanner<'_>, depth: usize) -> Option<()>
         return None;
     }
     scanner.open_array()?;
+    let mut passed = Field::Absent;
     'items: while !scanner.close_array() {
-        field(scanner, depth - 1)?;
+        field(scanner, depth - 1, &mut passed)?;
     }
     Some(())
 }
@@ -72,8 +86,9 @@ fn pass_object(scanner: &mut Scanner<'_>, depth: usize) -> Option<()>
         return None;
     }
     scanner.open_object()?;
+    let mut passed = Field::Absent;
     'members: while let Some(_) = scanner.key()? {
-        field(scanner, depth - 1)?;
+        field(scanner, depth - 1, &mut passed)?;
     }
     Some(())
 }

@@ -1,10 +1,10 @@
 //! A line's fields taken from its tokens, with no tree of values.
-ghost use Rattle.std.specs.Prelude.{◌≡◌, ◌<◌, IfSome, OnSome, Some, length};
+ghost use Rattle.std.specs.Prelude.{◌≡◌, ◌<◌, IsTrue, OnSome, Some, length};
 ghost use Rattle.serde_json.specs.Data.{Data, Members, null, object};
 ghost use Rattle.serde_json.specs.Read.{read as read_text};
 ghost use Rattle.api_lines.specs.Fields.{body_seen, body_values, line_seen, line_values, value_of};
 ghost use Rattle.api_lines.specs.Json.{field as field_of_value};
-ghost use Rattle.api_lines.specs.aids.MoreFields.{body_field_put, body_with, line_field_put, line_with};
+ghost use Rattle.api_lines.specs.aids.MoreFields.{body_with, line_with};
 ghost use Rattle.api_lines.specs.aids.Scanning.{tokens_left};
 ghost use Rattle.api_lines.specs.aids.Tokens.{BeginsWithMembers, BeginsWithValue};
 
@@ -23,21 +23,6 @@ const IN_BODY: usize = 125;
 const IN_PART: usize = 124;
 
 impl<'v> BodyFields<'v> {
-    // Puts the field of this name.
-    #[inline(always)]
-    fn put(&mut self, name: &str, found: Field<'v>)
-        ensures { body_seen self.new ≡ body_field_put name.now (value_of found.entry) (body_seen self.old) }
-    {
-        match name {
-            "_id" => self.id = found,
-            "result" => self.outcome = found,
-            "_seq_no" => self.seq_no = found,
-            "_primary_term" => self.primary_term = found,
-            "found" => self.found = found,
-            _ => {}
-        }
-    }
-
     // Takes the member of this name, whose value is next.
     #[inline(always)]
     fn take_member(&mut self, name: &str, scanner: &mut Scanner<'v>) -> Option<()>
@@ -47,11 +32,15 @@ impl<'v> BodyFields<'v> {
         ensures shorter { OnSome result (length (tokens_left scanner.new) < length (tokens_left scanner.old)) }
     {
         match name {
-            "_source" => self.source_k = part(scanner, "k")?,
-            "error" => self.error_type = part(scanner, "type")?,
-            _ => self.put(name, field(scanner, IN_BODY)?),
+            "_id" => field(scanner, IN_BODY, &mut self.id),
+            "result" => field(scanner, IN_BODY, &mut self.outcome),
+            "_seq_no" => field(scanner, IN_BODY, &mut self.seq_no),
+            "_primary_term" => field(scanner, IN_BODY, &mut self.primary_term),
+            "found" => field(scanner, IN_BODY, &mut self.found),
+            "_source" => part(scanner, "k", &mut self.source_k),
+            "error" => part(scanner, "type", &mut self.error_type),
+            _ => pass(scanner, IN_BODY),
         }
-        Some(())
     }
 
     // Takes all members up to the brace, where there are none yet.
@@ -68,28 +57,22 @@ impl<'v> BodyFields<'v> {
         }
         Some(())
     }
+
+    // Takes the object that is next, a line's body, in place of what was there.
+    #[inline(always)]
+    fn take(&mut self, scanner: &mut Scanner<'v>) -> Option<()>
+        ensures read { OnSome result ((d : Data)
+            × BeginsWithValue IN_LINE (tokens_left scanner.old) d (tokens_left scanner.new)
+            × (body_seen self.new ≡ body_values d)) }
+        ensures shorter { OnSome result (length (tokens_left scanner.new) < length (tokens_left scanner.old)) }
+    {
+        scanner.open_object()?;
+        *self = no_body();
+        self.take_members(scanner)
+    }
 }
 
 impl<'v> LineFields<'v> {
-    // Puts the field of this name.
-    #[inline(always)]
-    fn put(&mut self, name: &str, found: Field<'v>)
-        ensures { line_seen self.new ≡ line_field_put name.now (value_of found.entry) (line_seen self.old) }
-    {
-        match name {
-            "e" => self.e = found,
-            "n" => self.n = found,
-            "id" => self.id = found,
-            "op" => self.op = found,
-            "k" => self.k = found,
-            "if_seq_no" => self.if_seq_no = found,
-            "if_primary_term" => self.if_primary_term = found,
-            "shard" => self.shard = found,
-            "status" => self.status = found,
-            _ => return,
-        }
-    }
-
     // Takes the member of this name, whose value is next.
     #[inline(always)]
     fn take_member(&mut self, name: &str, scanner: &mut Scanner<'v>) -> Option<()>
@@ -99,10 +82,18 @@ impl<'v> LineFields<'v> {
         ensures shorter { OnSome result (length (tokens_left scanner.new) < length (tokens_left scanner.old)) }
     {
         match name {
-            "body" => self.body = body(scanner)?,
-            _ => self.put(name, field(scanner, IN_LINE)?),
+            "e" => field(scanner, IN_LINE, &mut self.e),
+            "n" => field(scanner, IN_LINE, &mut self.n),
+            "id" => field(scanner, IN_LINE, &mut self.id),
+            "op" => field(scanner, IN_LINE, &mut self.op),
+            "k" => field(scanner, IN_LINE, &mut self.k),
+            "if_seq_no" => field(scanner, IN_LINE, &mut self.if_seq_no),
+            "if_primary_term" => field(scanner, IN_LINE, &mut self.if_primary_term),
+            "shard" => field(scanner, IN_LINE, &mut self.shard),
+            "status" => field(scanner, IN_LINE, &mut self.status),
+            "body" => self.body.take(scanner),
+            _ => pass(scanner, IN_LINE),
         }
-        Some(())
     }
 
     // Takes all members up to the brace, where there are none yet.
@@ -121,73 +112,61 @@ impl<'v> LineFields<'v> {
     }
 }
 
-// The fields of a line with no members.
-#[inline(always)]
-fn no_line<'v>() -> LineFields<'v>
-    ensures { line_seen result ≡ line_values null }
+// Takes a value that is no field of the line.
+#[inline(never)]
+fn pass(scanner: &mut Scanner<'_>, depth: usize) -> Option<()>
+    ensures read { OnSome result ((d : Data)
+        × BeginsWithValue depth (tokens_left scanner.old) d (tokens_left scanner.new)) }
+    ensures shorter { OnSome result (length (tokens_left scanner.new) < length (tokens_left scanner.old)) }
 {
-    LineFields {
-        e: Field::Absent,
-        n: Field::Absent,
-        id: Field::Absent,
-        op: Field::Absent,
-        k: Field::Absent,
-        if_seq_no: Field::Absent,
-        if_primary_term: Field::Absent,
-        shard: Field::Absent,
-        status: Field::Absent,
-        body: no_body(),
-    }
+    let mut passed = Field::Absent;
+    field(scanner, depth, &mut passed)
 }
 
-// The field of this key of the object that is next, in a line's body.
-#[inline(always)]
-fn part<'a>(scanner: &mut Scanner<'a>, wanted: &str) -> Option<Field<'a>>
-    ensures read { IfSome result (λ f. (d : Data)
+// Takes the object that is next, in a line's body, and puts its field of this key in the place of `found`.
+#[inline(never)]
+fn part<'a>(scanner: &mut Scanner<'a>, wanted: &str, found: &mut Field<'a>) -> Option<()>
+    ensures read { OnSome result ((d : Data)
         × BeginsWithValue IN_BODY (tokens_left scanner.old) d (tokens_left scanner.new)
-        × (value_of f ≡ field_of_value wanted.now d)) }
+        × (value_of found.new ≡ field_of_value wanted.now d)) }
     ensures shorter { OnSome result (length (tokens_left scanner.new) < length (tokens_left scanner.old)) }
 {
     scanner.open_object()?;
-    let mut found = Field::Absent;
+    *found = Field::Absent;
+    let mut next = Field::Absent;
     'members: while let Some(name) = scanner.key()? {
-        let next = field(scanner, IN_PART)?;
+        field(scanner, IN_PART, &mut next)?;
         if name == wanted {
-            found = next;
+            *found = next;
         }
     }
-    Some(found)
+    Some(())
 }
 
-// The fields of the object that is next, a line's body.
+// Takes all members of the object that a line is, to its end.
 #[inline(always)]
-fn body<'a>(scanner: &mut Scanner<'a>) -> Option<BodyFields<'a>>
-    ensures read { IfSome result (λ body. (d : Data)
-        × BeginsWithValue IN_LINE (tokens_left scanner.old) d (tokens_left scanner.new)
-        × (body_seen body ≡ body_values d)) }
-    ensures shorter { OnSome result (length (tokens_left scanner.new) < length (tokens_left scanner.old)) }
-{
-    scanner.open_object()?;
-    let mut fields: BodyFields<'a> = no_body();
-    fields.take_members(scanner)?;
-    Some(fields)
-}
-
-/// The fields of a line that is an object with no escape and no byte past ASCII in its texts, no space between a key
-/// and its colon, numbers that are all digits alone, at most 19, and objects as its `body`, the body's `_source` and its
-/// `error`, where they are there. Of another line nothing is said.
-pub fn quick_fields(line: &str) -> Option<LineFields<'_>>
-    ensures { IfSome result (λ fields. (v : Data)
+fn take_line<'v>(line: &'v str, fields: &mut LineFields<'v>) -> Option<()>
+    ensures { OnSome result ((v : Data)
         × (read_text line.now ≡ Some v)
-        × (line_seen fields ≡ line_values v)) }
+        × (line_seen fields.new ≡ line_values v)) }
 {
     let mut scanner = Scanner::new(line.as_bytes());
     scanner.open_object()?;
-    let mut fields = no_line();
+    *fields = LineFields::absent();
     fields.take_members(&mut scanner)?;
-    if scanner.is_over() {
-        Some(fields)
-    } else {
-        None
+    if scanner.is_over() { Some(()) } else { None }
+}
+
+/// Whether the line is an object with no escape and no byte past ASCII in its texts, no space between a key and its colon,
+/// numbers that are all digits alone, at most 19, and objects as its `body`, the body's `_source` and its `error`, where
+/// they are there. Then its fields are put in the place of `fields`; of another line nothing is said.
+pub fn quick_fields<'v>(line: &'v str, fields: &mut LineFields<'v>) -> bool
+    ensures { IsTrue result → ((v : Data)
+        × (read_text line.now ≡ Some v)
+        × (line_seen fields.new ≡ line_values v)) }
+{
+    match take_line(line, fields) {
+        Some(()) => true,
+        None => false,
     }
 }

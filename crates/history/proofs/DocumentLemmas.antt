@@ -1,11 +1,14 @@
 -- The documents of a history, and the calls of each.
-use Rattle.std.proofs.Common.{ℕ, suc, ◌≡◌, List, [], ◌∷◌, length, refl, sym, ap, ◌∙◌, Option, Some, None, Bool, true, false, cond, ◌+◌, nat_lt}
-use Rattle.std.specs.Prelude.{map, not, position, if◌then◌else◌, is_some}
+use Rattle.std.proofs.Common.{ℕ, suc, ◌≡◌, ◌<◌, List, [], ◌∷◌, length, refl, sym, ap, ◌∙◌, Option, Some, None, Bool, true, false, cond, ◌+◌, nat_lt}
+use Rattle.std.specs.Prelude.{map, not, option_map, position, slice_get, if◌then◌else◌, is_some}
 use Rattle.std.specs.Cmp.Lexicographic.{bytes_decides}
 use Rattle.std.specs.List.{position_or_len}
 use Rattle.std.specs.Map.{lookup}
+use Rattle.std.proofs.lemmas.Option.{slice_get-map}
+use Rattle.indexmap.proofs.MapLemmas.{Found-position, some_index}
 use Rattle.indexmap.specs.IndexMap.{insert_entry}
-use Rattle.history.specs.Events.{is_same, with_document}
+use Rattle.history.specs.declared.event.Event.{Event}
+use Rattle.history.specs.Events.{documents_of, is_same, with_document}
 
 -- ---- ids
 
@@ -74,3 +77,24 @@ pub position_of_id : (test : List ℕ → Bool) (ds : List (List ℕ × ℕ)) �
 position_of_id test ds =
     ap (λ k. cond (nat_lt k (length (map (λ d. d.0) ds))) (Some k) None) (ids_before test ds)
     ∙ ap (λ n. cond (nat_lt (position_or_len (λ d. test d.0) ds) n) (Some (position_or_len (λ d. test d.0) ds)) None) (count_of_ids ds)
+
+-- a document that stands there, or nowhere
+module _ (d : List ℕ) (ds : List (List ℕ × ℕ)) where
+  pub is_known : (o : Option ℕ) → o ≡ position (λ e. is_same d e.0) ds → is_some o ≡ is_some (lookup (is_same d) ds)
+  is_known o here = ap is_some (here ∙ sym (position_of_id (is_same d) ds)) ∙ some_index (is_same d) ds
+
+  pub known_place : (i : ℕ) → Some i ≡ position (λ e. is_same d e.0) ds → (i < length ds) × (lookup (is_same d) ds ≡ option_map (λ e. e.1) (slice_get ds i))
+  known_place i here =
+      let found = Found-position (is_same d) ds i (position_of_id (is_same d) ds ∙ sym here) in
+      (found.within, found.value ∙ slice_get-map (λ (e : List ℕ × ℕ). e.1) ds i)
+
+-- a document that isn't there has no shard
+pub not_there : (o : Option ℕ) → is_some o ≡ false → None ≡ o
+not_there None h = refl
+not_there (Some n) h = absurd (cc)
+
+-- where the document stands among those of the events, it stands among those that are kept
+pub stands_among : (doc : Option ℕ) (d : List ℕ) (H E : List Event) (ds : List (List ℕ × ℕ)) → doc ≡ position (λ e. is_same d e.0) (documents_of H) → E ≡ H → ds ≡ documents_of E
+    → doc ≡ position (λ e. is_same d e.0) ds
+stands_among doc d H E ds stands view order =
+    stands ∙ (ap (λ F. position (λ e. is_same d e.0) (documents_of F)) (sym view) ∙ ap (position (λ e. is_same d e.0)) (sym order))

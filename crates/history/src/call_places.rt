@@ -1,6 +1,6 @@
-ghost use Rattle.std.specs.Prelude.{◌≡◌, ◌==◌, [], IsTrue, None, OnErr, OnOk, length};
+ghost use Rattle.std.specs.Prelude.{◌≡◌, ◌==◌, [], IsTrue, None, OnErr, OnOk, length, position};
 ghost use Rattle.std.specs.Map.{lookup};
-ghost use Rattle.history.specs.Events.{with_document};
+ghost use Rattle.history.specs.Events.{is_same, with_document};
 ghost use Rattle.history.specs.aids.CallPlaces.{AreBelow, AreFoundAlike, AreRising};
 ghost use Rattle.history.specs.aids.Indexes.{IsNotedAt, lists_in, with_listed};
 
@@ -80,12 +80,13 @@ impl CallPlaces {
         }
     }
 
-    /// Notes the place of a call under its number, and among those of its document. Where memory is refused, nothing is
-    /// noted.
+    /// Notes the place of a call under its number, and among those of its document, which stands at `doc`, or goes to the
+    /// end of the documents. Where memory is refused, nothing is noted.
     pub fn note_call(
         &mut self,
         documents: &mut IndexMap<DocId, u32, HashKeys>,
         document_calls: &mut Vec<Vec<usize>>,
+        doc: Option<usize>,
         no: u64,
         id: &DocId,
         shard: u32,
@@ -93,6 +94,7 @@ impl CallPlaces {
     ) -> Result<(), NoMemory>
         requires fresh { lookup (◌==◌ no) self.old ≡ None }
         requires sizes { length document_calls.old.items ≡ length documents.old.entries }
+        requires stands { doc ≡ position (λ d. is_same id.now d.0) documents.old.entries }
         ensures noted { OnOk result (IsNotedAt no place self.old self.new) }
         ensures kept { OnErr result (AreFoundAlike self.old self.new) }
         ensures ok { OnOk result (documents.new.entries ≡ with_document documents.old.entries id.now shard) }
@@ -103,12 +105,12 @@ impl CallPlaces {
     {
         if is_above_all(self.rising.as_slice(), no) {
             self.rising.reserve(1)?;
-            note_document_call(documents, document_calls, id, shard, place)?;
+            note_document_call(documents, document_calls, doc, id, shard, place)?;
             self.rising.push_reserved((no, place));
             return Ok(());
         }
         self.others.insert(no, place)?;
-        let noted = note_document_call(documents, document_calls, id, shard, place);
+        let noted = note_document_call(documents, document_calls, doc, id, shard, place);
         if noted.is_err() {
             self.others.remove(&no);
         }

@@ -133,17 +133,25 @@ impl History {
         }
     }
 
-    /// The shard of the document, where it was called before.
-    pub(crate) fn known_shard(&self, id: &DocId) -> Option<u32>
+    /// The shard of the document, which stands at `doc` where it was called before.
+    pub(crate) fn known_shard(&self, doc: Option<usize>, id: &DocId) -> Option<u32>
+        requires { doc ≡ position (λ d. is_same id.now d.0) (documents_of self.now) }
         ensures { result ≡ shard_of self.now id.now }
     {
-        self.documents.get(id).copied()
+        match doc {
+            Some(doc) => match self.documents.get_index(doc) {
+                Some((_, shard)) => Some(*shard),
+                None => None,
+            },
+            None => None,
+        }
     }
 
-    /// Adds a call that is not refused, unless memory is.
+    /// Adds a call that is not refused, unless memory is. Its document stands at `doc`, or is new.
     #[tactic(auto, using(crate::proofs::PushLemmas::indexed_after_call))]
     pub(crate) fn append_call(
         &mut self,
+        doc: Option<usize>,
         no: u64,
         shard: u32,
         id: DocId,
@@ -151,6 +159,7 @@ impl History {
     ) -> Result<(), NoMemory>
         requires accepted { refusal_of self.old (Call no shard id op) ≡ None }
         requires shard { shard < SHARDS }
+        requires stands { doc ≡ position (λ d. is_same id d.0) (documents_of self.old) }
         ensures ok { OnOk result (self.new ≡ self.old ++ Call no shard id op ∷ []) }
         ensures err { OnErr result (self.new ≡ self.old) }
         ensures history { IsHistory self.new }
@@ -162,6 +171,7 @@ impl History {
         self.calls.note_call(
             &mut self.documents,
             &mut self.document_calls,
+            doc,
             no,
             &id,
             shard,

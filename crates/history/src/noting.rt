@@ -1,4 +1,4 @@
-ghost use Rattle.std.specs.Prelude.{◌≡◌, ◌++◌, ◌∷◌, [], IfOk, OnOk, OnErr, false, is_some, length};
+ghost use Rattle.std.specs.Prelude.{◌≡◌, ◌++◌, ◌∷◌, [], IfOk, OnOk, OnErr, false, is_some, length, position};
 ghost use Rattle.std.specs.Map.{lookup};
 ghost use Rattle.history.specs.Events.{is_same, with_document};
 ghost use Rattle.history.specs.aids.Indexes.{lists_in, with_listed};
@@ -41,23 +41,25 @@ fn note_new_document(
     Ok(())
 }
 
-/// Notes the place of a call among those of its document, which goes to the end of the documents unless it is there.
+/// Notes the place of a call among those of its document, which stands at `doc`, or goes to the end of the documents.
 /// Where memory is refused, nothing is noted.
 pub fn note_document_call(
     documents: &mut IndexMap<DocId, u32, HashKeys>,
     document_calls: &mut Vec<Vec<usize>>,
+    doc: Option<usize>,
     id: &DocId,
     shard: u32,
     place: usize,
 ) -> Result<(), NoMemory>
-    requires { length document_calls.old.items ≡ length documents.old.entries }
+    requires sizes { length document_calls.old.items ≡ length documents.old.entries }
+    requires stands { doc ≡ position (λ d. is_same id.now d.0) documents.old.entries }
     ensures ok { OnOk result (documents.new.entries ≡ with_document documents.old.entries id.now shard) }
     ensures listed { OnOk result (lists_in document_calls.new.items
         ≡ with_listed documents.old.entries (lists_in document_calls.old.items) id.now place) }
     ensures err { OnErr result (documents.new.entries ≡ documents.old.entries) }
     ensures unlisted { OnErr result (lists_in document_calls.new.items ≡ lists_in document_calls.old.items) }
 {
-    match documents.get_index_of(id) {
+    match doc {
         Some(doc) => {
             document_calls[doc].push(place)?;
             Ok(())

@@ -24,10 +24,11 @@ impl History {
         ensures err { OnErr result (self.new ≡ self.old) }
         ensures reason { refusal_told result ≡ refusal_of self.old (Call no shard id op) }
     {
-        if let Some(fault) = self.call_refusal(no, shard, &id) {
+        let doc = self.doc_of(&id);
+        if let Some(fault) = self.call_refusal(doc, no, shard, &id) {
             return Err(fault);
         }
-        match self.append_call(no, shard, id, op) {
+        match self.append_call(doc, no, shard, id, op) {
             Ok(()) => Ok(()),
             Err(_) => Err(HistFault::NoMemory),
         }

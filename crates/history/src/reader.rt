@@ -62,10 +62,11 @@ fn take_line(
         (λ cause. read_line takes_value number history.old line.now ≡ Err cause)) }
     ensures unchanged { OnErr result (history.new ≡ history.old) }
 {
-    match given_fields(number, line) {
-        Some(fields) => take_fields(alloc, history, &fields),
-        None => take_value(alloc, history, number, line),
+    let mut fields = LineFields::absent();
+    if given_fields(number, line, &mut fields) {
+        return take_fields(alloc, history, &fields);
     }
+    take_value(alloc, history, number, line)
 }
 
 /// A history that is read line by line.

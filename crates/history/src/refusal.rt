@@ -1,6 +1,7 @@
 ghost use Rattle.doc_register.specs.declared.op.Op.{Op};
 ghost use Rattle.history.specs.declared.event.Event.TheVariants.{Call};
-ghost use Rattle.std.specs.Prelude.{◌≡◌, ◌<◌, length};
+ghost use Rattle.std.specs.Prelude.{◌≡◌, ◌<◌, length, position};
+ghost use Rattle.history.specs.Events.{documents_of, is_same};
 ghost use Rattle.history.specs.Refusal.{refusal_of, when_full};
 ghost use Rattle.history.specs.aids.Indexes.{is_answerable as answerable, open_call_of};
 
@@ -22,14 +23,21 @@ impl History {
         }
     }
 
-    /// Why a call is refused, if it is.
-    pub(crate) fn call_refusal(&self, no: u64, shard: u32, id: &DocId) -> Option<HistFault>
+    /// Why a call is refused, if it is. Its document stands at `doc`, or is new.
+    pub(crate) fn call_refusal(
+        &self,
+        doc: Option<usize>,
+        no: u64,
+        shard: u32,
+        id: &DocId,
+    ) -> Option<HistFault>
+        requires { doc ≡ position (λ d. is_same id.now d.0) (documents_of self.now) }
         ensures { (op : Op) → result ≡ refusal_of self.now (Call no shard id.now op) }
     {
         if self.call(no).is_some() {
             return Some(HistFault::SecondCall);
         }
-        match self.known_shard(id) {
+        match self.known_shard(doc, id) {
             Some(known) if known != shard => Some(HistFault::ShardMoved),
             _ => self.refusal_for_room(),
         }

@@ -78,7 +78,7 @@ pub fn line_says(alloc: Global, value: &Value, begun: bool) -> Result<WitnessLin
             Ok(place(rec, seq, term, begun)?)
         }
         Field::Text(id) => document(alloc, id),
-        Field::Whole(_) | Field::NotWhole | Field::Bool(_) | Field::Other => {
+        Field::Whole(_) | Field::NotWhole | Field::True | Field::False | Field::Other => {
             Err(LineFault::Told(TextCause::Shape))
         }
     }

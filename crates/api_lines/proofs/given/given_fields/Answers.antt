@@ -3,7 +3,6 @@ use Rattle.serde_json.specs.Read.{read}
 use Rattle.api_lines.specs.Lines.{is_blank, longest_line, most_lines}
 use Rattle.api_lines.proofs.JsonLemmas.{json_value_is}
 use Rattle.api_lines.proofs.ReadingLemmas.{given_value}
-use Rattle.api_lines.proofs.TokenLemmas.{IfSome-map}
 use Rattle.api_lines.proofs.given.given_fields.Goals as goal
 
 pub returns-in-Ok : goal.returns-in-Ok
@@ -12,8 +11,9 @@ returns-in-Ok c =
     let short : length c.args.line.now ≤ longest_line = omega arith in
     let written : is_blank c.args.line.now ≡ false = grind arith in
     let text = c.in-Ok.ensures.cases in
-    IfSome-map _ _ c.quick_fields.result (λ fields found. (
+    λ told.
+    let found = c.quick_fields.ensures told in (
       found.0,
       given_value c.args.number c.args.line.now found.0 few short written (json_value_is c.args.line.now found.0 (text.1, ap read (sym text.0) ∙ found.1)),
       found.2,
-    )) c.quick_fields.ensures
+    )

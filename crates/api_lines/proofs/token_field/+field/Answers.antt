@@ -12,7 +12,7 @@ field-returns-in_ok-text-in-34-clause-read t c =
 
 pub field-returns-in_ok-truth-in-116-clause-read : goal.field-returns-in_ok-truth-in-116-clause-read
 field-returns-in_ok-truth-in-116-clause-read t c =
-    (boolean _, ap (λ ts. converted of_json (value c.args.depth ts)) c.in_ok-truth-in-116.ensures ∙ value-boolean c.args.depth _ (tokens_left c.truth.new.self), refl)
+    (boolean _, ap (λ ts. converted of_json (value c.args.depth ts)) c.in_ok-truth-in-116.ensures ∙ value-boolean c.args.depth _ (tokens_left c.truth.new.self), c.of_bool.ensures)
 
 pub field-returns-in_ok-null-in-110-clause-read : goal.field-returns-in_ok-null-in-110-clause-read
 field-returns-in_ok-null-in-110-clause-read t c =

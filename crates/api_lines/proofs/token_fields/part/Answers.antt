@@ -15,7 +15,7 @@ pub members-preserved-then-eq : goal.members-preserved-then-eq
 members-preserved-then-eq c =
     let i = c.members.invariant in
     let k = c.in-Some.name.now in
-    let found = c.in_ok-next.ensures in
+    let found = c.in_ok-field.ensures in
     let named : read_key (tokens_left c.members.scanner) ≡ Some (Some k, (tokens_left c.key.new.self)) = grind arith in
     let test : bytes_eq k c.args.wanted.now ≡ true = grind arith in (
       put k found.read.0 i.0,
@@ -27,7 +27,7 @@ pub members-preserved : goal.members-preserved
 members-preserved c =
     let i = c.members.invariant in
     let k = c.in-Some.name.now in
-    let found = c.in_ok-next.ensures in
+    let found = c.in_ok-field.ensures in
     let named : read_key (tokens_left c.members.scanner) ≡ Some (Some k, (tokens_left c.key.new.self)) = grind arith in
     let test : bytes_eq k c.args.wanted.now ≡ false = grind arith in (
       put k found.read.0 i.0,

@@ -3,6 +3,7 @@ use Rattle.history.specs.declared.event.Event.TheVariants.{Call}
 use Rattle.history.specs.Events.{with_document}
 use Rattle.history.specs.aids.CallPlaces.{AreFoundAlike}
 use Rattle.history.specs.aids.Indexes.{AreIndexed, IsNotedAt, lists_in, with_listed}
+use Rattle.history.proofs.DocumentLemmas.{stands_among}
 use Rattle.history.proofs.PushLemmas.{indexed_alike, indexed_by_call}
 use Rattle.history.proofs.history.History.append_call.Goals as goal
 
@@ -40,3 +41,7 @@ invariant_of-self-in_err-note_call c =
     let documents : c.note_call.new.documents.entries ≡ c.self.inside.documents.entries = search rules in
     let lists : lists_in c.note_call.new.document_calls.items ≡ lists_in c.self.inside.document_calls.items = search rules in
     rw (events, endings, documents, lists) whole
+
+pub note_call-requires-clause-stands : goal.note_call-requires-clause-stands
+note_call-requires-clause-stands c =
+    stands_among c.args.doc c.args.id c.args.self.now c.self.inside.events.items c.self.inside.documents.entries c.requires.stands c.self.view_is c.self.invariant.in_order

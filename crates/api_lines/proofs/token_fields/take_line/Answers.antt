@@ -4,7 +4,7 @@ use Rattle.json.specs.Token.{begin_object}
 use Rattle.serde_json.specs.Data.{object}
 use Rattle.api_lines.specs.aids.Scanning.{tokens_left}
 use Rattle.api_lines.proofs.TokenLemmas.{object_read}
-use Rattle.api_lines.proofs.token_fields.quick_fields.Goals as goal
+use Rattle.api_lines.proofs.token_fields.take_line.Goals as goal
 
 pub returns-then-is_over : goal.returns-then-is_over
 returns-then-is_over c =
