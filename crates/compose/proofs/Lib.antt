@@ -1,6 +1,7 @@
 mod ListedDocuments
 mod RestrictedOrders
 mod CoverLemmas
+mod UnorderedLemmas
 mod UnpairedPlaces
 mod Restriction
 mod Sorting

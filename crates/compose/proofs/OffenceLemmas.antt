@@ -12,14 +12,6 @@ use Rattle.history.specs.Laws.{LateCallsChangeNothing}
 use Rattle.history.proofs.ListLemmas.{get_front, get_snoc, none_is_not_some}
 use Rattle.compose.specs.aids.Replies.{AreReplies, IsReplyPlace, IsWrongFrom, places_with}
 
--- no events, no replies
-pub no_replies : (events : List Event) → AreReplies events 0 []
-no_replies events = record {
-  each = λ i p at. absurd (none_is_not_some p at);
-  all = λ p below is. absurd (omega arith);
-  rise = λ i j p q at bt before. absurd (none_is_not_some p at);
-}
-
 -- one event more that is no reply
 passed_over : (events : List Event) (n : ℕ) (places : List ℕ) → AreReplies events n places → (IsReplyPlace events n → ⊥) → AreReplies events (n + 1) places
 passed_over events n places are other = record {

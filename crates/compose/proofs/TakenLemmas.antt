@@ -172,10 +172,6 @@ noted_new xs t u x noted new keys twice = record {
 
 -- ---- lists that are gone along
 
--- nothing is added
-pub noted_none : (xs : List (ℕ × Pair)) (t : Taken) → AreNoted xs t → AreNoted (xs ++ []) t
-noted_none xs t noted = subst (λ ys. AreNoted ys t) (sym (append-nil xs)) noted
-
 -- one more place
 pub pairs_one_more : (h : ℕ) (records : List Rec) (places : List Place) (i : ℕ) (p : Place) → slice_get places i ≡ Some p
     → pairs_at h records (take (i + 1) places) ≡ pairs_at h records (take i places) ++ pairs_at h records (p ∷ [])

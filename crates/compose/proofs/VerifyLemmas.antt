@@ -133,13 +133,6 @@ entry_fault_document conflicts events before e marks ws entry (fault.DocMissing 
 entry_fault_document conflicts events before e marks ws entry (fault.PairTwice shard pair) are size wrong = absurd wrong
 entry_fault_document conflicts events before e marks ws entry fault.NoMemory are size wrong = absurd wrong
 
-pub entry_fault_places : (conflicts : Conflicts) (events : List Event) (before : List DocPlaces) (e : DocPlaces) (marks : List Bool) (ws : List Witness) (k entry : ℕ) (told : VerifyFault)
-    → AreVerified conflicts events before marks ws → length before ≡ entry → IsOpen events marks e.doc k → IsFaultOfPlaces conflicts events k entry e told
-    → IsFaultOfEntry conflicts events before e told
-entry_fault_places conflicts events before e marks ws k entry told are size free wrong =
-    let is = wrong (e.doc, free.0) free.1 in
-    subst (IsFaultOfEntry conflicts events before e) (sym is.1) (sym size, (free.0, (k, free.1)), not_entered conflicts events before marks ws e.doc k are free, is.2)
-
 -- ---- the first fault of all entries
 
 fine_front : (conflicts : Conflicts) (events : List Event) (before : List DocPlaces) (e : DocPlaces) (after : List DocPlaces) → AreFine conflicts events before

@@ -2,6 +2,7 @@ ghost use Rattle.std.specs.Prelude.{◌≡◌};
 ghost use Rattle.history.specs.Events.{IsHistory};
 ghost use Rattle.compose.specs.Covers.{HasNoUnpairedCover};
 ghost use Rattle.compose.specs.Verdicts.{HasNoOrderFound};
+ghost use Rattle.evidence.specs.Evidence.{AreDocuments, ListsRuledOut};
 
 use doc_register::Conflicts;
 use history::History;
@@ -15,28 +16,38 @@ use std::marker::Model;
 pub struct Case {
     history: History,
     conflicts: Conflicts,
+    // The documents for which no order was found at first: no other may be ruled out.
+    unordered: Vec<usize>,
 }
 
 impl Model for Case {
     ghost use Rattle.history.specs.Events.{IsHistory};
     ghost use Rattle.compose.specs.Covers.{HasNoUnpairedCover};
     ghost use Rattle.compose.specs.Verdicts.{Unproven};
+    ghost use Rattle.evidence.specs.Evidence.{AreDocuments, ListsRuledOut};
 
     ghost Value = { Unproven };
 
     ghost view = { λ c. record { events = c.history; conflicts = c.conflicts } };
 
-    ghost invariant = { λ c. IsHistory c.history × HasNoUnpairedCover c.conflicts c.history };
+    ghost invariant = { λ c. IsHistory c.history × HasNoUnpairedCover c.conflicts c.history
+        × AreDocuments c.history c.unordered.items × ListsRuledOut c.conflicts c.history c.unordered.items };
 }
 
 impl Case {
-    // The case of a history that no witnesses without a given pair cover.
-    pub(crate) fn of(history: History, conflicts: Conflicts) -> Case
+    // The case of a history that no witnesses without a given pair cover, and of whose documents only these may be ruled out.
+    pub(crate) fn of(history: History, conflicts: Conflicts, unordered: Vec<usize>) -> Case
         requires history { IsHistory history }
         requires uncovered { HasNoUnpairedCover conflicts history }
+        requires within { AreDocuments history unordered.items }
+        requires listed { ListsRuledOut conflicts history unordered.items }
         ensures { result ≡ record { events = history; conflicts = conflicts } }
     {
-        Case { history, conflicts }
+        Case {
+            history,
+            conflicts,
+            unordered,
+        }
     }
 
     /// The history.
@@ -49,6 +60,14 @@ impl Case {
         // A look at a field: what the type keeps is known from here on.
         let _ = &self.conflicts;
         &self.history
+    }
+
+    // The numbers of the documents that may be ruled out.
+    pub(crate) fn unordered(&self) -> &[usize]
+        ensures within { AreDocuments self.now.events result.now }
+        ensures listed { ListsRuledOut self.now.conflicts self.now.events result.now }
+    {
+        &self.unordered
     }
 
     /// How a conflict is read.

@@ -1,10 +1,10 @@
-ghost use Rattle.std.specs.Prelude.{◌≡◌, ◌<◌, ◌↔◌, IfErr, IfOk, IsErrOf, false, true};
+ghost use Rattle.std.specs.Prelude.{◌≡◌, ◌<◌, ◌↔◌, IfErr, IfOk, IsErrOf, false, length, true};
 ghost use Rattle.history.specs.Events.{documents_of};
 ghost use Rattle.history.specs.Order.{IsLinearizable, IsPlainlyRight};
 ghost use Rattle.compose.specs.Checked.{HandsBack, IsVerdictOn, IsYes, NamesDocument};
 ghost use Rattle.compose.specs.declared.checking.CheckFault.TheVariants.{NoMemory as Unchecked, Pool as Unpooled};
 ghost use Rattle.compose.specs.Verdicts.{HasNoOrderFound};
-ghost use Rattle.compose.specs.aids.Searched.{AreAnswersFor, IsCovering};
+ghost use Rattle.compose.specs.aids.Searched.{AreAnswersFor, AreUnordered, IsCovering};
 
 use crate::case::Case;
 use crate::found::answers_found;
@@ -87,6 +87,20 @@ pub fn is_explained(
     }
 }
 
+// The numbers of the documents for which no order was found.
+fn unordered_documents(alloc: Global, answers: &[DocAnswer]) -> Result<Vec<usize>, NoMemory>
+    ensures { IfOk result (λ docs. AreUnordered answers.now (length answers.now) docs.items) }
+{
+    let mut docs = Vec::new(alloc);
+    for doc in 0..answers.len() {
+        match &answers[doc] {
+            DocAnswer::Found(_) => {}
+            DocAnswer::NotFound(_) => docs.push(doc)?,
+        }
+    }
+    Ok(docs)
+}
+
 // The verdict on a history, by the answers of the search for its documents.
 fn verdict_of(
     alloc: Global,
@@ -101,9 +115,12 @@ fn verdict_of(
 {
     // A look at the history: that it is one is known from here on.
     let _ = history.len();
+    let Ok(unordered) = unordered_documents(alloc, &answers) else {
+        return Err(CheckFault::NoMemory(history));
+    };
     match covering(alloc, &history.whole(), answers, conflicts) {
         Ok(Some(witnesses)) => Ok(Verdict::Yes(Proof::of(history, witnesses, conflicts))),
-        Ok(None) => Ok(Verdict::No(Case::of(history, conflicts))),
+        Ok(None) => Ok(Verdict::No(Case::of(history, conflicts, unordered))),
         Err(_) => Err(CheckFault::NoMemory(history)),
     }
 }

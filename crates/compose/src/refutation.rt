@@ -16,11 +16,11 @@ pub fn refute(alloc: Global, case: &Case) -> Result<Option<Refuted>, NoMemory>
 }
 
 /// The evidence that a document of the case's history is ruled out, with conflicts read as the case reads them: the least call
-/// at which one is. `None` where none is.
+/// at which one is. `None` where none is. Only those documents are walked for which no order was found: the others have one.
 pub fn rule_out(alloc: Global, case: &Case) -> Result<Option<Refuted>, NoMemory>
     ensures holds { IfOk result (λ told. IfSome told (Holds case.now.conflicts case.now.events)) }
     ensures none { IfOk result (λ told. told ≡ Nothing
         → IsWithoutRuledOut case.now.conflicts case.now.events) }
 {
-    evidence::rule_out(alloc, case.history(), case.conflicts())
+    evidence::rule_out(alloc, case.history(), case.conflicts(), case.unordered())
 }

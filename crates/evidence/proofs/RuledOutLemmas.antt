@@ -12,7 +12,7 @@ use Rattle.ruled_out.specs.Told.{told}
 use Rattle.ruled_out.specs.Placings.{AreInOrder, IsRuledOut, IsRuledOutAt}
 use Rattle.ruled_out.proofs.RecordOrder.{records_in_order}
 use Rattle.ruled_out.proofs.WalkLemmas.{ruled_out_once}
-use Rattle.evidence.specs.Evidence.{IsRuledOutIn}
+use Rattle.evidence.specs.Evidence.{IsRuledOutIn, ListsRuledOut}
 use Rattle.evidence.specs.aids.RuledOutCalls.{IsRuledOutBefore, IsRuledOutCall, IsRuledOutDocument}
 
 -- the records of the document of a number
@@ -63,27 +63,32 @@ found_call conflicts events doc n within at =
 pub doc_within : (conflicts : Conflicts) (events : List Event) (n : ℕ) (is : IsRuledOutIn conflicts events n) → is.doc < length (documents_of events)
 doc_within conflicts events n is = slice_get_within (documents_of events) is.doc is.document is.listed
 
--- ---- the first documents
+-- ---- the first of some documents
 
 -- one more document, at which none was found yet
-pub none_more : (conflicts : Conflicts) (events : List Event) (docs : ℕ) → IsHistory events → IsRuledOutBefore conflicts events docs None → IsRuledOutDocument conflicts events docs None → IsRuledOutBefore conflicts events (docs + 1) None
-none_more conflicts events docs history before own n is less = by_place (cases_lt is.doc docs) where
-  by_place : ((is.doc < docs) ⊎ (docs ≤ is.doc)) → ⊥
-  by_place (inl earlier) = before n is earlier
+pub none_more : (conflicts : Conflicts) (events : List Event) (docs : List ℕ) (count doc : ℕ) → IsHistory events → slice_get docs count ≡ Some doc
+    → IsRuledOutBefore conflicts events docs count None → IsRuledOutDocument conflicts events doc None → IsRuledOutBefore conflicts events docs (count + 1) None
+none_more conflicts events docs count doc history at before own n is i less there = by_place (cases_lt i count) where
+  by_place : ((i < count) ⊎ (count ≤ i)) → ⊥
+  by_place (inl earlier) = before n is i earlier there
   by_place (inr not) =
-      let here : docs ≡ is.doc = omega arith in
+      let place : count ≡ i = omega arith in
+      let here : doc ≡ is.doc = same_some doc is.doc (sym at ∙ (ap (slice_get docs) place ∙ there)) in
       none_is_not_some n (only_call conflicts events n None history is (subst (λ d. IsRuledOutDocument conflicts events d None) here own))
 
 -- one more document, of whose call and the one found before the lesser is kept
-pub one_more : (conflicts : Conflicts) (events : List Event) (docs : ℕ) (least found both : Option ℕ) → IsHistory events → docs < length (documents_of events)
-    → IsRuledOutBefore conflicts events docs least → IsRuledOutDocument conflicts events docs found
-    → MatchOption both ((least ≡ None) × (found ≡ None)) (λ n. (least ≡ Some n) ⊎ (found ≡ Some n)) → IsRuledOutBefore conflicts events (docs + 1) both
-one_more conflicts events docs least found None history within before own none =
-    none_more conflicts events docs history (subst (IsRuledOutBefore conflicts events docs) none.0 before) (subst (IsRuledOutDocument conflicts events docs) none.1 own)
-one_more conflicts events docs least found (Some n) history within before own (inl was) = subst (IsRuledOutBefore conflicts events docs) was before
-one_more conflicts events docs least found (Some n) history within before own (inr is) = found_call conflicts events docs n within (subst (IsRuledOutDocument conflicts events docs) is own)
+pub one_more : (conflicts : Conflicts) (events : List Event) (docs : List ℕ) (count doc : ℕ) (least found both : Option ℕ) → IsHistory events → doc < length (documents_of events)
+    → slice_get docs count ≡ Some doc → IsRuledOutBefore conflicts events docs count least → IsRuledOutDocument conflicts events doc found
+    → MatchOption both ((least ≡ None) × (found ≡ None)) (λ n. (least ≡ Some n) ⊎ (found ≡ Some n)) → IsRuledOutBefore conflicts events docs (count + 1) both
+one_more conflicts events docs count doc least found None history within at before own none =
+    none_more conflicts events docs count doc history at (subst (IsRuledOutBefore conflicts events docs count) none.0 before) (subst (IsRuledOutDocument conflicts events doc) none.1 own)
+one_more conflicts events docs count doc least found (Some n) history within at before own (inl was) = subst (IsRuledOutBefore conflicts events docs count) was before
+one_more conflicts events docs count doc least found (Some n) history within at before own (inr is) = found_call conflicts events doc n within (subst (IsRuledOutDocument conflicts events doc) is own)
 
--- all documents
-pub all_documents : (conflicts : Conflicts) (events : List Event) (docs : ℕ) (least : Option ℕ) → length (documents_of events) ≤ docs → IsRuledOutBefore conflicts events docs least → IsRuledOutCall conflicts events least
-all_documents conflicts events docs None all before = λ n is. before n is (let within : is.doc < length (documents_of events) = doc_within conflicts events n is in omega arith)
-all_documents conflicts events docs (Some n) all before = before
+-- all that may be ruled out
+pub all_documents : (conflicts : Conflicts) (events : List Event) (docs : List ℕ) (count : ℕ) (least : Option ℕ) → ListsRuledOut conflicts events docs → length docs ≤ count
+    → IsRuledOutBefore conflicts events docs count least → IsRuledOutCall conflicts events least
+all_documents conflicts events docs count None listed all before = λ n is.
+    let here = listed n is in
+    before n is here.0 (let within : here.0 < length docs = slice_get_within docs here.0 is.doc here.1 in omega arith) here.1
+all_documents conflicts events docs count (Some n) listed all before = before

@@ -1,5 +1,5 @@
 -- Evidence in a history that no order of its calls explains it.
-use Rattle.std.specs.Prelude.{◌≡◌, ◌≢◌, ◌<◌, ◌⊎◌, ℕ, List, Option, Some, None, slice_get}
+use Rattle.std.specs.Prelude.{◌≡◌, ◌≢◌, ◌<◌, ◌⊎◌, ℕ, List, Option, Some, None, length, slice_get}
 use Rattle.version_pair.specs.declared.pair.Pair.{Pair}
 use Rattle.version_pair.specs.PairOrder.{IsBelow}
 use Rattle.doc_register.specs.declared.op.Op.{Op}
@@ -118,6 +118,14 @@ pub record IsRuledOutIn (conflicts : Conflicts) (events : List Event) (n : ℕ) 
 -- none of its documents is ruled out
 abbrev pub IsWithoutRuledOut : Conflicts → List Event → Type 0
 IsWithoutRuledOut conflicts events = (n : ℕ) → ¬ IsRuledOutIn conflicts events n
+
+-- each document that is ruled out is among these, by their numbers
+abbrev pub ListsRuledOut : Conflicts → List Event → List ℕ → Type 0
+ListsRuledOut conflicts events docs = (n : ℕ) (is : IsRuledOutIn conflicts events n) → (i : ℕ) × (slice_get docs i ≡ Some is.doc)
+
+-- these are numbers of documents of the history
+abbrev pub AreDocuments : List Event → List ℕ → Type 0
+AreDocuments events docs = (i doc : ℕ) → slice_get docs i ≡ Some doc → doc < length (documents_of events)
 
 -- the evidence holds in the history, with conflicts read as told
 abbrev pub Holds : Conflicts → List Event → Refuted → Type 0

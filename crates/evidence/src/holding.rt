@@ -158,8 +158,8 @@ fn is_stale_swap(history: &History, one: u64, two: u64) -> bool
 }
 
 /// Whether the evidence holds in the history, with conflicts read as told. A call number that the history doesn't have
-/// is no evidence. It takes one walk over the events at most; and memory for a call at which its document is ruled out, and for
-/// no other evidence.
+/// is no evidence. It takes one walk over the events at most; but for a call at which its document is ruled out it takes memory too,
+/// and a walk over the calls of each document up to that one, which sorts their pairs.
 pub fn refutes(
     alloc: Global,
     history: &History,

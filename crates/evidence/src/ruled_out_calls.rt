@@ -2,7 +2,7 @@
 
 ghost use Rattle.std.specs.Prelude.{◌≡◌, ◌<◌, ◌⊎◌, ◌↔◌, IfOk, IsTrue, MatchOption, None as Nothing, Some as Just, length};
 ghost use Rattle.history.specs.Events.{IsHistory, documents_of};
-ghost use Rattle.evidence.specs.Evidence.{IsRuledOutIn};
+ghost use Rattle.evidence.specs.Evidence.{AreDocuments, IsRuledOutIn, ListsRuledOut};
 ghost use Rattle.evidence.specs.aids.RuledOutCalls.{IsRuledOutCall, IsRuledOutDocument};
 
 use doc_register::Conflicts;
@@ -55,18 +55,21 @@ pub fn is_ruled_out(
     Ok(false)
 }
 
-/// The least call at which a document of the history is ruled out.
+/// The least call at which a document of the history is ruled out, where these are the numbers of all that may be.
 pub fn least_ruled_out(
     alloc: Global,
     history: &History,
     conflicts: Conflicts,
+    docs: &[usize],
 ) -> Result<Option<u64>, NoMemory>
-    requires { IsHistory history.now }
+    requires history { IsHistory history.now }
+    requires within { AreDocuments history.now docs.now }
+    requires listed { ListsRuledOut conflicts history.now docs.now }
     ensures { IfOk result (IsRuledOutCall conflicts history.now) }
 {
     let mut least = None;
-    for doc in 0..history.docs() {
-        least = lesser(least, ruled_out_call(alloc, history, doc, conflicts)?);
+    for i in 0..docs.len() {
+        least = lesser(least, ruled_out_call(alloc, history, docs[i], conflicts)?);
     }
     Ok(least)
 }

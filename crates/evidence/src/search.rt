@@ -7,7 +7,7 @@ mod stale_reads;
 mod unwritten_reads;
 
 ghost use Rattle.std.specs.Prelude.{◌≡◌, None as Nothing, IfOk, IfSome};
-ghost use Rattle.evidence.specs.Evidence.{Holds, IsWithoutRuledOut};
+ghost use Rattle.evidence.specs.Evidence.{AreDocuments, Holds, IsWithoutRuledOut, ListsRuledOut};
 
 use crate::holding::refutes;
 use crate::refuted::Refuted;
@@ -71,18 +71,21 @@ pub fn find_evidence(
 }
 
 /// The evidence that a document of the history is ruled out, with conflicts read as told: the least call at which one is.
-/// `None` where none is.
+/// `None` where none is. Only documents of these numbers are looked at, and no other may be ruled out.
 pub fn rule_out(
     alloc: Global,
     history: &History,
     conflicts: Conflicts,
+    docs: &[usize],
 ) -> Result<Option<Refuted>, NoMemory>
+    requires within { AreDocuments history.now docs.now }
+    requires listed { ListsRuledOut conflicts history.now docs.now }
     ensures holds { IfOk result (λ told. IfSome told (Holds conflicts history.now)) }
     ensures none { IfOk result (λ told. told ≡ Nothing → IsWithoutRuledOut conflicts history.now) }
 {
     // A look at the history: that it is one is known from here on.
     let _ = history.len();
-    match least_ruled_out(alloc, history, conflicts)? {
+    match least_ruled_out(alloc, history, conflicts, docs)? {
         Some(call) => Ok(Some(Refuted::RuledOut(call))),
         None => Ok(None),
     }

@@ -33,12 +33,6 @@ met_pair Never p has = absurd has
 met_pair (Gone q) p has = absurd has
 met_pair (Here q k) p has = (ap (λ x. Some x) has, refl)
 
--- a pair above the document's exceeds it
-pub exceeds_pair : (s : DocState) (q p : Pair) → last_pair s ≡ Some q → IsBelow q p → Exceeds p s
-exceeds_pair Never q p is below = absurd (none_is_not_some q is)
-exceeds_pair (Gone r) q p is below = subst (λ x. IsBelow x p) (sym (same_some r q is)) below
-exceeds_pair (Here r k) q p is below = subst (λ x. IsBelow x p) (sym (same_some r q is)) below
-
 pub exceeds_above : (s : DocState) (q p : Pair) → last_pair s ≡ Some q → Exceeds p s → IsBelow q p
 exceeds_above s q p is exceeds = below_new q p s (pair_reached s q is) exceeds
 

@@ -20,12 +20,6 @@ use Rattle.ruled_out.specs.aids.Wild.{IsOffered}
 abbrev pub AreAdded : List ℕ → ℕ → ℕ → BTreeSet ℕ → BTreeSet ℕ → Type 0
 AreAdded rooms floor i old new = (q : ℕ) → IsIn new q ↔ (((floor ≤ q) × IsAmong (take i rooms) q) ⊎ IsIn old q)
 
-pub added_first : (rooms : List ℕ) (floor : ℕ) (set : BTreeSet ℕ) → AreAdded rooms floor 0 set set
-added_first rooms floor set q = (λ is. inr is, by_case) where
-  by_case : ((floor ≤ q) × IsAmong [] q) ⊎ IsIn set q → IsIn set q
-  by_case (inl both) = absurd (none_is_not_some q both.1.1)
-  by_case (inr is) = is
-
 among_next : (rooms : List ℕ) (i n q : ℕ) → slice_get rooms i ≡ Some n → IsAmong (take (i + 1) rooms) q → IsAmong (take i rooms) q ⊎ (n ≡ q)
 among_next rooms i n q at among = by_place (get_snoc (take i rooms) n q among.0 (subst (λ (xs : List ℕ). slice_get xs among.0 ≡ Some q) front among.1)) where
   front : take (i + 1) rooms ≡ take i rooms ++ n ∷ []
@@ -111,23 +105,4 @@ offered_one records lower floor m old new gap over adds n = (λ is. forth ((adds
 
   back : ((floor ≤ n) × IsOffered records (Some lower) n) ⊎ IsIn old n → (n ≡ m) ⊎ IsIn old n
   back (inl both) = inl (sym (same_some m n ((gap n).1 (has_room records lower n both.1))))
-  back (inr is) = inr is
-
--- where a write without condition was offered with a lower floor nothing is new
-pub offered_before : (records : List Rec) (p : Possible) (from floor : ℕ) → KeepsRooms records p → p.anywhere ≡ Some from → from ≤ floor → IsOfferedTo records None floor p.positions p.positions
-offered_before records p from floor keeps is low n = (λ there. inr there, by_case) where
-  by_case : ((floor ≤ n) × IsOffered records None n) ⊎ IsIn p.positions n → IsIn p.positions n
-  by_case (inl both) = keeps n both.1 (subst (λ o. IsFrom o n) (sym is) (let over : floor ≤ n = both.0 in omega arith))
-  by_case (inr there) = there
-
--- all positions with room from the floor on were added
-pub offered_rooms : (records : List Rec) (rooms : List ℕ) (floor : ℕ) (old new : BTreeSet ℕ) → AreRooms records rooms → ((n : ℕ) → IsIn new n ↔ (((floor ≤ n) × IsAmong rooms n) ⊎ IsIn old n))
-    → IsOfferedTo records None floor old new
-offered_rooms records rooms floor old new are adds n = (λ is. forth ((adds n).0 is), λ o. (adds n).1 (back o)) where
-  forth : ((floor ≤ n) × IsAmong rooms n) ⊎ IsIn old n → ((floor ≤ n) × IsOffered records None n) ⊎ IsIn old n
-  forth (inl both) = inl (both.0, (are n).0 both.1)
-  forth (inr is) = inr is
-
-  back : ((floor ≤ n) × IsOffered records None n) ⊎ IsIn old n → ((floor ≤ n) × IsAmong rooms n) ⊎ IsIn old n
-  back (inl both) = inl (both.0, (are n).1 both.1)
   back (inr is) = inr is

@@ -151,7 +151,7 @@ floor_is x i r at = ap (λ o. position_at x (place_in x.order (number_of o))) at
 pub place_of_record : (x : Explained) (i : ℕ) (p : Placed) (r : Rec) → IsRecordOf x i p r → place_in x.order r.no ≡ i
 place_of_record x i p r of = by_found (place_found x.order r.no i p of.entry.at of.number) where
   by_found : (q : Placed) × (slice_get x.order (place_in x.order r.no) ≡ Some q) × (q.no ≡ r.no) → place_in x.order r.no ≡ i
-  by_found (q, at, number) = x.explains.is_order.once (place_in x.order r.no) i q p at of.entry.at (number ∙ sym of.number)
+  by_found (q, at, number) = x.explains.once (place_in x.order r.no) i q p at of.entry.at (number ∙ sym of.number)
 
 -- what stands before an answered call was called before its reply
 pub called_before : (x : Explained) (i j : ℕ) (p r : Placed) (w c : Rec) (replied : ℕ) (reply : Answer) → IsRecordOf x i p w → IsRecordOf x j r c → c.heard ≡ Some (replied, reply)
@@ -207,5 +207,5 @@ takes_as_told x k p w q of takes = by_heard w.heard refl where
   by_heard (Some (y, Found v k)) heard = absurd (none_is_not_some q (shows y (Found v k) heard))
   by_heard (Some (y, Missing)) heard = absurd (none_is_not_some q (shows y Missing heard))
   by_heard (Some (y, Conflict)) heard =
-      let plain : p.entry.hidden ≡ None = x.explains.is_order.plain ((heard_told x of.listed.0 w y Conflict of.listed.1 heard).1 refl) k p of.entry.at in
+      let plain : p.entry.hidden ≡ None = x.explains.plain ((heard_told x of.listed.0 w y Conflict of.listed.1 heard).1 refl) k p of.entry.at in
       absurd (none_is_not_some q (sym plain ∙ shows y Conflict heard))

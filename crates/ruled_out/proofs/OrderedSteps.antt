@@ -20,15 +20,16 @@ use Rattle.history.specs.declared.event.Event.{Event}
 use Rattle.history.specs.declared.record.Rec.{Rec}
 use Rattle.history.specs.Events.{IsCallAt, IsHistory, IsReplyAt, PassesAt, Precedes, is_call, records_of}
 use Rattle.history.specs.Laws.{IsSplitByDocument}
-use Rattle.history.specs.Order.{Explains, IsOfCall, Placed, run_of}
+use Rattle.history.specs.Order.{IsOfCall, Placed, run_of}
 use Rattle.history.proofs.EventLemmas.{same_call}
 use Rattle.history.proofs.HistoryLemmas.{call_passes}
 use Rattle.history.proofs.ListLemmas.{compare, mapped_from, none_is_not_some, same_some}
 use Rattle.history.proofs.RecordLaws.{split_by_document}
+use Rattle.ruled_out.specs.Laws.{ExplainsWithin}
 use Rattle.ruled_out.specs.Told.{IsListed, as_told, told, told_of}
 use Rattle.ruled_out.proofs.DocumentSteps.{IsTakenBefore, at_place, came, exceeds_earlier, keeps, leaves_it, never_written, own_step, pair_reached}
 
--- ---- a document of a history that an order explains
+-- ---- a document that an order explains
 
 pub record Explained : Type 0 where
   pub conflicts : Conflicts
@@ -36,7 +37,7 @@ pub record Explained : Type 0 where
   pub order : List Placed
   pub doc : List ℕ
   pub history : IsHistory events
-  pub explains : Explains conflicts events order
+  pub explains : ExplainsWithin conflicts events doc order
 
 -- the records of the document, as they are told
 abbrev pub recs : Explained → List Rec
@@ -72,10 +73,6 @@ performs_at x i p q e takes =
 -- the document does not fall below a pair that it has reached
 pub reached_later : (x : Explained) (q : Pair) (i j : ℕ) → i ≤ j → AtMost q (doc_at x i) → AtMost q (doc_at x j)
 reached_later x q i j within most = keeps x.doc q i j start (run_of x.order) x.explains.legal.0 x.explains.legal.1 within most
-
--- a pair that exceeds the document exceeds what it was before
-pub exceeds_before : (x : Explained) (q : Pair) (i j : ℕ) → i ≤ j → Exceeds q (doc_at x j) → Exceeds q (doc_at x i)
-exceeds_before x q i j within exceeds = exceeds_earlier x.doc q i j start (run_of x.order) x.explains.legal.0 x.explains.legal.1 within exceeds
 
 -- once a pair is taken the document has reached it
 pub reached_after : (x : Explained) (i j : ℕ) (p : Placed) (q : Pair) → i < j → IsEntry x i p → pair_taken p.entry.reply p.entry.hidden ≡ Some q → AtMost q (doc_at x j)
@@ -232,7 +229,7 @@ pub record IsRecordOf (x : Explained) (i : ℕ) (p : Placed) (r : Rec) : Type 0 
 pub of_record : (x : Explained) (i : ℕ) (p : Placed) (r : Rec) → slice_get x.order i ≡ Some p → IsListed (recs x) r → p.no ≡ r.no → IsRecordOf x i p r
 of_record x i p r at listed number =
     let call = call_of x listed.0 r listed.1 in
-    let of : IsOfCall x.events p = x.explains.is_order.calls i p at in
+    let of : IsOfCall x.events p = x.explains.calls i p at in
     let place : of.0 ≡ r.call_at = x.history.called_once r.no of.0 r.call_at
     (subst (λ n. PassesAt (is_call n) x.events of.0) number (call_passes x.events of.0 p.no p.entry.shard p.entry.doc p.entry.op of.1))
     (call_passes x.events r.call_at r.no call.0 x.doc r.op call.1) in
@@ -243,7 +240,7 @@ of_record x i p r at listed number =
 -- what stands in the order has a record
 pub record_of : (x : Explained) (i : ℕ) (p : Placed) → IsEntry x i p → (r : Rec) × IsRecordOf x i p r
 record_of x i p e =
-    let of : IsOfCall x.events p = x.explains.is_order.calls i p e.at in
+    let of : IsOfCall x.events p = x.explains.calls i p e.at in
     let call : IsCallAt x.events of.0 p.no p.entry.shard x.doc p.entry.op = subst (λ d. IsCallAt x.events of.0 p.no p.entry.shard d p.entry.op) e.doc of.1 in
     let r = (split x).recorded of.0 p.no p.entry.shard x.doc p.entry.op call in
     let own = (split x).of_call x.doc r.0 r.1 r.2 in
@@ -259,9 +256,10 @@ pub record IsAnswered (x : Explained) (r : Rec) (reply : Answer) : Type 0 where
 
 pub answered : (x : Explained) (r : Rec) (replied : ℕ) (reply : Answer) → IsListed (recs x) r → r.heard ≡ Some (replied, reply) → IsAnswered x r reply
 answered x r replied reply listed heard =
-    let a = x.explains.is_order.answered replied r.no reply (heard_told x listed.0 r replied reply listed.1 heard).0 in
+    let call = call_of x listed.0 r listed.1 in
+    let a = x.explains.answered replied r.call_at r.no call.0 r.op reply (heard_told x listed.0 r replied reply listed.1 heard).0 call.1 in
     let q = place_found x.order r.no a.0 a.1 a.2 a.3 in
-    let place : place_in x.order r.no ≡ a.0 = x.explains.is_order.once (place_in x.order r.no) a.0 q.0 a.1 q.1 a.2 (q.2 ∙ sym a.3) in
+    let place : place_in x.order r.no ≡ a.0 = x.explains.once (place_in x.order r.no) a.0 q.0 a.1 q.1 a.2 (q.2 ∙ sym a.3) in
     let same : q.0 ≡ a.1 = same_some q.0 a.1 (sym q.1 ∙ (ap (slice_get x.order) place ∙ a.2)) in
     record {
       placed = q.0;
@@ -273,7 +271,7 @@ answered x r replied reply listed heard =
 pub same_reply : (x : Explained) (i : ℕ) (p : Placed) (r : Rec) (replied : ℕ) (reply : Answer) → IsRecordOf x i p r → r.heard ≡ Some (replied, reply) → p.entry.reply ≡ reply
 same_reply x i p r replied reply of heard =
     let a = answered x r replied reply of.listed heard in
-    let place : i ≡ place_in x.order r.no = x.explains.is_order.once i (place_in x.order r.no) p a.placed of.entry.at a.own.entry.at (of.number ∙ sym a.own.number) in
+    let place : i ≡ place_in x.order r.no = x.explains.once i (place_in x.order r.no) p a.placed of.entry.at a.own.entry.at (of.number ∙ sym a.own.number) in
     let same : p ≡ a.placed = same_some p a.placed (sym of.entry.at ∙ (ap (slice_get x.order) place ∙ a.own.entry.at)) in
     ap (λ (y : Placed). y.entry.reply) same ∙ a.replies
 

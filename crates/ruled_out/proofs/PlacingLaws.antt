@@ -10,13 +10,17 @@ use Rattle.doc_register.specs.declared.state.DocState.{DocState}
 use Rattle.doc_register.specs.declared.state.DocState.TheVariants.{Never, Gone, Here}
 use Rattle.doc_register.specs.Register.{DocStep, HasPair, IsPerformed, Performs, condition_of, is_here, last_pair, performed_state, value_of}
 use Rattle.doc_register.specs.Run.{pair_taken}
+use Rattle.doc_register.specs.declared.state.Conflicts.{Conflicts}
+use Rattle.history.specs.declared.event.Event.{Event}
 use Rattle.history.specs.declared.record.Rec.{Rec}
+use Rattle.history.specs.Events.{IsHistory, records_of}
 use Rattle.history.specs.Heard.{pair_of}
+use Rattle.history.specs.Order.{Explains, Placed}
 use Rattle.history.proofs.ListLemmas.{get_within, none_is_not_some, same_some}
-use Rattle.ruled_out.specs.Told.{IsGone, IsKnown, IsListed, IsToldOf, pair_shown}
+use Rattle.ruled_out.specs.Told.{IsGone, IsKnown, IsListed, IsToldOf, pair_shown, told}
 use Rattle.ruled_out.specs.Positions.{position_after, version_of}
 use Rattle.ruled_out.specs.Placings.{IsPlacing, IsReached, Lifts, MayAnswer, MayBeAbsent, MayBePresent, MayChange, MayConflict, MayRefuse, MayStand, MayWrite}
-use Rattle.ruled_out.specs.Laws.{ExplainedHavePlacings, RuledOutHaveNoOrder}
+use Rattle.ruled_out.specs.Laws.{ExplainedHavePlacings, ExplainsWithin, OrderedAreNotRuledOut, RuledOutHaveNoOrder}
 use Rattle.ruled_out.proofs.Counts.{known_or_not, no_gap_is_version, same_version, shown_known}
 use Rattle.ruled_out.proofs.DocumentSteps.{exceeds_above, leaves_it, meets, met_pair}
 use Rattle.ruled_out.proofs.OrderedSteps.{Explained, IsAnswered, IsRecordOf, IsTaken, answered, doc_at, heard_told, of_record, performs_at, place_in, place_is, reached_after, record_of, recs, same_state, stands_first, taken_for}
@@ -282,7 +286,7 @@ may_answer x c replied Missing listed s =
     absent_there x (place_in x.order c.no) c replied Missing s
     (missing_away (doc_at x (place_in x.order c.no)) c.op s.answered.placed.entry.hidden (doc_at x (suc (place_in x.order c.no))) (told_step x c Missing s.answered))
 may_answer x c replied Conflict listed s =
-    let plain : s.answered.placed.entry.hidden ≡ None = x.explains.is_order.plain ((heard_told x listed.0 c replied Conflict listed.1 s.heard).1 refl) (place_in x.order c.no) s.answered.placed s.answered.own.entry.at in
+    let plain : s.answered.placed.entry.hidden ≡ None = x.explains.plain ((heard_told x listed.0 c replied Conflict listed.1 s.heard).1 refl) (place_in x.order c.no) s.answered.placed s.answered.own.entry.at in
     may_conflict x (place_in x.order c.no) c replied Conflict c.op (doc_at x (suc (place_in x.order c.no))) s
     (subst (λ h. DocStep (doc_at x (place_in x.order c.no)) c.op Conflict h (doc_at x (suc (place_in x.order c.no)))) plain (told_step x c Conflict s.answered))
 
@@ -350,12 +354,32 @@ explained_placing x event i c replied reply at heard before = (position_at x j, 
 
 -- ---- the laws
 
-pub explained_have_placings : ExplainedHavePlacings
-explained_have_placings conflicts events order d history explains =
+-- an order that explains a history explains each document
+explains_within : (conflicts : Conflicts) (events : List Event) (d : List ℕ) (order : List Placed) → Explains conflicts events order → ExplainsWithin conflicts events d order
+explains_within conflicts events d order explains = record {
+  calls = explains.is_order.calls;
+  once = explains.is_order.once;
+  answered = λ k j n h op r replies called. explains.is_order.answered k n r replies;
+  plain = explains.is_order.plain;
+  respects = explains.respects;
+  legal = explains.legal;
+}
+
+placing_within : (conflicts : Conflicts) (events : List Event) (order : List Placed) (d : List ℕ) → IsHistory events → ExplainsWithin conflicts events d order
+    → (floor : ℕ → ℕ) × ((event : ℕ) → IsPlacing (told conflicts (records_of events d)) event floor)
+placing_within conflicts events order d history explains =
     let x : Explained = record { conflicts = conflicts; events = events; order = order; doc = d; history = history; explains = explains } in
     (floor_of x, λ event. explained_placing x event)
 
+pub explained_have_placings : ExplainedHavePlacings
+explained_have_placings conflicts events order d history explains =
+    placing_within conflicts events order d history (explains_within conflicts events d order explains)
+
+pub ordered_are_not_ruled_out : OrderedAreNotRuledOut
+ordered_are_not_ruled_out conflicts events d order n history explains ruled =
+    let p = placing_within conflicts events order d history explains in
+    ruled.none p.0 (p.1 (suc ruled.replied))
+
 pub ruled_out_have_no_order : RuledOutHaveNoOrder
 ruled_out_have_no_order conflicts events d n history ruled (order, explains) =
-    let p = explained_have_placings conflicts events order d history explains in
-    ruled.none p.0 (p.1 (suc ruled.replied))
+    ordered_are_not_ruled_out conflicts events d order n history (explains_within conflicts events d order explains) ruled

@@ -21,14 +21,6 @@ use Rattle.ruled_out.proofs.Counts.{below_tested, count_grows, count_same, pair_
 use Rattle.ruled_out.proofs.KnownLemmas.{Has, below_first, below_inside, count_moved, inside_below, known_there, later_not_below, there_known}
 use Rattle.ruled_out.proofs.PlaceLemmas.{front_next, pair_at}
 
--- a pair that isn't below another one, and isn't it, is above it
-above_other : (p q : Pair) → ¬ IsBelow p q → ((p ≡ q) → ⊥) → IsBelow q p
-above_other p q not other = by_order (pair_order p q) where
-  by_order : IsBelow p q ⊎ ((p ≡ q) ⊎ IsBelow q p) → IsBelow q p
-  by_order (inl below) = absurd (not below)
-  by_order (inr (inl same)) = absurd (other same)
-  by_order (inr (inr above)) = above
-
 -- ---- the gap above a pair
 
 -- where no pair is above the lower one there is no room

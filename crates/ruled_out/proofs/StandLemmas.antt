@@ -183,20 +183,3 @@ conflict_under records floors event floor (Index k (Some c)) b r asks least = su
 conflict_under records floors event floor (Delete None) b r asks least = absurd (none_is_not_some b asks)
 conflict_under records floors event floor (Delete (Some c)) b r asks least = subst (λ (v : Pair). IsLeastFrom (MayRefuse records floors event v) floor r) (sym (same_some c b asks)) least
 conflict_under records floors event floor (Create k) b r asks least = absurd (none_is_not_some b asks)
-
--- no write without a condition conflicts, but for a create
-pub conflict_free : (records : List Rec) (floors : ℕ → ℕ) (event floor : ℕ) (op : Op) → condition_of op ≡ None → ((k : ℕ) → op ≡ Create k → ⊥) → IsLeastFrom (MayConflict records floors event op) floor None
-conflict_free records floors event floor Get free not = λ q c. absurd c
-conflict_free records floors event floor (Index k None) free not = λ q c. absurd c
-conflict_free records floors event floor (Index k (Some c)) free not = absurd (none_is_not_some c (sym free))
-conflict_free records floors event floor (Delete None) free not = λ q c. absurd c
-conflict_free records floors event floor (Delete (Some c)) free not = absurd (none_is_not_some c (sym free))
-conflict_free records floors event floor (Create k) free not = absurd (not k refl)
-
-pub conflict_create : (records : List Rec) (floors : ℕ → ℕ) (event floor k : ℕ) (op : Op) (r : Option ℕ) → op ≡ Create k → IsLeastFrom (MayBePresent records floors event) floor r → IsLeastFrom (MayConflict records floors event op) floor r
-conflict_create records floors event floor k op r is least = subst (λ o. IsLeastFrom (MayConflict records floors event o) floor r) (sym is) least
-
--- the least of the positions that a set has is the least of those that it stands for
-pub least_known : (P Q : ℕ → Type 0) (floor : ℕ) (r : Option ℕ) → ((n : ℕ) → P n ↔ Q n) → IsLeastFrom P floor r → IsLeastFrom Q floor r
-least_known P Q floor None same least = λ q is. least q ((same q).1 is)
-least_known P Q floor (Some n) same least = ((same n).0 least.0, least.1, λ q is over. least.2 q ((same q).1 is) over)

@@ -89,12 +89,6 @@ absent_all records pairs set known are n = (λ is. forth ((are n).0 is), λ g. (
 abbrev pub IsToldPresentSo : List Rec → List Pair → BTreeSet ℕ → Type 0
 IsToldPresentSo records pairs set = Gathers (PresentAt records) (λ n. ⊥) pairs set
 
-pub present_first : (records : List Rec) (set : BTreeSet ℕ) → ((n : ℕ) → ¬ IsIn set n) → IsToldPresentSo records [] set
-present_first records set none n = (λ is. absurd (none n is), by_case) where
-  by_case : ⊥ ⊎ ((i : ℕ) × (v : Pair) × (slice_get [] i ≡ Some v) × PresentAt records v n) → IsIn set n
-  by_case (inl never) = absurd never
-  by_case (inr (i, v, at, t)) = absurd (none_is_not_some v at)
-
 pub present_more : (records : List Rec) (vs : List Pair) (place : ℕ) (o : Option ℕ) (old new : BTreeSet ℕ) → place < length vs → Gives (PresentAt records) vs place o → IsWithSome old new o → IsToldPresentSo records (take place vs) old
     → IsToldPresentSo records (take (place + 1) vs) new
 present_more records vs place o old new within gives adds are = gathers_next (PresentAt records) (λ n. ⊥) vs place o old new within gives adds are

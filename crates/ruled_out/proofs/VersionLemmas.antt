@@ -59,14 +59,6 @@ same_count records p q known too same = by_order (pair_order p q) where
   by_order (inr (inl is)) = is
   by_order (inr (inr below)) = let less : count_below (known_pairs records) q < count_below (known_pairs records) p = count_passes (known_pairs records) too.0 q p too.1 below in absurd (omega arith)
 
--- what shows no pair tells nothing
-unshown : (x : Version) (p : Pair) (heard : Option (ℕ × Reply)) → pair_shown heard ≡ None → version_heard x p heard ≡ x
-unshown x p None is = refl
-unshown x p (Some h) is = ap (λ o. cond (shows o p) (version_with x h.1) x) is
-
-pub noted_nothing : (records : List Rec) (heard : Option (ℕ × Reply)) (versions : List Version) → pair_shown heard ≡ None → IsNoted records heard versions versions
-noted_nothing records heard versions none shown = (refl, λ p x known at. at ∙ ap (λ y. Some y) (sym (unshown x p heard none)))
-
 -- what is told of a pair that isn't shown stays
 stays : (x : Version) (p q : Pair) (h : ℕ × Reply) → pair_of_reply h.1 ≡ Some q → ((q ≡ p) → ⊥) → version_heard x p (Some h) ≡ x
 stays x p q h is other = ap (λ o. cond (shows o p) (version_with x h.1) x) is ∙ ap (λ b. cond b (version_with x h.1) x) (shows_other q p other)

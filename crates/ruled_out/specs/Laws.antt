@@ -1,11 +1,31 @@
 -- Laws of placings.
-use Rattle.std.specs.Prelude.{ℕ, List}
+use Rattle.std.specs.Prelude.{◌≡◌, ℕ, List, None, Some, slice_get}
+use Rattle.doc_register.specs.declared.op.Op.{Op}
+use Rattle.doc_register.specs.declared.reply.Reply.{Reply as Answer}
 use Rattle.doc_register.specs.declared.state.Conflicts.{Conflicts}
+use Rattle.doc_register.specs.declared.state.Conflicts.TheVariants.{Plain}
+use Rattle.doc_register.specs.Run.{IsLegalRun}
 use Rattle.history.specs.declared.event.Event.{Event}
-use Rattle.history.specs.Events.{IsHistory, records_of}
-use Rattle.history.specs.Order.{Explains, IsLinearizable, Placed}
+use Rattle.history.specs.Events.{IsCallAt, IsHistory, IsReplyAt, records_of}
+use Rattle.history.specs.Order.{Explains, IsLinearizable, IsOfCall, Placed, Respects, run_of}
 use Rattle.ruled_out.specs.Told.{told}
 use Rattle.ruled_out.specs.Placings.{IsPlacing, IsRuledOut}
+
+-- The order explains the document, be there calls of other documents in it or not: a call stands in it at most once, each answered
+-- call of the document with its reply; under plain conflicts no reply hides a pair; it respects the history; and it is a legal run.
+pub record ExplainsWithin (conflicts : Conflicts) (events : List Event) (d : List ℕ) (order : List Placed) : Type 0 where
+  pub calls : (i : ℕ) (p : Placed) → slice_get order i ≡ Some p → IsOfCall events p
+  pub once : (i j : ℕ) (p q : Placed) → slice_get order i ≡ Some p → slice_get order j ≡ Some q → p.no ≡ q.no → i ≡ j
+  pub answered : (k j n h : ℕ) (op : Op) (r : Answer) → IsReplyAt events k n r → IsCallAt events j n h d op
+      → (i : ℕ) × (p : Placed) × (slice_get order i ≡ Some p) × (p.no ≡ n) × (p.entry.reply ≡ r)
+  pub plain : conflicts ≡ Plain → (i : ℕ) (p : Placed) → slice_get order i ≡ Some p → p.entry.hidden ≡ None
+  pub respects : Respects events order
+  pub legal : IsLegalRun (run_of order)
+
+-- where an order explains a document, the document is not ruled out
+abbrev pub OrderedAreNotRuledOut : Type 0
+OrderedAreNotRuledOut = (conflicts : Conflicts) (events : List Event) (d : List ℕ) (order : List Placed) (no : ℕ) → IsHistory events
+    → ExplainsWithin conflicts events d order → ¬ IsRuledOut (told conflicts (records_of events d)) no
 
 -- where an order explains a history, each of its documents has a placing of all its answered calls
 abbrev pub ExplainedHavePlacings : Type 0

@@ -1,10 +1,15 @@
 //! Laws of placings, each the contract of a function that does nothing.
 
-ghost use Rattle.ruled_out.specs.Laws.{ExplainedHavePlacings, RuledOutHaveNoOrder};
+ghost use Rattle.ruled_out.specs.Laws.{ExplainedHavePlacings, OrderedAreNotRuledOut, RuledOutHaveNoOrder};
 
 /// Shows that each document of a history that an order explains has a placing of all its answered calls.
 pub fn explained_have_placings()
     ensures { ExplainedHavePlacings }
+{}
+
+/// Shows that a document which an order of its calls explains is not ruled out.
+pub fn ordered_are_not_ruled_out()
+    ensures { OrderedAreNotRuledOut }
 {}
 
 /// Shows that a history with a document that is ruled out is not linearizable, however its pending calls are completed.

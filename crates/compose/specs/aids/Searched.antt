@@ -1,5 +1,5 @@
 -- What the search has found of the documents of a history.
-use Rattle.std.specs.Prelude.{◌≡◌, ℕ, Bool, true, List, [], ◌∷◌, Option, Some, None, Vec, slice_get}
+use Rattle.std.specs.Prelude.{◌≡◌, ℕ, ◌<◌, Bool, true, List, [], ◌∷◌, Option, Some, None, Vec, slice_get}
 use Rattle.std.specs.declared.alloc.Global.{Global}
 use Rattle.doc_register.specs.declared.state.Conflicts.{Conflicts}
 use Rattle.history.specs.declared.event.Event.{Event}
@@ -52,6 +52,11 @@ AreAnswersFor conflicts events first (d ∷ ds) (x ∷ xs) = IsAnswerFor conflic
 -- one of the answers has no order
 abbrev pub HasLost : List DocAnswer → Type 0
 HasLost answers = (k : ℕ) × (n : Unordered) × (slice_get answers k ≡ Some (NotFound n))
+
+-- these are places of the first answers, so many, and no other of these has no order
+pub record AreUnordered (answers : List DocAnswer) (count : ℕ) (docs : List ℕ) : Type 0 where
+  pub within : (i doc : ℕ) → slice_get docs i ≡ Some doc → doc < count
+  pub listed : (doc : ℕ) (n : Unordered) → doc < count → slice_get answers doc ≡ Some (NotFound n) → (i : ℕ) × (slice_get docs i ≡ Some doc)
 
 -- the other answer is about what the one is about
 abbrev pub Keeps : DocAnswer → DocAnswer → Type 0

@@ -17,7 +17,7 @@ abbrev pub IsRuledOutCall : Conflicts → List Event → Option ℕ → Type 0
 IsRuledOutCall conflicts events None = IsWithoutRuledOut conflicts events
 IsRuledOutCall conflicts events (Some n) = IsRuledOutIn conflicts events n
 
--- of the first documents, so many, one is ruled out at the call; where none is given, none of them is at any
-abbrev pub IsRuledOutBefore : Conflicts → List Event → ℕ → Option ℕ → Type 0
-IsRuledOutBefore conflicts events docs None = (n : ℕ) (is : IsRuledOutIn conflicts events n) → ¬ (is.doc < docs)
-IsRuledOutBefore conflicts events docs (Some n) = IsRuledOutIn conflicts events n
+-- of the first of these documents, so many, one is ruled out at the call; where none is given, none of them is at any
+abbrev pub IsRuledOutBefore : Conflicts → List Event → List ℕ → ℕ → Option ℕ → Type 0
+IsRuledOutBefore conflicts events docs count None = (n : ℕ) (is : IsRuledOutIn conflicts events n) (i : ℕ) → i < count → ¬ (slice_get docs i ≡ Some is.doc)
+IsRuledOutBefore conflicts events docs count (Some n) = IsRuledOutIn conflicts events n

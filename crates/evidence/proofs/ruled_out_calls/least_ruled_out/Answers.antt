@@ -1,18 +1,22 @@
-use Rattle.std.proofs.Common.{◌<◌, ◌≤◌, arith, length}
+use Rattle.std.proofs.Common.{ℕ, ◌≡◌, ◌<◌, ◌≤◌, Some, arith, length, slice_get, slice_index_or}
+use Rattle.std.proofs.lemmas.Option.{slice_get-get_or}
 use Rattle.history.specs.Events.{documents_of}
 use Rattle.evidence.proofs.RuledOutLemmas.{all_documents, one_more}
 use Rattle.evidence.proofs.ruled_out_calls.least_ruled_out.Goals as goal
 
-pub loop-doc-init : goal.loop-doc-init
-loop-doc-init c = λ n is below. omega (arith, below)
+pub loop-i-init : goal.loop-i-init
+loop-i-init c = λ n is i below. absurd (omega (arith, below))
 
-pub loop-doc-preserved : goal.loop-doc-preserved
-loop-doc-preserved c =
-    let within : c.loop-doc.doc < length (documents_of c.args.history.now) = omega arith in
-    one_more c.args.conflicts c.args.history.now c.loop-doc.doc c.loop-doc.least c.in_ok-ruled_out_call.field-0 c.lesser-least.result c.requires within c.loop-doc.invariant c.in_ok-ruled_out_call.ensures
-    c.lesser-least.ensures
+pub loop-i-preserved : goal.loop-i-preserved
+loop-i-preserved c =
+    let within : c.loop-i.i < length c.args.docs.now = omega arith in
+    let doc : ℕ = slice_index_or c.args.docs.now c.loop-i.i 0 in
+    let at : slice_get c.args.docs.now c.loop-i.i ≡ Some doc = slice_get-get_or c.args.docs.now c.loop-i.i 0 within in
+    let listed : doc < length (documents_of c.args.history.now) = c.requires.within c.loop-i.i doc at in
+    one_more c.args.conflicts c.args.history.now c.args.docs.now c.loop-i.i doc c.loop-i.least c.in_ok-ruled_out_call.field-0 c.lesser-least.result c.requires.history listed at
+    c.loop-i.invariant c.in_ok-ruled_out_call.ensures c.lesser-least.ensures
 
 pub returns : goal.returns
 returns c =
-    let all : length (documents_of c.args.history.now) ≤ c.loop-doc.doc = omega arith in
-    all_documents c.args.conflicts c.args.history.now c.loop-doc.doc c.loop-doc.least all c.loop-doc.invariant
+    let all : length c.args.docs.now ≤ c.loop-i.i = omega arith in
+    all_documents c.args.conflicts c.args.history.now c.args.docs.now c.loop-i.i c.loop-i.least c.requires.listed all c.loop-i.invariant
