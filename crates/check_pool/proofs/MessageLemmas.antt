@@ -21,8 +21,3 @@ IsSearched-from_search doc records conflicts (NotFound n) s = at_same doc _ reco
 -- an answer about a job that is what the search promises answers the job
 pub IsAnswerTo-from_about : (job : DocJob) (answer : DocAnswer) → IsSearched answer → IsAboutJob job answer → IsAnswerTo job answer
 IsAnswerTo-from_about job answer s about = rw (← about.same_id, ← about.same_records, ← about.same_conflicts) s
-
--- an answer to a job is about it
-pub IsAboutJob-from_answer : (job : DocJob) (answer : DocAnswer) → IsAnswerTo job answer → IsAboutJob job answer
-IsAboutJob-from_answer job (Found w) s = record { same_id = s.about.0; same_records = s.about.1; same_conflicts = s.about.2 }
-IsAboutJob-from_answer job (NotFound n) s = record { same_id = s.about.0; same_records = s.about.1; same_conflicts = s.about.2 }

@@ -51,23 +51,6 @@ pub record IsSwept (records : List Rec) (chain : List (Pair × ℕ)) (moments : 
   pub reached : (bound ≡ length chain) ⊎ ((k t x l : ℕ) × (r : Rec) × (k < i) × (slice_get moments k ≡ Some (t, false, x)) × (slice_get records x ≡ Some r)
       × IsGiven given x l × (bound ≡ cap (pair_of r.heard) l))
 
-pub swept_start : (records : List Rec) (chain : List (Pair × ℕ)) (moments : List Moment) (given : List (Option ℕ)) (bound : ℕ)
-    → given ≡ nones (length records) → bound ≡ length chain → IsSwept records chain moments 0 given bound
-swept_start records chain moments given bound given_is bound_is =
-    let never = λ (y j : ℕ) (is : IsGiven given y j). none_anywhere (length records) y j (sym (ap (λ xs. slice_get xs y) given_is) ∙ is) in
-    record {
-      size = ap length given_is ∙ length-replicate (length records) None;
-      bounded = (omega arith);
-      within = λ y j is. absurd (never y j is);
-      fits = λ y j r at is. absurd (never y j is);
-      lower = λ k t x r less at names. absurd (omega arith);
-      before = λ k t x y j l r s h less at names others heard early is other. absurd (omega arith);
-      met = λ y j is. absurd (never y j is);
-      all_met = λ k t y less at. absurd (omega arith);
-      latest = λ places spread y j m is stands. absurd (never y j is);
-      reached = inl bound_is;
-    }
-
 -- ---- moments
 
 -- a moment's place

@@ -71,9 +71,6 @@ first_less x xs k y rising at =
 abbrev pub AreLeft : List (List (ℕ × Event)) → ℕ → ℕ → Type 0
 AreLeft lists n total = (f : ℕ → ℕ) → sum_by f (numbers_of (entries_of lists)) + sum_by f (numbers_below n) ≡ sum_by f (numbers_below total)
 
-pub left_at_first : (lists : List (List (ℕ × Event))) → AreDense lists → AreLeft lists 0 (length (entries_of lists))
-left_at_first lists dense f = let all = dense f in let nothing : sum_by f (numbers_below 0) ≡ 0 = refl in omega arith
-
 pub left_after_one : (old new : List (List (ℕ × Event))) (n total : ℕ) (e : Event) → IsPermutation (entries_of old) ((n, e) ∷ entries_of new) → AreLeft old n total → AreLeft new (n + 1) total
 left_after_one old new n total e taken left f =
     let moved : IsPermutation (numbers_of (entries_of old)) (n ∷ numbers_of (entries_of new)) =

@@ -53,15 +53,6 @@ seat_for pen seat drew = (
       ∙ (ap (λ b. list_any is_past (numbers_of pen.list) || b) (drew.when_full full) ∙ or-true (list_any is_past (numbers_of pen.list))),
 )
 
--- a pen that was not answered Full drew numbers of events alone
-pub may_draw : (pen : PenState) (seat : Me (Unit {0}) ClockView) → HasDrawn pen seat → pen.is_full ≡ false
-    → (drawn : List ℕ) × All (λ n. n < most_events) drawn × (seat ≡ seat_with (Drew drawn))
-may_draw pen seat drew open_ = (
-  numbers_of pen.list,
-  drew.events,
-  drew.view ∙ ap (λ ns. seat_with (Drew ns)) (ap (λ past. numbers_of pen.list ++ past) (drew.when_open open_) ∙ append-nil (numbers_of pen.list)),
-)
-
 -- a drawn number is not answered by saying that the recording was rewound
 never_rewound : (n : ℕ) (answer : Result ℕ RecFault) → answer ≡ (if nat_lt n most_events then Ok n else Err Full) → (m : ℕ) → answer ≢ Err (Rewound m)
 never_rewound n answer is m told = by_test (nat_lt n most_events) (sym is ∙ told) where
@@ -74,49 +65,6 @@ record IsSettled (old new : PenState) (event : ℕ → Event) (answer : Result �
   pub ok : IfOk answer (λ n. new.list ≡ old.list ++ (n, event n) ∷ [])
   pub err : OnErr answer (new.list ≡ old.list)
   pub full : new.is_full ≡ (old.is_full || tells_full answer)
-
--- the pen and its seat after a number was drawn and the answer settled
-pub drawn_after : (old new : PenState) (event : ℕ → Event) (seat after : Me (Unit {0}) ClockView) (n : ℕ) (answer : Result ℕ RecFault)
-    → answer ≡ (if nat_lt n most_events then Ok n else Err Full) → HasDrawn old seat → old.is_full ≡ false → after ≡ seat_with (Drew (numbers_in seat.0 ++ n ∷ []))
-    → IfOk answer (λ n. new.list ≡ old.list ++ (n, event n) ∷ []) → OnErr answer (new.list ≡ old.list) → new.is_full ≡ (old.is_full || tells_full answer)
-    → HasDrawn new after
-drawn_after old new event seat after n answer is drew open_ view ok err full =
-    by_test (nat_lt n most_events) refl (record {
-      ok = subst (λ a. IfOk a (λ n. new.list ≡ old.list ++ (n, event n) ∷ [])) is ok;
-      err = subst (λ a. OnErr a (new.list ≡ old.list)) is err;
-      full = full ∙ ap (λ a. old.is_full || tells_full a) is;
-    }) where
-      held : numbers_in seat.0 ≡ numbers_of old.list
-      held = ap (λ me. numbers_in me.0) drew.view ∙ (ap (λ past. numbers_of old.list ++ past) (drew.when_open open_) ∙ append-nil (numbers_of old.list))
-
-      seen : after ≡ seat_with (Drew (numbers_of old.list ++ n ∷ []))
-      seen = view ∙ ap (λ ns. seat_with (Drew (ns ++ n ∷ []))) held
-
-      by_test : (b : Bool) → nat_lt n most_events ≡ b → IsSettled old new event (if b then Ok n else Err Full) → HasDrawn new after
-      by_test true less settled =
-          let grown : numbers_of new.list ≡ numbers_of old.list ++ n ∷ [] = ap numbers_of settled.ok ∙ numbers_push old.list (n, event n) in
-          record {
-            past = [];
-            view = seen ∙ ap (λ ns. seat_with (Drew ns)) (sym (append-nil (numbers_of new.list) ∙ grown));
-            events = subst (λ ns. All (λ n. n < most_events) ns) (sym grown) (All-push (λ n. n < most_events) (numbers_of old.list) n drew.events (ltb-true n most_events less));
-            no_events = All-nil (λ n. most_events ≤ n);
-            when_open = λ _. refl;
-            when_full = λ full. absurd (
-                let told : new.is_full ≡ false = settled.full ∙ ap (λ b. b || false) open_ in
-                let impossible : false ≡ true = sym told ∙ full in cc);
-          }
-      by_test false past settled =
-          let same : numbers_of new.list ≡ numbers_of old.list = ap numbers_of settled.err in
-          record {
-            past = n ∷ [];
-            view = seen ∙ ap (λ ns. seat_with (Drew (ns ++ n ∷ []))) (sym same);
-            events = subst (λ ns. All (λ n. n < most_events) ns) (sym same) drew.events;
-            no_events = All-cons (λ n. most_events ≤ n) n [] (ltb-false n most_events past) (All-nil (λ n. most_events ≤ n));
-            when_open = λ open_again. absurd (
-                let told : new.is_full ≡ true = settled.full ∙ ap (λ b. b || true) open_ in
-                let impossible : true ≡ false = sym told ∙ open_again in cc);
-            when_full = λ _. ap (λ b. not b || false) past;
-          }
 
 held_of : (old : PenState) (seat : Me (Unit {0}) ClockView) → HasDrawn old seat → old.is_full ≡ false → numbers_in seat.0 ≡ numbers_of old.list
 held_of old seat drew open_ =

@@ -25,9 +25,6 @@ nothing_found {X} {P} {x} found = let impossible : None ≡ Some x = found in ab
 
 -- ---- what is held
 
-pub found_held : (writes : Held) (t : ℕ) (write : HeldWrite) → lookup (◌==◌ t) writes ≡ Some write → holds writes t ≡ true
-found_held writes t write found = ap is_some found
-
 pub held_found : (writes : Held) (t : ℕ) → holds writes t ≡ true → (write : HeldWrite) × (lookup (◌==◌ t) writes ≡ Some write)
 held_found writes t is = by_lookup (lookup (◌==◌ t) writes) refl is where
   by_lookup : (o : Option HeldWrite) → lookup (◌==◌ t) writes ≡ o → is_some o ≡ true → (write : HeldWrite) × (lookup (◌==◌ t) writes ≡ Some write)

@@ -12,13 +12,6 @@ use Rattle.repl_group.specs.Copies.{document_after, document_in, holds, next_seq
 use Rattle.repl_group.specs.aids.Tracking.{AreNoted}
 use Rattle.version_pair.proofs.TruthLemmas.{none_from_is_some}
 
--- a write that is not held yet comes last
-pub entered_last : {S : Type 0} (old : List (ℕ × HeldWrite)) (m : IndexMap ℕ HeldWrite S) (new : List (ℕ × HeldWrite)) (t : ℕ) (write : HeldWrite)
-    → m.entries ≡ old → holds old t ≡ false → new ≡ insert_entry nat_eq m.entries t write → new ≡ old ++ (t, write) ∷ []
-entered_last old m new t write same absent inserted =
-    inserted ∙ (insert_entry-new nat_eq m t write (ap (lookup (◌==◌ t)) same ∙ none_from_is_some (lookup (◌==◌ t) old) absent)
-    ∙ ap (λ es. es ++ (t, write) ∷ []) same)
-
 pub with_write-absent : (writes : List (ℕ × HeldWrite)) (t : ℕ) (write : HeldWrite) → holds writes t ≡ false → with_write writes t write ≡ writes ++ (t, write) ∷ []
 with_write-absent writes t write absent = ap (λ b. if b then writes else writes ++ (t, write) ∷ []) absent
 

@@ -5,8 +5,5 @@ use Rattle.stream_io.specs.Taken.{TakesHistory, TakesWitness}
 use Rattle.history.specs.Reading.{takes_value as takes_event}
 use Rattle.witness.specs.Text.{takes_value as takes_place}
 
-pub history_unasked : (input : Option (List ℕ)) → TakesHistory input input
-history_unasked input = none_taken takes_event [] input
-
 pub witness_unasked : (input : Option (List ℕ)) → TakesWitness input input
 witness_unasked input = none_taken takes_place [] input

@@ -39,13 +39,6 @@ performed_step s (Index k c) q t w = (w, refl)
 performed_step s (Delete c) q t w = (w, refl)
 performed_step s (Create k) q t w = (w, refl)
 
--- the reply of a performed write carries its pair
-performed_pair : (s : DocState) (op : Op) (q : Pair) (t : DocState) → Performs s op q t → pair_taken (performed_reply s op q) None ≡ Some q
-performed_pair s Get q t w = absurd w.allowed
-performed_pair s (Index k c) q t w = refl
-performed_pair s (Delete c) q t w = refl
-performed_pair s (Create k) q t w = refl
-
 -- what a step of an unanswered call, completed, takes
 completed_pair : (s : DocState) (op : Op) (q : Pair) (t : DocState) → (op ≡ Get → ⊥) → DocStep s op (performed_reply s op q) None t → pair_taken (performed_reply s op q) None ≡ Some q
 completed_pair s Get q t not step = absurd (not refl)

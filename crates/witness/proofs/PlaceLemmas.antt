@@ -24,20 +24,6 @@ place_named (Some p) k at = (p, refl, (let same : Some p.rec ≡ Some k = at in 
 numbered : (places : List Place) (i k : ℕ) → slice_get (map rec_of places) i ≡ Some k → (p : Place) × (slice_get places i ≡ Some p) × (p.rec ≡ k)
 numbered places i k at = place_named (slice_get places i) k (sym (slice_get-map rec_of places i) ∙ at)
 
--- right places are not more than the records
-pub fewer_places : (conflicts : Conflicts) (records : List Rec) (places : List Place) → AreRight conflicts records places → length places ≤ length records
-fewer_places conflicts records places right =
-    let few = distinct_within (map rec_of places) (length records)
-    (λ i j k at bt. let p = numbered places i k at in let q = numbered places j k bt in right.once i j p.0 q.0 p.1 q.1 (p.2 ∙ sym q.2))
-    (λ i k at.
-    let p = numbered places i k at in
-    let known = right.known i p.0 p.1 in
-    let within : p.0.rec < length records = slice_get_within records p.0.rec known.0 known.1 in
-    let number : p.0.rec ≡ k = p.2 in
-    omega arith) in
-    let count : length (map rec_of places) ≡ length places = length-map places rec_of in
-    omega arith
-
 -- an order has as many calls as the places that tell of them
 pub placed_length : (records : List Rec) (ps : List Place) (qs : List Placed) → ArePlacedBy records ps qs → length qs ≡ length ps
 placed_length records [] [] placed = refl

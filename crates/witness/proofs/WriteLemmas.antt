@@ -34,11 +34,6 @@ written_place old text new places i p at before more =
     ∙ (ap (map (λ q. line.Place q)) (take_one_more places i p at) ∙ map-append (λ q. line.Place q) (take i places) (p ∷ []))))
     (written_both old text new (map (λ q. line.Place q) (take i places)) (line.Place p ∷ []) before more)
 
-pub written_places : (old text : List ℕ) (places : List Place) (i : ℕ) → i ≡ length places → IsWrittenOn old text (map (λ q. line.Place q) (take i places))
-    → IsWrittenOn old text (map (λ q. line.Place q) places)
-written_places old text places i end before =
-    subst (λ ps. IsWrittenOn old text (map (λ q. line.Place q) ps)) (ap (λ k. take k places) end ∙ take-length places) before
-
 -- the lines of one witness
 pub written_witness : (old text new : List ℕ) (w : Witness) → IsWrittenOn old text (line.Document w.doc ∷ []) → IsWrittenOn text new (map (λ q. line.Place q) w.places)
     → IsWrittenOn old new (said_by (witness_places w ∷ []))

@@ -23,10 +23,6 @@ pub record HasDrawn (pen : PenState) (seat : Me (Unit {0}) ClockView) : Type 0 w
   pub when_open : pen.is_full ≡ false → past ≡ []
   pub when_full : pen.is_full ≡ true → list_any is_past past ≡ true
 
--- the seat drew these numbers
-abbrev pub IsSeatOf : List ℕ → Me (Unit {0}) ClockView → Type 0
-IsSeatOf drawn seat = seat ≡ seat_with (Drew drawn)
-
 -- the seat drew the numbers of the entries in the pen's list, and of others only such that are no events': one of these where the
 -- pen was answered that the recording is full
 abbrev pub IsSeatFor : PenState → Me (Unit {0}) ClockView → Type 0
