@@ -131,7 +131,7 @@ class Loop:
         else:
             self._selector.modify(what, after, heed)
 
-    def listen(self, host: str, port: int, accepted: Callable[[socket.socket], None]) -> "List[Listener]":
+    def listen(self, host: str, port: int, accepted: Callable[[socket.socket], object]) -> "List[Listener]":
         """Listens at each address of the host; hands on each connection that is made."""
         kind = socket.SOCK_STREAM
         addresses = dict.fromkeys(socket.getaddrinfo(host, port, type=kind, flags=socket.AI_PASSIVE))
@@ -161,7 +161,7 @@ class Loop:
 class Listener:
     """A socket on which connections are made."""
 
-    def __init__(self, loop: Loop, family: int, address: Any, accepted: Callable[[socket.socket], None]) -> None:
+    def __init__(self, loop: Loop, family: int, address: Any, accepted: Callable[[socket.socket], object]) -> None:
         self._loop = loop
         self._accepted = accepted
         self.socket = socket.socket(family, socket.SOCK_STREAM)
