@@ -24,6 +24,12 @@ def run_words(seed=1, clients=1, calls=1, docs=1, copies=1, fault="none"):
     return f"run --seed {seed} --clients {clients} --calls {calls} --docs {docs} --copies {copies} --fault {fault}"
 
 
+def search_words(seeds="1-1", until="refuted", clients=1, calls=1, docs=1, copies=1, fault="none"):
+    """The words of a search through seeds for a run of a group that is refuted."""
+    setting = f"--clients {clients} --calls {calls} --docs {docs} --copies {copies} --fault {fault}"
+    return f"run --until {until} --seeds {seeds} {setting}"
+
+
 def bytes_of(text):
     """The bytes of a text, which may be bytes already."""
     return text.encode() if isinstance(text, str) else text

@@ -21,7 +21,7 @@ import termios
 import time
 
 from program import CASES, TOP, built_program, case_text
-from running import ended, run, run_words, started
+from running import ended, run, run_words, search_words, started
 from texts import READ_FAULT, SETTING_FAULT, WRITE_FAULT, no, refuted, status_of, verified, yes
 from trials import Trial, try_and_tell
 
@@ -97,6 +97,15 @@ TAKEN = [
         (run_words(seed=2**64 - 1, clients=9, calls=200, docs=3, copies=5, fault=fault), 64, "", SETTING_FAULT)
         for fault in ("none", "dirty", "early", "same-term", "stale", "blind")
     ),
+    *(
+        (f"{run_words(clients=9)} --in-turns --disturb={name}", 64, "", SETTING_FAULT)
+        for name in ("none", "cuts", "promotions", "storm")
+    ),
+    *(
+        (f"{search_words(seeds=seeds, clients=9)}{more}", 64, "", SETTING_FAULT)
+        for seeds in ("0-0", "1-2", "+7-8", "0-18446744073709551615")
+        for more in ("", " --in-turns --disturb storm")
+    ),
 ]
 
 UNKNOWN = "unexpected argument '{}' found"
@@ -106,7 +115,11 @@ NO_VALUE = "a value is required for '{}' but none was supplied"
 A_VALUE = "unexpected value '{}' for '{}' found; no more were expected"
 READING = "the value of --conflicts is plain or maybe"
 FAULT = "the value of --fault is none, dirty, early, same-term, stale or blind"
+DISTURBANCE = "the value of --disturb is none, cuts, promotions or storm"
 RUN = "run --seed {} --clients {} --calls 200 --docs 3 --copies 5"
+SEED = "a run takes --seed, or else --until and --seeds"
+UNTIL = "the value of --until is refuted"
+SEEDS = "the value of --seeds is two numbers below 2^64, the least first, as 1-1000"
 
 
 def missing(*names):
@@ -180,6 +193,27 @@ REFUSED = [
     (RUN.format("1", "4294967296") + " --fault none", wrong("4294967296", "--clients <A>")),
     (RUN.format("1", "1") + " --fault cut", FAULT),
     (RUN.format("1", "1"), missing("--fault <F>")),
+    ("run --clients 1 --calls 1 --docs 1 --copies 1 --fault none", SEED),
+    (run_words() + " --until refuted", SEED),
+    (run_words() + " --seeds 1-2", SEED),
+    (run_words() + " --until refuted --seeds 1-2", SEED),
+    ("run --clients 1 --calls 1 --docs 1 --copies 1 --fault none --seeds 1-2", SEED),
+    *((search_words(until=name), UNTIL) for name in ("no", "Refuted", "''")),
+    *((search_words(seeds=seeds), SEEDS) for seeds in ("2-1", "1", "1-", "1-2-3", "a-b", "1..2", "1-18446744073709551616", "''")),
+    (search_words(fault="cut"), FAULT),
+    (search_words() + " --disturb Storm", DISTURBANCE),
+    (search_words() + " --until refuted", TWICE.format("--until <ANSWER>")),
+    (search_words() + " --seeds 1-2", TWICE.format("--seeds <A-B>")),
+    ("check --until refuted", UNKNOWN.format("--until")),
+    (run_words() + " --disturb Storm", DISTURBANCE),
+    (run_words() + " --disturb=", DISTURBANCE),
+    (run_words(fault="cut") + " --disturb cut", FAULT),
+    (run_words() + " --disturb cuts --disturb cuts", TWICE.format("--disturb <NAME>")),
+    (run_words() + " --disturb", NO_VALUE.format("--disturb <NAME>")),
+    (run_words() + " --in-turns --in-turns", TWICE.format("--in-turns")),
+    (run_words() + " --in-turns=1", A_VALUE.format("1", "--in-turns")),
+    ("check --in-turns", UNKNOWN.format("--in-turns")),
+    ("check --disturb cuts", UNKNOWN.format("--disturb")),
 ]
 
 EXAMPLE = {

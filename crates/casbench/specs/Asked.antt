@@ -1,7 +1,7 @@
 -- What the words of the command line ask for.
-use Rattle.std.specs.Prelude.{ℕ, Bool, true, List, Option, Some, None, ◌&&◌, ◌^◌, codes, if◌then◌else◌, length, nat_lt, option_and_then, option_map}
+use Rattle.std.specs.Prelude.{ℕ, ◌==◌, Bool, true, List, Option, Some, None, ◌&&◌, ◌^◌, codes, if◌then◌else◌, length, nat_lt, option_and_then, option_map}
 use Rattle.std.specs.Char.{digit_value}
-use Rattle.std.specs.List.{list_all}
+use Rattle.std.specs.List.{after_first, before_first, list_all, position_or_len}
 use Rattle.std.specs.Str.{bytes_eq}
 use Rattle.std.specs.Str.Parse.{digits_value, without_leading_plus}
 use Rattle.clap.specs.Simple.{on_top}
@@ -14,19 +14,26 @@ use Rattle.evidence.specs.declared.ruling_out.RulingOut.{RulingOut}
 use Rattle.evidence.specs.declared.ruling_out.RulingOut.TheVariants.{Off, On}
 use Rattle.repl_group.specs.declared.fault.Fault.{Fault}
 use Rattle.repl_group.specs.declared.fault.Fault.TheVariants as fault
+use Rattle.disturbances.specs.declared.disturbance.Disturbance.{Disturbance}
+use Rattle.disturbances.specs.declared.disturbance.Disturbance.TheVariants as by
+use Rattle.recorded_runs.specs.declared.manner.Manner.{Manner}
+use Rattle.recorded_runs.specs.declared.manner.Playing.{Playing}
+use Rattle.recorded_runs.specs.declared.manner.Playing.TheVariants.{OnThreads, InTurns}
 use Rattle.recorded_runs.specs.declared.run_setting.RunSetting.{RunSetting}
+use Rattle.seed_search.specs.Range.{seeds_between}
 use Rattle.casbench.specs.declared.words.Words.{Words}
 use Rattle.casbench.specs.declared.words.Words.TheVariants as words
 
 -- a check of a history, with a number of workers, a witness of one, both of standard input where no file is named, a check of a
--- witness against a history, each with a reading of conflicts; or the lines of a bulk's body and its reply, the calls numbered from a number on; or a run; or
--- a check that is told, with a file for the page or none
+-- witness against a history, each with a reading of conflicts; or the lines of a bulk's body and its reply, the calls numbered from a number on; or a run in a manner; or
+-- runs in turns from a seed to another, under a disturbance, until one is found that no order explains; or a check that is told, with a file for the page or none
 pub data Asked : Type 0 where
   ToCheck : Option Text → Conflicts → ℕ → RulingOut → Asked
   ToWitness : Option Text → Conflicts → RulingOut → Asked
   ToVerify : Text → Text → Conflicts → Asked
   ToWriteBulk : Text → Text → ℕ → Asked
-  ToRun : RunSetting → Asked
+  ToRun : RunSetting → Manner → Asked
+  ToSearch : ℕ → ℕ → RunSetting → Disturbance → Asked
   ToExplain : Option Text → Conflicts → ℕ → RulingOut → Option Text → Asked
 
 abbrev pub asked_by : Words → Asked
@@ -34,7 +41,8 @@ asked_by (words.Check file conflicts workers ruling) = ToCheck (option_map (λ f
 asked_by (words.Witness file conflicts ruling) = ToWitness (option_map (λ f. f.now) file) conflicts ruling
 asked_by (words.Verify history witness conflicts) = ToVerify history.now witness.now conflicts
 asked_by (words.Bulk body reply first) = ToWriteBulk body.now reply.now first
-asked_by (words.Run setting) = ToRun setting
+asked_by (words.Run setting manner) = ToRun setting manner
+asked_by (words.Search seeds setting disturbance) = ToSearch seeds.first seeds.last setting disturbance
 asked_by (words.Explain file conflicts workers ruling page) = ToExplain (option_map (λ f. f.now) file) conflicts workers ruling (option_map (λ t. t.now) page)
 
 -- the reading of conflicts of this name, which is plain where none is given
@@ -101,19 +109,72 @@ fault_named name =
     else (if bytes_eq name (codes "blind") then Some fault.Blind else None)))))
 
 -- what a run is made with, where each number is given and the fault is named
-abbrev pub setting_of : Option Text → Option Text → Option Text → Option Text → Option Text → Option Text → Option RunSetting
+abbrev pub setting_of : Option ℕ → Option Text → Option Text → Option Text → Option Text → Option Text → Option RunSetting
 setting_of seed clients calls docs copies name =
     option_and_then (λ s. option_and_then (λ a. option_and_then (λ b. option_and_then (λ d. option_and_then (λ e.
     option_map (λ f. record { seed = s; clients = a; calls = b; docs = d; copies = e; fault = f }) (option_and_then fault_named name))
-    (small_given copies)) (small_given docs)) (small_given calls)) (small_given clients)) (number_given seed)
+    (small_given copies)) (small_given docs)) (small_given calls)) (small_given clients)) seed
 
-abbrev pub setting_given : List Row → Option RunSetting
-setting_given rows =
-    setting_of (first_of (codes "seed") rows) (first_of (codes "clients") rows) (first_of (codes "calls") rows)
+abbrev pub setting_given : Option ℕ → List Row → Option RunSetting
+setting_given seed rows =
+    setting_of seed (first_of (codes "clients") rows) (first_of (codes "calls") rows)
     (first_of (codes "docs") rows) (first_of (codes "copies") rows) (first_of (codes "fault") rows)
 
+-- the disturbance of this name, which is none where none is given
+abbrev pub disturbance_named : Option Text → Option Disturbance
+disturbance_named None = Some by.None
+disturbance_named (Some name) =
+    if bytes_eq name (codes "none") then Some by.None
+    else (if bytes_eq name (codes "cuts") then Some by.Cuts
+    else (if bytes_eq name (codes "promotions") then Some by.Promotions
+    else (if bytes_eq name (codes "storm") then Some by.Storm else None)))
+
+-- the clients take turns where the option for it is given: its text is then `true`
+abbrev pub playing_given : Option Text → Playing
+playing_given None = OnThreads
+playing_given (Some text) = if bytes_eq text (codes "true") then InTurns else OnThreads
+
+-- how a run goes, where the disturbance is named or none is
+abbrev pub manner_of : Option Text → Option Text → Option Manner
+manner_of in_turns name = option_map (λ d. record { playing = playing_given in_turns; disturbance = d }) (disturbance_named name)
+
+abbrev pub manner_given : List Row → Option Manner
+manner_given rows = manner_of (first_of (codes "in-turns") rows) (first_of (codes "disturb") rows)
+
+-- a minus sign
+abbrev pub is_minus : ℕ → Bool
+is_minus c = c == 45
+
+-- the seeds of a text A-B, two numbers below 2^64 of which the first is not above the last
+abbrev pub seeds_named : Text → Option (ℕ × ℕ)
+seeds_named text =
+    if nat_lt (position_or_len is_minus text) (length text)
+    then option_and_then (λ first. option_and_then (λ last. seeds_between first last) (number_given (Some (after_first is_minus text)))) (number_given (Some (before_first is_minus text)))
+    else None
+
+-- one run
+abbrev pub one_run_of : Option Text → List Row → Option Asked
+one_run_of seed rows = option_and_then (λ setting. option_map (λ manner. ToRun setting manner) (manner_given rows)) (setting_given (number_given seed) rows)
+
+-- runs with these seeds; that of the setting is the first of them
+abbrev pub search_among : ℕ × ℕ → List Row → Option Asked
+search_among seeds rows =
+    option_and_then (λ setting. option_map (λ disturbance. ToSearch seeds.0 seeds.1 setting disturbance) (disturbance_named (first_of (codes "disturb") rows)))
+    (setting_given (Some seeds.0) rows)
+
+-- runs with the seeds that are named, until one is refuted
+abbrev pub search_of : Text → Text → List Row → Option Asked
+search_of until seeds rows =
+    if bytes_eq until (codes "refuted") then option_and_then (λ named. search_among named rows) (seeds_named seeds) else None
+
+-- One run where a seed is given; a search where it isn't, and what is looked for and the seeds are.
+abbrev pub runs_of : Option Text → Option Text → Option Text → List Row → Option Asked
+runs_of seed None None rows = one_run_of seed rows
+runs_of None (Some until) (Some seeds) rows = search_of until seeds rows
+runs_of _ _ _ rows = None
+
 abbrev pub run_of : List Row → Option Asked
-run_of rows = option_map ToRun (setting_given rows)
+run_of rows = runs_of (first_of (codes "seed") rows) (first_of (codes "until") rows) (first_of (codes "seeds") rows) rows
 
 -- what a command of this name asks for, which was given these texts by the names of its arguments
 abbrev pub asked_of_command : Text → List Row → Option Asked
@@ -168,13 +229,29 @@ html_rule = record (file_rule (codes "html")) { long = Some (codes "html") }
 abbrev pub small_rule : Text → Rule
 small_rule name = record (needed_rule name) { long = Some name; parser = Some (parser.Unsigned 0 4294967295) }
 
--- `--seed S`, S below 2^64, which is required
+-- `--seed S`, S below 2^64
 abbrev pub seed_rule : Rule
-seed_rule = record (needed_rule (codes "seed")) { long = Some (codes "seed"); parser = Some (parser.Unsigned 0 18446744073709551615) }
+seed_rule = record (file_rule (codes "seed")) { long = Some (codes "seed"); parser = Some (parser.Unsigned 0 18446744073709551615) }
 
 -- `--fault F`, which is required
 abbrev pub fault_rule : Rule
 fault_rule = record (needed_rule (codes "fault")) { long = Some (codes "fault") }
+
+-- `--in-turns`
+abbrev pub in_turns_rule : Rule
+in_turns_rule = record (new_rule (codes "in-turns")) { long = Some (codes "in-turns"); action = Some SetTrue }
+
+-- `--disturb NAME`
+abbrev pub disturb_rule : Rule
+disturb_rule = record (file_rule (codes "disturb")) { long = Some (codes "disturb") }
+
+-- `--until ANSWER`
+abbrev pub until_rule : Rule
+until_rule = record (file_rule (codes "until")) { long = Some (codes "until") }
+
+-- `--seeds A-B`
+abbrev pub seeds_rule : Rule
+seeds_rule = record (file_rule (codes "seeds")) { long = Some (codes "seeds") }
 
 -- a command of this name that takes what a check takes
 abbrev pub searched_line : Text → App
@@ -202,8 +279,16 @@ abbrev pub plan_line : App
 plan_line = with_rule (with_rule (with_rule (new_app (codes "run")) seed_rule) (small_rule (codes "clients"))) (small_rule (codes "calls"))
 
 -- and with the group
+abbrev pub group_line : App
+group_line = with_rule (with_rule (with_rule plan_line (small_rule (codes "docs"))) (small_rule (codes "copies"))) fault_rule
+
+-- and with how it goes
+abbrev pub manner_line : App
+manner_line = with_rule (with_rule group_line in_turns_rule) disturb_rule
+
+-- and with the seeds that are tried
 abbrev pub run_line : App
-run_line = with_rule (with_rule (with_rule plan_line (small_rule (codes "docs"))) (small_rule (codes "copies"))) fault_rule
+run_line = with_rule (with_rule manner_line until_rule) seeds_rule
 
 -- `casbench`, which has a version
 abbrev pub named_line : App

@@ -11,5 +11,6 @@ MayFail (words.Check file conflicts workers ruling) fault = IsWorkedFault fault
 MayFail (words.Witness file conflicts ruling) fault = IsStreamFault fault
 MayFail (words.Verify history witness conflicts) fault = IsStreamFault fault
 MayFail (words.Bulk body reply first) fault = IsStreamFault fault
-MayFail (words.Run setting) fault = IsRunFault fault
+MayFail (words.Run setting manner) fault = IsRunFault fault
+MayFail (words.Search seeds setting disturbance) fault = IsRunFault fault
 MayFail (words.Explain file conflicts workers ruling page) fault = IsWorkedFault fault

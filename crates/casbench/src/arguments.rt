@@ -1,6 +1,6 @@
 ghost use Rattle.std.specs.Prelude.{◌≡◌, false, codes};
 ghost use Rattle.clap.specs.Words.{rule_of};
-ghost use Rattle.casbench.specs.Asked.{conflicts_rule, fault_rule, file_rule, first_rule, html_rule, needed_rule, rule_out_rule, seed_rule, small_rule, workers_rule};
+ghost use Rattle.casbench.specs.Asked.{conflicts_rule, disturb_rule, fault_rule, file_rule, first_rule, html_rule, in_turns_rule, needed_rule, rule_out_rule, seed_rule, seeds_rule, small_rule, until_rule, workers_rule};
 
 use clap::builder::ValueParser;
 use clap::{Arg, ArgAction};
@@ -50,6 +50,18 @@ pub const COPIES: &str = "copies";
 
 /// What the group does wrong.
 pub const FAULT: &str = "fault";
+
+/// Whether the clients take their turns on one thread.
+pub const IN_TURNS: &str = "in-turns";
+
+/// How the group is disturbed.
+pub const DISTURB: &str = "disturb";
+
+/// What a run is looked for that gets it.
+pub const UNTIL: &str = "until";
+
+/// The seeds that are tried.
+pub const SEEDS: &str = "seeds";
 
 /// The file of the history text, which may be left out.
 pub fn history<'a>(alloc: Global) -> Arg<'a>
@@ -133,7 +145,7 @@ pub fn html<'a>(alloc: Global) -> Arg<'a>
         .help("Write the story as a page of HTML too, to this file")
 }
 
-/// The seed of a run.
+/// The seed of a run, which is left out where several are tried.
 pub fn seed<'a>(alloc: Global) -> Arg<'a>
     ensures rule { rule_of result ≡ seed_rule }
     ensures local { result.global ≡ false }
@@ -142,8 +154,9 @@ pub fn seed<'a>(alloc: Global) -> Arg<'a>
         .long(SEED)
         .value_name("S")
         .value_parser(ValueParser::Unsigned(0, u64::MAX))
-        .help("The seed from which the plan of the clients and the steps of the group are drawn")
-        .required(true)
+        .help(
+            "The seed from which the plan of the clients, the steps of the group and its disturbances are drawn",
+        )
 }
 
 /// A number below 2^32 that may not be left out.
@@ -169,4 +182,49 @@ pub fn fault<'a>(alloc: Global) -> Arg<'a>
         .value_name("F")
         .help("What the group does wrong: none, dirty, early, same-term, stale or blind")
         .required(true)
+}
+
+/// Whether the clients take their turns on one thread.
+pub fn in_turns<'a>(alloc: Global) -> Arg<'a>
+    ensures rule { rule_of result ≡ in_turns_rule }
+    ensures local { result.global ≡ false }
+{
+    Arg::new(alloc, IN_TURNS)
+        .long(IN_TURNS)
+        .action(ArgAction::SetTrue)
+        .help("Play the clients in turns on one thread: the same words write the same text")
+}
+
+/// How the group is disturbed, which may be left out.
+pub fn disturb<'a>(alloc: Global) -> Arg<'a>
+    ensures rule { rule_of result ≡ disturb_rule }
+    ensures local { result.global ≡ false }
+{
+    Arg::new(alloc, DISTURB)
+        .long(DISTURB)
+        .value_name("NAME")
+        .help(
+            "How the group is disturbed meanwhile: none, cuts, promotions or storm; none where it is left out",
+        )
+}
+
+/// What a run is looked for that gets it, which may be left out.
+pub fn until<'a>(alloc: Global) -> Arg<'a>
+    ensures rule { rule_of result ≡ until_rule }
+    ensures local { result.global ≡ false }
+{
+    Arg::new(alloc, UNTIL).long(UNTIL).value_name("ANSWER").help(
+        "Try the seeds of --seeds in order, in turns, until a run is refuted, or gets no; ANSWER is refuted",
+    )
+}
+
+/// The seeds that are tried, which may be left out.
+pub fn seeds<'a>(alloc: Global) -> Arg<'a>
+    ensures rule { rule_of result ≡ seeds_rule }
+    ensures local { result.global ≡ false }
+{
+    Arg::new(alloc, SEEDS)
+        .long(SEEDS)
+        .value_name("A-B")
+        .help("The seeds that are tried, from A to B")
 }

@@ -1,12 +1,12 @@
 ghost use Rattle.std.specs.Prelude.{◌≡◌, false, IfOk, codes};
 ghost use Rattle.clap.specs.Words.{app_of, new_app};
 ghost use Rattle.clap.specs.declared.builder.command.Command.TheViews.{out-Command as fields_of};
-ghost use Rattle.casbench.specs.Asked.{bulk_line, check_line, command_line, explain_line, named_line, plan_line, run_line, searched_line, verify_line, witness_line};
+ghost use Rattle.casbench.specs.Asked.{bulk_line, check_line, command_line, explain_line, group_line, manner_line, named_line, plan_line, run_line, searched_line, verify_line, witness_line};
 
 use crate::arguments;
 use crate::arguments::{
-    BODY, CALLS, CLIENTS, COPIES, DOCS, HISTORY, REPLY, conflicts, fault, first, history, html,
-    needed_file, rule_out, seed, small, workers,
+    BODY, CALLS, CLIENTS, COPIES, DOCS, HISTORY, REPLY, conflicts, disturb, fault, first, history,
+    html, in_turns, needed_file, rule_out, seed, seeds, small, until, workers,
 };
 use clap::Command;
 use std::alloc::{AllocError, Global};
@@ -122,7 +122,7 @@ fn bare_command<'a>(alloc: Global) -> Command<'a>
     Command::new(alloc, RUN)
         .about("Run clients against a replication group, and write the history that they record")
         .after_help(
-            "Example:\n  casbench run --seed 1 --clients 4 --calls 200 --docs 3 --copies 3 --fault none > history.ndjson",
+            "Examples:\n  casbench run --seed 1 --clients 4 --calls 200 --docs 3 --copies 3 --fault none > history.ndjson\n  casbench run --until refuted --seeds 1-1000 --clients 4 --calls 50 --docs 2 --copies 3 --fault dirty --disturb storm > history.ndjson",
         )
 }
 
@@ -142,14 +142,33 @@ fn plan_command<'a>(alloc: Global) -> Result<Command<'a>, AllocError>
         ))
 }
 
-fn run_command<'a>(alloc: Global) -> Result<Command<'a>, AllocError>
-    ensures line { IfOk result (λ command. app_of command ≡ run_line) }
+// And with those that say what the group is.
+fn group_command<'a>(alloc: Global) -> Result<Command<'a>, AllocError>
+    ensures line { IfOk result (λ command. app_of command ≡ group_line) }
     ensures local { IfOk result (λ command. (fields_of command).has_globals ≡ false) }
 {
     plan_command(alloc)?
         .arg(small(alloc, DOCS, "D", "How many documents there are, 1 to 1,024"))?
         .arg(small(alloc, COPIES, "E", "How many copies the group has, 1 to 5"))?
         .arg(fault(alloc))
+}
+
+// And with those that say how the run goes.
+fn manner_command<'a>(alloc: Global) -> Result<Command<'a>, AllocError>
+    ensures line { IfOk result (λ command. app_of command ≡ manner_line) }
+    ensures local { IfOk result (λ command. (fields_of command).has_globals ≡ false) }
+{
+    group_command(alloc)?
+        .arg(in_turns(alloc))?
+        .arg(disturb(alloc))
+}
+
+// And with those that say which seeds are tried.
+fn run_command<'a>(alloc: Global) -> Result<Command<'a>, AllocError>
+    ensures line { IfOk result (λ command. app_of command ≡ run_line) }
+    ensures local { IfOk result (λ command. (fields_of command).has_globals ≡ false) }
+{
+    manner_command(alloc)?.arg(until(alloc))?.arg(seeds(alloc))
 }
 
 // The program without its commands.

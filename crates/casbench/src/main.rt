@@ -13,6 +13,7 @@ mod exit;
 mod files;
 mod run;
 mod run_words;
+mod search_teller;
 mod words;
 
 use clap::error::ErrorKind;

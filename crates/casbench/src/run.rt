@@ -6,20 +6,27 @@ ghost use Rattle.evidence.specs.declared.ruling_out.RulingOut.{RulingOut as Ruli
 ghost use Rattle.report.specs.Explained.{ExplainsInput};
 ghost use Rattle.report.specs.Verdict.{IsAnswered, WitnessesInput};
 ghost use Rattle.recorded_runs.specs.Runs.{IsRunText};
+ghost use Rattle.recorded_runs.specs.declared.manner.Manner.{Manner as Going};
 ghost use Rattle.recorded_runs.specs.declared.run_setting.RunSetting.{RunSetting as Setting};
+ghost use Rattle.seed_search.specs.Found.{IsSearched};
+ghost use Rattle.seed_search.specs.declared.seeds.Seeds.{Seeds as Range};
+ghost use Rattle.disturbances.specs.declared.disturbance.Disturbance.{Disturbance as Way};
 ghost use Rattle.casbench.specs.Faults.{MayFail};
 ghost use Rattle.stream_io.specs.Faults.{IsWorkedFault};
 ghost use Rattle.stream_io.specs.Written.{HasAnswer};
 
 use crate::files::{create_or_none, open_both, open_or};
+use crate::search_teller::SearchTeller;
 use crate::words::Words;
+use disturbances::DisturbedGroup;
 use doc_register::Conflicts;
 use history::HashKeys;
-use repl_group::Group;
+use recorded_runs::run_played_stream;
 use report::{
     RulingOut, Status, StreamFault, bulk_stream, check_stream, explain_page_stream, explain_stream,
-    run_stream, verify_stream, witness_stream,
+    verify_stream, witness_stream,
 };
+use seed_search::search_stream;
 use std::alloc::Global;
 use std::io::{Read, Write};
 use std::rt::Files;
@@ -100,9 +107,13 @@ pub fn run<R: Files + Eprint, T: Threads + Wait + Sync, I: Read + Drop, W: Write
         → IfOk result (λ status. HasAnswer (ExplainsInput ruling conflicts (I.remaining input) status)
         (W.contents writer.old) (W.contents writer.new)) }
     // What the clients of a run recorded is written, and the status is yes.
-    ensures recorded { (setting : Setting) → words.entry ≡ Words.Run setting
-        → IfOk result (λ status. (status ≡ Status.Yes) × HasAnswer (IsRunText ⟦<Group as Target>⟧.issued ⟦<Group as Target>⟧.gave setting)
+    ensures recorded { (setting : Setting) (manner : Going) → words.entry ≡ Words.Run setting manner
+        → IfOk result (λ status. (status ≡ Status.Yes) × HasAnswer (IsRunText ⟦<DisturbedGroup as Target>⟧.issued ⟦<DisturbedGroup as Target>⟧.gave setting)
         (W.contents writer.old) (W.contents writer.new)) }
+    // Of a search through seeds the first run is written that no order is found for, and the status is yes; or none has it, and no.
+    ensures searched { (seeds : Range) (setting : Setting) (way : Way) → words.entry ≡ Words.Search seeds setting way
+        → IfOk result (IsSearched ⟦<DisturbedGroup as Target>⟧.issued ⟦<DisturbedGroup as Target>⟧.gave setting
+        seeds.first seeds.last (W.contents writer.old) (W.contents writer.new)) }
     ensures kept { IfErr result (λ fault. fault ≢ StreamFault.Write
         → Keeps (W.contents writer.old) (W.contents writer.new)) }
     // Each command answers its own faults alone.
@@ -148,7 +159,13 @@ pub fn run<R: Files + Eprint, T: Threads + Wait + Sync, I: Read + Drop, W: Write
             let (mut body, mut reply) = open_both(rt, body, reply)?;
             bulk_stream(alloc, first, &mut body, &mut reply, writer)
         }
-        Words::Run(setting) => run_stream(threads, alloc, &setting, writer),
+        Words::Run(setting, manner) => {
+            run_played_stream(threads, alloc, &setting, &manner, writer)
+        }
+        Words::Search(seeds, setting, disturbance) => {
+            let watch = SearchTeller::new(rt, setting, disturbance);
+            search_stream(threads, alloc, seeds, &setting, disturbance, &watch, writer)
+        }
         Words::Explain {
             file,
             conflicts,

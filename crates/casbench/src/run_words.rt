@@ -1,12 +1,16 @@
-ghost use Rattle.std.specs.Prelude.{◌≡◌, option_map};
-ghost use Rattle.clap.specs.Words.{found_of, rows_of};
-ghost use Rattle.casbench.specs.Asked.{asked_by, fault_named as fault_by, number_given as number_by, run_of, setting_given as given_by, setting_of, small_given as small_by};
+ghost use Rattle.std.specs.Prelude.{◌≡◌, Some, codes, option_map};
+ghost use Rattle.clap.specs.Words.{first_of, found_of, rows_of};
+ghost use Rattle.casbench.specs.Asked.{asked_by, disturbance_named as disturbance_by, fault_named as fault_by, manner_given as manner_by, manner_of, one_run_of, playing_given as playing_by, number_given as number_by, run_of, runs_of, search_among as among_by, search_of, seeds_named as seeds_by, setting_given as given_by, setting_of, small_given as small_by};
 
-use crate::arguments::{CALLS, CLIENTS, COPIES, DOCS, FAULT, SEED};
-use crate::words::{Words, number_or};
+use crate::arguments::{
+    CALLS, CLIENTS, COPIES, DISTURB, DOCS, FAULT, IN_TURNS, SEED, SEEDS, UNTIL,
+};
+use crate::words::{GIVEN, Words, number_or};
 use clap::ArgMatches;
+use disturbances::Disturbance;
+use recorded_runs::{Manner, Playing, RunSetting};
 use repl_group::Fault;
-use report::RunSetting;
+use seed_search::Seeds;
 
 // The number that is given, if one is.
 fn number_given(text: Option<&str>) -> Option<u64>
@@ -45,21 +49,35 @@ fn fault_named(name: &str) -> Option<Fault>
     }
 }
 
+/// The name of a fault, which `--fault` takes.
+pub fn fault_name(fault: Fault) -> &'static str
+    ensures { fault_by result.now ≡ Some fault }
+{
+    match fault {
+        Fault::None => "none",
+        Fault::Dirty => "dirty",
+        Fault::Early => "early",
+        Fault::SameTerm => "same-term",
+        Fault::Stale => "stale",
+        Fault::Blind => "blind",
+    }
+}
+
 // What a run is made with, where each number is given and the fault is named.
 fn setting(
-    seed: Option<&str>,
+    seed: Option<u64>,
     clients: Option<&str>,
     calls: Option<&str>,
     docs: Option<&str>,
     copies: Option<&str>,
     fault: Option<&str>,
 ) -> Option<RunSetting>
-    ensures { result ≡ setting_of (option_map (λ t. t.now) seed.entry) (option_map (λ t. t.now) clients.entry)
+    ensures { result ≡ setting_of seed (option_map (λ t. t.now) clients.entry)
         (option_map (λ t. t.now) calls.entry) (option_map (λ t. t.now) docs.entry) (option_map (λ t. t.now) copies.entry)
         (option_map (λ t. t.now) fault.entry) }
 {
     Some(RunSetting {
-        seed: number_given(seed)?,
+        seed: seed?,
         clients: small_given(clients)?,
         calls: small_given(calls)?,
         docs: small_given(docs)?,
@@ -68,12 +86,12 @@ fn setting(
     })
 }
 
-// What a run is made with by the matches of the command.
-fn setting_given(given: &ArgMatches<'_>) -> Option<RunSetting>
-    ensures { result ≡ given_by (rows_of (found_of given.now)) }
+// What a run with the seed is made with by the matches of the command.
+fn setting_given(seed: Option<u64>, given: &ArgMatches<'_>) -> Option<RunSetting>
+    ensures { result ≡ given_by seed (rows_of (found_of given.now)) }
 {
     setting(
-        given.get_str(SEED),
+        seed,
         given.get_str(CLIENTS),
         given.get_str(CALLS),
         given.get_str(DOCS),
@@ -82,10 +100,166 @@ fn setting_given(given: &ArgMatches<'_>) -> Option<RunSetting>
     )
 }
 
-/// The run that is asked for, where each number is given and the fault is named.
+// The disturbance of this name: none where none is given.
+fn disturbance_named(name: Option<&str>) -> Option<Disturbance>
+    ensures { result ≡ disturbance_by (option_map (λ t. t.now) name.entry) }
+{
+    match name {
+        None => Some(Disturbance::None),
+        Some(name) => match name {
+            "none" => Some(Disturbance::None),
+            "cuts" => Some(Disturbance::Cuts),
+            "promotions" => Some(Disturbance::Promotions),
+            "storm" => Some(Disturbance::Storm),
+            _ => None,
+        },
+    }
+}
+
+/// The name of a disturbance, which `--disturb` takes.
+pub fn disturbance_name(disturbance: Disturbance) -> &'static str
+    ensures { disturbance_by (Some result.now) ≡ Some disturbance }
+{
+    match disturbance {
+        Disturbance::None => "none",
+        Disturbance::Cuts => "cuts",
+        Disturbance::Promotions => "promotions",
+        Disturbance::Storm => "storm",
+    }
+}
+
+// Where the clients take their turns, where the option for turns has the text.
+fn playing_given(text: Option<&str>) -> Playing
+    ensures { result ≡ playing_by (option_map (λ t. t.now) text.entry) }
+{
+    match text {
+        Some(GIVEN) => Playing::InTurns,
+        _ => Playing::OnThreads,
+    }
+}
+
+// How a run goes, where the disturbance is named or none is.
+fn manner(in_turns: Option<&str>, disturb: Option<&str>) -> Option<Manner>
+    ensures { result ≡ manner_of (option_map (λ t. t.now) in_turns.entry) (option_map (λ t. t.now) disturb.entry) }
+{
+    Some(Manner {
+        playing: playing_given(in_turns),
+        disturbance: disturbance_named(disturb)?,
+    })
+}
+
+// How a run goes by the matches of the command.
+fn manner_given(given: &ArgMatches<'_>) -> Option<Manner>
+    ensures { result ≡ manner_by (rows_of (found_of given.now)) }
+{
+    manner(given.get_str(IN_TURNS), given.get_str(DISTURB))
+}
+
+// The run that is asked for, where the seed and each number is given and the fault and the disturbance are named.
+fn one_run<'a>(seed: Option<&str>, given: &ArgMatches<'_>) -> Option<Words<'a>>
+    ensures { option_map asked_by result ≡ one_run_of (option_map (λ t. t.now) seed.entry) (rows_of (found_of given.now)) }
+{
+    let setting = setting_given(number_given(seed), given)?;
+    let manner = manner_given(given)?;
+    Some(Words::Run(setting, manner))
+}
+
+// The seeds of a text A-B.
+fn seeds_named(text: &str) -> Option<Seeds>
+    ensures { option_map (λ seeds. (seeds.first, seeds.last)) result ≡ seeds_by text.now }
+{
+    let (first, last) = text.split_once('-')?;
+    let first = number_given(Some(first))?;
+    let last = number_given(Some(last))?;
+    Seeds::new(first, last)
+}
+
+// How the group is disturbed by the matches of the command.
+fn disturbance_given(given: &ArgMatches<'_>) -> Option<Disturbance>
+    ensures { result ≡ disturbance_by (first_of (codes "disturb") (rows_of (found_of given.now))) }
+{
+    disturbance_named(given.get_str(DISTURB))
+}
+
+// Runs with these seeds, where each number is given and the fault and the disturbance are named.
+fn search_among<'a>(seeds: Seeds, given: &ArgMatches<'_>) -> Option<Words<'a>>
+    ensures { option_map asked_by result ≡ among_by (seeds.first, seeds.last) (rows_of (found_of given.now)) }
+{
+    let setting = setting_given(Some(seeds.first()), given)?;
+    let disturbance = disturbance_given(given)?;
+    Some(Words::Search(seeds, setting, disturbance))
+}
+
+// What a search ends with.
+const REFUTED: &str = "refuted";
+
+// Runs with the seeds that are named, until what is named is found.
+fn search<'a>(until: &str, seeds: &str, given: &ArgMatches<'_>) -> Option<Words<'a>>
+    ensures { option_map asked_by result ≡ search_of until.now seeds.now (rows_of (found_of given.now)) }
+{
+    match until {
+        REFUTED => search_among(seeds_named(seeds)?, given),
+        _ => None,
+    }
+}
+
+// One run where a seed is given; a search where it isn't, and what is looked for and the seeds are.
+fn runs<'a>(
+    seed: Option<&str>,
+    until: Option<&str>,
+    seeds: Option<&str>,
+    given: &ArgMatches<'_>,
+) -> Option<Words<'a>>
+    ensures { option_map asked_by result ≡ runs_of (option_map (λ t. t.now) seed.entry) (option_map (λ t. t.now) until.entry)
+        (option_map (λ t. t.now) seeds.entry) (rows_of (found_of given.now)) }
+{
+    match (seed, until, seeds) {
+        (seed, None, None) => one_run(seed, given),
+        (None, Some(until), Some(seeds)) => search(until, seeds, given),
+        _ => None,
+    }
+}
+
+/// The run or the search that is asked for.
 pub fn asked_run<'a>(given: &ArgMatches<'a>) -> Option<Words<'a>>
     ensures { option_map asked_by result ≡ run_of (rows_of (found_of given.now)) }
 {
-    let setting = setting_given(given)?;
-    Some(Words::Run(setting))
+    runs(
+        given.get_str(SEED),
+        given.get_str(UNTIL),
+        given.get_str(SEEDS),
+        given,
+    )
+}
+
+// What is wrong with the seeds of a run, where something is.
+fn seeds_fault(given: &ArgMatches<'_>) -> Option<&'static str> {
+    match (
+        given.get_str(SEED),
+        given.get_str(UNTIL),
+        given.get_str(SEEDS),
+    ) {
+        (Some(_), None, None) => None,
+        (None, Some(REFUTED), Some(seeds)) => match seeds_named(seeds) {
+            Some(_) => None,
+            None => Some(
+                "the value of --seeds is two numbers below 2^64, the least first, as 1-1000",
+            ),
+        },
+        (None, Some(_), Some(_)) => Some("the value of --until is refuted"),
+        _ => Some("a run takes --seed, or else --until and --seeds"),
+    }
+}
+
+/// What the words of a run may name where they name none: a fault, or else a disturbance; and how its seeds are given.
+pub fn unnamed_of_run(given: &ArgMatches<'_>) -> &'static str {
+    if let Some(told) = seeds_fault(given) {
+        return told;
+    }
+    match given.get_str(FAULT) {
+        Some(name) if fault_named(name).is_some() => {
+            "the value of --disturb is none, cuts, promotions or storm"
+        }
+        _ => "the value of --fault is none, dirty, early, same-term, stale or blind",
+    }
 }

@@ -5,11 +5,14 @@ ghost use Rattle.casbench.specs.Asked.{asked_by, asked_of, asked_of_command, ask
 use crate::arguments;
 use crate::arguments::{BODY, CONFLICTS, FIRST, HISTORY, HTML, REPLY, RULE_OUT, WORKERS};
 use crate::commands::{BULK, CHECK, EXPLAIN, RUN, VERIFY, WITNESS, program};
-use crate::run_words::asked_run;
+use crate::run_words::{asked_run, unnamed_of_run};
 use clap::error::ErrorKind;
 use clap::{ArgMatches, Error};
+use disturbances::Disturbance;
 use doc_register::Conflicts;
-use report::{RulingOut, RunSetting};
+use recorded_runs::{Manner, RunSetting};
+use report::RulingOut;
+use seed_search::Seeds;
 use std::alloc::{AllocError, Global};
 use std::convert::AsStr;
 
@@ -42,8 +45,11 @@ pub enum Words<'a> {
         reply: &'a str,
         first: u64,
     },
-    /// To run clients against a replication group, and to write what they recorded.
-    Run(RunSetting),
+    /// To run clients against a replication group in this manner, and to write what they recorded.
+    Run(RunSetting, Manner),
+    /// To run clients in turns with these seeds, in order, against a group that is disturbed so, until no order explains what they
+    /// recorded, and to write that. The seed of the setting is the first of them.
+    Search(Seeds, RunSetting, Disturbance),
     /// To check a history text as `Check` does and to tell what was found; and to write it as a page to a file, where one is
     /// named.
     Explain {
@@ -74,8 +80,8 @@ fn conflicts_named(name: Option<&str>) -> Option<Conflicts>
     }
 }
 
-// The text of an option without a value that is given.
-const GIVEN: &str = "true";
+/// The text of an option without a value that is given.
+pub const GIVEN: &str = "true";
 
 // Whether documents are looked at that may be ruled out, where the option has the text.
 fn ruling_given(text: Option<&str>) -> RulingOut
@@ -257,11 +263,11 @@ fn parse<'a, S: AsStr>(alloc: Global, words: &'a [S]) -> Result<ArgMatches<'a>, 
     program(alloc)?.try_get_matches_from(words)
 }
 
-// The error of words that name no reading of a conflict or, for a run, no fault, with what they may name. That no command is
+// The error of words that name no reading of a conflict or, for a run, no fault, no disturbance or no seeds, with what they may name. That no command is
 // named, or not all its files and numbers, the parse refuses before.
 fn unnamed_error(alloc: Global, matches: &ArgMatches<'_>) -> Result<Error, AllocError> {
     let told = match matches.subcommand() {
-        Some((RUN, _)) => "the value of --fault is none, dirty, early, same-term, stale or blind",
+        Some((RUN, given)) => unnamed_of_run(given),
         _ => "the value of --conflicts is plain or maybe",
     };
     program(alloc)?.error(ErrorKind::InvalidValue, told)
@@ -275,7 +281,7 @@ pub fn read_words<'a, S: AsStr>(alloc: Global, words: &'a [S]) -> Result<Words<'
         ≡ Some (asked_by asked)) }
     ensures taken { OnOk result (faults_on (map S.text words.entry.now) ≡ []) }
     // The words have that fault, or what they name is none of the commands with its files and a reading of conflicts, or with its
-    // numbers and a fault.
+    // numbers, a fault and a disturbance, and a seed or several.
     ensures refused { IfErr result (λ error. HasKind (faults_on (map S.text words.entry.now)) error
         ⊎ (asked_on (map S.text words.entry.now) ≡ None)) }
 {

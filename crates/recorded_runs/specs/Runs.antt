@@ -1,5 +1,5 @@
 -- What is written of a run.
-use Rattle.std.specs.Prelude.{ℕ, ◌==◌, ◌||◌, Bool, List, is_some, nat_lt}
+use Rattle.std.specs.Prelude.{ℕ, ◌*◌, ◌==◌, ◌||◌, Bool, List, is_some, nat_lt}
 use Rattle.doc_register.specs.declared.op.Op.{Op}
 use Rattle.history.specs.declared.event.Event.{Event}
 use Rattle.history.specs.Text.{IsHistoryText}
@@ -9,6 +9,9 @@ use Rattle.workload.specs.Drawing.{draw_refusal, plan_drawn}
 use Rattle.workload.specs.declared.target.Progress.{Progress}
 use Rattle.workload.specs.declared.target.Ticket.{Ticket}
 use Rattle.workload.specs.declared.turn.Turn.{Turn}
+use Rattle.disturbances.specs.Schedules.{schedule_drawn}
+use Rattle.disturbances.specs.declared.disturbance.Disturbance.{Disturbance}
+use Rattle.disturbances.specs.declared.incident.Incident.{Incident}
 use Rattle.recorded_runs.specs.declared.run_setting.RunSetting.{RunSetting}
 use Rattle.stream_io.specs.declared.stream_fault.StreamFault.{StreamFault}
 use Rattle.stream_io.specs.declared.stream_fault.StreamFault.TheVariants.{Read, Write, NoMemory, Worker, Recording, Setting}
@@ -28,6 +31,10 @@ is_refused setting = is_some (draw_refusal setting.clients setting.calls setting
 -- the plan that the setting draws
 abbrev pub plan_of : RunSetting → List (List Turn)
 plan_of setting = plan_drawn setting.seed setting.clients setting.calls setting.docs
+
+-- the schedule that the setting draws: one incident for each call of all clients
+abbrev pub schedule_of : RunSetting → Disturbance → List Incident
+schedule_of setting disturbance = schedule_drawn disturbance setting.seed (setting.clients * setting.calls)
 
 -- What the target issued tickets for, and what it gave when they were polled.
 module _ (issued : Ticket → List ℕ → Op → Type 0) (gave : Ticket → Progress → Type 0) where

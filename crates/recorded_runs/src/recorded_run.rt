@@ -1,21 +1,27 @@
-ghost use Rattle.std.specs.Prelude.{◌≡◌, ◌≢◌, ◌↔◌, IfErr, IfOk, IsErrOf, IsTrue, is_some};
+ghost use Rattle.std.specs.Prelude.{◌≡◌, ◌≢◌, ◌↔◌, All, IfErr, IfOk, IsErrOf, IsTrue, None, is_some, length, map, replicate};
 ghost use Rattle.std.specs.Io.KnownBytes.{Keeps};
-ghost use Rattle.recorded_runs.specs.Runs.{IsRunFault, IsRunOf, IsRunText, are_refused, is_refused, plan_of};
+ghost use Rattle.recorded_runs.specs.Runs.{IsRunFault, IsRunOf, IsRunText, are_refused, is_refused, plan_of, run_polls, schedule_of};
+ghost use Rattle.recorder.specs.Pens.{new_pen};
+ghost use Rattle.recorder.specs.Recordings.{lists_of};
+ghost use Rattle.workload.specs.ClientRuns.{AreClientRuns, AreLongerByRuns};
+ghost use Rattle.workload.specs.Drawing.{draw_refusal};
 ghost use Rattle.stream_io.specs.Written.{HasAnswer, HasFront};
 ghost use Rattle.recorded_runs.specs.aids.Recorded.{IsOfRecording, IsOfRun, tells_copies};
 ghost use Rattle.workload.specs.Plans.{refusal_told};
 
+use crate::manner::{Manner, Playing};
 use crate::run_fault::stream_fault;
 use crate::run_setting::RunSetting;
+use disturbances::{Disturbance, DisturbedGroup};
 use history::{History, write};
-use recorder::{ClockRecorder, CloseFault, StartFault};
-use repl_group::{CoreFault, Group};
+use recorder::{ClockPen, ClockRecorder, CloseFault, Recording, StartFault};
+use repl_group::CoreFault;
 use std::alloc::Global;
 use std::io::Write;
 use std::sync::Wait;
 use std::thread::Threads;
 use stream_io::{Status, StreamFault, write_text};
-use workload::{Plan, PlanFault, Target, run_clients};
+use workload::{Plan, PlanFault, RunFault, Target, run_clients, run_in_turns};
 
 /// How often a client of a run polls a call at most.
 pub const RUN_POLLS: u32 = 1_000;
@@ -28,22 +34,41 @@ fn is_plan_refused(plan: &Result<Plan, PlanFault>) -> bool
 }
 
 // Whether the number of copies is refused.
-fn is_group_refused(group: &Result<Group, CoreFault>) -> bool
+fn is_group_refused(group: &Result<DisturbedGroup, CoreFault>) -> bool
     ensures { result ≡ tells_copies group.now }
 {
     matches!(group, Err(CoreFault::Copies))
 }
 
-// The group of the setting.
-fn group_of(alloc: Global, setting: &RunSetting) -> Result<Group, CoreFault>
-    ensures { tells_copies result ≡ are_refused setting.now.copies }
+// The group of the setting, under the schedule of the disturbance, whose length is the number of all calls.
+fn group_of(
+    alloc: Global,
+    setting: &RunSetting,
+    disturbance: Disturbance,
+) -> Result<DisturbedGroup, CoreFault>
+    requires drawn { draw_refusal setting.now.clients setting.now.calls setting.now.docs ≡ None }
+    ensures schedule { IfOk result (λ group. group ≡ schedule_of setting.now disturbance) }
+    ensures copies { tells_copies result ≡ are_refused setting.now.copies }
 {
-    Group::new(alloc, setting.copies, setting.fault, setting.seed)
+    let RunSetting {
+        seed,
+        clients,
+        calls,
+        copies,
+        fault,
+        ..
+    } = *setting;
+    DisturbedGroup::new(alloc, copies, fault, seed, disturbance, clients * calls)
 }
 
 // The plan and the group of the setting. That a number is refused is told before want of memory.
-fn plan_and_group(alloc: Global, setting: &RunSetting) -> Result<(Plan, Group), StreamFault>
+fn plan_and_group(
+    alloc: Global,
+    setting: &RunSetting,
+    disturbance: Disturbance,
+) -> Result<(Plan, DisturbedGroup), StreamFault>
     ensures plan { IfOk result (λ made. made.0 ≡ plan_of setting.now) }
+    ensures schedule { IfOk result (λ made. made.1 ≡ schedule_of setting.now disturbance) }
     ensures setting { IsErrOf result StreamFault.Setting ↔ IsTrue (is_refused setting.now) }
     ensures told { IfErr result IsOfRun }
 {
@@ -55,8 +80,11 @@ fn plan_and_group(alloc: Global, setting: &RunSetting) -> Result<(Plan, Group), 
         ..
     } = *setting;
     let plan = Plan::draw(alloc, seed, clients, calls, docs);
-    let group = group_of(alloc, setting);
-    if is_plan_refused(&plan) || is_group_refused(&group) {
+    if is_plan_refused(&plan) {
+        return Err(StreamFault::Setting);
+    }
+    let group = group_of(alloc, setting, disturbance);
+    if is_group_refused(&group) {
         return Err(StreamFault::Setting);
     }
     match (plan, group) {
@@ -65,14 +93,40 @@ fn plan_and_group(alloc: Global, setting: &RunSetting) -> Result<(Plan, Group), 
     }
 }
 
-// What the clients of the plan record against the group, each on a thread of its own.
+// Runs the clients of the plan, each on a thread of its own, or all in turns on this one.
+fn play<T: Threads + Wait + Sync>(
+    rt: &T,
+    alloc: Global,
+    plan: &Plan,
+    group: &DisturbedGroup,
+    recorder: &ClockRecorder,
+    pens: Vec<ClockPen>,
+    playing: Playing,
+) -> Result<Vec<ClockPen>, RunFault>
+    requires count { length pens.items ≡ length plan.now }
+    requires pens { All (⟦<ClockRecorder as Recording>⟧.has_pen recorder.now) pens.items }
+    ensures runs { IfOk result (λ done. AreLongerByRuns ⟦<DisturbedGroup as Target>⟧.issued ⟦<DisturbedGroup as Target>⟧.gave run_polls plan.now
+        (map ⟦<ClockRecorder as Recording>⟧.pen_state pens.items) (map ⟦<ClockRecorder as Recording>⟧.pen_state done.items)) }
+    ensures of_new_pens { map ⟦<ClockRecorder as Recording>⟧.pen_state pens.items ≡ replicate (length plan.now) new_pen
+        → IfOk result (λ done. AreClientRuns ⟦<DisturbedGroup as Target>⟧.issued ⟦<DisturbedGroup as Target>⟧.gave run_polls plan.now
+        (lists_of (map ⟦<ClockRecorder as Recording>⟧.pen_state done.items))) }
+    ensures keeps { IfOk result (λ done. All (⟦<ClockRecorder as Recording>⟧.has_pen recorder.now) done.items) }
+{
+    match playing {
+        Playing::OnThreads => run_clients(rt, alloc, plan, group, recorder, pens, RUN_POLLS),
+        Playing::InTurns => run_in_turns(rt, alloc, plan, group, recorder, pens, RUN_POLLS),
+    }
+}
+
+// What the clients of the plan record against the group.
 fn record_run<T: Threads + Wait + Sync>(
     rt: &T,
     alloc: Global,
     plan: &Plan,
-    group: &Group,
+    group: &DisturbedGroup,
+    playing: Playing,
 ) -> Result<History, StreamFault>
-    ensures run { IfOk result (IsRunOf ⟦<Group as Target>⟧.issued ⟦<Group as Target>⟧.gave plan.now) }
+    ensures run { IfOk result (IsRunOf ⟦<DisturbedGroup as Target>⟧.issued ⟦<DisturbedGroup as Target>⟧.gave plan.now) }
     ensures told { IfErr result IsOfRecording }
 {
     let (recorder, pens) = match ClockRecorder::start(alloc, plan.clients()) {
@@ -80,7 +134,7 @@ fn record_run<T: Threads + Wait + Sync>(
         Err(StartFault::NoMemory) => return Err(StreamFault::NoMemory),
         Err(StartFault::Count) => unreachable!(),
     };
-    let pens = match run_clients(rt, alloc, plan, group, &recorder, pens, RUN_POLLS) {
+    let pens = match play(rt, alloc, plan, group, &recorder, pens, playing) {
         Ok(pens) => pens,
         Err(fault) => return Err(stream_fault(fault)),
     };
@@ -91,24 +145,81 @@ fn record_run<T: Threads + Wait + Sync>(
     }
 }
 
-// The text of the history that the clients of the setting's plan record against its group.
+/// The history that the clients of the setting's plan record against its group, in this manner.
+///
+/// In turns it depends on the setting and the disturbance alone; of the faults, see `run_played_stream`.
+pub fn run_history<T: Threads + Wait + Sync>(
+    rt: &T,
+    alloc: Global,
+    setting: &RunSetting,
+    manner: &Manner,
+) -> Result<History, StreamFault>
+    ensures run { IfOk result (IsRunOf ⟦<DisturbedGroup as Target>⟧.issued ⟦<DisturbedGroup as Target>⟧.gave (plan_of setting.now)) }
+    ensures setting { IsErrOf result StreamFault.Setting ↔ IsTrue (is_refused setting.now) }
+    ensures told { IfErr result IsOfRun }
+{
+    let (plan, group) = plan_and_group(alloc, setting, manner.disturbance)?;
+    let history = record_run(rt, alloc, &plan, &group, manner.playing)?;
+    Ok(history)
+}
+
+// The text of the history that is recorded so.
 fn run_text<T: Threads + Wait + Sync>(
     rt: &T,
     alloc: Global,
     setting: &RunSetting,
+    manner: &Manner,
 ) -> Result<Vec<u8>, StreamFault>
-    ensures text { IfOk result (λ text. IsRunText ⟦<Group as Target>⟧.issued
-        ⟦<Group as Target>⟧.gave setting.now text.items) }
+    ensures text { IfOk result (λ text. IsRunText ⟦<DisturbedGroup as Target>⟧.issued
+        ⟦<DisturbedGroup as Target>⟧.gave setting.now text.items) }
     ensures setting { IsErrOf result StreamFault.Setting ↔ IsTrue (is_refused setting.now) }
     ensures told { IfErr result IsOfRun }
 {
-    let (plan, group) = plan_and_group(alloc, setting)?;
-    let history = record_run(rt, alloc, &plan, &group)?;
+    let history = run_history(rt, alloc, setting, manner)?;
     let text = write(alloc, &history)?;
     Ok(text)
 }
 
-/// Runs clients against a replication group, and writes the text of the history that they recorded.
+/// Runs clients against a replication group in this manner, and writes the text of the history that they recorded.
+///
+/// The seed draws the plan of the clients, the steps of the group, and the schedule by which it is disturbed, which has an incident
+/// for each call of all clients. Where the clients run in turns the text depends on the setting and the disturbance alone; where each
+/// runs on a thread of its own that is so of one client, and with more it also depends on which thread was quicker. A client polls a
+/// call 1,000 times at most.
+///
+/// `Setting` where a number of the plan or of the group is refused, told before anything else; `NoMemory` where a growth was
+/// refused; `Recording` where an event or an operation was refused otherwise. Closing loses no recording.
+pub fn run_played_stream<T: Threads + Wait + Sync, W: Write>(
+    rt: &T,
+    alloc: Global,
+    setting: &RunSetting,
+    manner: &Manner,
+    writer: &mut W,
+) -> Result<Status, StreamFault>
+    // Whatever the manner, what it wrote is a history text of a recording of pens, one for each client of the plan that is drawn, whose lists are the
+    // runs of these clients; and it answers yes.
+    ensures written { IfOk result (λ status. (status ≡ Status.Yes) × HasAnswer (IsRunText
+        ⟦<DisturbedGroup as Target>⟧.issued ⟦<DisturbedGroup as Target>⟧.gave setting.now)
+        (W.contents writer.old) (W.contents writer.new)) }
+    // After a write fault a front of such a text is written, and after any other fault nothing is.
+    ensures cut_off { IsErrOf result StreamFault.Write → HasFront (λ _. IsRunText
+        ⟦<DisturbedGroup as Target>⟧.issued ⟦<DisturbedGroup as Target>⟧.gave setting.now)
+        (W.contents writer.old) (W.contents writer.new) }
+    ensures kept { IfErr result (λ fault. fault ≢ StreamFault.Write
+        → Keeps (W.contents writer.old) (W.contents writer.new)) }
+    ensures setting { IsErrOf result StreamFault.Setting ↔ IsTrue (is_refused setting.now) }
+    ensures told { IfErr result IsRunFault }
+{
+    match run_text(rt, alloc, setting, manner) {
+        Ok(text) => {
+            write_text(writer, &text)?;
+            Ok(Status::Yes)
+        }
+        Err(fault) => Err(fault),
+    }
+}
+
+/// Runs clients against a replication group that isn't disturbed, and writes the text of the history that they recorded.
 ///
 /// The seed draws the plan of the clients and the steps of the group. Each client runs on a thread of its own where one can be
 /// made, and polls a call 1,000 times at most. With one client the text depends on the setting alone; with more it also depends on
@@ -125,22 +236,20 @@ pub fn run_stream<T: Threads + Wait + Sync, W: Write>(
     // What it wrote is a history text of a recording of pens, one for each client of the plan that is drawn, whose lists are the
     // runs of these clients; and it answers yes.
     ensures written { IfOk result (λ status. (status ≡ Status.Yes) × HasAnswer (IsRunText
-        ⟦<Group as Target>⟧.issued ⟦<Group as Target>⟧.gave setting.now)
+        ⟦<DisturbedGroup as Target>⟧.issued ⟦<DisturbedGroup as Target>⟧.gave setting.now)
         (W.contents writer.old) (W.contents writer.new)) }
     // After a write fault a front of such a text is written, and after any other fault nothing is.
     ensures cut_off { IsErrOf result StreamFault.Write → HasFront (λ _. IsRunText
-        ⟦<Group as Target>⟧.issued ⟦<Group as Target>⟧.gave setting.now)
+        ⟦<DisturbedGroup as Target>⟧.issued ⟦<DisturbedGroup as Target>⟧.gave setting.now)
         (W.contents writer.old) (W.contents writer.new) }
     ensures kept { IfErr result (λ fault. fault ≢ StreamFault.Write
         → Keeps (W.contents writer.old) (W.contents writer.new)) }
     ensures setting { IsErrOf result StreamFault.Setting ↔ IsTrue (is_refused setting.now) }
     ensures told { IfErr result IsRunFault }
 {
-    match run_text(rt, alloc, setting) {
-        Ok(text) => {
-            write_text(writer, &text)?;
-            Ok(Status::Yes)
-        }
-        Err(fault) => Err(fault),
-    }
+    let manner = Manner {
+        playing: Playing::OnThreads,
+        disturbance: Disturbance::None,
+    };
+    run_played_stream(rt, alloc, setting, &manner, writer)
 }

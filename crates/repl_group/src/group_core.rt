@@ -103,8 +103,8 @@ impl Core {
         self.machine.is_full()
     }
 
-    // How many copies there are, 1 to 5.
-    pub(crate) fn copy_count(&self) -> u32
+    /// How many copies there are, 1 to 5.
+    pub fn copy_count(&self) -> u32
         ensures count { result ≡ length self.now.copies }
         ensures range { IsCopyCount result }
     {

@@ -1,4 +1,4 @@
-ghost use Rattle.std.specs.Prelude.{◌≡◌, ◌≤◌, None as Nothing, IfErr, IfOk, IfSome, ℕ, List, Err};
+ghost use Rattle.std.specs.Prelude.{◌≡◌, ◌≢◌, ◌≤◌, None as Nothing, IfErr, IfOk, IfSome, ℕ, List, Err};
 ghost use Rattle.doc_register.specs.declared.state.Conflicts.{Conflicts as Reading};
 ghost use Rattle.history.specs.Reading.{history_text};
 ghost use Rattle.history.specs.Text.{IsHistoryText};
@@ -132,6 +132,8 @@ fn verdict_by<R: Threads + Wait + Sync>(
     requires few { workers ≤ 16 }
     ensures verdict { IfOk result (IsVerdictOn conflicts history) }
     ensures told { IfErr result IsCheckFault }
+    ensures unread { IfErr result (λ fault. fault ≢ StreamFault.Read) }
+    ensures alone { workers ≡ 1 → IfErr result (λ fault. fault ≡ StreamFault.NoMemory) }
     ensures named { IfErr result (HasDocument history) }
 {
     if workers == 1 {
@@ -152,7 +154,9 @@ fn verdict_by<R: Threads + Wait + Sync>(
     }
 }
 
-/// The answer to a text that was read as this history, and what was found of it.
+/// The answer to a text that was read as this history, and what was found of it: the line that `check_stream` writes for it.
+///
+/// `NoMemory` where a growth was refused; `Worker` where a worker was lost, which one worker never is.
 pub fn history_answer<R: Threads + Wait + Sync>(
     rt: &R,
     alloc: Global,
@@ -166,6 +170,9 @@ pub fn history_answer<R: Threads + Wait + Sync>(
     ensures answer { IfOk result (λ told. (input : List ℕ) → IsHistoryText input history
         → IsAnswer ruling_out conflicts input told.0.status told.0.text.items) }
     ensures told { IfErr result IsCheckFault }
+    // Nothing is read, and one worker is the caller's thread, which isn't lost.
+    ensures unread { IfErr result (λ fault. fault ≢ StreamFault.Read) }
+    ensures alone { workers ≡ 1 → IfErr result (λ fault. fault ≡ StreamFault.NoMemory) }
     ensures named { IfErr result (HasDocument history) }
 {
     match verdict_by(rt, alloc, history, workers, conflicts) {

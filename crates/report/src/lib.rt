@@ -17,9 +17,10 @@ mod verify_answer;
 mod verify_input;
 mod witness_answer;
 
-pub use compose::{Offence, RulingOut, first_offence};
+pub use check_answer::history_answer;
+pub use compose::{Finding, Offence, RulingOut, first_offence};
 pub use explain_streams::{explain_page_stream, explain_stream};
 pub use page::laws;
 pub use recorded_runs::{RUN_POLLS, RunSetting, run_stream};
-pub use stream_io::{Status, StreamFault};
+pub use stream_io::{Answer, Status, StreamFault};
 pub use streams::{bulk_stream, check_stream, verify_stream, witness_stream};

@@ -5,3 +5,4 @@ mod PlanLemmas
 mod RoundLemmas
 mod RunningLemmas
 mod SeatLemmas
+mod OnceLemmas

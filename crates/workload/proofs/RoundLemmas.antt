@@ -23,7 +23,7 @@ use Rattle.history.proofs.ListLemmas.{mapped_from}
 
 module _ {X : Type 0} where
   -- an element after one was set is the one that was set, or as before
-  from_set : (xs : List X) (i j : ℕ) (y z : X) → slice_get (set xs i y) j ≡ Some z → ((j ≡ i) × (z ≡ y)) ⊎ (slice_get xs j ≡ Some z)
+  pub from_set : (xs : List X) (i j : ℕ) (y z : X) → slice_get (set xs i y) j ≡ Some z → ((j ≡ i) × (z ≡ y)) ⊎ (slice_get xs j ≡ Some z)
   from_set [] i j y z at = inr at
   from_set (x ∷ xs) zero zero y z at = inl (refl, cc)
   from_set (x ∷ xs) zero (suc j) y z at = inr at

@@ -3,7 +3,7 @@ ghost use Rattle.recorder.specs.Pens.{new_pen};
 ghost use Rattle.recorder.specs.Recordings.{lists_of};
 ghost use Rattle.workload.specs.ClientRuns.{AreClientRuns, AreLongerByRuns};
 ghost use Rattle.workload.specs.RunFaults.{HasCause, IsMisfit};
-ghost use Rattle.workload.specs.aids.Seats.{AreNew, IsOpenIfAny, VisitsEach};
+ghost use Rattle.workload.specs.aids.Seats.{AreNew, AreVisitedOnce, IsOpenIfAny, VisitsEach};
 
 use crate::plan::Plan;
 use crate::run_fault::RunFault;
@@ -39,6 +39,7 @@ fn visit_each<R: Wait, T: Target, X: Recording>(
     requires calls { All (λ seat. IsOpenIfAny T.issued (X.pen_state seat.pen).list seat.open_call) seats.old.items }
     ensures visits { IfOk result (VisitsEach T.issued T.gave polls X.pen_state plan.now
         seats.old.items seats.new.items) }
+    ensures once { IfOk result (λ _. AreVisitedOnce polls seats.old.items seats.new.items) }
     ensures clients { IfOk result (λ _. All (λ seat. seat.client < length plan.now) seats.new.items) }
     ensures pens { IfOk result (λ _. All (λ seat. X.has_pen recorder.now seat.pen) seats.new.items) }
     ensures calls { IfOk result (λ _. All (λ seat. IsOpenIfAny T.issued (X.pen_state seat.pen).list seat.open_call)

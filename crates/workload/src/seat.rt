@@ -1,6 +1,6 @@
 ghost use Rattle.std.specs.Prelude.{◌≡◌, ◌<◌, ℕ, IfErr, IfOk, List, length, true};
 ghost use Rattle.workload.specs.RunFaults.{HasCause, IsMisfit};
-ghost use Rattle.workload.specs.aids.Seats.{IsNew, IsOpenIfAny, Visits};
+ghost use Rattle.workload.specs.aids.Seats.{IsNew, IsOpenIfAny, IsVisitedOnce, Visits};
 ghost use Rattle.workload.specs.declared.turn.Turn.{Turn};
 
 use crate::client::{begin_turn, end_turn};
@@ -55,6 +55,7 @@ fn begin_next<R: Wait, T: Target, X: Recording>(
     requires pen { X.has_pen recorder.now seat.old.pen }
     requires idle { seat.old.open_call ≡ None }
     ensures visits { IfOk result (Visits T.issued T.gave polls X.pen_state plan.now seat.old seat.new) }
+    ensures once { IfOk result (λ _. IsVisitedOnce polls seat.old seat.new) }
     ensures keeps { IfOk result (λ _. X.has_pen recorder.now seat.new.pen) }
     ensures opens { IfOk result (λ _. IsOpenIfAny T.issued (X.pen_state seat.new.pen).list seat.new.open_call) }
     ensures cause { IfErr result (HasCause (IsMisfit T.issued T.gave) T.all_given (X.may_rewind recorder.now)
@@ -94,6 +95,7 @@ fn poll_open<R: Wait, T: Target, X: Recording>(
     requires opened { IsOpenIfAny T.issued (X.pen_state seat.old.pen).list seat.old.open_call }
     ensures visits { IfOk result (λ _. (polls : ℕ) (clients : List (List Turn))
         → Visits T.issued T.gave polls X.pen_state clients seat.old seat.new true) }
+    ensures once { IfOk result (λ _. (polls : ℕ) → IsVisitedOnce polls seat.old seat.new) }
     ensures keeps { IfOk result (λ _. X.has_pen recorder.now seat.new.pen) }
     ensures opens { IfOk result (λ _. IsOpenIfAny T.issued (X.pen_state seat.new.pen).list seat.new.open_call) }
     ensures cause { IfErr result (HasCause (IsMisfit T.issued T.gave) T.all_given (X.may_rewind recorder.now)
@@ -138,6 +140,7 @@ pub fn visit<R: Wait, T: Target, X: Recording>(
     requires pen { X.has_pen recorder.now seat.old.pen }
     requires opened { IsOpenIfAny T.issued (X.pen_state seat.old.pen).list seat.old.open_call }
     ensures visits { IfOk result (Visits T.issued T.gave polls X.pen_state plan.now seat.old seat.new) }
+    ensures once { IfOk result (λ _. IsVisitedOnce polls seat.old seat.new) }
     ensures keeps { IfOk result (λ _. X.has_pen recorder.now seat.new.pen) }
     ensures opens { IfOk result (λ _. IsOpenIfAny T.issued (X.pen_state seat.new.pen).list seat.new.open_call) }
     ensures cause { IfErr result (HasCause (IsMisfit T.issued T.gave) T.all_given (X.may_rewind recorder.now)

@@ -1,5 +1,5 @@
 -- A client that is visited: where it stands between two visits, and what a visit does.
-use Rattle.std.specs.Prelude.{◌≡◌, ℕ, ◌+◌, ◌-◌, ◌*◌, ◌<◌, Bool, true, false, List, [], Option, Some, None, All, length, slice_get, sum_by, take, unwrap_or}
+use Rattle.std.specs.Prelude.{◌≡◌, ℕ, suc, ◌+◌, ◌-◌, ◌*◌, ◌<◌, Bool, true, false, List, [], Option, Some, None, All, length, slice_get, sum_by, take, unwrap_or}
 use Rattle.doc_register.specs.declared.op.Op.{Op}
 use Rattle.history.specs.declared.event.Event.{Event}
 use Rattle.recorder.specs.Pens.{PenState}
@@ -50,6 +50,23 @@ visits_left clients polls seat = (length (turns_of clients seat.client) - seat.b
 abbrev pub IsOpenIfAny : (Ticket → List ℕ → Op → Type 0) → List (ℕ × Event) → Option PolledCall → Type 0
 IsOpenIfAny issued list None = Unit {0}
 IsOpenIfAny issued list (Some polled) = IsOpenIn issued list polled.call
+
+-- What one visit makes of the turns begun and of the open call: it begins one turn, whose call may be polled so often, or nothing where
+-- no turn is left; or it polls the open call once, which then has its ending or one poll less.
+abbrev pub IsOneStep : ℕ → ℕ → ℕ → Option PolledCall → Option PolledCall → Type 0
+IsOneStep polls before after None None = after ≡ before
+IsOneStep polls before after None (Some opened) = (after ≡ suc before) × (opened.polls_left ≡ polls)
+IsOneStep polls before after (Some polled) None = after ≡ before
+IsOneStep polls before after (Some polled) (Some next) = (after ≡ before) × (suc next.polls_left ≡ polled.polls_left)
+
+-- the client was visited once
+abbrev pub IsVisitedOnce : {P : Type 0} → ℕ → Seat P → Seat P → Type 0
+IsVisitedOnce polls old new = IsOneStep polls old.begun new.begun old.open_call new.open_call
+
+-- each client was visited once
+pub record AreVisitedOnce {P : Type 0} (polls : ℕ) (old new : List (Seat P)) : Type 0 where
+  pub count : length new ≡ length old
+  pub each : (i : ℕ) (before after : Seat P) → slice_get old i ≡ Some before → slice_get new i ≡ Some after → IsVisitedOnce polls before after
 
 module _ (issued : Ticket → List ℕ → Op → Type 0) (gave : Ticket → Progress → Type 0) where
   -- What a poll tells of a call that may be polled so often yet: that it waits and may be polled again, or what was heard of it.

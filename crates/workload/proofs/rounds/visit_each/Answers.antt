@@ -1,6 +1,7 @@
 use Rattle.std.proofs.Common.{◌<◌, ◌≡◌, arith, inl, inr, length}
 use Rattle.std.proofs.lemmas.List.Elements.{All-set}
 use Rattle.workload.specs.aids.Seats.{IsOpenIfAny}
+use Rattle.workload.proofs.OnceLemmas.{visited_after, visited_at_end}
 use Rattle.workload.proofs.RoundLemmas.{lent_back, round_after}
 use Rattle.workload.proofs.rounds.visit_each.Goals as goal
 use Rattle.workload.proofs.rounds.visit_each.Goals.{then-branch, else-branch}
@@ -25,6 +26,10 @@ loop-seat-preserved g c = record {
       c.loop-seat.acted c.in_ok-visit.field-0 c.if-branch.acted c.seat-item.result c.visit.new.seat here
       (elim c.if-branch.branch [ then-branch w ↦ inl (w.if-branch.true, w.acted-is) | else-branch w ↦ inr (w.if-branch.false, w.acted-is) ])
       c.in_ok-visit.ensures.visits c.loop-seat.invariant.round;
+  once =
+      let here : c.loop-seat.seat-index < length c.loop-seat.seat-items = omega (arith, c.loop-seat-test.true, c.loop-seat.auto.seat-items) in
+      visited_after c.args.polls _ c.loop-seat.seat-items c.loop-seat.seat-index c.seat-item.result c.visit.new.seat here
+      c.in_ok-visit.ensures.once c.loop-seat.invariant.once;
   clients =
       let here : c.loop-seat.seat-index < length c.loop-seat.seat-items = omega (arith, c.loop-seat-test.true, c.loop-seat.auto.seat-items) in
       All-set (λ seat. seat.client < length c.args.plan.now) c.loop-seat.seat-items c.loop-seat.seat-index c.visit.new.seat
@@ -47,6 +52,9 @@ returns g c =
         fewer = round.fewer;
         done = λ is_false. (round.same is_false, λ k e within. round.done is_false k e (omega (arith, round.count, c.loop-seat-test.false, c.loop-seat.auto.seat-items)));
       };
+      once =
+          visited_at_end c.args.polls _ c.loop-seat.seat-items c.loop-seat.seat-index (omega (arith, c.loop-seat-test.false, c.loop-seat.auto.seat-items))
+          c.loop-seat.invariant.once;
       clients = c.loop-seat.invariant.clients;
       pens = c.loop-seat.invariant.pens;
       calls = c.loop-seat.invariant.calls;

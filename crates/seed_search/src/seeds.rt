@@ -1,0 +1,37 @@
+ghost use Rattle.std.specs.Prelude.{◌≡◌, ◌≤◌, option_map};
+ghost use Rattle.seed_search.specs.Range.{seeds_between};
+
+/// The seeds from one to another, each of them too.
+#[derive(Clone, Copy, Debug, PartialEq, Eq)]
+pub struct Seeds {
+    first: u64,
+    last: u64,
+    pub ghost ordered: { first ≤ last },
+}
+
+impl Seeds {
+    /// The seeds from the first to the last; `None` where the last is below the first.
+    pub fn new(first: u64, last: u64) -> Option<Seeds>
+        ensures { option_map (λ seeds. (seeds.first, seeds.last)) result ≡ seeds_between first last }
+    {
+        if first <= last {
+            Some(Seeds { first, last })
+        } else {
+            None
+        }
+    }
+
+    /// The least of them.
+    pub fn first(self) -> u64
+        ensures { result ≡ self.first }
+    {
+        self.first
+    }
+
+    /// The greatest of them.
+    pub fn last(self) -> u64
+        ensures { result ≡ self.last }
+    {
+        self.last
+    }
+}
