@@ -1,10 +1,10 @@
 -- The tokens of bytes that are read one thing at a time: a bracket, a comma, a key, a text, a number, a word.
-use Rattle.std.proofs.Common.{◌≡◌, ◌<◌, ◌≤◌, ◌+◌, ◌^◌, ℕ, suc, List, [], ◌∷◌, ◌++◌, Bool, true, false, not, length, get_or, take, drop, refl, sym, ap, ap₂, subst, ◌∙◌, arith, add-one, drop-cons, length-take, cond, Some, None}
-use Rattle.std.specs.Prelude.{IsUtf8, nat_lt, position, ◌==◌, ◌||◌}
-use Rattle.std.specs.List.{list_all, prefix_len, position_or_len}
+use Rattle.std.proofs.Common.{◌≡◌, ◌<◌, ◌≤◌, ◌+◌, ◌^◌, ℕ, List, [], ◌∷◌, ◌++◌, Bool, true, false, not, length, get_or, take, drop, refl, sym, ap, ap₂, subst, ◌∙◌, arith, add-one, drop-cons, length-take, cond}
+use Rattle.std.specs.Prelude.{IsUtf8, nat_lt, ◌==◌, ◌||◌}
+use Rattle.std.specs.List.{list_all}
 use Rattle.std.specs.Str.{bytes_eq}
 use Rattle.std.specs.Str.Parse.{AllDigits, digits_value}
-use Rattle.std.proofs.lemmas.Bool.{and_parts, eqb-false, eqb-true, leb-false, lt-ltb, ltb-false, ltb-true, not-true, or_parts}
+use Rattle.std.proofs.lemmas.Bool.{and_parts, eqb-false, eqb-true, leb-false, lt-ltb, ltb-false, not-true, or_parts}
 use Rattle.std.proofs.lemmas.Fmt.{decimal-digits_value}
 use Rattle.std.proofs.lemmas.List.{take-append-drop}
 use Rattle.std.proofs.lemmas.Slice.Eq.{bytes_eq-Decides}
@@ -54,25 +54,7 @@ ascii-plain (b ∷ s) h = let both = and_parts _ _ h in rw ((plain_byte b both.0
 pub IsUtf8-plain : (s : List ℕ) → list_all is_plain s ≡ true → IsUtf8 s
 IsUtf8-plain s h = IsUtf8-are_ascii s (ascii-plain s h)
 
--- ---- the first byte that stops a text
-
-before_stop : (p : ℕ → Bool) (xs : List ℕ) → list_all p (take (prefix_len p xs) xs) ≡ true
-before_stop p [] = refl
-before_stop p (x ∷ xs) = by_test (p x) refl (before_stop p xs) where
-  more : 1 + prefix_len p xs ≡ suc (prefix_len p xs)
-  more = omega arith
-
-  by_test : (b : Bool) → p x ≡ b → list_all p (take (prefix_len p xs) xs) ≡ true → list_all p (take (cond b (1 + prefix_len p xs) 0) (x ∷ xs)) ≡ true
-  by_test true is rest = rw (more, is) rest
-  by_test false is rest = refl
-
-stop_at : (xs : List ℕ) (end : ℕ) (b : Bool) → nat_lt (position_or_len is_stop xs) (length xs) ≡ b → cond b (Some (position_or_len is_stop xs)) None ≡ Some end → (position_or_len is_stop xs ≡ end) × (end < length xs)
-stop_at xs end true is found = let same : position_or_len is_stop xs ≡ end = cc in (same, let less = ltb-true _ _ is in omega arith)
-stop_at xs end false is found = absurd (cc)
-
--- a plain text up to its quote
-pub plain_until : (xs : List ℕ) (end : ℕ) → position is_stop xs ≡ Some end → list_all is_plain (take end xs) ≡ true
-plain_until xs end found = subst (λ n. list_all is_plain (take n xs) ≡ true) (stop_at xs end _ refl found).0 (before_stop is_plain xs)
+-- ---- what stands behind a text
 
 pub split_at : (xs : List ℕ) (i : ℕ) → i < length xs → xs ≡ take i xs ++ get_or xs i 0 ∷ drop (i + 1) xs
 split_at xs i h = sym (take-append-drop i xs) ∙ ap (λ l. take i xs ++ l) (rw (add-one, drop-cons xs i 0) refl)

@@ -1,6 +1,6 @@
 //! The tokens of a line, read a byte at a time: a line whose texts have no escape and no byte past ASCII, and whose
 //! numbers are digits alone. Spaces may stand around values, but not between a key and its colon.
-ghost use Rattle.std.specs.Prelude.{◌≡◌, ◌<◌, ◌∷◌, ◌++◌, ℕ, [], IfSome, List, OnSome, Some, length, not, option_map, position, true};
+ghost use Rattle.std.specs.Prelude.{◌≡◌, ◌<◌, ◌∷◌, ◌++◌, ℕ, [], IfSome, List, OnSome, Some, length, not, option_map, take, true};
 ghost use Rattle.std.specs.Bool.{MatchBool};
 ghost use Rattle.std.specs.List.{list_all};
 ghost use Rattle.json.specs.Json.{after_end_array, read_key};
@@ -29,9 +29,15 @@ fn is_stop(byte: u8) -> bool
 // Where the plain text that begins here ends.
 #[inline(always)]
 fn plain_end(bytes: &[u8]) -> Option<usize>
-    ensures { result ≡ position stop bytes.now }
+    ensures within { IfSome result (λ end. end < length bytes.now) }
+    ensures plain { IfSome result (λ end. list_all (λ b. not (stop b)) (take end bytes.now) ≡ true) }
 {
-    bytes.iter().position(|byte| is_stop(*byte))
+    for (at, byte) in bytes.iter().enumerate() {
+        if is_stop(*byte) {
+            return Some(at);
+        }
+    }
+    None
 }
 
 // The plain text up to its closing quote, and the bytes after that, found a byte at a time.
