@@ -1,4 +1,4 @@
-ghost use Rattle.std.specs.Prelude.{◌≡◌, ℕ, ◌<◌, ◌≤◌, ◌↔◌, List, [], ◌∷◌, ◌++◌, length, IsTrue, IfSome, OnOk, OnErr, None, Some, option_map, position, slice_get};
+ghost use Rattle.std.specs.Prelude.{◌≡◌, ℕ, ◌<◌, ◌≤◌, ◌↔◌, List, [], ◌∷◌, ◌++◌, length, IsTrue, IfOk, IfSome, OnOk, OnErr, None, Some, option_map, position, slice_get};
 ghost use Rattle.history.specs.declared.event.Event.TheVariants.{Call};
 ghost use Rattle.history.specs.Events.{HasShard, IsHistory, PassesAt, documents_of, is_call, is_ending, is_same, place_of, prefix as first_events};
 ghost use Rattle.history.specs.Refusal.{most_events as limit, refusal_of, refusal_told, shard_of};
@@ -29,7 +29,7 @@ pub struct History {
     // The place of each call, by its number.
     calls: CallPlaces,
     // For each event the place of the ending of the call that stands there, where it is one and has one.
-    endings: Vec<Option<usize>>,
+    endings: Vec<Option<u32>>,
     // The shard of each document, in the order of the first calls.
     documents: IndexMap<DocId, u32, HashKeys>,
     // The places of each document's calls, the documents in the same order.
@@ -117,7 +117,7 @@ impl History {
             → result ≡ place_of (is_ending n) self.now }
         ensures within { IfSome result (λ ending. ending < length self.now) }
     {
-        self.endings[place]
+        wide(self.endings[place])
     }
 
     /// The place of the ending of the call with this number: of its reply, or of the news that it is lost.
@@ -144,6 +144,21 @@ impl History {
                 None => None,
             },
             None => None,
+        }
+    }
+
+    /// The id of a document's call, which stands at `doc` where it was called before: then a copy of the id that the
+    /// documents have, so that its text is kept once.
+    pub(crate) fn shared_id(&self, doc: Option<usize>, id: DocId) -> Result<DocId, NoMemory>
+        requires { doc ≡ position (λ d. is_same id d.0) (documents_of self.now) }
+        ensures { IfOk result (λ shared. shared ≡ id) }
+    {
+        match doc {
+            Some(doc) => match self.documents.get_index(doc) {
+                Some((known, _)) => known.copy(),
+                None => Ok(id),
+            },
+            None => Ok(id),
         }
     }
 
@@ -195,7 +210,7 @@ impl History {
         let place = self.events.len();
         self.events.reserve(1)?;
         self.endings.reserve(1)?;
-        self.endings[call] = Some(place);
+        self.endings[call] = Some(place as u32);
         self.endings.push_reserved(None);
         self.events.push_reserved(event);
         Ok(())
@@ -278,6 +293,16 @@ impl History {
             Some((_, shard)) => *shard,
             None => unreachable!(),
         }
+    }
+}
+
+// A place that is kept in few bytes.
+fn wide(place: Option<u32>) -> Option<usize>
+    ensures { result ≡ place }
+{
+    match place {
+        Some(place) => Some(place as usize),
+        None => None,
     }
 }
 

@@ -28,7 +28,10 @@ impl History {
         if let Some(fault) = self.call_refusal(doc, no, shard, &id) {
             return Err(fault);
         }
-        match self.append_call(doc, no, shard, id, op) {
+        let Ok(shared) = self.shared_id(doc, id) else {
+            return Err(HistFault::NoMemory);
+        };
+        match self.append_call(doc, no, shard, shared, op) {
             Ok(()) => Ok(()),
             Err(_) => Err(HistFault::NoMemory),
         }

@@ -1,5 +1,5 @@
 ghost use Rattle.std.specs.Prelude.{◌≡◌, ℕ, ◌<◌, ◌≤◌, ◌↔◌, ◌==◌, List, [], length, IsTrue, IfOk, IsErrOf};
-ghost use Rattle.std.specs.String.{string_bytes};
+ghost use Rattle.std.specs.Arc.{arc_str_bytes};
 ghost use Rattle.std.specs.Cmp.{partial_equiv_from_equiv};
 ghost use Rattle.std.specs.Cmp.Lexicographic.{pointwise, nat_list_eq_equiv};
 ghost use Rattle.std.specs.Cmp.Rules.{hashing};
@@ -10,6 +10,7 @@ ghost use Rattle.version_pair.specs.Id.{IsIdLength};
 use std::alloc::{AllocError, Global};
 use std::hash::{Hash, Hasher};
 use std::marker::Model;
+use std::sync::ArcStr;
 use thiserror::Error;
 
 /// What a call answers that was refused memory and can be refused nothing else.
@@ -32,18 +33,18 @@ pub enum IdFault {
     NoMemory,
 }
 
-/// The id of a document: a text of 1 to 512 bytes.
+/// The id of a document: a text of 1 to 512 bytes. Its copies share the text.
 #[derive(Debug, Drop)]
 pub struct DocId {
-    text: String,
+    text: ArcStr,
 }
 
 impl Model for DocId {
     ghost Value = { List ℕ };
 
-    ghost view = { λ d. string_bytes d.text };
+    ghost view = { λ d. arc_str_bytes d.text };
 
-    ghost invariant = { λ d. IsIdLength (length (string_bytes d.text)) };
+    ghost invariant = { λ d. IsIdLength (length (arc_str_bytes d.text)) };
 }
 
 impl DocId {
@@ -59,7 +60,7 @@ impl DocId {
         if text.len() > LONGEST_ID {
             return Err(IdFault::TooLong);
         }
-        match String::from_str(alloc, text) {
+        match ArcStr::from_str(alloc, text) {
             Ok(text) => Ok(DocId { text }),
             Err(_) => Err(IdFault::NoMemory),
         }

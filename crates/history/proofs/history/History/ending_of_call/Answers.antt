@@ -10,7 +10,7 @@ returns-clause-ending c n passes =
     let at : slice_get c.self.inside.endings.items c.args.place ≡ Some c.index.result.now =
     slice_get_read c.self.inside.endings.items _ c.args.place c.index.result.now refl within c.index.ensures in
     let kept : PassesAt (is_call n) c.self.inside.events.items c.args.place = subst (λ H. PassesAt (is_call n) H c.args.place) (sym c.self.view_is) passes in
-    same_found c.self.inside.endings.items c.args.place c.index.result.now (place_of (is_ending n) c.self.inside.events.items) at
+    c.wide.ensures ∙ same_found c.self.inside.endings.items c.args.place c.index.result.now (place_of (is_ending n) c.self.inside.events.items) at
     (c.self.invariant.endings_found c.args.place n kept)
     ∙ ap (place_of (is_ending n)) c.self.view_is
 
@@ -19,5 +19,5 @@ returns-clause-within c =
     let within : c.args.place < length c.self.inside.endings.items = search rules in
     let at : slice_get c.self.inside.endings.items c.args.place ≡ Some c.index.result.now =
     slice_get_read c.self.inside.endings.items _ c.args.place c.index.result.now refl within c.index.ensures in
-    subst (λ H. IfSome c.index.result.now (λ j. j < length H)) c.self.view_is
-    (found_within c.self.inside.endings.items c.args.place (length c.self.inside.events.items) c.index.result.now at (c.self.invariant.endings_within c.args.place))
+    rw c.wide.ensures (subst (λ H. IfSome c.index.result.now (λ j. j < length H)) c.self.view_is
+    (found_within c.self.inside.endings.items c.args.place (length c.self.inside.events.items) c.index.result.now at (c.self.invariant.endings_within c.args.place)))

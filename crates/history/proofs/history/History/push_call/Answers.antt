@@ -1,4 +1,6 @@
-use Rattle.std.proofs.Common.{sym}
+use Rattle.std.proofs.Common.{◌∙◌, ap, sym}
+use Rattle.history.specs.declared.event.Event.TheVariants.{Call}
+use Rattle.history.specs.Refusal.{refusal_of}
 use Rattle.history.proofs.OpenCalls.{call_told}
 use Rattle.history.proofs.history.History.push_call.Goals as goal
 
@@ -6,4 +8,4 @@ pub returns-in-Some-clause-reason : goal.returns-in-Some-clause-reason
 returns-in-Some-clause-reason c = call_told c.args.self.now c.args.no c.args.shard c.args.id c.args.op c.in-Some.fault (c.in-Some.ensures c.args.op)
 
 pub append_call-requires-clause-accepted : goal.append_call-requires-clause-accepted
-append_call-requires-clause-accepted c = sym (c.in_default.ensures c.args.op)
+append_call-requires-clause-accepted c = ap (λ d. refusal_of c.args.self.now (Call c.args.no c.args.shard d c.args.op)) c.in-Ok.ensures ∙ sym (c.in_default.ensures c.args.op)
