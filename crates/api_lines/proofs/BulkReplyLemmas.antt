@@ -50,10 +50,6 @@ heard_stops calls items i heard call item fault within has is at so_far one =
     heard_at calls items i heard call item within has is at so_far
     ∙ ap (λ r. r >>= (λ g. heard_items (suc i) (heard ++ g ∷ []) (drop (suc i) calls) (drop (suc i) (map view items)))) one
 
-pub heard_all : (calls : List (List ℕ × Op)) (items : List Value) (i : ℕ) (heard : List Heard) → drop i calls ≡ [] → AreHeardUpTo calls items i heard
-    → heard_items 0 [] calls (map view items) ≡ Ok heard
-heard_all calls items i heard end so_far = so_far.same ∙ ap (λ cs. heard_items i heard cs (drop i (map view items))) end
-
 -- the items of an array as a list
 items_list-view : (vs : List Value) → items_list (items_view vs) ≡ map view vs
 items_list-view [] = refl

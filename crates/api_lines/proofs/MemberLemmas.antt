@@ -45,13 +45,6 @@ by_key P name key here other = by_test (bytes_eq name key) refl where
   by_test true is = subst P (sym ((bytes_eq-Decides name key).0 is)) here
   by_test false is = other is
 
--- a name that is not the key
-pub other_name : (name key : List ℕ) → (name ≡ key → ⊥) → bytes_eq name key ≡ false
-other_name name key apart = by_test (bytes_eq name key) refl where
-  by_test : (b : Bool) → bytes_eq name key ≡ b → bytes_eq name key ≡ false
-  by_test true is = absurd (apart ((bytes_eq-Decides name key).0 is))
-  by_test false is = is
-
 -- a body's fields after a member, each by itself
 abbrev body_each : List ℕ → Data → BodyValues → BodyValues
 body_each name d body = record {

@@ -9,7 +9,7 @@ use Rattle.json.specs.Print.{escape, escape_byte, quoted}
 use Rattle.json.proofs.Printed.Strings.{escape_byte_plain}
 use Rattle.serde_json.specs.Data.{Num, unsigned, negative, float, Data, null, boolean, number, string, array, object, Items, no_items, item, Members, no_members, member}
 use Rattle.serde_json.specs.Written.{comma_if, compact_text, items_text, members_text, number_text}
-use Rattle.api_lines.specs.Lines.{HasNoLineFeed, has_line_feed, is_blank, is_written, lines_of, onto_first}
+use Rattle.api_lines.specs.Lines.{HasNoLineFeed, has_line_feed, lines_of, onto_first}
 
 pub no_line_feed-cons : (b : ℕ) (bytes : List ℕ) → (b ≡ 10 → ⊥) → HasNoLineFeed bytes → HasNoLineFeed (b ∷ bytes)
 no_line_feed-cons b bytes other none = or_from (b == 10) (has_line_feed bytes) (ne_eqb b 10 other) none
@@ -26,16 +26,6 @@ one_line (b ∷ line) rest none =
     let parts = or_parts (b == 10) (has_line_feed line) none in
     ap (λ (t : Bool). if t then [] ∷ lines_of (line ++ 10 ∷ rest) else onto_first b (lines_of (line ++ 10 ∷ rest))) parts.0
     ∙ ap (onto_first b) (one_line line rest parts.1)
-
-pub empty_line : (rest : List ℕ) → lines_of (10 ∷ rest) ≡ [] ∷ lines_of rest
-empty_line rest = refl
-
--- a line that begins with a brace is not blank
-pub is_blank-brace : (line : List ℕ) → is_blank (123 ∷ line) ≡ false
-is_blank-brace line = refl
-
-pub is_written-brace : (line : List ℕ) → is_written (123 ∷ line) ≡ true
-is_written-brace line = refl
 
 -- ---- numbers
 

@@ -5,3 +5,4 @@ pub mod Tokens
 pub mod MoreFields
 pub mod PlainTexts
 pub mod Scanning
+pub mod Keys

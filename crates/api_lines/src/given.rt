@@ -1,14 +1,16 @@
 ghost use Rattle.std.specs.Prelude.{◌≡◌, IsTrue, MatchResult, Some, Ok, Err, option_map};
-ghost use Rattle.serde_json.specs.Data.{Data};
+ghost use Rattle.serde_json.specs.Data.{Data, null};
 ghost use Rattle.serde_json.specs.View.{view};
 ghost use Rattle.api_lines.specs.Faults.{IfTold};
 ghost use Rattle.api_lines.specs.Fields.{line_seen, line_values};
+ghost use Rattle.api_lines.specs.Json.{json_value};
 ghost use Rattle.api_lines.specs.Texts.{line_given};
 
 use crate::fields::LineFields;
 use crate::lines::{LONGEST_LINE, MOST_LINES, is_blank, line_value};
 use crate::text_fault::{LineFault, TextCause};
-use crate::token_fields::quick_fields;
+use crate::token_fields::{quick_fields, unescaped_fields};
+use crate::unescaped::LineRoom;
 use serde_json::Value;
 use std::alloc::Global;
 
@@ -34,19 +36,49 @@ pub fn given_line(alloc: Global, number: u64, line: &[u8]) -> Result<Option<Valu
     }
 }
 
-/// Whether `quick_fields` tells the fields of the line of a text with this number, from 1: then they are put in the place
-/// of `fields`. Nothing is said of another line: it may be blank, or refused, or have a value of another form. Then
-/// `given_line` tells.
+// Whether the line of a text with this number, from 1, is one whose value counts: it is within the limits and not blank.
+fn is_given(number: u64, line: &[u8]) -> bool
+    ensures { IsTrue result → ((v : Data) → (json_value line.now ≡ Some v)
+        → (line_given number line.now ≡ Ok (Some v))) }
+{
+    number <= MOST_LINES && line.len() <= LONGEST_LINE && !is_blank(line)
+}
+
+/// Whether `quick_fields` tells the fields of the line of a text with this number, from 1: then they are put in `fields`,
+/// which had none. Nothing is said of another line: it may be blank, or refused, or have a value of another form. Then
+/// `given_unescaped_fields` or `given_line` tells.
 pub fn given_fields<'v>(number: u64, line: &'v [u8], fields: &mut LineFields<'v>) -> bool
+    requires { line_seen fields.old ≡ line_values null }
     ensures { IsTrue result → ((v : Data)
         × (line_given number line.now ≡ Ok (Some v))
         × (line_seen fields.new ≡ line_values v)) }
 {
-    if number > MOST_LINES || line.len() > LONGEST_LINE || is_blank(line) {
+    if !is_given(number, line) {
         return false;
     }
     match str::from_utf8(line) {
         Ok(text) => quick_fields(text, fields),
+        Err(_) => false,
+    }
+}
+
+/// The same by `unescaped_fields`, in room that is lent.
+pub fn given_unescaped_fields<'v>(
+    number: u64,
+    line: &'v [u8],
+    room: &'v mut LineRoom,
+    fields: &mut LineFields<'v>,
+) -> bool
+    requires { line_seen fields.old ≡ line_values null }
+    ensures { IsTrue result → ((v : Data)
+        × (line_given number line.now ≡ Ok (Some v))
+        × (line_seen fields.new ≡ line_values v)) }
+{
+    if !is_given(number, line) {
+        return false;
+    }
+    match str::from_utf8(line) {
+        Ok(text) => unescaped_fields(text, room, fields),
         Err(_) => false,
     }
 }

@@ -1,6 +1,6 @@
 //! The tokens of a line, read a byte at a time: a line whose texts have no escape and no byte past ASCII, and whose
 //! numbers are digits alone. Spaces may stand around values, but not between a key and its colon.
-ghost use Rattle.std.specs.Prelude.{◌≡◌, ◌<◌, ◌∷◌, ◌++◌, ℕ, [], IfSome, List, OnSome, Some, length, not, option_map, take, true};
+ghost use Rattle.std.specs.Prelude.{◌≡◌, ◌<◌, ◌∷◌, ◌++◌, ℕ, [], IfSome, List, MatchOption, OnSome, Some, length, not, option_map, take, true};
 ghost use Rattle.std.specs.Bool.{MatchBool};
 ghost use Rattle.std.specs.List.{list_all};
 ghost use Rattle.json.specs.Json.{after_end_array, read_key};
@@ -11,8 +11,10 @@ ghost use Rattle.json.specs.Token.{begin_array, begin_object, boolean, end_objec
 ghost use Rattle.serde_json.specs.Data.{unsigned};
 ghost use Rattle.serde_json.specs.Read.{number_of};
 ghost use Rattle.api_lines.specs.Lines.{is_space as space};
+ghost use Rattle.api_lines.specs.aids.Keys.{key_text};
 ghost use Rattle.api_lines.specs.aids.PlainTexts.{EndsValue, is_ended as ended, is_stop as stop};
 
+use crate::keys::{Key, known_key};
 use crate::lines::is_space;
 
 // The most digits that are read: so many are below 2^64.
@@ -40,9 +42,9 @@ fn plain_end(bytes: &[u8]) -> Option<usize>
     None
 }
 
-// The plain text up to its closing quote, and the bytes after that, found a byte at a time.
+// The plain text up to its closing quote, and the bytes after that.
 #[inline(always)]
-fn scanned_text(bytes: &[u8]) -> Option<(&str, &[u8])>
+fn plain_text(bytes: &[u8]) -> Option<(&str, &[u8])>
     ensures { IfSome result (λ parts. (bytes.now ≡ parts.0.now ++ 34 ∷ parts.1.now)
         × (list_all (λ b. not (stop b)) parts.0.now ≡ true)) }
 {
@@ -52,84 +54,6 @@ fn scanned_text(bytes: &[u8]) -> Option<(&str, &[u8])>
     }
     let text = unsafe { str::from_utf8_unchecked(&bytes[..end]) };
     Some((text, &bytes[end + 1..]))
-}
-
-// The word up to its quote that most lines have among their keys, where one begins here.
-#[inline(always)]
-fn line_word(bytes: &[u8]) -> Option<(&str, &[u8])>
-    ensures { IfSome result (λ parts. (bytes.now ≡ parts.0.now ++ 34 ∷ parts.1.now)
-        × (list_all (λ b. not (stop b)) parts.0.now ≡ true)) }
-{
-    match bytes {
-        [b'e', b'"', rest @ ..] => Some(("e", rest)),
-        [b'n', b'"', rest @ ..] => Some(("n", rest)),
-        [b'k', b'"', rest @ ..] => Some(("k", rest)),
-        [b'i', b'd', b'"', rest @ ..] => Some(("id", rest)),
-        [b'o', b'p', b'"', rest @ ..] => Some(("op", rest)),
-        _ => long_word(bytes),
-    }
-}
-
-// The same of longer words.
-#[inline(always)]
-fn long_word(bytes: &[u8]) -> Option<(&str, &[u8])>
-    ensures { IfSome result (λ parts. (bytes.now ≡ parts.0.now ++ 34 ∷ parts.1.now)
-        × (list_all (λ b. not (stop b)) parts.0.now ≡ true)) }
-{
-    match bytes {
-        [b'c', b'a', b'l', b'l', b'"', rest @ ..] => Some(("call", rest)),
-        [b'r', b'e', b'p', b'l', b'y', b'"', rest @ ..] => Some(("reply", rest)),
-        [b'g', b'e', b't', b'"', rest @ ..] => Some(("get", rest)),
-        [b'i', b'n', b'd', b'e', b'x', b'"', rest @ ..] => Some(("index", rest)),
-        [b'b', b'o', b'd', b'y', b'"', rest @ ..] => Some(("body", rest)),
-        [b's', b't', b'a', b't', b'u', b's', b'"', rest @ ..] => Some(("status", rest)),
-        _ => body_word(bytes),
-    }
-}
-
-// The same of the words of bodies.
-#[inline(always)]
-fn body_word(bytes: &[u8]) -> Option<(&str, &[u8])>
-    ensures { IfSome result (λ parts. (bytes.now ≡ parts.0.now ++ 34 ∷ parts.1.now)
-        × (list_all (λ b. not (stop b)) parts.0.now ≡ true)) }
-{
-    match bytes {
-        [b'_', b'i', b'd', b'"', rest @ ..] => Some(("_id", rest)),
-        [b'_', b's', b'e', b'q', b'_', b'n', b'o', b'"', rest @ ..] => Some(("_seq_no", rest)),
-        [
-            b'_',
-            b'p',
-            b'r',
-            b'i',
-            b'm',
-            b'a',
-            b'r',
-            b'y',
-            b'_',
-            b't',
-            b'e',
-            b'r',
-            b'm',
-            b'"',
-            rest @ ..,
-        ] => Some(("_primary_term", rest)),
-        [b'r', b'e', b's', b'u', b'l', b't', b'"', rest @ ..] => Some(("result", rest)),
-        [b'f', b'o', b'u', b'n', b'd', b'"', rest @ ..] => Some(("found", rest)),
-        [b'_', b's', b'o', b'u', b'r', b'c', b'e', b'"', rest @ ..] => Some(("_source", rest)),
-        _ => None,
-    }
-}
-
-// The plain text up to its closing quote, and the bytes after that. Words of most lines are known as they are.
-#[inline(always)]
-fn plain_text(bytes: &[u8]) -> Option<(&str, &[u8])>
-    ensures { IfSome result (λ parts. (bytes.now ≡ parts.0.now ++ 34 ∷ parts.1.now)
-        × (list_all (λ b. not (stop b)) parts.0.now ≡ true)) }
-{
-    match line_word(bytes) {
-        Some(word) => Some(word),
-        None => scanned_text(bytes),
-    }
 }
 
 // The bytes after this one, where it is next.
@@ -143,9 +67,37 @@ fn after(bytes: &[u8], byte: u8) -> Option<&[u8]>
     }
 }
 
-// The bytes after the spaces that are next.
+// The key that is next behind its quote, with its colon; and the bytes behind that.
+#[inline(always)]
+fn named_key(quoted: &[u8]) -> Option<(Key<'_>, &[u8])>
+    ensures { IfSome result (λ parts. (quoted.now ≡ key_text parts.0 ++ 34 ∷ 58 ∷ parts.1.now)
+        × (list_all (λ b. not (stop b)) (key_text parts.0) ≡ true)) }
+{
+    match known_key(quoted) {
+        Some(known) => Some(known),
+        None => {
+            let (name, colon) = plain_text(quoted)?;
+            let rest = after(colon, b':')?;
+            Some((Key::Other(name), rest))
+        }
+    }
+}
+
+// The bytes after the spaces that are next. Most often there is none.
 #[inline(always)]
 fn after_spaces(bytes: &[u8]) -> &[u8]
+    ensures same { lex between result.now ≡ lex between bytes.now }
+    ensures word { ended result.now ≡ true → ends_word bytes.now ≡ true }
+{
+    match bytes {
+        [first, ..] if *first > b' ' => bytes,
+        _ => after_all_spaces(bytes),
+    }
+}
+
+// The bytes after the spaces that are next, one by one.
+#[inline(never)]
+fn after_all_spaces(bytes: &[u8]) -> &[u8]
     ensures same { lex between result.now ≡ lex between bytes.now }
     ensures word { ended result.now ≡ true → ends_word bytes.now ≡ true }
 {
@@ -295,6 +247,60 @@ impl<'a> Scanner<'a> {
         Some(())
     }
 
+    // Stands after a value where a comma or a closing bracket is next, as most often. Elsewhere it stands as before.
+    #[inline(always)]
+    fn end_usual(&mut self, rest: &'a [u8]) -> bool
+        ensures { MatchBool result
+            (EndsValue rest.now × (tokens_left self.new ≡ tokens_at after_value rest.now))
+            (tokens_left self.new ≡ tokens_left self.old) }
+    {
+        if !is_ended(rest) {
+            return false;
+        }
+        match after(rest, b',') {
+            Some(next) => {
+                self.rest = after_spaces(next);
+                self.place = Place::AfterComma;
+            }
+            None => {
+                self.rest = rest;
+                self.place = Place::AfterValue;
+            }
+        }
+        true
+    }
+
+    /// Takes a text that ends as most do. Where it takes none, the same tokens are left.
+    #[inline(always)]
+    pub fn usual_text(&mut self) -> Option<&'a str>
+        ensures { MatchOption result (tokens_left self.new ≡ tokens_left self.old)
+            (λ s. tokens_left self.old ≡ string s.now ∷ tokens_left self.new) }
+    {
+        let quoted = after(self.beginning()?, b'"')?;
+        let (text, rest) = plain_text(quoted)?;
+        if self.end_usual(rest) {
+            Some(text)
+        } else {
+            None
+        }
+    }
+
+    /// Takes a whole number that ends as most do. Where it takes none, the same tokens are left.
+    #[inline(always)]
+    pub fn usual_whole(&mut self) -> Option<u64>
+        ensures { MatchOption result (tokens_left self.new ≡ tokens_left self.old)
+            (λ n. (ds : List ℕ)
+            × (tokens_left self.old ≡ number ds ∷ tokens_left self.new)
+            × (number_of ds ≡ Some (unsigned n))) }
+    {
+        let (number, rest) = digits(self.beginning()?)?;
+        if self.end_usual(rest) {
+            Some(number)
+        } else {
+            None
+        }
+    }
+
     // The bytes that are left, where a value or a key may begin.
     #[inline(always)]
     fn beginning(&self) -> Option<&'a [u8]>
@@ -361,9 +367,9 @@ impl<'a> Scanner<'a> {
 
     /// The next key of an object, or nothing at its brace.
     #[inline(always)]
-    pub fn key(&mut self) -> Option<Option<&'a str>>
+    pub fn key(&mut self) -> Option<Option<Key<'a>>>
         ensures read { IfSome result (λ name. read_key (tokens_left self.old)
-            ≡ Some (option_map (λ s. s.now) name, tokens_left self.new)) }
+            ≡ Some (option_map key_text name, tokens_left self.new)) }
         ensures shorter { OnSome result
             (length (tokens_left self.new) < length (tokens_left self.old)) }
     {
@@ -372,8 +378,7 @@ impl<'a> Scanner<'a> {
                 if !self.place.may_begin() {
                     return None;
                 }
-                let (name, colon) = plain_text(quoted)?;
-                let rest = after(colon, b':')?;
+                let (name, rest) = named_key(quoted)?;
                 self.begin(rest);
                 Some(Some(name))
             }

@@ -7,7 +7,9 @@ ghost use Rattle.api_lines.specs.aids.Scanning.{tokens_left};
 ghost use Rattle.api_lines.specs.aids.Tokens.{BeginsWithValue};
 
 use crate::field::Field;
+use crate::keys::Key;
 use crate::scanner::Scanner;
+use crate::token_reader::TokenReader;
 
 /// Takes the next value, nested no deeper than `depth`, and puts what it is as a field in the place of `found`. It is
 /// written where it stays: to hand a field back and to copy it costs more than to read it.
@@ -91,4 +93,74 @@ fn pass_object(scanner: &mut Scanner<'_>, depth: usize) -> Option<()>
         field(scanner, depth - 1, &mut passed)?;
     }
     Some(())
+}
+
+// The same of a value that most often is a text.
+#[inline(always)]
+fn text_field<'a>(scanner: &mut Scanner<'a>, depth: usize, found: &mut Field<'a>) -> Option<()>
+    ensures read { OnSome result ((v : Data)
+        × BeginsWithValue depth (tokens_left scanner.old) v (tokens_left scanner.new)
+        × (value_of found.new ≡ field_value (Some v))) }
+    ensures shorter { OnSome result
+        (length (tokens_left scanner.new) < length (tokens_left scanner.old)) }
+{
+    match scanner.usual_text() {
+        Some(text) => {
+            *found = Field::Text(text);
+            Some(())
+        }
+        None => field(scanner, depth, found),
+    }
+}
+
+// The same of a value that most often is a whole number.
+#[inline(always)]
+fn number_field<'a>(scanner: &mut Scanner<'a>, depth: usize, found: &mut Field<'a>) -> Option<()>
+    ensures read { OnSome result ((v : Data)
+        × BeginsWithValue depth (tokens_left scanner.old) v (tokens_left scanner.new)
+        × (value_of found.new ≡ field_value (Some v))) }
+    ensures shorter { OnSome result
+        (length (tokens_left scanner.new) < length (tokens_left scanner.old)) }
+{
+    match scanner.usual_whole() {
+        Some(number) => {
+            *found = Field::Whole(number);
+            Some(())
+        }
+        None => field(scanner, depth, found),
+    }
+}
+
+impl<'a> TokenReader<'a> for Scanner<'a> {
+    ghost left = { tokens_left };
+
+    #[inline(always)]
+    fn open_object(&mut self) -> Option<()> {
+        Scanner::open_object(self)
+    }
+
+    #[inline(always)]
+    fn field(&mut self, depth: usize, found: &mut Field<'a>) -> Option<()> {
+        field(self, depth, found)
+    }
+
+    #[inline(always)]
+    fn text_field(&mut self, depth: usize, found: &mut Field<'a>) -> Option<()> {
+        text_field(self, depth, found)
+    }
+
+    #[inline(always)]
+    fn number_field(&mut self, depth: usize, found: &mut Field<'a>) -> Option<()> {
+        number_field(self, depth, found)
+    }
+
+    #[inline(always)]
+    fn key(&mut self) -> Option<Option<Key<'a>>> {
+        Scanner::key(self)
+    }
+
+    #[inline(always)]
+    fn is_over(&mut self) -> bool {
+        Scanner::is_over(self)
+    }
 }

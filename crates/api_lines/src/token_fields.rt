@@ -1,17 +1,21 @@
 //! A line's fields taken from its tokens, with no tree of values.
-ghost use Rattle.std.specs.Prelude.{◌≡◌, ◌<◌, IsTrue, OnSome, Some, length};
+ghost use Rattle.std.specs.Prelude.{◌≡◌, ◌<◌, ◌∷◌, [], IsTrue, List, OnSome, Some, length};
+ghost use Rattle.json.specs.Token.{Token, begin_object};
 ghost use Rattle.serde_json.specs.Data.{Data, Members, null, object};
 ghost use Rattle.serde_json.specs.Read.{read as read_text};
 ghost use Rattle.api_lines.specs.Fields.{body_seen, body_values, line_seen, line_values, value_of};
 ghost use Rattle.api_lines.specs.Json.{field as field_of_value};
+ghost use Rattle.api_lines.specs.aids.Keys.{key_text};
 ghost use Rattle.api_lines.specs.aids.MoreFields.{body_with, line_with};
-ghost use Rattle.api_lines.specs.aids.Scanning.{tokens_left};
 ghost use Rattle.api_lines.specs.aids.Tokens.{BeginsWithMembers, BeginsWithValue};
 
 use crate::field::Field;
 use crate::fields::{BodyFields, LineFields, no_body};
+use crate::keys::Key;
 use crate::scanner::Scanner;
-use crate::token_field::field;
+use crate::token_reader::TokenReader;
+use crate::unescaped::LineRoom;
+use json::Reader;
 
 // How deep the values may nest that a member of a line holds: a line nests to 127.
 const IN_LINE: usize = 126;
@@ -24,89 +28,124 @@ const IN_PART: usize = 124;
 
 impl<'v> BodyFields<'v> {
     // Takes the member of this name, whose value is next.
-    #[inline(always)]
-    fn take_member(&mut self, name: &str, scanner: &mut Scanner<'v>) -> Option<()>
+    fn take_named<T: TokenReader<'v>>(&mut self, name: &str, tokens: &mut T) -> Option<()>
         ensures read { OnSome result ((d : Data)
-            × BeginsWithValue IN_BODY (tokens_left scanner.old) d (tokens_left scanner.new)
+            × BeginsWithValue IN_BODY (T.left tokens.old) d (T.left tokens.new)
             × (body_seen self.new ≡ body_with name.now d (body_seen self.old))) }
-        ensures shorter { OnSome result (length (tokens_left scanner.new) < length (tokens_left scanner.old)) }
+        ensures shorter { OnSome result (length (T.left tokens.new) < length (T.left tokens.old)) }
     {
         match name {
-            "_id" => field(scanner, IN_BODY, &mut self.id),
-            "result" => field(scanner, IN_BODY, &mut self.outcome),
-            "_seq_no" => field(scanner, IN_BODY, &mut self.seq_no),
-            "_primary_term" => field(scanner, IN_BODY, &mut self.primary_term),
-            "found" => field(scanner, IN_BODY, &mut self.found),
-            "_source" => part(scanner, "k", &mut self.source_k),
-            "error" => part(scanner, "type", &mut self.error_type),
-            _ => pass(scanner, IN_BODY),
+            "_id" => tokens.field(IN_BODY, &mut self.id),
+            "result" => tokens.field(IN_BODY, &mut self.outcome),
+            "_seq_no" => tokens.field(IN_BODY, &mut self.seq_no),
+            "_primary_term" => tokens.field(IN_BODY, &mut self.primary_term),
+            "found" => tokens.field(IN_BODY, &mut self.found),
+            "_source" => part(tokens, "k", &mut self.source_k),
+            "error" => part(tokens, "type", &mut self.error_type),
+            _ => pass(tokens, IN_BODY),
+        }
+    }
+
+    // Takes the member with this key, whose value is next.
+    #[inline(always)]
+    fn take_member<T: TokenReader<'v>>(&mut self, key: Key<'v>, tokens: &mut T) -> Option<()>
+        ensures read { OnSome result ((d : Data)
+            × BeginsWithValue IN_BODY (T.left tokens.old) d (T.left tokens.new)
+            × (body_seen self.new ≡ body_with (key_text key.entry) d (body_seen self.old))) }
+        ensures shorter { OnSome result (length (T.left tokens.new) < length (T.left tokens.old)) }
+    {
+        match key {
+            Key::BodyId => tokens.text_field(IN_BODY, &mut self.id),
+            Key::Outcome => tokens.text_field(IN_BODY, &mut self.outcome),
+            Key::SeqNo => tokens.number_field(IN_BODY, &mut self.seq_no),
+            Key::PrimaryTerm => tokens.number_field(IN_BODY, &mut self.primary_term),
+            _ => self.take_named(key.text(), tokens),
         }
     }
 
     // Takes all members up to the brace, where there are none yet.
     #[inline(always)]
-    fn take_members(&mut self, scanner: &mut Scanner<'v>) -> Option<()>
+    fn take_members<T: TokenReader<'v>>(&mut self, tokens: &mut T) -> Option<()>
         requires { body_seen self.old ≡ body_values null }
         ensures read { OnSome result ((ms : Members)
-            × BeginsWithMembers IN_BODY (tokens_left scanner.old) ms (tokens_left scanner.new)
+            × BeginsWithMembers IN_BODY (T.left tokens.old) ms (T.left tokens.new)
             × (body_seen self.new ≡ body_values (object ms))) }
-        ensures shorter { OnSome result (length (tokens_left scanner.new) < length (tokens_left scanner.old)) }
+        ensures shorter { OnSome result (length (T.left tokens.new) < length (T.left tokens.old)) }
     {
-        'members: while let Some(name) = scanner.key()? {
-            self.take_member(name, scanner)?;
+        'members: while let Some(key) = tokens.key()? {
+            self.take_member(key, tokens)?;
         }
         Some(())
     }
 
     // Takes the object that is next, a line's body, in place of what was there.
     #[inline(always)]
-    fn take(&mut self, scanner: &mut Scanner<'v>) -> Option<()>
+    fn take<T: TokenReader<'v>>(&mut self, tokens: &mut T) -> Option<()>
         ensures read { OnSome result ((d : Data)
-            × BeginsWithValue IN_LINE (tokens_left scanner.old) d (tokens_left scanner.new)
+            × BeginsWithValue IN_LINE (T.left tokens.old) d (T.left tokens.new)
             × (body_seen self.new ≡ body_values d)) }
-        ensures shorter { OnSome result (length (tokens_left scanner.new) < length (tokens_left scanner.old)) }
+        ensures shorter { OnSome result (length (T.left tokens.new) < length (T.left tokens.old)) }
     {
-        scanner.open_object()?;
+        tokens.open_object()?;
         *self = no_body();
-        self.take_members(scanner)
+        self.take_members(tokens)
     }
 }
 
 impl<'v> LineFields<'v> {
     // Takes the member of this name, whose value is next.
-    #[inline(always)]
-    fn take_member(&mut self, name: &str, scanner: &mut Scanner<'v>) -> Option<()>
+    fn take_named<T: TokenReader<'v>>(&mut self, name: &str, tokens: &mut T) -> Option<()>
         ensures read { OnSome result ((d : Data)
-            × BeginsWithValue IN_LINE (tokens_left scanner.old) d (tokens_left scanner.new)
+            × BeginsWithValue IN_LINE (T.left tokens.old) d (T.left tokens.new)
             × (line_seen self.new ≡ line_with name.now d (line_seen self.old))) }
-        ensures shorter { OnSome result (length (tokens_left scanner.new) < length (tokens_left scanner.old)) }
+        ensures shorter { OnSome result (length (T.left tokens.new) < length (T.left tokens.old)) }
     {
         match name {
-            "e" => field(scanner, IN_LINE, &mut self.e),
-            "n" => field(scanner, IN_LINE, &mut self.n),
-            "id" => field(scanner, IN_LINE, &mut self.id),
-            "op" => field(scanner, IN_LINE, &mut self.op),
-            "k" => field(scanner, IN_LINE, &mut self.k),
-            "if_seq_no" => field(scanner, IN_LINE, &mut self.if_seq_no),
-            "if_primary_term" => field(scanner, IN_LINE, &mut self.if_primary_term),
-            "shard" => field(scanner, IN_LINE, &mut self.shard),
-            "status" => field(scanner, IN_LINE, &mut self.status),
-            "body" => self.body.take(scanner),
-            _ => pass(scanner, IN_LINE),
+            "e" => tokens.field(IN_LINE, &mut self.e),
+            "n" => tokens.field(IN_LINE, &mut self.n),
+            "id" => tokens.field(IN_LINE, &mut self.id),
+            "op" => tokens.field(IN_LINE, &mut self.op),
+            "k" => tokens.field(IN_LINE, &mut self.k),
+            "if_seq_no" => tokens.field(IN_LINE, &mut self.if_seq_no),
+            "if_primary_term" => tokens.field(IN_LINE, &mut self.if_primary_term),
+            "shard" => tokens.field(IN_LINE, &mut self.shard),
+            "status" => tokens.field(IN_LINE, &mut self.status),
+            "body" => self.body.take(tokens),
+            _ => pass(tokens, IN_LINE),
+        }
+    }
+
+    // Takes the member with this key, whose value is next.
+    #[inline(always)]
+    fn take_member<T: TokenReader<'v>>(&mut self, key: Key<'v>, tokens: &mut T) -> Option<()>
+        ensures read { OnSome result ((d : Data)
+            × BeginsWithValue IN_LINE (T.left tokens.old) d (T.left tokens.new)
+            × (line_seen self.new ≡ line_with (key_text key.entry) d (line_seen self.old))) }
+        ensures shorter { OnSome result (length (T.left tokens.new) < length (T.left tokens.old)) }
+    {
+        match key {
+            Key::E => tokens.text_field(IN_LINE, &mut self.e),
+            Key::N => tokens.number_field(IN_LINE, &mut self.n),
+            Key::Id => tokens.text_field(IN_LINE, &mut self.id),
+            Key::Op => tokens.text_field(IN_LINE, &mut self.op),
+            Key::K => tokens.number_field(IN_LINE, &mut self.k),
+            Key::Status => tokens.number_field(IN_LINE, &mut self.status),
+            Key::Body => self.body.take(tokens),
+            _ => self.take_named(key.text(), tokens),
         }
     }
 
     // Takes all members up to the brace, where there are none yet.
     #[inline(always)]
-    fn take_members(&mut self, scanner: &mut Scanner<'v>) -> Option<()>
+    fn take_members<T: TokenReader<'v>>(&mut self, tokens: &mut T) -> Option<()>
         requires { line_seen self.old ≡ line_values null }
         ensures read { OnSome result ((ms : Members)
-            × BeginsWithMembers IN_LINE (tokens_left scanner.old) ms (tokens_left scanner.new)
+            × BeginsWithMembers IN_LINE (T.left tokens.old) ms (T.left tokens.new)
             × (line_seen self.new ≡ line_values (object ms))) }
-        ensures shorter { OnSome result (length (tokens_left scanner.new) < length (tokens_left scanner.old)) }
+        ensures shorter { OnSome result (length (T.left tokens.new) < length (T.left tokens.old)) }
     {
-        'members: while let Some(name) = scanner.key()? {
-            self.take_member(name, scanner)?;
+        'members: while let Some(key) = tokens.key()? {
+            self.take_member(key, tokens)?;
         }
         Some(())
     }
@@ -114,58 +153,83 @@ impl<'v> LineFields<'v> {
 
 // Takes a value that is no field of the line.
 #[inline(never)]
-fn pass(scanner: &mut Scanner<'_>, depth: usize) -> Option<()>
+fn pass<'a, T: TokenReader<'a>>(tokens: &mut T, depth: usize) -> Option<()>
     ensures read { OnSome result ((d : Data)
-        × BeginsWithValue depth (tokens_left scanner.old) d (tokens_left scanner.new)) }
-    ensures shorter { OnSome result (length (tokens_left scanner.new) < length (tokens_left scanner.old)) }
+        × BeginsWithValue depth (T.left tokens.old) d (T.left tokens.new)) }
+    ensures shorter { OnSome result (length (T.left tokens.new) < length (T.left tokens.old)) }
 {
     let mut passed = Field::Absent;
-    field(scanner, depth, &mut passed)
+    tokens.field(depth, &mut passed)
 }
 
 // Takes the object that is next, in a line's body, and puts its field of this key in the place of `found`.
 #[inline(never)]
-fn part<'a>(scanner: &mut Scanner<'a>, wanted: &str, found: &mut Field<'a>) -> Option<()>
+fn part<'a, T: TokenReader<'a>>(tokens: &mut T, wanted: &str, found: &mut Field<'a>) -> Option<()>
     ensures read { OnSome result ((d : Data)
-        × BeginsWithValue IN_BODY (tokens_left scanner.old) d (tokens_left scanner.new)
+        × BeginsWithValue IN_BODY (T.left tokens.old) d (T.left tokens.new)
         × (value_of found.new ≡ field_of_value wanted.now d)) }
-    ensures shorter { OnSome result (length (tokens_left scanner.new) < length (tokens_left scanner.old)) }
+    ensures shorter { OnSome result (length (T.left tokens.new) < length (T.left tokens.old)) }
 {
-    scanner.open_object()?;
+    tokens.open_object()?;
     *found = Field::Absent;
     let mut next = Field::Absent;
-    'members: while let Some(name) = scanner.key()? {
-        field(scanner, IN_PART, &mut next)?;
-        if name == wanted {
+    'members: while let Some(key) = tokens.key()? {
+        tokens.field(IN_PART, &mut next)?;
+        if key.text() == wanted {
             *found = next;
         }
     }
     Some(())
 }
 
-// Takes all members of the object that a line is, to its end.
+// Takes all members of the object that a line is, to its end, where there are none yet.
 #[inline(always)]
-fn take_line<'v>(line: &'v str, fields: &mut LineFields<'v>) -> Option<()>
-    ensures { OnSome result ((v : Data)
-        × (read_text line.now ≡ Some v)
-        × (line_seen fields.new ≡ line_values v)) }
+fn take_line<'v, T: TokenReader<'v>>(tokens: &mut T, fields: &mut LineFields<'v>) -> Option<()>
+    requires { line_seen fields.old ≡ line_values null }
+    ensures { OnSome result ((rest : List Token) × (ms : Members)
+        × (T.left tokens.old ≡ begin_object ∷ rest)
+        × BeginsWithMembers IN_LINE rest ms []
+        × (line_seen fields.new ≡ line_values (object ms))) }
 {
-    let mut scanner = Scanner::new(line.as_bytes());
-    scanner.open_object()?;
-    *fields = LineFields::absent();
-    fields.take_members(&mut scanner)?;
-    if scanner.is_over() { Some(()) } else { None }
+    tokens.open_object()?;
+    fields.take_members(tokens)?;
+    if tokens.is_over() { Some(()) } else { None }
 }
 
 /// Whether the line is an object with no escape and no byte past ASCII in its texts, no space between a key and its colon,
 /// numbers that are all digits alone, at most 19, and objects as its `body`, the body's `_source` and its `error`, where
-/// they are there. Then its fields are put in the place of `fields`; of another line nothing is said.
+/// they are there. Then its fields are put in `fields`, which had none; of another line nothing is said.
 pub fn quick_fields<'v>(line: &'v str, fields: &mut LineFields<'v>) -> bool
+    requires { line_seen fields.old ≡ line_values null }
     ensures { IsTrue result → ((v : Data)
         × (read_text line.now ≡ Some v)
         × (line_seen fields.new ≡ line_values v)) }
 {
-    match take_line(line, fields) {
+    let mut scanner = Scanner::new(line.as_bytes());
+    match take_line(&mut scanner, fields) {
+        Some(()) => true,
+        None => false,
+    }
+}
+
+/// Whether the line is an object with numbers that are all digits alone and below 2^64, and objects as its `body`, the
+/// body's `_source` and its `error`, where they are there; texts with escapes and bytes past ASCII are read too, in room
+/// that is lent. Then its fields are put in `fields`, which had none; of another line nothing is said, and of none where a
+/// growth was refused.
+pub fn unescaped_fields<'v>(
+    line: &'v str,
+    room: &'v mut LineRoom,
+    fields: &mut LineFields<'v>,
+) -> bool
+    requires { line_seen fields.old ≡ line_values null }
+    ensures { IsTrue result → ((v : Data)
+        × (read_text line.now ≡ Some v)
+        × (line_seen fields.new ≡ line_values v)) }
+{
+    let Ok(mut reader) = Reader::new(line, &mut room.scratch) else {
+        return false;
+    };
+    match take_line(&mut reader, fields) {
         Some(()) => true,
         None => false,
     }

@@ -6,7 +6,7 @@ use Rattle.history.specs.declared.event.Event.{Event}
 use Rattle.history.specs.declared.event.Event.TheVariants.{Call}
 use Rattle.history.specs.Events.{IsCallAt, PassesAt, place_of}
 use Rattle.doc_register.specs.declared.op.Op.{Op}
-use Rattle.history.proofs.ListLemmas.{get_front, get_last, get_snoc, same_some}
+use Rattle.history.proofs.ListLemmas.{get_front, get_snoc, same_some}
 
 -- ---- events that pass a test
 
@@ -24,9 +24,6 @@ passes_within t xs i h = let e = passes_element t xs i h in slice_get_within xs 
 
 pub passes_front : (t : Event → Bool) (xs ys : List Event) (i : ℕ) → PassesAt t xs i → PassesAt t (xs ++ ys) i
 passes_front t xs ys i h = let e = passes_element t xs i h in element_passes t (xs ++ ys) i e.0 (get_front xs ys i e.0 e.1) e.2
-
-pub passes_last : (t : Event → Bool) (xs : List Event) (x : Event) → t x ≡ true → PassesAt t (xs ++ x ∷ []) (length xs)
-passes_last t xs x h = element_passes t (xs ++ x ∷ []) (length xs) x (get_last xs x) h
 
 pub passes_snoc : (t : Event → Bool) (xs : List Event) (x : Event) (i : ℕ) → PassesAt t (xs ++ x ∷ []) i → PassesAt t xs i ⊎ ((i ≡ length xs) × (t x ≡ true))
 passes_snoc t xs x i h =

@@ -1,7 +1,6 @@
 -- Walks over the places of a history, one event more at each.
 use Rattle.std.proofs.Common.{ℕ, zero, suc, None, ◌≡◌, ◌≤◌, ◌+◌, List, [], ◌∷◌, ◌++◌, length, refl, sym, ap, ◌∙◌, Some, slice_get, take, drop, add-one}
 use Rattle.std.proofs.lemmas.List.Sums.{fold-append}
-use Rattle.std.proofs.Math.Seq.{take-length}
 use Rattle.history.specs.declared.event.Event.{Event}
 use Rattle.history.specs.declared.event.Event.TheVariants.{Call, Reply, Lost}
 use Rattle.history.specs.declared.fault.HistFault.{HistFault}
@@ -22,9 +21,6 @@ pub seen_one_more : (H : List Event) (i : ℕ) (e : Event) (seen : Seen) → sli
 seen_one_more H i e seen at before =
     ap (λ s. seen_with s (pair_named e)) before
     ∙ sym (ap seen_in (take_next H i e at) ∙ fold-append (λ s f. seen_with s (pair_named f)) (record { term = 0; seq = 0 }) (take i H) (e ∷ []))
-
-pub seen_all : (H : List Event) (i : ℕ) (seen : Seen) → i ≡ length H → seen ≡ seen_in (take i H) → seen ≡ seen_in H
-seen_all H i seen end before = before ∙ ap seen_in (ap (λ k. take k H) end ∙ take-length H)
 
 -- ---- prefixes
 

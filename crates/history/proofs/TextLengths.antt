@@ -1,8 +1,6 @@
 -- A text is not longer than its lines allow.
 use Rattle.std.proofs.Common.{ℕ, suc, ◌≤◌, ◌<◌, ◌+◌, ◌*◌, List, [], ◌∷◌, length, arith, Bool, true, false, All}
 use Rattle.std.specs.Prelude.{◌==◌, if◌then◌else◌, slice_index_or}
-use Rattle.history.specs.declared.event.Event.{Event}
-use Rattle.history.specs.Text.{IsHistoryText}
 use Rattle.api_lines.specs.Lines.{lines_of, longest_line, most_lines, onto_first}
 
 line_bytes : List (List ℕ) → ℕ
@@ -36,7 +34,3 @@ text_within text few short =
     let b = few_bytes (lines_of text) short in
     let within : length text ≤ 4194304 * 65537 = omega arith in
     within
-
--- nor has the text of a history
-pub text_is_short : (text : List ℕ) (events : List Event) → IsHistoryText text events → length text ≤ most_lines * (longest_line + 1)
-text_is_short text events is = text_within text is.lines_fit is.bytes_fit

@@ -1,6 +1,6 @@
 -- A history text is read: the function that reads it gives its history, and nothing else.
 use Rattle.std.proofs.Common.{ℕ, ◌≡◌, ◌<◌, ◌^◌, List, [], ◌∷◌, ◌++◌, refl, sym, ap, subst, ◌∙◌, Bool, true, Option, Some, None, ◌⊎◌, inl, inr, Result, Ok, Err, slice_get, eq-eqb}
-use Rattle.std.specs.Prelude.{IfErr, OnErr, OnOk, codes, if◌then◌else◌, option_and_then}
+use Rattle.std.specs.Prelude.{IfErr, codes, if◌then◌else◌, option_and_then}
 use Rattle.std.specs.Str.{bytes_eq}
 use Rattle.std.proofs.lemmas.Bool.{eqb-true}
 use Rattle.doc_register.specs.declared.op.Op.{Op}
@@ -234,20 +234,10 @@ event_kept_out H e event.Full reason = ap (with_more H e) (sym reason)
 event_kept_out H e event.NoMemory reason = tt
 event_kept_out H e event.ShardMoved reason = ap (with_more H e) (sym reason)
 
--- the answer of a push as the line's answer, on both sides
-pub line_ok : (H G : List Event) (e : Event) (r : Result (Unit {0}) HistFault) (q : Result (Unit {0}) LineFault) → q ≡ line_result r
-    → OnOk r (G ≡ H ++ e ∷ []) → refusal_told r ≡ refusal_of H e → OnOk q (adds H e ≡ Ok G)
-line_ok H G e (Ok u) q is grown reason = subst (λ x. OnOk x (adds H e ≡ Ok G)) (sym is) (event_added H G e (sym reason) grown)
-line_ok H G e (Err f) q is grown reason = subst (λ x. OnOk x (adds H e ≡ Ok G)) (sym is) tt
-
 pub line_err : (H : List Event) (e : Event) (r : Result (Unit {0}) HistFault) (q : Result (Unit {0}) LineFault) → q ≡ line_result r
     → refusal_told r ≡ refusal_of H e → IfErr q (λ fault. IfTold fault (λ cause. adds H e ≡ Err cause))
 line_err H e (Ok u) q is reason = subst (λ x. IfErr x (λ fault. IfTold fault (λ cause. adds H e ≡ Err cause))) (sym is) tt
 line_err H e (Err f) q is reason = subst (λ x. IfErr x (λ fault. IfTold fault (λ cause. adds H e ≡ Err cause))) (sym is) (event_kept_out H e f reason)
-
-pub line_same : (H G : List Event) (r : Result (Unit {0}) HistFault) (q : Result (Unit {0}) LineFault) → q ≡ line_result r → OnErr r (G ≡ H) → OnErr q (G ≡ H)
-line_same H G (Ok u) q is kept = subst (λ x. OnErr x (G ≡ H)) (sym is) tt
-line_same H G (Err f) q is kept = subst (λ x. OnErr x (G ≡ H)) (sym is) kept
 
 -- a reply line whose call is open, or isn't
 pub reply_open : (H : List Event) (n i status : ℕ) (body : BodyValues) (e : Event) → open_call_of H n ≡ Ok i → slice_get H i ≡ Some e

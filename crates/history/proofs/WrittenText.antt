@@ -1,6 +1,6 @@
 -- The text that is written of a history is a text of it.
 use Rattle.std.proofs.Common.{ℕ, suc, ◌≡◌, ◌<◌, ◌≤◌, ◌+◌, ◌*◌, ◌^◌, List, [], ◌∷◌, ◌++◌, length, length-append, map, All, refl, sym, ap, subst, ◌∙◌, arith, Bool, true, false, Option, Some, None, inl, inr, append_assoc, append-nil, codes, slice_get, take, lit≤, lit<, zero}
-use Rattle.std.specs.Prelude.{◌==◌, filter, if◌then◌else◌, unwrap_or, option_and_then, IsSome, IsUtf8}
+use Rattle.std.specs.Prelude.{◌==◌, filter, if◌then◌else◌, unwrap_or, option_and_then, IsSome}
 use Rattle.std.proofs.Math.Seq.{take-length}
 use Rattle.std.proofs.lemmas.Grind.{flat_map-append}
 use Rattle.std.proofs.lemmas.List.{length-map, map-append}
@@ -8,7 +8,7 @@ use Rattle.std.proofs.lemmas.List.Elements.{All-append, All-cons, All-head, All-
 use Rattle.std.proofs.lemmas.Bool.{eqb-true}
 use Rattle.json.specs.Print.{quoted}
 use Rattle.serde_json.specs.Data.{Data, Members, boolean, depth, string, number, unsigned, object, member, no_members}
-use Rattle.serde_json.specs.Read.{max_depth, read}
+use Rattle.serde_json.specs.Read.{max_depth}
 use Rattle.serde_json.specs.Written.{compact_text, has_float, members_text}
 use Rattle.version_pair.specs.Id.{IsIdLength}
 use Rattle.version_pair.specs.declared.pair.Pair.{Pair}
@@ -18,7 +18,6 @@ use Rattle.doc_register.specs.declared.op.Op.TheVariants.{Get, Index, Delete, Cr
 use Rattle.doc_register.specs.declared.reply.Reply.{Reply as Answer}
 use Rattle.doc_register.specs.declared.reply.Reply.TheVariants.{Indexed, Deleted, Found, Missing, Conflict}
 use Rattle.api_lines.specs.Json.{HasNumber, Lacks}
-use Rattle.api_lines.specs.aids.JsonLines.{IsJsonLine}
 use Rattle.api_lines.specs.HistoryLines.{most_shards}
 use Rattle.api_lines.specs.Lines.{is_written, lines_of, longest_line, most_lines}
 use Rattle.api_lines.specs.Written.{id_and_pair, number_member, write_body, written_body, written_status}
@@ -30,7 +29,7 @@ use Rattle.history.specs.Events.{IsCallAt, IsHistory, is_call}
 use Rattle.history.specs.Refusal.{most_events}
 use Rattle.history.specs.Text.{AreLinesOf, IsHistoryText, Spells, SpellsCall, SpellsOp, SpellsShard}
 use Rattle.history.specs.Written.{call_end, call_value, call_with, condition_members, event_value, id_named, id_of, lost_value, op_members, op_name, reply_value, written_values}
-use Rattle.history.specs.aids.Writing.{AreWritten, HasItsCall, IsInRange, IsLineAdded, IsReadable, OpFits, ReplyFits}
+use Rattle.history.specs.aids.Writing.{AreWritten, HasItsCall, IsInRange, IsReadable, OpFits, ReplyFits}
 use Rattle.history.proofs.EventLemmas.{place_of-passes, place_of-some}
 use Rattle.history.proofs.HistoryLemmas.{answered_call, call_passes}
 use Rattle.history.proofs.ListLemmas.{get_middle}
@@ -403,12 +402,6 @@ is_text H text history few written =
 pub none_written : (H : List Event) (text : List ℕ) → AreWritten H text text []
 none_written H text = record { added = sym (append-nil text); readable = All-nil (IsReadable H) }
 
-pub one_written : (H : List Event) (e : Event) (v : Data) (old new : List ℕ) → v ≡ event_value H e → IsLineAdded old new v → IsInRange e → AreWritten H old new (e ∷ [])
-one_written H e v old new is line range = record {
-  added = line.added ∙ ap (λ w. old ++ written_values (w ∷ [])) is;
-  readable = All-cons (IsReadable H) e [] (record { json = subst (λ w. IsJsonLine (compact_text w) w) is line.json; in_range = range }) (All-nil (IsReadable H));
-}
-
 both_written : (H : List Event) (old middle new : List ℕ) (es fs : List Event) → AreWritten H old middle es → AreWritten H middle new fs → AreWritten H old new (es ++ fs)
 both_written H old middle new es fs a b = record {
   added = b.added ∙ (ap (λ text. text ++ written_values (map (event_value H) fs)) a.added
@@ -425,12 +418,3 @@ next_written H text new i e at before more =
 
 pub all_are_written : (H : List Event) (text : List ℕ) (i : ℕ) → i ≡ length H → AreWritten H [] text (take i H) → AreWritten H [] text H
 all_are_written H text i end before = subst (AreWritten H [] text) (ap (λ k. take k H) end ∙ take-length H) before
-
--- the line of a value after a text
-pub line_added : (old line middle new : List ℕ) (v : Data) → IsUtf8 line → line ≡ compact_text v → read line ≡ Some v → middle ≡ old ++ line → new ≡ middle ++ 10 ∷ []
-    → IsLineAdded old new v
-line_added old line middle new v utf8 is reads first second = record {
-  added = second ∙ (ap (λ t. t ++ 10 ∷ []) (first ∙ ap (λ t. old ++ t) is) ∙ (append_assoc old (compact_text v) (10 ∷ [])
-      ∙ ap (λ t. old ++ t) (sym (append-nil (compact_text v ++ 10 ∷ [])))));
-  json = subst (λ t. IsJsonLine t v) is (utf8, reads);
-}

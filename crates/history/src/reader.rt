@@ -10,8 +10,8 @@ use crate::hash_keys::HashKeys;
 use crate::history::History;
 use crate::line_event::take_said;
 use api_lines::{
-    LineFault, LineFields, LineReader, ReadFault, given_fields, given_line, line_fields, line_said,
-    take_text,
+    LineFault, LineFields, LineReader, LineRoom, ReadFault, given_fields, given_line,
+    given_unescaped_fields, line_fields, line_said, take_text,
 };
 use std::alloc::Global;
 use std::marker::Model;
@@ -49,10 +49,32 @@ fn take_value(
     }
 }
 
+// Takes the line with this number, which the quick way doesn't read. A line that is refused leaves the history as it was.
+fn take_other_line(
+    alloc: Global,
+    history: &mut History,
+    room: &mut LineRoom,
+    number: u64,
+    line: &[u8],
+) -> Result<(), LineFault>
+    ensures ok { OnOk result (read_line takes_value number history.old line.now ≡ Ok history.new) }
+    ensures within { OnOk result (number ≤ most_lines) }
+    ensures err { IfErr result (λ fault. IfTold fault
+        (λ cause. read_line takes_value number history.old line.now ≡ Err cause)) }
+    ensures unchanged { OnErr result (history.new ≡ history.old) }
+{
+    let mut fields = LineFields::absent();
+    if given_unescaped_fields(number, line, room, &mut fields) {
+        return take_fields(alloc, history, &fields);
+    }
+    take_value(alloc, history, number, line)
+}
+
 // Takes the line with this number. A line that is refused leaves the history as it was.
 fn take_line(
     alloc: Global,
     history: &mut History,
+    room: &mut LineRoom,
     number: u64,
     line: &[u8],
 ) -> Result<(), LineFault>
@@ -66,7 +88,7 @@ fn take_line(
     if given_fields(number, line, &mut fields) {
         return take_fields(alloc, history, &fields);
     }
-    take_value(alloc, history, number, line)
+    take_other_line(alloc, history, room, number, line)
 }
 
 /// A history that is read line by line.
@@ -77,6 +99,7 @@ fn take_line(
 pub struct HistoryReader {
     history: History,
     lines: u64,
+    room: LineRoom,
 }
 
 impl Model for HistoryReader {
@@ -107,6 +130,7 @@ impl HistoryReader {
         HistoryReader {
             history: History::with_keys(alloc, keys),
             lines: 0,
+            room: LineRoom::new(alloc),
         }
     }
 
@@ -122,7 +146,7 @@ impl HistoryReader {
     {
         let number = self.lines + 1;
         let alloc = self.history.allocator();
-        match take_line(alloc, &mut self.history, number, line) {
+        match take_line(alloc, &mut self.history, &mut self.room, number, line) {
             Ok(()) => {
                 self.lines = number;
                 Ok(())

@@ -3,6 +3,7 @@ use Rattle.json.specs.Json.{value, read_key, after_end_array}
 use Rattle.serde_json.specs.Data.{array, boolean, item, no_items, no_members, null, number, object, put, string, unsigned}
 use Rattle.serde_json.specs.Read.{converted, of_json}
 use Rattle.api_lines.specs.aids.Scanning.{tokens_left}
+use Rattle.api_lines.specs.aids.Keys.{key_text}
 use Rattle.api_lines.proofs.TokenLemmas.{array_value, items_all, items_none, items_one_more, object_value, read_all, read_more, read_none, value-boolean, value-null, value-number, value-string}
 use Rattle.api_lines.proofs.token_field.+field.Goals as goal
 
@@ -50,7 +51,7 @@ pass_object-members-init t c = (no_members, read_none (c.args.depth - 1) (tokens
 pub pass_object-members-preserved : goal.pass_object-members-preserved
 pass_object-members-preserved t c =
     let i = c.members.invariant in
-    let k = c.in-Some.field-0.now in
+    let k = key_text c.in-Some.field-0 in
     let found = c.in_ok-field.ensures in
     let named : read_key (tokens_left c.members.scanner) ≡ Some (Some k, tokens_left c.key.new.self) = grind arith in
     (put k found.read.0 i.0, read_more (c.args.depth - 1) (tokens_left c.open_object.new.self) (tokens_left c.members.scanner) (tokens_left c.key.new.self) (tokens_left c.field.new.scanner) k found.read.0 i.0 i.1 named c.in_ok-key.ensures.shorter found.read.1 found.shorter)

@@ -2,27 +2,27 @@ use Rattle.std.proofs.Common.{◌≡◌, ◌∙◌, ap, sym, arith, Some, None}
 use Rattle.json.specs.Json.{read_key}
 use Rattle.serde_json.specs.Data.{no_members, put}
 use Rattle.api_lines.specs.aids.MoreFields.{body_with}
-use Rattle.api_lines.specs.aids.Scanning.{tokens_left}
+use Rattle.api_lines.specs.aids.Keys.{key_text}
 use Rattle.api_lines.proofs.MemberLemmas.{body_values-put}
 use Rattle.api_lines.proofs.TokenLemmas.{read_all, read_more, read_none}
 use Rattle.api_lines.proofs.fields.BodyFields.take_members.Goals as goal
 
 pub members-init : goal.members-init
-members-init c = (no_members, read_none 125 (tokens_left c.args.scanner.now), c.requires)
+members-init g c = (no_members, read_none 125 (g.T.TokenReader.left c.args.tokens.now), c.requires)
 
 pub members-preserved : goal.members-preserved
-members-preserved c =
+members-preserved g c =
     let i = c.members.invariant in
-    let k = c.in-Some.name.now in
+    let k = key_text c.in-Some.key in
     let found = c.in_ok-take_member.ensures in
-    let named : read_key (tokens_left c.members.scanner) ≡ Some (Some k, (tokens_left c.key.new.self)) = grind arith in (
+    let named : read_key (g.T.TokenReader.left c.members.tokens) ≡ Some (Some k, (g.T.TokenReader.left c.key.new.self)) = grind arith in (
       put k found.read.0 i.0,
-      read_more 125 (tokens_left c.args.scanner.now) (tokens_left c.members.scanner) (tokens_left c.key.new.self) (tokens_left c.take_member.new.scanner) k found.read.0 i.0 i.1 named c.in_ok-name.ensures.shorter found.read.1 found.shorter,
+      read_more 125 (g.T.TokenReader.left c.args.tokens.now) (g.T.TokenReader.left c.members.tokens) (g.T.TokenReader.left c.key.new.self) (g.T.TokenReader.left c.take_member.new.tokens) k found.read.0 i.0 i.1 named c.in_ok-key.ensures.shorter found.read.1 found.shorter,
       found.read.2 ∙ (ap (body_with k found.read.0) i.2 ∙ sym (body_values-put k found.read.0 i.0)),
     )
 
 pub returns-clause-read : goal.returns-clause-read
-returns-clause-read c =
+returns-clause-read g c =
     let i = c.members.invariant in
-    let over : read_key (tokens_left c.members.scanner) ≡ Some (None, (tokens_left c.key.new.self)) = grind arith in
-    (i.0, read_all 125 (tokens_left c.args.scanner.now) (tokens_left c.members.scanner) (tokens_left c.key.new.self) i.0 i.1 over, i.2)
+    let over : read_key (g.T.TokenReader.left c.members.tokens) ≡ Some (None, (g.T.TokenReader.left c.key.new.self)) = grind arith in
+    (i.0, read_all 125 (g.T.TokenReader.left c.args.tokens.now) (g.T.TokenReader.left c.members.tokens) (g.T.TokenReader.left c.key.new.self) i.0 i.1 over, i.2)

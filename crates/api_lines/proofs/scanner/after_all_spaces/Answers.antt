@@ -2,7 +2,7 @@ use Rattle.std.proofs.Common.{◌≡◌, ◌∙◌, ap, inl, inr, sym, true}
 use Rattle.json.specs.Lex.{between, lex}
 use Rattle.json.specs.Word.{ends_word}
 use Rattle.api_lines.proofs.ScanLemmas.{space_ends, space_passed}
-use Rattle.api_lines.proofs.scanner.after_spaces.Goals as goal
+use Rattle.api_lines.proofs.scanner.after_all_spaces.Goals as goal
 
 pub spaces-preserved : goal.spaces-preserved
 spaces-preserved c =

@@ -2,7 +2,7 @@ use Rattle.std.proofs.Common.{◌≡◌, ◌<◌, ◌∷◌, ◌++◌, ◌+◌, 
 use Rattle.std.specs.List.{list_all}
 use Rattle.std.proofs.lemmas.List.{take_all}
 use Rattle.api_lines.proofs.ScanLemmas.{IsUtf8-plain, is_plain, split_at}
-use Rattle.api_lines.proofs.scanner.scanned_text.Goals as goal
+use Rattle.api_lines.proofs.scanner.plain_text.Goals as goal
 
 pub from_utf8_unchecked-text-requires : goal.from_utf8_unchecked-text-requires
 from_utf8_unchecked-text-requires c = IsUtf8-plain (take c.in_ok-end.end c.args.bytes.now) c.in_ok-end.ensures.plain
