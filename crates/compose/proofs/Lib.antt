@@ -13,6 +13,8 @@ mod Standing
 mod WholeRun
 mod Locality
 mod TakenLemmas
+mod TwiceMoved
+mod TwiceSorted
 mod FlatPlaces
 mod TakenPlaces
 mod SearchedLemmas

@@ -14,7 +14,7 @@ use Rattle.ruled_out.specs.Laws.{ExplainsWithin}
 use Rattle.ruled_out.specs.Placings.{IsRuledOut}
 use Rattle.ruled_out.specs.Told.{told}
 use Rattle.ruled_out.proofs.PlacingLaws.{ordered_are_not_ruled_out}
-use Rattle.evidence.specs.Evidence.{AreDocuments, IsRuledOutIn, ListsRuledOut}
+use Rattle.evidence.specs.Evidence.{AreDocuments, ListsRuledOut}
 use Rattle.doc_check.specs.declared.search.DocAnswer.{DocAnswer}
 use Rattle.doc_check.specs.declared.search.DocAnswer.TheVariants.{Found, NotFound}
 use Rattle.compose.specs.aids.Searched.{AreAnswersFor, AreUnordered, IsAnswerFor}

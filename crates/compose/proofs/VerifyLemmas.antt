@@ -19,7 +19,7 @@ use Rattle.compose.specs.Covers.{AreComplete, AreCover, ArePairsDistinct, AreFin
 use Rattle.compose.specs.VerifyFaults.{IsAtEntry, IsFirstVerifyFault, IsTakenTwice}
 use Rattle.compose.specs.Verdicts.{AreWitnesses}
 use Rattle.compose.specs.aids.Taken.{IsLeastTwice, pairs_taken}
-use Rattle.compose.specs.aids.Verified.{AreVerified, IsFaultOfDocument, IsFaultOfEntry, IsFaultOfPlaces, IsOpen, IsWitnessAt}
+use Rattle.compose.specs.aids.Verified.{AreVerified, IsFaultOfDocument, IsFaultOfEntry, IsOpen, IsWitnessAt}
 use Rattle.compose.specs.declared.verify_fault.VerifyFault.{VerifyFault}
 use Rattle.compose.specs.declared.verify_fault.VerifyFault.TheVariants as fault
 use Rattle.history.proofs.SetLemmas.{slice_get-set_other, slice_get-set_same}

@@ -1,5 +1,7 @@
--- The pairs that the witnesses of a history take, as a list, and the least of them that stands in it twice.
-use Rattle.std.specs.Prelude.{◌≡◌, ◌<◌, ◌↔◌, ◌⊎◌, ℕ, List, [], Option, Some, None, option_map, option_and_then, filter_map, flat_map, position, slice_get}
+-- The pairs that the witnesses of a history take, as a list, their order, and the least of them that stands in it twice.
+use Rattle.std.specs.Prelude.{◌≡◌, ◌<◌, ℕ, List, [], Option, Some, None, option_map, option_and_then, filter_map, flat_map, position, slice_get}
+use Rattle.std.specs.declared.cmp.Ordering.{Ordering}
+use Rattle.std.specs.Ordering.{nat_cmp, ordering_then}
 use Rattle.version_pair.specs.declared.pair.Pair.{Pair}
 use Rattle.history.specs.declared.event.Event.{Event}
 use Rattle.history.specs.declared.record.Rec.{Rec}
@@ -8,7 +10,6 @@ use Rattle.witness.specs.declared.place.Place.{Place}
 use Rattle.witness.specs.Witness.{Witness}
 use Rattle.history.specs.Heard.{taken_by}
 use Rattle.compose.specs.VerifyFaults.{IsAtMost}
-use Rattle.compose.specs.declared.taken.Taken.{Taken}
 
 -- the shard of the document, where the history has it
 abbrev pub shard_in : List Event → List ℕ → Option ℕ
@@ -32,25 +33,15 @@ pairs_of_document (Some h) w = pairs_at h w.records w.places
 abbrev pub pairs_taken : List Event → List Witness → List (ℕ × Pair)
 pairs_taken events ws = flat_map (λ w. pairs_of_document (shard_in events w.doc) w) ws
 
--- the element stands in the list
-abbrev pub Stands : List (ℕ × Pair) → ℕ × Pair → Type 0
-Stands xs x = (i : ℕ) × (slice_get xs i ≡ Some x)
+-- by shard, then by term, then by sequence number
+abbrev pub by_shard : ℕ × Pair → ℕ × Pair → Ordering
+by_shard x y = ordering_then (nat_cmp x.0 y.0) (ordering_then (nat_cmp x.1.term y.1.term) (nat_cmp x.1.seq y.1.seq))
 
 -- the element stands at two places
 abbrev pub IsTwice : List (ℕ × Pair) → ℕ × Pair → Type 0
 IsTwice xs x = (i : ℕ) × (j : ℕ) × (i < j) × (slice_get xs i ≡ Some x) × (slice_get xs j ≡ Some x)
 
--- the first of two elements, where there is a second, that is not above the other
-abbrev pub IsLesser : ℕ × Pair → Option (ℕ × Pair) → ℕ × Pair → Type 0
-IsLesser x None least = least ≡ x
-IsLesser x (Some y) least = ((least ≡ x) ⊎ (least ≡ y)) × IsAtMost least.0 least.1 x.0 x.1 × IsAtMost least.0 least.1 y.0 y.1
-
 -- the least element that stands at two places, by shard and then by pair; `None` where there is none
 abbrev pub IsLeastTwice : List (ℕ × Pair) → Option (ℕ × Pair) → Type 0
 IsLeastTwice xs None = (x : ℕ × Pair) → ¬ IsTwice xs x
 IsLeastTwice xs (Some x) = IsTwice xs x × ((y : ℕ × Pair) → IsTwice xs y → IsAtMost x.0 x.1 y.0 y.1)
-
--- these pairs were noted
-pub record AreNoted (xs : List (ℕ × Pair)) (t : Taken) : Type 0 where
-  pub seen : (x : ℕ × Pair) → Stands xs x ↔ Stands t.seen.keys x
-  pub twice : IsLeastTwice xs t.twice
