@@ -7,9 +7,10 @@ PROGRAM is the built casbench; where it is not named, the one that ./casbench wo
 number and its first cause. A line that is taken stands in a small history whose answer or story would be another one if the line
 were read otherwise. Texts are read with few bytes at hand at a time; of several faults of a bulk the first is told.
 
-There are two ways to the fields of a line: the quick one leaves unusual lines to the other. Drawn lines get the same story by
-both; and plain lines are told by the quick one, which is seen by the growths that a check asks for. These are counted with a
-library that cc, a C compiler, makes; where there is none, that is said, and they aren't counted.
+There are three ways to the fields of a line: the quick one leaves escapes and bytes past ASCII to the second, and both leave
+numbers that aren't digits alone to the third. Drawn lines get the same story by each; and plain lines are told by the quick one,
+which is seen by the growths that a check asks for. These are counted with a library that cc, a C compiler, makes; where there is
+none, that is said, and they aren't counted.
 
 Drawn histories without an order are cut behind the event that is named: the first events alone are judged as within the whole.
 """
@@ -230,7 +231,7 @@ PLAIN = [
     '"e": "call", "id": "d", "op": "get" , "at": [ 1, { "x": [ ] }, true, false, null ] } ',
 ]
 
-# What follows it in lines that the quick way leaves to the other: numbers of other forms, escapes, no JSON.
+# What follows it in lines that the quick way leaves to the others: numbers of other forms, escapes, no JSON.
 ODD = [
     '"e":"call","id":"d","op":"index","k":10000000000000000000}',
     '"e":"call","id":"d","op":"index","k":18446744073709551615}',
@@ -307,10 +308,14 @@ def drawn_line(draws):
     return line
 
 
-def with_escape(line):
-    """The line with one more member before its others, which is no field: its key has an escape, so that the quick way tells
-    nothing of the line. A line that doesn't begin with a brace is left so as it is."""
-    return b'{"\\u0061t":0,' + line[1:] if line.startswith(b"{") else line
+# A member that is no field, with an escape in its key, so that the quick way tells nothing of the line; and one whose number is
+# not digits alone, so that the second tells nothing either.
+ESCAPED, FRACTION = b'"\\u0061t":0,', b'"at":0.5,'
+
+
+def with_member(line, member):
+    """The line with one more member before its others. A line that doesn't begin with a brace is left as it is."""
+    return b"{" + member + line[1:] if line.startswith(b"{") else line
 
 
 def document_of(line):
@@ -328,18 +333,19 @@ def story_around(program, line, document):
 
 
 def told_alike(program, line):
-    """The cause for which a drawn line is refused, or `taken`, where it is told the same with an escape."""
+    """The cause for which a drawn line is refused, or `taken`, where it is told the same by each way."""
     document = document_of(line)
     status, told = story = story_around(program, line, document)
-    other = story_around(program, with_escape(line), document)
-    if story != other or status not in (1, 2):
-        raise Wrong(f"{story}, and with an escape {other}")
+    for member in (ESCAPED, FRACTION):
+        other = story_around(program, with_member(line, member), document)
+        if story != other or status not in (1, 2):
+            raise Wrong(f"{story}, and with {member.decode()} {other}")
     cause = re.match(rf"refused line={DRAWN_AT} cause=([a-z-]+)\n", told)
     return cause[1] if cause else "taken"
 
 
 def check_spaced(growths, rest):
-    """How a check of a plain line with a space before a colon ends, which leaves it to the other way, where it gets no more growths
+    """How a check of a plain line with a space before a colon ends, which leaves it to another way, where it gets no more growths
     than without the space; and whether it asked for another one."""
     plain, spaced = (f'{{"at"{space}:0,"n":3,{rest}' for space in ("", " "))
     return growths.check(spaced, growths.count(plain))
