@@ -387,6 +387,8 @@ class Broken(ProxyTest):
             while len(self.lines()) < 3:
                 time.sleep(0.01)
             other.process.kill()
+            # until it is gone its port may still take connections
+            other.process.wait()
             self.assertEqual(told[0].result()[0], 502)
         for it in askers[1:]:
             self.assertEqual(it.ask("PUT", "/carts/_doc/d", {})[0], 502)
