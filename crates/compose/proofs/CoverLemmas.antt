@@ -21,7 +21,7 @@ use Rattle.witness.proofs.DocumentLaws.{places_are_orders, tells_of}
 use Rattle.compose.specs.Covers.{AreCover, ArePairsDistinct, IsEntered, IsTakenAt}
 use Rattle.history.specs.Heard.{taken_by}
 use Rattle.compose.specs.Laws.{restricted}
-use Rattle.evidence.proofs.FilterLemmas.{mapped_at}
+use Rattle.ruled_out.proofs.OrderedSteps.{mapped_at}
 use Rattle.compose.proofs.CalledDocuments.{shard_of_call}
 use Rattle.compose.proofs.ListedDocuments.{documents_apart}
 use Rattle.compose.proofs.RestrictedOrders.{restricted_change, restricted_explains, restricted_from, restricted_once}

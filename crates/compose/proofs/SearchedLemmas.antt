@@ -19,7 +19,7 @@ use Rattle.compose.specs.VerifyFaults.{IsTakenTwice}
 use Rattle.compose.specs.Verdicts.{AreWitnesses}
 use Rattle.compose.specs.aids.Searched.{AreSearched, IsSearched}
 use Rattle.compose.specs.aids.Taken.{IsTwice, pairs_taken}
-use Rattle.evidence.proofs.FilterLemmas.{mapped_at}
+use Rattle.ruled_out.proofs.OrderedSteps.{mapped_at}
 use Rattle.compose.proofs.ListedDocuments.{documents_apart}
 use Rattle.compose.proofs.TakenPlaces.{AreOwn, entries_of, taken_twice, twice_taken}
 

@@ -19,9 +19,10 @@ use Rattle.compose.specs.Covers.{IsOfShard, IsTakenAt}
 use Rattle.history.specs.Heard.{taken_by}
 use Rattle.compose.specs.VerifyFaults.{IsTakenTwice}
 use Rattle.compose.specs.aids.Taken.{IsTwice, pair_at, pairs_of_document, pairs_taken, shard_in}
-use Rattle.evidence.proofs.FilterLemmas.{mapped_at}
+use Rattle.ruled_out.proofs.OrderedSteps.{mapped_at}
 use Rattle.compose.proofs.FlatPlaces.{AreInside, IsBefore, IsInside, flat_in_order, inside_in_order}
 use Rattle.compose.proofs.ListedDocuments.{documents_apart}
+use Rattle.compose.proofs.WholeRun.{taken_parts}
 
 -- ---- the shard of a document
 
@@ -86,15 +87,10 @@ pub record IsPairAt (events : List Event) (w : Witness) (j : ℕ) (x : ℕ × Pa
 abbrev with_shard : ℕ → List Rec → Place → Option (ℕ × Pair)
 with_shard h records p = option_map (λ q. (h, q)) (pair_at records p)
 
--- a pair with a shard is made of that pair
-made_pair : (h : ℕ) (o : Option Pair) (x : ℕ × Pair) → option_map (λ q. (h, q)) o ≡ Some x → (h ≡ x.0) × (o ≡ Some x.1)
-made_pair h None x made = absurd (none_is_not_some x made)
-made_pair h (Some q) x made = let same : (h, q) ≡ x = same_some (h, q) x made in (ap (λ y. y.0) same, ap (λ y. Some y.1) same)
-
 -- a pair that is made of a place of the witness is taken there
 made_taken : (events : List Event) (w : Witness) (h j : ℕ) (x : ℕ × Pair) → shard_in events w.doc ≡ Some h → IsMadeAt (with_shard h w.records) w.places j x → IsPairAt events w j x
 made_taken events w h j x is made =
-    let pair = made_pair h (pair_at w.records made.from) x made.made in
+    let pair = taken_parts h (pair_at w.records made.from) x made.made in
     record { place = made.from; placed = made.at; shard = is ∙ ap (λ g. Some g) pair.0; takes = pair.1 }
 
 -- the pairs of the document of a witness

@@ -51,7 +51,7 @@ taken_by_call (k ∷ ks) zero q takes = (k, refl, takes)
 taken_by_call (k ∷ ks) (suc i) q takes = taken_by_call ks i q takes
 
 -- a pair with its shard, half by half
-taken_parts : (shard : ℕ) (o : Option Pair) (q : ℕ × Pair) → option_map (λ p. (shard, p)) o ≡ Some q → (shard ≡ q.0) × (o ≡ Some q.1)
+pub taken_parts : (shard : ℕ) (o : Option Pair) (q : ℕ × Pair) → option_map (λ p. (shard, p)) o ≡ Some q → (shard ≡ q.0) × (o ≡ Some q.1)
 taken_parts shard None q takes = absurd (none_is_not_some q takes)
 taken_parts shard (Some p) q takes =
     let same : (shard, p) ≡ q = same_some (shard, p) q takes in

@@ -91,10 +91,10 @@ by_pair_total =
     then_total (then_total (on_total (λ (c : Pair × ℕ). c.0.term) nat_cmp_total) (on_total (λ (c : Pair × ℕ). c.0.seq) nat_cmp_total))
     (on_total (λ (c : Pair × ℕ). c.1) nat_cmp_total)
 
-some_at : (chain : List (Pair × ℕ)) (i : ℕ) → i < length chain → (c : Pair × ℕ) × (slice_get chain i ≡ Some c)
-some_at [] i within = absurd (omega arith)
-some_at (c ∷ cs) zero within = (c, refl)
-some_at (c ∷ cs) (suc i) within = some_at cs i (omega arith)
+pub link_there : (chain : List (Pair × ℕ)) (i : ℕ) → i < length chain → (c : Pair × ℕ) × (slice_get chain i ≡ Some c)
+link_there [] i within = absurd (omega arith)
+link_there (c ∷ cs) zero within = (c, refl)
+link_there (c ∷ cs) (suc i) within = link_there cs i (omega arith)
 
 split_pairs : (p q : Pair) (o : Ordering) → is_lt (ordering_then (pair_cmp p q) o) ≡ false → IsBelow q p ⊎ ((q.term ≡ p.term) × (q.seq ≡ p.seq))
 split_pairs p q o unless = by_term (nat_cmp p.term q.term) refl unless where
@@ -135,7 +135,7 @@ rising_climbs chain rises i j a b less at bt = from (j - suc i) i j a b (let e :
   from : (n i j : ℕ) (a b : Pair × ℕ) → j ≡ suc i + n → slice_get chain i ≡ Some a → slice_get chain j ≡ Some b → IsBelow a.0 b.0
   from zero i j a b is at bt = rises i a b at (subst (λ k. slice_get chain k ≡ Some b) (let e : j ≡ suc i = omega arith in e) bt)
   from (suc n) i j a b is at bt =
-      let next = some_at chain (suc i) (let w : j < length chain = slice_get_within chain j b bt in omega arith) in
+      let next = link_there chain (suc i) (let w : j < length chain = slice_get_within chain j b bt in omega arith) in
       below_trans a.0 next.0.0 b.0 (rises i a next.0 at next.1) (from n (suc i) j next.0 b (omega arith) next.1 bt)
 
 pub climbing_rises : (chain : List (Pair × ℕ)) → Climbs chain → Rises chain

@@ -24,8 +24,8 @@ use Rattle.doc_check.specs.aids.Order.{IsStretchOrder, Standing, by_standing, pl
 use Rattle.doc_check.specs.aids.Stretches.{FitsAs, ReadFits, WriteFits, cap, state_in, states_of}
 use Rattle.doc_check.specs.aids.Sweep.{AreGiven, AreSpread, IsGiven}
 use Rattle.doc_check.proofs.Lists.{Has, KeyOnce, KeyRises, has_back, has_moved, not_below, not_below_then, once_moved, sorted_at}
-use Rattle.doc_check.proofs.ChainLemmas.{link_record}
-use Rattle.doc_check.proofs.StretchLemmas.{link_there, one_place}
+use Rattle.doc_check.proofs.ChainLemmas.{link_record, link_there}
+use Rattle.doc_check.proofs.StretchLemmas.{one_place}
 
 -- ---- which standings there are
 

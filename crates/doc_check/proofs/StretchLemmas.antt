@@ -27,7 +27,7 @@ use Rattle.history.proofs.ListLemmas.{compare, get_front, get_last, none_is_not_
 use Rattle.write_chain.specs.Chain.{Rises, after_link, pair_cmp, written}
 use Rattle.doc_check.specs.aids.Stretches.{AreLaidOut, HoldsNowhere, IsGuess, IsLatest, IsReadIn, IsTable, WriteFits, is_as_asked, is_so, latest_below, state_in, states_of}
 use Rattle.doc_check.specs.declared.stretches.Stretches.{Stretches}
-use Rattle.doc_check.proofs.ChainLemmas.{rising_climbs}
+use Rattle.doc_check.proofs.ChainLemmas.{link_there, rising_climbs}
 
 -- ---- the latest number that passes
 
@@ -188,12 +188,6 @@ first_of c = c.0
 -- the pair at a place of the chain
 pair_there : (chain : List (Pair × ℕ)) (pairs : List Pair) (k : ℕ) (c : Pair × ℕ) → pairs ≡ map (λ l. l.0) chain → slice_get chain k ≡ Some c → slice_get pairs k ≡ Some c.0
 pair_there chain pairs k c is at = ap (λ ps. slice_get ps k) is ∙ (slice_get-map (λ (l : Pair × ℕ). l.0) chain k ∙ ap (option_map (λ (l : Pair × ℕ). l.0)) at)
-
--- the link at a place of the pairs
-pub link_there : (chain : List (Pair × ℕ)) (k : ℕ) → k < length chain → (c : Pair × ℕ) × (slice_get chain k ≡ Some c)
-link_there [] k within = absurd (omega arith)
-link_there (c ∷ cs) zero within = (c, refl)
-link_there (c ∷ cs) (suc k) within = link_there cs k (omega arith)
 
 pairs_sorted : (chain : List (Pair × ℕ)) (pairs : List Pair) → Rises chain → pairs ≡ map (λ l. l.0) chain → IsSorted pair_cmp pairs
 pairs_sorted chain pairs rises is k d low within =

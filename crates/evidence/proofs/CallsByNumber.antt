@@ -1,26 +1,14 @@
 -- The call with a number: where it is found, and that none is found.
-use Rattle.std.proofs.Common.{ℕ, zero, suc, ◌≡◌, List, [], ◌∷◌, refl, sym, ap, subst, ◌∙◌, Bool, true, false, Option, Some, None, cond, option_map, slice_get, true≢false}
+use Rattle.std.proofs.Common.{ℕ, zero, suc, ◌≡◌, List, [], ◌∷◌, refl, sym, subst, ◌∙◌, Bool, true, false, Option, Some, None, cond, option_map, slice_get, true≢false}
 use Rattle.doc_register.specs.declared.op.Op.{Op}
 use Rattle.history.specs.declared.event.Event.{Event}
 use Rattle.history.specs.declared.event.Event.TheVariants.{Call}
 use Rattle.history.specs.Events.{IsCallAt, PassesAt, is_call, place_of}
 use Rattle.history.proofs.HistoryLemmas.{call_at, call_passes}
 use Rattle.history.proofs.ListLemmas.{none_is_not_some, same_some}
-use Rattle.history.proofs.EventLemmas.{same_call}
+use Rattle.history.proofs.EventLemmas.{place_of-passes, same_call}
 
 -- ---- the first place at which a test passes
-
-place_passes : (test : Event → Bool) (es : List Event) (i : ℕ) → place_of test es ≡ Some i → PassesAt test es i
-place_passes test [] i is = absurd (none_is_not_some i is)
-place_passes test (e ∷ es) i is = by_test (test e) refl is (place_passes test es) where
-  later : (o : Option ℕ) → place_of test es ≡ o → option_map suc o ≡ Some i → ((k : ℕ) → place_of test es ≡ Some k → PassesAt test es k) → PassesAt test (e ∷ es) i
-  later None none found rest = absurd (none_is_not_some i found)
-  later (Some k) at found rest = subst (PassesAt test (e ∷ es)) (same_some (suc k) i found) (rest k at)
-
-  by_test : (b : Bool) → test e ≡ b → cond b (Some 0) (option_map suc (place_of test es)) ≡ Some i → ((k : ℕ) → place_of test es ≡ Some k → PassesAt test es k)
-      → PassesAt test (e ∷ es) i
-  by_test true passes found rest = subst (PassesAt test (e ∷ es)) (same_some 0 i found) (ap (λ b. Some b) passes)
-  by_test false fails found rest = later (place_of test es) refl found rest
 
 place_none : (test : Event → Bool) (es : List Event) (i : ℕ) → place_of test es ≡ None → ¬ PassesAt test es i
 place_none test [] i is passes = none_is_not_some true passes
@@ -39,7 +27,7 @@ place_none test (e ∷ es) i is passes = by_test (test e) refl is i passes (plac
 
 -- the call that is found
 pub call_found : (events : List Event) (n i : ℕ) → place_of (is_call n) events ≡ Some i → (h : ℕ) × (d : List ℕ) × (op : Op) × IsCallAt events i n h d op
-call_found events n i is = call_at events i n (place_passes (is_call n) events i is)
+call_found events n i is = call_at events i n (place_of-passes (is_call n) events i is)
 
 -- where none is found, none has the number
 pub call_none : (events : List Event) (n i h : ℕ) (d : List ℕ) (op : Op) → place_of (is_call n) events ≡ None → ¬ IsCallAt events i n h d op

@@ -4,14 +4,13 @@ use Rattle.std.proofs.lemmas.Bool.{cases_lt}
 use Rattle.version_pair.specs.declared.pair.Pair.{Pair}
 use Rattle.version_pair.specs.PairOrder.{IsBelow}
 use Rattle.doc_register.specs.declared.op.Op.{Op}
-use Rattle.doc_register.specs.declared.op.Op.TheVariants.{Get, Index, Delete, Create}
 use Rattle.doc_register.specs.declared.reply.Reply.{Reply as Answer}
-use Rattle.doc_register.specs.declared.reply.Reply.TheVariants.{Indexed, Deleted, Found, Missing, Conflict}
+use Rattle.doc_register.specs.declared.reply.Reply.TheVariants.{Indexed, Found, Conflict}
 use Rattle.doc_register.specs.declared.state.Conflicts.{Conflicts}
 use Rattle.doc_register.specs.declared.state.Conflicts.TheVariants.{Plain, Maybe}
 use Rattle.doc_register.specs.declared.state.DocState.{DocState}
 use Rattle.doc_register.specs.declared.state.DocState.TheVariants.{Never, Gone, Here}
-use Rattle.doc_register.specs.Register.{DocStep, HasPair, Performs, condition_of, shown, value_of}
+use Rattle.doc_register.specs.Register.{DocStep, HasPair, Performs, condition_of, value_of}
 use Rattle.doc_register.specs.Run.{Entry, IsLegalRun, pair_taken, start, taken, taken_at}
 use Rattle.doc_register.proofs.RunLemmas.{AtMost, below_new, not_below_itself, not_both_below, step_kind, taken_of}
 use Rattle.doc_register.proofs.RunLaws.{no_pair_twice, pair_performs}
@@ -25,11 +24,13 @@ use Rattle.history.specs.Heard.{taken_by}
 use Rattle.evidence.specs.Evidence.{EvidenceRefutes, HasNoWriter, IsPairTwice, IsPerformed, IsStaleGet, IsStaleSwap, MayTake}
 use Rattle.evidence.specs.declared.refuted.Refuted.TheVariants as evidence
 use Rattle.evidence.proofs.EarlierSteps.{GivesNumber, IsGivenBefore, StepsAbove, above_taken, steps_from}
-use Rattle.evidence.proofs.FilterLemmas.{mapped_at}
 use Rattle.evidence.proofs.CallsByNumber.{same_shard}
 use Rattle.evidence.proofs.HeardLemmas.{heard_is_reply}
 use Rattle.history.proofs.EventLemmas.{same_call}
 use Rattle.ruled_out.proofs.PlacingLaws.{ruled_out_have_no_order}
+use Rattle.ruled_out.proofs.DocumentSteps.{meets}
+use Rattle.ruled_out.proofs.OrderedSteps.{mapped_at}
+use Rattle.ruled_out.proofs.ToldStates.{found_has, shown_taken}
 
 -- ---- answered calls in an order
 
@@ -69,14 +70,6 @@ placed conflicts events order history explains i n h y d op r call heard =
     }
 
 -- ---- performed calls in an order
-
--- what was heard shows a pair, whatever the entry hides
-shown_taken : (r : Answer) (h : Option Pair) (q : Pair) → pair_taken r None ≡ Some q → pair_taken r h ≡ Some q
-shown_taken (Indexed p created) h q is = is
-shown_taken (Deleted p found) h q is = is
-shown_taken (Found p k) h q is = absurd (none_is_not_some q is)
-shown_taken Missing h q is = absurd (none_is_not_some q is)
-shown_taken Conflict h q is = absurd (none_is_not_some q is)
 
 shown_heard : (heard : Option (ℕ × Answer)) (q : Pair) → taken_by heard None ≡ Some q → (y : ℕ) × (r : Answer) × (heard ≡ Some (y, r)) × (pair_taken r None ≡ Some q)
 shown_heard None q is = absurd (none_is_not_some q is)
@@ -120,17 +113,6 @@ pair_twice conflicts events a b history twice (order, explains) =
 
 -- ---- a stale get
 
--- a get that finds a pair stands where the document has it
-found_has : (x : DocState) (op : Op) (h : Option Pair) (y : DocState) (p : Pair) (k : ℕ) → DocStep x op (Found p k) h y → x ≡ Here p k
-found_has x Get h y p k step = by_state x step.0 where
-  by_state : (x : DocState) → Found p k ≡ shown x → x ≡ Here p k
-  by_state Never is = let impossible : Found p k ≡ Missing = is in absurd (cc)
-  by_state (Gone q) is = let impossible : Found p k ≡ Missing = is in absurd (cc)
-  by_state (Here q n) is = let same : Found p k ≡ Found q n = is in let one : p ≡ q = cc in let two : k ≡ n = cc in cc
-found_has x (Index n c) h y p k step = absurd step
-found_has x (Delete c) h y p k step = absurd step
-found_has x (Create n) h y p k step = absurd step
-
 -- no pair below one that the document has at least is its pair
 not_lower : (p q : Pair) (x : DocState) → AtMost q x → HasPair x p → IsBelow p q → ⊥
 not_lower p q Never most has below = absurd most
@@ -153,15 +135,6 @@ stale_get conflicts events g w history stale (order, explains) =
     not_lower stale.found stale.pair above.before above.most (subst (λ x. HasPair x stale.found) (sym here) refl) stale.below
 
 -- ---- a stale swap
-
--- a performed write with a condition stands where the document has just the pair that it asks for
-meets : (x : DocState) (op : Op) (q : Pair) (y : DocState) (c : Pair) → Performs x op q y → condition_of op ≡ Some c → HasPair x c
-meets x Get q y c w is = absurd (none_is_not_some c is)
-meets x (Index k None) q y c w is = absurd (none_is_not_some c is)
-meets x (Index k (Some b)) q y c w is = subst (HasPair x) (same_some b c is) w.allowed
-meets x (Delete None) q y c w is = absurd (none_is_not_some c is)
-meets x (Delete (Some b)) q y c w is = subst (HasPair x) (same_some b c is) w.allowed
-meets x (Create k) q y c w is = absurd (none_is_not_some c is)
 
 -- of two performed writes of one document that which stands first has the lesser pair
 lesser_first : (order : List Placed) (a b h g : ℕ) (d : List ℕ) (op o : Op) (q r : Pair) → IsLegalRun (run_of order) → (one : IsPlacedWith order a h d op q) (two : IsPlacedWith order b g d o r)

@@ -1,7 +1,6 @@
 -- Places among the elements that a test keeps, and places of what a function makes of each element.
-use Rattle.std.proofs.Common.{ℕ, zero, suc, ◌≡◌, ◌<◌, List, [], ◌∷◌, refl, sym, ap, ◌∙◌, arith, Bool, true, false, cond, map, Some, slice_get}
-use Rattle.std.specs.Prelude.{filter, option_map}
-use Rattle.std.proofs.lemmas.Option.{slice_get-map}
+use Rattle.std.proofs.Common.{ℕ, zero, suc, ◌≡◌, ◌<◌, List, [], ◌∷◌, refl, sym, ap, ◌∙◌, arith, Bool, true, false, cond, Some, slice_get}
+use Rattle.std.specs.Prelude.{filter}
 use Rattle.history.proofs.ListLemmas.{none_is_not_some, same_some}
 
 -- ---- what a test keeps
@@ -51,7 +50,3 @@ kept_order {X} test (y ∷ ys) i j x z below at bt = by_test (test y) refl i j b
       (suc m.0, suc m.1, (omega arith), kept_next test y ys m.0 x m.3, kept_next test y ys m.1 z m.4)
 
 -- ---- what a function makes of each element
-
--- and of each element one is made
-pub mapped_at : {X Y : Type 0} (f : X → Y) (xs : List X) (i : ℕ) (x : X) → slice_get xs i ≡ Some x → slice_get (map f xs) i ≡ Some (f x)
-mapped_at f xs i x at = slice_get-map f xs i ∙ ap (option_map f) at

@@ -9,7 +9,7 @@ use Rattle.history.specs.declared.record.Rec.{Rec}
 use Rattle.history.specs.Events.{IsHistory, documents_of, records_of}
 use Rattle.history.proofs.ListLemmas.{none_is_not_some, same_some}
 use Rattle.ruled_out.specs.Told.{told}
-use Rattle.ruled_out.specs.Placings.{AreInOrder, IsRuledOut, IsRuledOutAt}
+use Rattle.ruled_out.specs.Placings.{AreInOrder, IsRuledOutAt}
 use Rattle.ruled_out.proofs.RecordOrder.{records_in_order}
 use Rattle.ruled_out.proofs.WalkLemmas.{ruled_out_once}
 use Rattle.evidence.specs.Evidence.{IsRuledOutIn, ListsRuledOut}

@@ -1,19 +1,18 @@
 -- What the seat of a pen drew, after a recording and at the end.
 use Rattle.std.proofs.Common.{ℕ, ◌≡◌, ◌≢◌, ◌<◌, ◌≤◌, List, [], ◌∷◌, ◌++◌, refl, sym, ap, subst, ◌∙◌, arith, None, Result, Ok, Err, Bool, true, false, All, IfOk, OnErr}
-use Rattle.std.specs.Prelude.{cond, ◌||◌, if◌then◌else◌, nat_lt, not}
+use Rattle.std.specs.Prelude.{cond, ◌||◌, if◌then◌else◌, nat_lt}
 use Rattle.std.specs.List.{filter, list_any}
 use Rattle.std.proofs.lemmas.Bool.{ltb-false, ltb-true}
 use Rattle.std.proofs.lemmas.List.{append-nil}
-use Rattle.std.proofs.lemmas.List.Elements.{All-cons, All-head, All-nil, All-push, All-tail, filter-append}
+use Rattle.std.proofs.lemmas.List.Elements.{All-cons, All-head, All-nil, All-tail, filter-append}
 use Rattle.std.proofs.lemmas.List.Folds.{list_any-append}
 use Rattle.atomic_table.specs.Table.{Me}
 use Rattle.history.specs.declared.event.Event.{Event}
 use Rattle.history.specs.Refusal.{most_events}
 use Rattle.recorder.specs.declared.clock_view.ClockView.{ClockView}
-use Rattle.recorder.specs.declared.clock_view.ClockView.TheVariants.{Drew}
 use Rattle.recorder.specs.declared.fault.RecFault.{RecFault}
 use Rattle.recorder.specs.declared.fault.RecFault.TheVariants.{Full, Rewound}
-use Rattle.recorder.specs.Clock.{is_past, numbers_in, seat_with}
+use Rattle.recorder.specs.Clock.{is_past, numbers_in}
 use Rattle.recorder.specs.Pens.{IsUnused, PenState, Records, tells_full, told_by_list}
 use Rattle.recorder.specs.aids.Drawing.{HasDrawn, IsSeatFor, numbers_of_events}
 use Rattle.recorder.specs.aids.Notes.{numbers_of}

@@ -15,7 +15,7 @@ use Rattle.recorder.proofs.DenseLemmas.{AreLeft, how_many_left, sum_of_list}
 use Rattle.recorder.proofs.RecordingLaws.{by_number}
 
 -- the numbers of listed events are those from the first on
-numbered_from : (n : ℕ) (events : List Event) → numbers_of (enumerate_from n events) ≡ range_with_len n (length events)
+pub numbered_from : (n : ℕ) (events : List Event) → numbers_of (enumerate_from n events) ≡ range_with_len n (length events)
 numbered_from n [] = refl
 numbered_from n (e ∷ es) = ap (λ ns. n ∷ ns) (numbered_from (n + 1) es)
 

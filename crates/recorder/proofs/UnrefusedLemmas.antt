@@ -1,7 +1,7 @@
 -- No event of a recording of pens' lists is refused by the history of those before it.
 use Rattle.std.proofs.Common.{ℕ, zero, suc, ◌≡◌, ◌≢◌, ◌+◌, ◌<◌, ◌≤◌, List, [], ◌∷◌, length, refl, sym, ap, subst, ◌∙◌, arith, Option, Some, None, slice_get, All, Bool, true, false, get_or, take, eq-eqb}
 use Rattle.std.specs.Prelude.{◌==◌, ◌||◌, Contains, if◌then◌else◌, is_some, nat_lt, not, option_and_then, option_map}
-use Rattle.std.specs.List.{enumerate_from, list_any, range_with_len, sum_by}
+use Rattle.std.specs.List.{enumerate_from, list_any, sum_by}
 use Rattle.std.specs.Option.{option_map_or}
 use Rattle.std.proofs.lemmas.Bool.{eqb-true, false_from_ne_true, ltb-false, ltb-true}
 use Rattle.std.proofs.lemmas.List.Elements.{All-take, Contains-append_left, Contains-append_right}
@@ -23,12 +23,13 @@ use Rattle.recorder.specs.Pens.{IsRising}
 use Rattle.recorder.specs.Recordings.{IsRecordingOf, entries_of}
 use Rattle.recorder.specs.Laws.{IsByNumber}
 use Rattle.recorder.specs.aids.Merging.{AreAccepted}
-use Rattle.recorder.specs.aids.Notes.{IsEntryAt, IsPenList, numbers_of}
+use Rattle.recorder.specs.aids.Notes.{IsEntryAt, IsPenList}
 use Rattle.recorder.proofs.CountLemmas.{once_at_most, one_for, one_for_itself, sum_map, sum_of_one}
 use Rattle.recorder.proofs.DenseLemmas.{StandsIn, stands_in, sum_of_list}
 use Rattle.recorder.proofs.NoteLemmas.{called_entry}
 use Rattle.recorder.proofs.RecordingLaws.{recordings_are_by_number}
 use Rattle.version_pair.proofs.TruthLemmas.{or-true}
+use Rattle.recorder.proofs.FoundLemmas.{numbered_from}
 
 -- ---- the first place at which a test passes
 
@@ -196,10 +197,6 @@ two_lists f (l ∷ ls) (suc p) (suc q) one other apart at_p at_q =
     let rest = two_lists f ls p q one other (λ same. apart (ap suc same)) at_p at_q in
     let whole = sum_by-append f l (entries_of ls) in omega arith
 
-enumerated : (a : ℕ) (es : List Event) → numbers_of (enumerate_from a es) ≡ range_with_len a (length es)
-enumerated a [] = refl
-enumerated a (e ∷ es) = ap (λ rest. a ∷ rest) (enumerated (a + 1) es)
-
 contained : (lists : List (List (ℕ × Event))) (p : ℕ) (list : List (ℕ × Event)) (q : ℕ) (x : ℕ × Event) → slice_get lists p ≡ Some list → slice_get list q ≡ Some x → Contains (entries_of lists) x
 contained [] p list q x which here = let impossible : None ≡ Some list = which in absurd (cc)
 contained (l ∷ ls) zero list q x which here =
@@ -291,7 +288,7 @@ module _ (lists : List (List (ℕ × Event))) (events : List Event) (recording_i
         let there : one_for x.0 y.0 ≡ 1 = ap (one_for x.0) (sym same) ∙ here in
         let moved = sum_by-IsPermutation (λ (entry : ℕ × Event). one_for x.0 entry.0) (entries_of lists) (enumerate_from 0 events) recording_is in
         let mapped = sum_map (one_for x.0) (λ (entry : ℕ × Event). entry.0) (enumerate_from 0 events) in
-        let row = ap (sum_by (one_for x.0)) (enumerated 0 events) in
+        let row = ap (sum_by (one_for x.0)) (numbered_from 0 events) in
         let once = once_at_most x.0 0 (length events) in
         absurd (omega arith)
 

@@ -1,7 +1,7 @@
 pub mod DocumentSteps
 mod Counts
-mod OrderedSteps
-mod ToldStates
+pub mod OrderedSteps
+pub mod ToldStates
 mod OrderedPositions
 pub mod PlacingLaws
 pub mod WalkLemmas

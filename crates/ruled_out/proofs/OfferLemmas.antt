@@ -1,17 +1,16 @@
 -- Positions that are added to a set: those with room from a floor on, and those that a write may take.
-use Rattle.std.proofs.Common.{ℕ, suc, ◌≡◌, ◌<◌, ◌≤◌, ◌+◌, ◌⊎◌, inl, inr, List, [], ◌∷◌, ◌++◌, length, take, refl, sym, ap, subst, ◌∙◌, arith, Option, Some, None, slice_get}
+use Rattle.std.proofs.Common.{ℕ, suc, ◌≡◌, ◌<◌, ◌≤◌, ◌+◌, ◌⊎◌, inl, inr, List, [], ◌∷◌, ◌++◌, length, take, refl, sym, ap, subst, ◌∙◌, arith, Option, Some, slice_get}
 use Rattle.std.specs.Prelude.{◌↔◌}
 use Rattle.std.specs.BTreeSet.{BTreeSet}
 use Rattle.version_pair.specs.declared.pair.Pair.{Pair}
 use Rattle.version_pair.specs.PairOrder.{IsBelow}
 use Rattle.history.specs.declared.record.Rec.{Rec}
-use Rattle.history.proofs.ListLemmas.{get_front, get_last, get_snoc, none_is_not_some, same_some, take_one_more}
+use Rattle.history.proofs.ListLemmas.{get_front, get_last, get_snoc, same_some, take_one_more}
 use Rattle.ruled_out.specs.Positions.{IsNext}
 use Rattle.ruled_out.specs.aids.KnownPairs.{HasRoom, IsGapAbove}
-use Rattle.ruled_out.specs.declared.possible.Possible.{Possible}
-use Rattle.ruled_out.specs.aids.Offers.{IsOfferedTo, KeepsRooms}
-use Rattle.ruled_out.specs.aids.Rooms.{AreRooms, IsAmong}
-use Rattle.ruled_out.specs.aids.Sets.{IsFrom, IsIn, IsWith}
+use Rattle.ruled_out.specs.aids.Offers.{IsOfferedTo}
+use Rattle.ruled_out.specs.aids.Rooms.{IsAmong}
+use Rattle.ruled_out.specs.aids.Sets.{IsIn, IsWith}
 use Rattle.ruled_out.specs.aids.Wild.{IsOffered}
 
 -- ---- positions with room

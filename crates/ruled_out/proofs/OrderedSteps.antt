@@ -12,7 +12,7 @@ use Rattle.doc_register.specs.declared.state.Conflicts.{Conflicts}
 use Rattle.doc_register.specs.declared.state.Conflicts.TheVariants.{Plain, Maybe}
 use Rattle.doc_register.specs.declared.state.DocState.{DocState}
 use Rattle.doc_register.specs.declared.state.DocState.TheVariants.{Never}
-use Rattle.doc_register.specs.Register.{DocStep, Exceeds, Performs, last_pair}
+use Rattle.doc_register.specs.Register.{DocStep, Performs, last_pair}
 use Rattle.doc_register.specs.Run.{Entry, pair_taken, start}
 use Rattle.doc_register.proofs.RunLemmas.{AtMost, below_new, not_below_itself, step_kind}
 use Rattle.doc_register.proofs.RunLaws.{pair_performs}
@@ -27,7 +27,7 @@ use Rattle.history.proofs.ListLemmas.{compare, mapped_from, none_is_not_some, sa
 use Rattle.history.proofs.RecordLaws.{split_by_document}
 use Rattle.ruled_out.specs.Laws.{ExplainsWithin}
 use Rattle.ruled_out.specs.Told.{IsListed, as_told, told, told_of}
-use Rattle.ruled_out.proofs.DocumentSteps.{IsTakenBefore, at_place, came, exceeds_earlier, keeps, leaves_it, never_written, own_step, pair_reached}
+use Rattle.ruled_out.proofs.DocumentSteps.{IsTakenBefore, at_place, came, keeps, leaves_it, never_written, own_step, pair_reached}
 
 -- ---- a document that an order explains
 
@@ -55,7 +55,7 @@ pub record IsEntry (x : Explained) (i : ℕ) (p : Placed) : Type 0 where
 -- ---- steps
 
 -- what a function makes of an element stands at its place
-mapped_at : {X Y : Type 0} (f : X → Y) (xs : List X) (i : ℕ) (x : X) → slice_get xs i ≡ Some x → slice_get (map f xs) i ≡ Some (f x)
+pub mapped_at : {X Y : Type 0} (f : X → Y) (xs : List X) (i : ℕ) (x : X) → slice_get xs i ≡ Some x → slice_get (map f xs) i ≡ Some (f x)
 mapped_at f xs i x at = slice_get-map f xs i ∙ ap (option_map f) at
 
 entry_at : (order : List Placed) (i : ℕ) (p : Placed) → slice_get order i ≡ Some p → slice_get (run_of order) i ≡ Some p.entry

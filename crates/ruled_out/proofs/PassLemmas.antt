@@ -1,5 +1,5 @@
 -- One more call is passed: what the walk knows of the calls without a reply.
-use Rattle.std.proofs.Common.{ℕ, zero, suc, ◌≡◌, ◌<◌, ◌≤◌, ◌+◌, ◌⊎◌, inl, inr, List, [], ◌∷◌, ◌++◌, length, refl, sym, ap, subst, ◌∙◌, arith, Option, Some, None, true, false, true≢false, Result, Ok, Err, Vec, Global, slice_get, slice_index_or}
+use Rattle.std.proofs.Common.{ℕ, zero, suc, ◌≡◌, ◌<◌, ◌≤◌, ◌+◌, ◌⊎◌, inl, inr, List, [], ◌∷◌, ◌++◌, length, refl, sym, ap, subst, ◌∙◌, arith, Option, Some, None, true, true≢false, Result, Ok, Err, Vec, Global, slice_get, slice_index_or}
 use Rattle.std.specs.Prelude.{◌↔◌, OnOk, is_some}
 use Rattle.std.specs.BTreeSet.{BTreeSet}
 use Rattle.std.proofs.lemmas.Bool.{cases_lt}
@@ -271,10 +271,6 @@ ok_then (Err e) f p = p
 pub answered_is : {X : Type 0} (o : Option X) → is_some o ≡ true → (o ≡ None) → ⊥
 answered_is None is none = true≢false (sym is)
 answered_is (Some x) is none = none_is_not_some x (sym none)
-
-pub not_answered : {X : Type 0} (o : Option X) → is_some o ≡ false → o ≡ None
-not_answered None is = refl
-not_answered (Some x) is = absurd (true≢false is)
 
 -- what the walk knows doesn't hang on its floors, nor on what is reached
 pub knows_floors : (records : List Rec) (floors : List ℕ) (walk : Walk) (vec : Vec ℕ Global) → Knows records floors walk → Knows records floors (record walk { floors = vec })

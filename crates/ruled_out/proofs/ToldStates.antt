@@ -41,7 +41,7 @@ pair_heard None q is = absurd (none_is_not_some q is)
 pair_heard (Some (y, r)) q is = (y, r, refl, is)
 
 -- a reply that shows a pair shows it whatever is hidden
-shown_taken : (r : Answer) (h : Option Pair) (q : Pair) → pair_taken r None ≡ Some q → pair_taken r h ≡ Some q
+pub shown_taken : (r : Answer) (h : Option Pair) (q : Pair) → pair_taken r None ≡ Some q → pair_taken r h ≡ Some q
 shown_taken (Indexed p created) h q is = is
 shown_taken (Deleted p found) h q is = is
 shown_taken (Found p k) h q is = absurd (none_is_not_some q is)
