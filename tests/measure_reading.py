@@ -9,8 +9,8 @@ of a processor, the system's not counted, the least of some runs; beside it stan
 
 import argparse
 import json
-import os
 import random
+import resource
 import subprocess
 import sys
 import tempfile
@@ -34,9 +34,13 @@ def shuffled(draws):
     """A function that puts the members of a line, and of its body, in a drawn order."""
 
     def of(line):
-        members = list(json.loads(line).items())
-        draws.shuffle(members)
-        return written(members)
+        value = json.loads(line)
+        for part in (value, value.get("body", {})):
+            members = list(part.items())
+            draws.shuffle(members)
+            part.clear()
+            part.update(members)
+        return written(value)
 
     return of
 
@@ -89,9 +93,9 @@ def seconds(program, path, runs):
     """The least processor time of some checks of the text, which gets `yes`."""
     least = None
     for _ in range(runs):
-        before = os.times().children_user
+        before = resource.getrusage(resource.RUSAGE_CHILDREN).ru_utime
         told = subprocess.run([program, "check", path], capture_output=True, text=True, check=False).stdout
-        took = os.times().children_user - before
+        took = resource.getrusage(resource.RUSAGE_CHILDREN).ru_utime - before
         if not told.startswith("yes "):
             sys.exit(f"{path}: {told}")
         least = took if least is None else min(least, took)
