@@ -48,7 +48,7 @@ with_from (e ∷ es) d h c (k, at) = by_test (is_same d e.0) k at (λ j bt. with
 
 -- a document stays with one more event
 event_kept : (ds : List (List ℕ × ℕ)) (x : Event) (c : List ℕ × ℕ) → Has ds c → Has (with_event ds x) c
-event_kept ds (Call n h d op) c has = with_kept ds d h c has
+event_kept ds (Call h n d op) c has = with_kept ds d h c has
 event_kept ds (Reply n r) c has = has
 event_kept ds (Lost n) c has = has
 
@@ -59,10 +59,10 @@ all_kept (x ∷ xs) ds c has = all_kept xs (with_event ds x) c (event_kept ds x 
 
 -- the document of a call is among those of the events
 called_among : (xs : List Event) (ds : List (List ℕ × ℕ)) (i n h : ℕ) (d : List ℕ) (op : Op) → IsCallAt xs i n h d op → (g : ℕ) × Has (fold with_event ds xs) (d, g)
-called_among [] ds i n h d op at = absurd (none_is_not_some (Call n h d op) at)
+called_among [] ds i n h d op at = absurd (none_is_not_some (Call h n d op) at)
 called_among (x ∷ xs) ds zero n h d op at =
     let own = with_own ds d h in
-    let here : Has (with_event ds x) (d, own.0) = subst (λ e. Has (with_event ds e) (d, own.0)) (sym (same_some x (Call n h d op) at)) own.1 in
+    let here : Has (with_event ds x) (d, own.0) = subst (λ e. Has (with_event ds e) (d, own.0)) (sym (same_some x (Call h n d op) at)) own.1 in
     (own.0, all_kept xs (with_event ds x) (d, own.0) here)
 called_among (x ∷ xs) ds (suc i) n h d op at = called_among xs (with_event ds x) i n h d op at
 
@@ -80,10 +80,10 @@ called_later x xs c called = (suc called.0, called.1, called.2, called.3)
 
 -- after an event a document was there, or is that of the call
 event_from : (ds : List (List ℕ × ℕ)) (x : Event) (xs : List Event) (c : List ℕ × ℕ) → Has (with_event ds x) c → Has ds c ⊎ IsCalled (x ∷ xs) c
-event_from ds (Call n h d op) xs c has = by_case (with_from ds d h c has) where
-  by_case : Has ds c ⊎ (c ≡ (d, h)) → Has ds c ⊎ IsCalled (Call n h d op ∷ xs) c
+event_from ds (Call h n d op) xs c has = by_case (with_from ds d h c has) where
+  by_case : Has ds c ⊎ (c ≡ (d, h)) → Has ds c ⊎ IsCalled (Call h n d op ∷ xs) c
   by_case (inl old) = inl old
-  by_case (inr new) = inr (subst (IsCalled (Call n h d op ∷ xs)) (sym new) (0, n, op, refl))
+  by_case (inr new) = inr (subst (IsCalled (Call h n d op ∷ xs)) (sym new) (0, n, op, refl))
 event_from ds (Reply n r) xs c has = inl has
 event_from ds (Lost n) xs c has = inl has
 

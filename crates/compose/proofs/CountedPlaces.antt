@@ -31,7 +31,7 @@ call_rank events p = rank is_any_call events (call_place events p)
 placed_call : (events : List Event) (p : Placed) → IsOfCall events p → (e : Event) × (slice_get events (call_place events p) ≡ Some e) × (is_any_call e ≡ true)
 placed_call events p of =
     let c = call_at events (call_place events p) p.no (called_there events p of) in
-    (Call p.no c.0 c.1 c.2, c.3, refl)
+    (Call c.0 p.no c.1 c.2, c.3, refl)
 
 -- it is below the number of calls
 rank_below : (events : List Event) (p : Placed) → IsOfCall events p → call_rank events p < calls_of events
@@ -47,7 +47,7 @@ rank_number events p q a b same =
     let place : call_place events p ≡ call_place events q = rank_once is_any_call events (call_place events p) (call_place events q) c.0 d.0 c.1 d.1 c.2 d.2 same in
     let x = call_at events (call_place events p) p.no (called_there events p a) in
     let y = call_at events (call_place events q) q.no (called_there events q b) in
-    let one : Some (Call p.no x.0 x.1 x.2) ≡ Some (Call q.no y.0 y.1 y.2) = sym x.3 ∙ (ap (slice_get events) place ∙ y.3) in
+    let one : Some (Call x.0 p.no x.1 x.2) ≡ Some (Call y.0 q.no y.1 y.2) = sym x.3 ∙ (ap (slice_get events) place ∙ y.3) in
     cc
 
 -- ---- the count

@@ -104,7 +104,7 @@ taken_in conflicts events order entries history explains are i j h q t =
     let pair : pair_taken p.entry.reply p.entry.hidden ≡ Some q =
     told_pair told.2.named.heard t.place.pair p.entry told.2.tells ∙ (ap (λ (r : Rec). taken_by r.heard t.place.pair) one ∙ t.takes) in
     let shard : p.entry.shard ≡ h = shard_of_call events history of.0 p.no p.entry.shard h d p.entry.op
-    (subst (λ c. slice_get events of.0 ≡ Some (Call p.no p.entry.shard c p.entry.op)) s.1.own of.1) t.shard in (
+    (subst (λ c. slice_get events of.0 ≡ Some (Call p.entry.shard p.no c p.entry.op)) s.1.own of.1) t.shard in (
       s.0,
       p,
       record {

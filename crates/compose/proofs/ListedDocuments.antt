@@ -60,7 +60,7 @@ apart_with ds d h apart i j a b at bt same =
 
 -- one more event does too
 apart_event : (ds : List (List ℕ × ℕ)) (x : Event) → AreApart ds → AreApart (with_event ds x)
-apart_event ds (Call n h d op) apart = apart_with ds d h apart
+apart_event ds (Call h n d op) apart = apart_with ds d h apart
 apart_event ds (Reply n r) apart = apart
 apart_event ds (Lost n) apart = apart
 

@@ -30,8 +30,8 @@ same_document events history p q a b same =
     let place : a.0 ≡ b.0 = history.called_once q.no a.0 b.0
     (subst (λ n. PassesAt (is_call n) events a.0) same (call_passes events a.0 p.no p.entry.shard p.entry.doc p.entry.op a.1))
     (call_passes events b.0 q.no q.entry.shard q.entry.doc q.entry.op b.1) in
-    let call : Call p.no p.entry.shard p.entry.doc p.entry.op ≡ Call q.no q.entry.shard q.entry.doc q.entry.op =
-    same_some (Call p.no p.entry.shard p.entry.doc p.entry.op) (Call q.no q.entry.shard q.entry.doc q.entry.op) (sym a.1 ∙ (ap (λ i. slice_get events i) place ∙ b.1)) in
+    let call : Call p.entry.shard p.no p.entry.doc p.entry.op ≡ Call q.entry.shard q.no q.entry.doc q.entry.op =
+    same_some (Call p.entry.shard p.no p.entry.doc p.entry.op) (Call q.entry.shard q.no q.entry.doc q.entry.op) (sym a.1 ∙ (ap (λ i. slice_get events i) place ∙ b.1)) in
     cc
 
 -- a call number stands once

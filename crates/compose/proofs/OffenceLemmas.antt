@@ -56,7 +56,7 @@ one_more_reply events n places are is = record { each = each; all = all; rise = 
 
 -- one event more
 pub next_event : (events : List Event) (n : ℕ) (places : List ℕ) (e : Event) → AreReplies events n places → slice_get events n ≡ Some e → AreReplies events (n + 1) (places_with e n places)
-next_event events n places (Call m h d op) are at = passed_over events n places are (λ (k, r, is). let other : Some (Call m h d op) ≡ Some (Reply k r) = sym at ∙ is in absurd (cc))
+next_event events n places (Call h m d op) are at = passed_over events n places are (λ (k, r, is). let other : Some (Call h m d op) ≡ Some (Reply k r) = sym at ∙ is in absurd (cc))
 next_event events n places (Reply m r) are at = one_more_reply events n places are (m, r, at)
 next_event events n places (Lost m) are at = passed_over events n places are (λ (k, r, is). let other : Some (Lost m) ≡ Some (Reply k r) = sym at ∙ is in absurd (cc))
 

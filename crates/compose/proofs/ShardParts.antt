@@ -21,10 +21,10 @@ use Rattle.version_pair.proofs.TruthLemmas.{both}
 -- ---- calls on a shard
 
 -- an event that is found is the call
-call_on : (x : Event) (h n : ℕ) → is_call_on h n x ≡ true → (d : List ℕ) × (op : Op) × (x ≡ Call n h d op)
-call_on (Call m g d op) h n is =
+call_on : (x : Event) (h n : ℕ) → is_call_on h n x ≡ true → (d : List ℕ) × (op : Op) × (x ≡ Call h n d op)
+call_on (Call g m d op) h n is =
     let parts = both (m == n) (g == h) is in
-    (d, op, ap (λ k. Call k g d op) (eqb-true m n parts.0) ∙ ap (λ k. Call n k d op) (eqb-true g h parts.1))
+    (d, op, ap (λ k. Call g k d op) (eqb-true m n parts.0) ∙ ap (λ k. Call k n d op) (eqb-true g h parts.1))
 call_on (Reply m r) h n is = absurd (false≢true is)
 call_on (Lost m) h n is = absurd (false≢true is)
 
@@ -43,7 +43,7 @@ found_on (x ∷ xs) h n some = by_test (is_call_on h n x) refl some (found_on xs
 -- a call on the shard is found
 pub has_call : (events : List Event) (i n h : ℕ) (d : List ℕ) (op : Op) → IsCallAt events i n h d op → list_any (is_call_on h n) events ≡ true
 has_call events i n h d op at =
-    any_passes_from_place (is_call_on h n) events i (Call n h d op) at (ap (λ b. b && (h == h)) (eq-eqb n n refl) ∙ eq-eqb h h refl)
+    any_passes_from_place (is_call_on h n) events i (Call h n d op) at (ap (λ b. b && (h == h)) (eq-eqb n n refl) ∙ eq-eqb h h refl)
 
 -- a call whose number is that of one on the shard is on the shard
 pub on_shard : (events : List Event) → IsHistory events → (h i n g : ℕ) (d : List ℕ) (op : Op) → IsCallAt events i n g d op → list_any (is_call_on h n) events ≡ true → g ≡ h
@@ -57,12 +57,12 @@ on_shard events history h i n g d op at some =
 -- a call of the part is one of the history, on the shard
 pub part_call : (events : List Event) (h i n g : ℕ) (d : List ℕ) (op : Op) → IsCallAt (part_of_shard h events) i n g d op → (k : ℕ) × IsCallAt events k n g d op × (g ≡ h)
 part_call events h i n g d op at =
-    let from = part_from (concerns h events) events i (Call n g d op) at in
+    let from = part_from (concerns h events) events i (Call g n d op) at in
     (from.0, from.1, eqb-true g h from.2)
 
 -- a call on the shard stands in the part
 pub call_in_part : (events : List Event) (h k n : ℕ) (d : List ℕ) (op : Op) → IsCallAt events k n h d op → IsCallAt (part_of_shard h events) (rank (concerns h events) events k) n h d op
-call_in_part events h k n d op at = rank_at (concerns h events) events k (Call n h d op) at (eq-eqb h h refl)
+call_in_part events h k n d op at = rank_at (concerns h events) events k (Call h n d op) at (eq-eqb h h refl)
 
 -- a reply of the part is one of the history, to a call on the shard
 pub part_reply : (events : List Event) (h i n : ℕ) (r : Answer) → IsReplyAt (part_of_shard h events) i n r → (k : ℕ) × IsReplyAt events k n r × (list_any (is_call_on h n) events ≡ true)
@@ -97,7 +97,7 @@ once_in_part t events h once i j p q = compare i j (apart i j p q) (apart j i q 
 
 -- an ending that concerns the shard is of a call on it
 ending_on : (h : ℕ) (events : List Event) (e : Event) (n : ℕ) → is_ending n e ≡ true → concerns h events e ≡ true → list_any (is_call_on h n) events ≡ true
-ending_on h events (Call m g d op) n is concerned = absurd (false≢true is)
+ending_on h events (Call g m d op) n is concerned = absurd (false≢true is)
 ending_on h events (Reply m r) n is concerned = subst (λ k. list_any (is_call_on h k) events ≡ true) (eqb-true m n is) concerned
 ending_on h events (Lost m) n is concerned = subst (λ k. list_any (is_call_on h k) events ≡ true) (eqb-true m n is) concerned
 
@@ -112,7 +112,7 @@ ended_after events h history n i p =
     let shard : call.0 ≡ h = on_shard events history h c.0 n call.0 call.1 call.2 call.3 (ending_on h events e.0 n e.2 from.2) in
     let own : IsCallAt events c.0 n h call.1 call.2 = subst (λ g. IsCallAt events c.0 n g call.1 call.2) shard call.3 in
     let rises : rank (concerns h events) events c.0 < rank (concerns h events) events from.0 =
-    rank_rises (concerns h events) events c.0 from.0 (Call n h call.1 call.2) c.1 own (eq-eqb h h refl) in (
+    rank_rises (concerns h events) events c.0 from.0 (Call h n call.1 call.2) c.1 own (eq-eqb h h refl) in (
       rank (concerns h events) events c.0,
       subst (λ k. rank (concerns h events) events c.0 < k) from.3 rises,
       call_passes (part_of_shard h events) (rank (concerns h events) events c.0) n h call.1 call.2 (call_in_part events h c.0 n call.1 call.2 own),
@@ -154,13 +154,13 @@ ending_one events history i n passes =
 
 -- each event concerns one
 concerns_one : (events : List Event) → IsHistory events → (i : ℕ) (e : Event) → slice_get events i ≡ Some e → ConcernsOne events e
-concerns_one events history i (Call n h d op) at = (h, eq-eqb h h refl, λ g is. sym (eqb-true h g is))
+concerns_one events history i (Call h n d op) at = (h, eq-eqb h h refl, λ g is. sym (eqb-true h g is))
 concerns_one events history i (Reply n r) at = ending_one events history i n (reply_passes events i n r at)
 concerns_one events history i (Lost n) at = ending_one events history i n (element_passes (is_ending n) events i (Lost n) at (eq-eqb n n refl))
 
 -- an event that concerns a shard is a call on it, or the ending of one
 concerned_call : (events : List Event) (h i : ℕ) (e : Event) → slice_get events i ≡ Some e → concerns h events e ≡ true → (n : ℕ) × IsFoundOn events h n
-concerned_call events h i (Call n g d op) at is = (n, (i, d, op, subst (λ k. IsCallAt events i n k d op) (eqb-true g h is) at))
+concerned_call events h i (Call g n d op) at is = (n, (i, d, op, subst (λ k. IsCallAt events i n k d op) (eqb-true g h is) at))
 concerned_call events h i (Reply n r) at is = (n, found_on events h n is)
 concerned_call events h i (Lost n) at is = (n, found_on events h n is)
 

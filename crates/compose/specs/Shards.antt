@@ -12,13 +12,13 @@ use Rattle.history.specs.Order.{IsLinearizable}
 
 -- the call numbered n, of a document of the shard h
 abbrev pub is_call_on : ℕ → ℕ → Event → Bool
-is_call_on h n (Call m g d op) = (m == n) && (g == h)
+is_call_on h n (Call g m d op) = (m == n) && (g == h)
 is_call_on h n (Reply m r) = false
 is_call_on h n (Lost m) = false
 
 -- the event concerns the shard: it is a call of one of its documents, or the ending of such a call
 abbrev pub concerns : ℕ → List Event → Event → Bool
-concerns h events (Call n g d op) = g == h
+concerns h events (Call g n d op) = g == h
 concerns h events (Reply n r) = list_any (is_call_on h n) events
 concerns h events (Lost n) = list_any (is_call_on h n) events
 

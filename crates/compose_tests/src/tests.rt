@@ -1,3 +1,4 @@
+mod nearly_ordered;
 mod refutations;
 
 use compose::{CheckFault, Refuted, Verdict, check, check_alone, refutes, rule_out};

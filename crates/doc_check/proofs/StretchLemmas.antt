@@ -199,6 +199,10 @@ pairs_sorted chain pairs rises is k d low within =
     let below : IsBelow a.0.0 b.0.0 = rises k a.0 b.0 a.1 (ap (slice_get chain) (sym (add-one k)) ∙ b.1) in
     subst (λ x. is_lt (pair_cmp x (get_or pairs k d)) ≡ false) (sym second) (subst (λ y. is_lt (pair_cmp b.0.0 y) ≡ false) (sym first) (not_lt_of_below a.0.0 b.0.0 below))
 
+-- a search finds the pair where it stands
+pub pair_stands : (pairs : List Pair) (q : Pair) (k : ℕ) → slice_get pairs k ≡ Some q → HoldsAt (λ p. pair_cmp p q ≡ Equal) pairs k
+pair_stands pairs q k at d = ap (λ p. pair_cmp p q) (get_or_from_slice_get pairs k q d at) ∙ tied_itself pair_total q
+
 -- what a binary search for the pair found
 pub search_found : (chain : List (Pair × ℕ)) (pairs : List Pair) (q : Pair) (i : ℕ) → pairs ≡ map (λ l. l.0) chain → i < length pairs
     → HoldsAt (λ y. pair_cmp y q ≡ Equal) pairs i → (c : Pair × ℕ) × (slice_get chain i ≡ Some c) × (c.0 ≡ q)

@@ -4,6 +4,7 @@ ghost use Rattle.doc_check.specs.aids.Sweep.{AreMoments, moments_from};
 use history::Rec;
 use std::alloc::Global;
 use version_pair::NoMemory;
+use write_chain::sort_nearly_ordered;
 
 /// The call or the reply of an answered record: its place in the history, whether it is the reply, and the record.
 pub type Moment = (usize, bool, usize);
@@ -28,7 +29,7 @@ pub fn moments_of(alloc: Global, records: &[Rec]) -> Result<Vec<Moment>, NoMemor
     ensures { IfOk result (λ moments. AreMoments records.now moments.items) }
 {
     let mut moments = answered_moments(alloc, records)?;
-    moments.sort_unstable();
+    sort_nearly_ordered(&mut moments);
     moments.reverse();
     Ok(moments)
 }

@@ -5,6 +5,7 @@ use history::Rec;
 use std::alloc::Global;
 use version_pair::NoMemory;
 use witness::Place;
+use write_chain::sort_nearly_ordered;
 
 // Where a record stands: its stretch, its turn there, the place of its reply, its number.
 type Standing = (usize, usize, usize, usize);
@@ -54,7 +55,7 @@ pub fn order_of(
     ensures { IfOk result (λ places. IsStretchOrder records.now given.now places.items) }
 {
     let mut standings = standings_of(alloc, records, given)?;
-    standings.sort_unstable();
+    sort_nearly_ordered(&mut standings);
     let mut places = Vec::with_capacity(alloc, standings.len())?;
     for i in 0..standings.len() {
         let (_, _, _, rec) = standings[i];

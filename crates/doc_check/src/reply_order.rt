@@ -5,6 +5,7 @@ use history::Rec;
 use std::alloc::Global;
 use version_pair::NoMemory;
 use witness::Place;
+use write_chain::sort_nearly_ordered;
 
 // The answered records by their numbers, each with the place of its reply before it.
 fn answered_by_reply(alloc: Global, records: &[Rec]) -> Result<Vec<(usize, usize)>, NoMemory>
@@ -24,7 +25,7 @@ pub fn reply_order(alloc: Global, records: &[Rec]) -> Result<Vec<Place>, NoMemor
     ensures { IfOk result (λ places. IsReplyOrder records.now places.items) }
 {
     let mut answered = answered_by_reply(alloc, records)?;
-    answered.sort_unstable();
+    sort_nearly_ordered(&mut answered);
     let mut places = Vec::with_capacity(alloc, answered.len())?;
     for i in 0..answered.len() {
         let (_, rec) = answered[i];

@@ -1,8 +1,9 @@
-ghost use Rattle.std.specs.Prelude.{◌≡◌, ◌≤◌, ◌<◌, ◌↔◌, ℕ, IfOk, IfSome, IfNone, IsTrue, length};
+ghost use Rattle.std.specs.Prelude.{◌≡◌, ◌≤◌, ◌<◌, ◌↔◌, ℕ, IfOk, IfSome, IfNone, IsTrue, Some, length, slice_get};
+ghost use Rattle.std.specs.List.Sorted.{IsBinarySearchResult, IsSearchInRange};
 ghost use Rattle.doc_register.specs.declared.reply.Reply.TheVariants.{Conflict};
 ghost use Rattle.doc_register.specs.Register.{HasPair};
 ghost use Rattle.doc_register.specs.Run.{pair_taken};
-ghost use Rattle.write_chain.specs.Chain.{IsChain, Rises};
+ghost use Rattle.write_chain.specs.Chain.{IsChain, Rises, pair_cmp};
 ghost use Rattle.history.specs.Heard.{pair_of};
 ghost use Rattle.doc_check.specs.aids.Stretches.{AreLaidOut, AreStretches, FitsAs, HoldsNowhere, IsGuess, IsLatest, IsReadIn, ReadFits, WriteFits, state_in};
 
@@ -12,6 +13,9 @@ use history::Rec;
 use std::alloc::Global;
 use version_pair::{NoMemory, Pair};
 use write_chain::{pairs_of, states_of};
+
+// How many links below the bound are looked at before the whole chain is searched.
+const NEAR: usize = 16;
 
 /// The chain of a document, and what each stretch of it allows. Stretch 0 lies before the first write of the chain,
 /// stretch j after the j-th.
@@ -62,9 +66,9 @@ impl Stretches {
     }
 
     // Whether a call that is no performed write can be answered so in the stretch.
-    fn allows(&self, found: Rec, reply: Reply, stretch: usize) -> bool
+    fn allows(&self, found: &Rec, reply: Reply, stretch: usize) -> bool
         requires { stretch < length self.now.states.items }
-        ensures { IsTrue result ↔ IsReadIn self.now.states.items found.op reply stretch }
+        ensures { IsTrue result ↔ IsReadIn self.now.states.items found.now.op reply stretch }
     {
         match step(self.states[stretch], &found.op, &reply, None) {
             Some(state) => state == self.states[stretch],
@@ -72,27 +76,54 @@ impl Stretches {
         }
     }
 
-    // The stretch that begins with the write of this pair.
-    fn of_pair(&self, pair: Pair) -> Option<usize>
+    // The link of the chain with this pair, where it is one of the few below the bound.
+    fn near_link(&self, pair: Pair, bound: usize) -> Option<usize>
+        ensures { IfSome result (λ link. slice_get self.now.pairs.items link ≡ Some pair) }
+    {
+        let mut link = bound.min(self.pairs.len());
+        let least = link.saturating_sub(NEAR);
+        while link > least {
+            link -= 1;
+            if self.pairs[link] == pair {
+                return Some(link);
+            }
+        }
+        None
+    }
+
+    // The link of the chain with this pair, looked for below the bound first: calls are answered soon after what they
+    // see, so most pairs stand there.
+    fn link_of(&self, pair: Pair, bound: usize) -> Result<usize, usize>
+        ensures bound { IsSearchInRange result (length self.now.pairs.items) }
+        ensures position { IsBinarySearchResult (λ p. pair_cmp p pair) self.now.pairs.items result }
+    {
+        match self.near_link(pair, bound) {
+            Some(link) => Ok(link),
+            None => self.pairs.binary_search(&pair),
+        }
+    }
+
+    // The stretch that begins with the write of this pair, which is looked for below the bound first.
+    fn of_pair(&self, pair: Pair, bound: usize) -> Option<usize>
         requires { AreLaidOut self.now }
         ensures some { IfSome result
             (λ j. (l : ℕ) → HasPair (state_in self.now.states.items l) pair → l ≡ j) }
         ensures none { IfNone result
             ((l : ℕ) → ¬ HasPair (state_in self.now.states.items l) pair) }
     {
-        match self.pairs.binary_search(&pair) {
+        match self.link_of(pair, bound) {
             Ok(link) => Some(link + 1),
             Err(_) => None,
         }
     }
 
     // The latest stretch up to the bound in which the document does not have just the pair that the call asks for.
-    fn other_than_asked(&self, found: Rec, bound: usize) -> Option<usize>
+    fn other_than_asked(&self, found: &Rec, bound: usize) -> Option<usize>
         requires { bound < length self.now.states.items }
         ensures some { IfSome result
-            (IsGuess (IsReadIn self.now.states.items found.op Conflict) bound) }
+            (IsGuess (IsReadIn self.now.states.items found.now.op Conflict) bound) }
         ensures none { IfNone result
-            (HoldsNowhere (IsReadIn self.now.states.items found.op Conflict) bound) }
+            (HoldsNowhere (IsReadIn self.now.states.items found.now.op Conflict) bound) }
     {
         let mut stretch = bound;
         while !self.allows(found, Reply::Conflict, stretch) {
@@ -105,13 +136,13 @@ impl Stretches {
     }
 
     // The latest stretch up to the bound that may be that of a conflict. A write without a condition never conflicts.
-    fn of_conflict(&self, found: Rec, bound: usize) -> Option<usize>
+    fn of_conflict(&self, found: &Rec, bound: usize) -> Option<usize>
         requires laid_out { AreLaidOut self.now }
         requires bound { bound < length self.now.states.items }
         ensures some { IfSome result
-            (IsGuess (IsReadIn self.now.states.items found.op Conflict) bound) }
+            (IsGuess (IsReadIn self.now.states.items found.now.op Conflict) bound) }
         ensures none { IfNone result
-            (HoldsNowhere (IsReadIn self.now.states.items found.op Conflict) bound) }
+            (HoldsNowhere (IsReadIn self.now.states.items found.now.op Conflict) bound) }
     {
         match found.op {
             Op::Create { .. } => self.present[bound],
@@ -130,7 +161,7 @@ impl Stretches {
         ensures none { IfNone result
             ((l : ℕ) → l ≤ bound → ¬ HasPair (state_in self.now.states.items l) pair) }
     {
-        match self.of_pair(pair) {
+        match self.of_pair(pair, bound) {
             Some(stretch) => {
                 if stretch <= bound {
                     Some(stretch)
@@ -143,14 +174,14 @@ impl Stretches {
     }
 
     // The latest stretch up to the bound that may be that of a call that is no performed write.
-    fn guess(&self, found: Rec, reply: Reply, bound: usize) -> Option<usize>
+    fn guess(&self, found: &Rec, reply: Reply, bound: usize) -> Option<usize>
         requires laid_out { AreLaidOut self.now }
         requires bound { bound < length self.now.states.items }
         requires read { pair_taken reply None ≡ None }
         ensures some { IfSome result
-            (IsGuess (IsReadIn self.now.states.items found.op reply) bound) }
+            (IsGuess (IsReadIn self.now.states.items found.now.op reply) bound) }
         ensures none { IfNone result
-            (HoldsNowhere (IsReadIn self.now.states.items found.op reply) bound) }
+            (HoldsNowhere (IsReadIn self.now.states.items found.now.op reply) bound) }
     {
         match reply {
             Reply::Found { pair, .. } => self.of_found(pair, bound),
@@ -161,14 +192,14 @@ impl Stretches {
     }
 
     // The latest stretch up to the bound for a call that is no performed write.
-    fn of_read(&self, found: Rec, bound: usize) -> Option<usize>
+    fn of_read(&self, found: &Rec, bound: usize) -> Option<usize>
         requires laid_out { AreLaidOut self.now }
         requires bound { bound < length self.now.states.items }
-        requires read { pair_of found.heard ≡ None }
+        requires read { pair_of found.now.heard ≡ None }
         ensures some { IfSome result
-            (IsLatest (ReadFits self.now.states.items found.op found.heard) bound) }
+            (IsLatest (ReadFits self.now.states.items found.now.op found.now.heard) bound) }
         ensures none { IfNone result
-            (HoldsNowhere (ReadFits self.now.states.items found.op found.heard) bound) }
+            (HoldsNowhere (ReadFits self.now.states.items found.now.op found.now.heard) bound) }
     {
         let Some(heard) = found.heard else {
             return None;
@@ -192,7 +223,7 @@ impl Stretches {
         ensures none { IfNone result
             (HoldsNowhere (WriteFits self.now.chain.items rec pair) bound) }
     {
-        match self.pairs.binary_search(&pair) {
+        match self.link_of(pair, bound) {
             Ok(link) => {
                 if link < bound && self.chain[link].1 == rec {
                     Some(link + 1)
@@ -205,13 +236,13 @@ impl Stretches {
     }
 
     /// The latest stretch up to the bound that the record fits.
-    pub fn latest(&self, rec: usize, found: Rec, bound: usize) -> Option<usize>
+    pub fn latest(&self, rec: usize, found: &Rec, bound: usize) -> Option<usize>
         requires laid_out { AreLaidOut self.now }
         requires bound { bound < length self.now.states.items }
-        ensures some { IfSome result (IsLatest (FitsAs (pair_of found.heard)
-            self.now.chain.items self.now.states.items rec found) bound) }
-        ensures none { IfNone result (HoldsNowhere (FitsAs (pair_of found.heard)
-            self.now.chain.items self.now.states.items rec found) bound) }
+        ensures some { IfSome result (IsLatest (FitsAs (pair_of found.now.heard)
+            self.now.chain.items self.now.states.items rec found.now) bound) }
+        ensures none { IfNone result (HoldsNowhere (FitsAs (pair_of found.now.heard)
+            self.now.chain.items self.now.states.items rec found.now) bound) }
     {
         match found.pair_taken() {
             Some(pair) => self.of_write(rec, pair, bound),

@@ -12,8 +12,8 @@ use std::alloc::Global;
 use version_pair::NoMemory;
 
 // The last stretch for what stands before a record in this stretch: a write is the first of its own.
-fn last_before(found: Rec, stretch: usize) -> usize
-    ensures { result ≡ cap (pair_of found.heard) stretch }
+fn last_before(found: &Rec, stretch: usize) -> usize
+    ensures { result ≡ cap (pair_of found.now.heard) stretch }
 {
     match found.pair_taken() {
         Some(_) => stretch.saturating_sub(1),
@@ -39,7 +39,7 @@ fn meet(
         → IsStuck records.now stretches.now.chain.items given.now bound moment r) }
 {
     let (_, is_reply, rec) = moment;
-    let found = records[rec];
+    let found = &records[rec];
     match given[rec] {
         Some(stretch) => {
             if is_reply {

@@ -35,10 +35,10 @@ call_none events n i h d op is at = place_none (is_call n) events i is (call_pas
 
 -- the event at the place is no call, so no call has been found there
 pub found_elsewhere : (events : List Event) (n i : ℕ) (e : Event) → place_of (is_call n) events ≡ Some i → slice_get events i ≡ Some e
-    → ((m h : ℕ) (d : List ℕ) (op : Op) → e ≡ Call m h d op → ⊥) → ⊥
+    → ((m h : ℕ) (d : List ℕ) (op : Op) → e ≡ Call h m d op → ⊥) → ⊥
 found_elsewhere events n i e is at other =
     let call = call_found events n i is in
-    other n call.0 call.1 call.2 (same_some e (Call n call.0 call.1 call.2) (sym at ∙ call.3))
+    other n call.0 call.1 call.2 (same_some e (Call call.0 n call.1 call.2) (sym at ∙ call.3))
 
 -- the number, the shard and the operation of the call that stands at the place
 pub call_there : (events : List Event) (n i m h : ℕ) (d : List ℕ) (op : Op) → place_of (is_call n) events ≡ Some i → IsCallAt events i m h d op → IsCallAt events i n h d op
@@ -50,5 +50,5 @@ call_there events n i m h d op is at =
 -- two calls at one place are of one shard
 pub same_shard : (events : List Event) (i n m h g : ℕ) (d e : List ℕ) (op o : Op) → IsCallAt events i n h d op → IsCallAt events i m g e o → h ≡ g
 same_shard events i n m h g d e op o at bt =
-    let same : Call n h d op ≡ Call m g e o = same_some (Call n h d op) (Call m g e o) (sym at ∙ bt) in
+    let same : Call h n d op ≡ Call g m e o = same_some (Call h n d op) (Call g m e o) (sym at ∙ bt) in
     cc

@@ -218,8 +218,8 @@ no_writer conflicts events g history evidence (order, explains) =
                   })) in
                   omega arith)
               | inr under ↦ (let same : of.0 ≡ evidence.replied = omega arith in
-                  let impossible : Call p.no p.entry.shard p.entry.doc p.entry.op ≡ Reply g (Found evidence.pair evidence.number) =
-                  same_some (Call p.no p.entry.shard p.entry.doc p.entry.op) (Reply g (Found evidence.pair evidence.number)) (sym of.1 ∙ (ap (slice_get events) same ∙ reply)) in
+                  let impossible : Call p.entry.shard p.no p.entry.doc p.entry.op ≡ Reply g (Found evidence.pair evidence.number) =
+                  same_some (Call p.entry.shard p.no p.entry.doc p.entry.op) (Reply g (Found evidence.pair evidence.number)) (sym of.1 ∙ (ap (slice_get events) same ∙ reply)) in
                   absurd (cc))
             ]
           ]

@@ -32,7 +32,7 @@ of_document events i n h d op at = ap (option_map (is_call_of d)) at ∙ ap (λ 
 
 -- and of no other
 pub of_no_other : (events : List Event) (i n h : ℕ) (d e : List ℕ) (op : Op) → IsCallAt events i n h e op → PassesAt (is_call_of d) events i → e ≡ d
-of_no_other events i n h d e op at passes = (bytes_decides e d).0 (same_some (is_call_of d (Call n h e op)) true (ap (option_map (is_call_of d)) (sym at) ∙ passes))
+of_no_other events i n h d e op at passes = (bytes_decides e d).0 (same_some (is_call_of d (Call h n e op)) true (ap (option_map (is_call_of d)) (sym at) ∙ passes))
 
 -- calls of one number are one call
 pub record IsOneCall (events : List Event) (i j n h g : ℕ) (d e : List ℕ) (op o : Op) : Type 0 where
@@ -105,10 +105,10 @@ that_get events n get d i p k history look found =
 
 -- its places are within the history
 pub write_within : (events : List Event) (n : ℕ) (w : PerformedWrite) → IsPerformedWrite events n w → w.called < length events
-write_within events n w look = slice_get_within events w.called (Call n w.shard look.doc w.op) look.call
+write_within events n w look = slice_get_within events w.called (Call w.shard n look.doc w.op) look.call
 
 pub get_within : (events : List Event) (n : ℕ) (get : FoundGet) → IsFoundGet events n get → get.called < length events
-get_within events n get look = slice_get_within events get.called (Call n look.shard look.doc look.op) look.call
+get_within events n get look = slice_get_within events get.called (Call look.shard n look.doc look.op) look.call
 
 pub reply_within : (events : List Event) (n : ℕ) (get : FoundGet) → IsHistory events → IsFoundGet events n get → get.replied < length events
 reply_within events n get history look =

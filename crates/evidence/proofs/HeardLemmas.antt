@@ -18,7 +18,7 @@ record_made : (events : List Event) (i : ℕ) (r : Rec) → record_at events i �
 record_made events i r made = by_event (slice_get events i) made where
   by_event : (o : Option Event) → option_and_then (record_from events i) o ≡ Some r → r.heard ≡ heard_of events r.no
   by_event None made = absurd (none_is_not_some r made)
-  by_event (Some (Call n h d op)) made =
+  by_event (Some (Call h n d op)) made =
       subst (λ s. s.heard ≡ heard_of events s.no) (same_some (record { no = n; op = op; call_at = i; heard = heard_of events n }) r made) refl
   by_event (Some (Reply n a)) made = absurd (none_is_not_some r made)
   by_event (Some (Lost n)) made = absurd (none_is_not_some r made)

@@ -20,7 +20,7 @@ use Rattle.version_pair.proofs.TruthLemmas.{none_from_is_some}
 -- ---- an event that isn't refused
 
 pub history_after : (H : List Event) (x : Event) → IsHistory H → refusal_of H x ≡ None → HasShard x → IsHistory (H ++ x ∷ [])
-history_after H (Call n h d op) old accepted within =
+history_after H (Call h n d op) old accepted within =
     let first = chosen (is_some (place_of (is_call n) H)) SecondCall (if is_moved H d h then Some ShardMoved else when_full H) accepted in
     let second = chosen (is_moved H d h) ShardMoved (when_full H) first.1 in
     let fresh : place_of (is_call n) H ≡ None = none_from_is_some (place_of (is_call n) H) first.0 in
@@ -39,10 +39,10 @@ history_after H (Lost n) old accepted within =
     history_after_lost H n call.0 call.1 call.2 known.0 old call.3 (place_of-none (is_ending n) H (none_from_is_some (place_of (is_ending n) H) first.0))
 
 pub few_after : (H : List Event) (x : Event) → refusal_of H x ≡ None → length (H ++ x ∷ []) ≤ most_events
-few_after H (Call n h d op) accepted =
+few_after H (Call h n d op) accepted =
     let first = chosen (is_some (place_of (is_call n) H)) SecondCall (if is_moved H d h then Some ShardMoved else when_full H) accepted in
     let second = chosen (is_moved H d h) ShardMoved (when_full H) first.1 in
-    longer H (Call n h d op) (when_full_room H second.1)
+    longer H (Call h n d op) (when_full_room H second.1)
 few_after H (Reply n r) accepted =
     let known = told (op_of H n) (λ op. when_ended H n (if fits op r then when_full H else Some Kind)) accepted in
     let first = chosen (is_some (place_of (is_ending n) H)) Ended (if fits known.0 r then when_full H else Some Kind) known.2 in
@@ -69,12 +69,12 @@ done_passes H done e t i next p = subst (λ K. PassesAt t K i) (sym next.split) 
 
 -- the call of an ending that comes next is among the events that are done
 pub call_done : (H done : List Event) (e : Event) (n i h : ℕ) (d : List ℕ) (op : Op) → IsNext H done e → is_ending n e ≡ true → IsCallAt H i n h d op
-    → slice_get done i ≡ Some (Call n h d op)
+    → slice_get done i ≡ Some (Call h n d op)
 call_done H done e n i h d op next ends at =
     let c = next.history.ended_after_call n (length done) (element_passes (is_ending n) H (length done) e (here H done e next) ends) in
     let same : i ≡ c.0 = next.history.called_once n i c.0 (call_passes H i n h d op at) c.2 in
     let early : c.0 < length done = c.1 in
-    get_of_front done (e ∷ next.after) i (Call n h d op) (omega arith) (subst (λ K. slice_get K i ≡ Some (Call n h d op)) next.split at)
+    get_of_front done (e ∷ next.after) i (Call h n d op) (omega arith) (subst (λ K. slice_get K i ≡ Some (Call h n d op)) next.split at)
 
 -- no event that is done passes a test that one event of a history passes at most, where the next event does
 none_done : (H done : List Event) (e : Event) (t : Event → Bool) → IsNext H done e → t e ≡ true
@@ -92,10 +92,10 @@ pub no_ending_done : (H done : List Event) (e : Event) (n : ℕ) → IsNext H do
 no_ending_done H done e n next ends = none_done H done e (is_ending n) next ends (next.history.ended_once n)
 
 -- the first event of the number is the call
-pub first_call : (H done : List Event) (e : Event) (n i h : ℕ) (d : List ℕ) (op : Op) → IsNext H done e → slice_get done i ≡ Some (Call n h d op)
-    → first_event (is_call n) done ≡ Some (Call n h d op)
+pub first_call : (H done : List Event) (e : Event) (n i h : ℕ) (d : List ℕ) (op : Op) → IsNext H done e → slice_get done i ≡ Some (Call h n d op)
+    → first_event (is_call n) done ≡ Some (Call h n d op)
 first_call H done e n i h d op next at =
-    let passes = element_passes (is_call n) done i (Call n h d op) at (eq-eqb n n refl) in
+    let passes = element_passes (is_call n) done i (Call h n d op) at (eq-eqb n n refl) in
     let first = place_of-some (is_call n) done i passes in
     let same : first.0 ≡ i = next.history.called_once n first.0 i (done_passes H done e (is_call n) first.0 next (place_of-passes (is_call n) done first.0 first.1))
     (done_passes H done e (is_call n) i next passes) in
@@ -116,21 +116,21 @@ ended_call H done e n next ends =
     by_event x.0 x.1 x.2 where
       by_event : (y : Event) → slice_get H (next.history.ended_after_call n (length done) (element_passes (is_ending n) H (length done) e (here H done e next) ends)).0 ≡ Some y
           → is_call n y ≡ true → (i h : ℕ) × (d : List ℕ) × (op : Op) × IsCallAt H i n h d op × (op_of done n ≡ Some op)
-      by_event (Call m h d op) at is =
+      by_event (Call h m d op) at is =
           let i = (next.history.ended_after_call n (length done) (element_passes (is_ending n) H (length done) e (here H done e next) ends)).0 in
-          let call : IsCallAt H i n h d op = at ∙ ap (λ k. Some (Call k h d op)) (eqb-true m n is) in
+          let call : IsCallAt H i n h d op = at ∙ ap (λ k. Some (Call h k d op)) (eqb-true m n is) in
           (i, h, d, op, call, ap (option_and_then op_named) (first_call H done e n i h d op next (call_done H done e n i h d op next ends call)))
       by_event (Reply m r) at is = absurd (cc)
       by_event (Lost m) at is = absurd (cc)
 
-unmoved : (H done : List Event) (n h : ℕ) (d : List ℕ) (op : Op) → IsNext H done (Call n h d op) → is_moved done d h ≡ false
+unmoved : (H done : List Event) (n h : ℕ) (d : List ℕ) (op : Op) → IsNext H done (Call h n d op) → is_moved done d h ≡ false
 unmoved H done n h d op next = by_place (place_of (is_call_of d) done) refl where
   by_event : (j : ℕ) (y : Event) → slice_get done j ≡ Some y → is_call_of d y ≡ true → option_map_or (λ s. not (s == h)) (shard_named y) false ≡ false
-  by_event j (Call m g q o) at is =
+  by_event j (Call g m q o) at is =
       let doc : q ≡ d = (bytes_decides q d).0 is in
-      let old : IsCallAt H j m g d o = subst (λ K. slice_get K j ≡ Some (Call m g d o)) (sym next.split)
-      (get_front done (Call n h d op ∷ next.after) j (Call m g d o) (at ∙ ap (λ k. Some (Call m g k o)) doc)) in
-      let same : g ≡ h = next.history.one_shard j (length done) m n g h d o op old (here H done (Call n h d op) next) in
+      let old : IsCallAt H j m g d o = subst (λ K. slice_get K j ≡ Some (Call g m d o)) (sym next.split)
+      (get_front done (Call h n d op ∷ next.after) j (Call g m d o) (at ∙ ap (λ k. Some (Call g m k o)) doc)) in
+      let same : g ≡ h = next.history.one_shard j (length done) m n g h d o op old (here H done (Call h n d op) next) in
       ap not (eq-eqb g h same)
   by_event j (Reply m r) at is = absurd (cc)
   by_event j (Lost m) at is = absurd (cc)
@@ -144,10 +144,10 @@ unmoved H done n h d op next = by_place (place_of (is_call_of d) done) refl wher
 
 -- the next event of a history isn't refused
 pub accepted : (H done : List Event) (e : Event) → IsNext H done e → length H ≤ most_events → refusal_of done e ≡ None
-accepted H done (Call n h d op) next few =
-    let fresh : place_of (is_call n) done ≡ None = none_done H done (Call n h d op) (is_call n) next (eq-eqb n n refl) (next.history.called_once n) in
+accepted H done (Call h n d op) next few =
+    let fresh : place_of (is_call n) done ≡ None = none_done H done (Call h n d op) (is_call n) next (eq-eqb n n refl) (next.history.called_once n) in
     ap (λ o. if is_some o then Some SecondCall else (if is_moved done d h then Some ShardMoved else when_full done)) fresh
-    ∙ (ap (λ b. if b then Some ShardMoved else when_full done) (unmoved H done n h d op next) ∙ room_done H done (Call n h d op) next few)
+    ∙ (ap (λ b. if b then Some ShardMoved else when_full done) (unmoved H done n h d op next) ∙ room_done H done (Call h n d op) next few)
 accepted H done (Reply n r) next few =
     let call = ended_call H done (Reply n r) n next (eq-eqb n n refl) in
     let fresh = no_ending_done H done (Reply n r) n next (eq-eqb n n refl) in

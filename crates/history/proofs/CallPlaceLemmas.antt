@@ -32,6 +32,10 @@ present [] n i within here none = absurd (omega (arith, within))
 present (e ∷ es) n zero within here none = grind (arith, nat_tests, here)
 present (e ∷ es) n (suc i) within here none = grind (arith, nat_tests, none 0 (omega arith), present es n i (omega (arith, within)) here (none_before_tail e es n i none))
 
+-- among numbers that rise one stands at one place
+pub present_rising : (es : List (ℕ × ℕ)) → AreRising es → (n i : ℕ) → i < length es → number_at es i ≡ n → lookup (◌==◌ n) es ≡ Some (get_or es i (0, 0)).1
+present_rising es rising n i within here = present es n i within here (λ j lt same. omega (arith, rising j i lt within, here))
+
 module _ (es : List (ℕ × ℕ)) (rising : AreRising es) (n : ℕ) where
   comparisons_rise : IsNonDecreasingBy (λ e. ordering_index (nat_cmp e.0 n)) es
   comparisons_rise = IsNonDecreasingBy-from_default (λ e. ordering_index (nat_cmp e.0 n)) es (0, 0) (λ i j le within.
@@ -42,7 +46,7 @@ module _ (es : List (ℕ × ℕ)) (rising : AreRising es) (n : ℕ) where
       → MatchResult r (λ i. lookup (◌==◌ n) es ≡ Some (get_or es i (0, 0)).1) (λ i. lookup (◌==◌ n) es ≡ None)
   searched (Ok i) within equal =
       let here : number_at es i ≡ n = ranked _ n _ (sym (equal (0, 0))) in
-      present es n i within here (λ j lt same. omega (arith, rising j i lt within, here))
+      present_rising es rising n i within here
   searched (Err i) within parted = absent es n (λ j lt same.
       let below : j < i → number_at es j < n = λ before. ranked _ n _ (sym ((parted comparisons_rise).0 j (0, 0) (omega arith) before)) in
       let above : i ≤ j → n < number_at es j = λ after. ranked _ n _ (sym ((parted comparisons_rise).1 j (0, 0) after lt)) in

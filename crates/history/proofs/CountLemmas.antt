@@ -96,7 +96,7 @@ fewer_made f (i ∷ is) = by_made (f i) (fewer_made f is) where
 -- the calls of a document are not more than all calls
 fewer_calls : (d : List ℕ) (k : ℕ) (xs : List Event) → length (places_from k (is_call_of d) xs) ≤ length (filter is_any_call xs)
 fewer_calls d k [] = omega arith
-fewer_calls d k (Call n h e op ∷ xs) = by_test (is_same e d) (fewer_calls d (suc k) xs) where
+fewer_calls d k (Call h n e op ∷ xs) = by_test (is_same e d) (fewer_calls d (suc k) xs) where
   by_test : (b : Bool) → length (places_from (suc k) (is_call_of d) xs) ≤ length (filter is_any_call xs)
       → length (if b then k ∷ places_from (suc k) (is_call_of d) xs else places_from (suc k) (is_call_of d) xs) ≤ suc (length (filter is_any_call xs))
   by_test true few = omega arith
@@ -114,7 +114,7 @@ fewer_records events d =
 -- the calls are not more than the events
 pub calls_within : (xs : List Event) → length (filter is_any_call xs) ≤ length xs
 calls_within [] = omega arith
-calls_within (Call n h d op ∷ xs) = let rest = calls_within xs in omega arith
+calls_within (Call h n d op ∷ xs) = let rest = calls_within xs in omega arith
 calls_within (Reply n r ∷ xs) = let rest = calls_within xs in omega arith
 calls_within (Lost n ∷ xs) = let rest = calls_within xs in omega arith
 

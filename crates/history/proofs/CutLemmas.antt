@@ -1,14 +1,10 @@
 -- Lists of which just the first items pass a test: where a search of such a list ends.
-use Rattle.std.proofs.Common.{ℕ, ◌≡◌, ◌<◌, ◌≤◌, List, length, sym, ◌∙◌, arith, Bool, true, false, Some, slice_get, get_or, nat_lt}
+use Rattle.std.proofs.Common.{ℕ, ◌≡◌, ◌<◌, ◌≤◌, List, length, sym, ◌∙◌, arith, Bool, true, false, get_or, nat_lt}
 use Rattle.std.specs.List.Sorted.{IsPartitionPoint, IsPartitionedBy}
 use Rattle.std.proofs.lemmas.Bool.{both_ways, le-ltb, lt-ltb, ltb-true}
 use Rattle.std.proofs.lemmas.Option.{slice_get-get_or}
+use Rattle.history.specs.aids.Documents.{IsCutAt}
 use Rattle.history.proofs.ListLemmas.{compare, get_within}
-
--- just the first m items pass
-pub record IsCutAt {X : Type 0} (p : X → Bool) (xs : List X) (m : ℕ) : Type 0 where
-  pub within : m ≤ length xs
-  pub passes : (j : ℕ) (x : X) → slice_get xs j ≡ Some x → p x ≡ nat_lt j m
 
 -- the item at a place passes just where the place is before the cut
 passes_at : {X : Type 0} (p : X → Bool) (xs : List X) (m : ℕ) → IsCutAt p xs m → (j : ℕ) (d : X) → j < length xs → p (get_or xs j d) ≡ nat_lt j m

@@ -91,5 +91,5 @@ first_within t xs (Some i) h = passes_within t xs i (place_of-passes t xs i (sym
 -- two calls at one place are one
 pub same_call : (events : List Event) (i n m h g : ℕ) (d e : List ℕ) (op o : Op) → IsCallAt events i n h d op → IsCallAt events i m g e o → (n ≡ m) × (d ≡ e) × (op ≡ o)
 same_call events i n m h g d e op o at bt =
-    let same : Call n h d op ≡ Call m g e o = same_some (Call n h d op) (Call m g e o) (sym at ∙ bt) in
+    let same : Call h n d op ≡ Call g m e o = same_some (Call h n d op) (Call g m e o) (sym at ∙ bt) in
     (cc, cc, cc)

@@ -1,20 +1,20 @@
 -- The first events of a history: the places and the documents in them, and the calls of each document.
-use Rattle.std.proofs.Common.{ℕ, zero, suc, ◌≡◌, ◌<◌, ◌≤◌, ◌+◌, List, [], ◌∷◌, ◌++◌, length, take, drop, append-nil, append_assoc, add-zero, length-append, refl, sym, ap, subst, ◌∙◌, inl, inr, arith, Option, Some, None, slice_get, ◌⊎◌, Bool, true, false, nat_lt, option_map, Vec, Global}
+use Rattle.std.proofs.Common.{ℕ, zero, suc, ◌≡◌, ◌<◌, ◌≤◌, ◌+◌, List, [], ◌∷◌, ◌++◌, length, take, drop, append-nil, append_assoc, add-zero, length-append, refl, sym, ap, subst, ◌∙◌, inl, inr, arith, Option, Some, None, slice_get, ◌⊎◌, Bool, true, false, nat_lt, option_map}
 use Rattle.std.specs.Prelude.{fold, if◌then◌else◌, position}
 use Rattle.std.specs.Cmp.Lexicographic.{bytes_decides}
 use Rattle.std.proofs.Math.Seq.{take-append_seam}
 use Rattle.std.proofs.lemmas.Bool.{cases_lt, le-ltb, lt-ltb, ltb-false, ltb-true}
 use Rattle.std.proofs.lemmas.List.{take-append-drop}
 use Rattle.std.proofs.lemmas.List.Sums.{fold-append}
-use Rattle.std.proofs.lemmas.Option.{slice_get-map, slice_get_within}
+use Rattle.std.proofs.lemmas.Option.{slice_get_within}
 use Rattle.history.specs.declared.event.Event.{Event}
 use Rattle.history.specs.declared.event.Event.TheVariants.{Call, Reply, Lost}
 use Rattle.history.specs.Events.{PassesAt, documents_of, is_call_of, is_same, place_of, places_from, with_document, with_event}
 use Rattle.history.specs.aids.Fronts.{starts_below, when_below}
-use Rattle.history.specs.aids.Indexes.{calls_at, lists_in}
-use Rattle.history.proofs.CutLemmas.{IsCutAt}
+use Rattle.history.specs.aids.Indexes.{calls_at}
+use Rattle.history.specs.aids.Documents.{IsCutAt}
 use Rattle.history.proofs.ListLemmas.{get_front, get_of_front, get_within, none_is_not_some, same_some}
-use Rattle.history.proofs.ListedLemmas.{distinct_place, documents_distinct, first_position, later_position, lists_count}
+use Rattle.history.proofs.ListedLemmas.{distinct_place, documents_distinct, first_position, later_position}
 use Rattle.history.proofs.PrefixLaws.{in_front_or_back}
 use Rattle.history.proofs.RecordLaws.{place_listed, place_passes}
 use Rattle.history.proofs.RecordLemmas.{place_within}
@@ -71,7 +71,7 @@ with_goes_on (e ∷ es) d h = by_test (is_same d e.0) (with_goes_on es d h) wher
   by_test false later = (later.0, ap (λ fs. e ∷ fs) later.1)
 
 event_goes_on : (ds : List (List ℕ × ℕ)) (x : Event) → (rest : List (List ℕ × ℕ)) × (with_event ds x ≡ ds ++ rest)
-event_goes_on ds (Call n h d op) = with_goes_on ds d h
+event_goes_on ds (Call h n d op) = with_goes_on ds d h
 event_goes_on ds (Reply n r) = ([], sym (append-nil ds))
 event_goes_on ds (Lost n) = ([], sym (append-nil ds))
 
@@ -143,7 +143,7 @@ with_new_or_old (f ∷ fs) d h k e at = by_test (is_same d f.0) k at (λ j there
   by_test false (suc k) at later = later k at
 
 event_new_or_old : (ds : List (List ℕ × ℕ)) (x : Event) (k : ℕ) (e : List ℕ × ℕ) → slice_get (with_event ds x) k ≡ Some e → (slice_get ds k ≡ Some e) ⊎ (is_call_of e.0 x ≡ true)
-event_new_or_old ds (Call n h d op) k e at =
+event_new_or_old ds (Call h n d op) k e at =
     elim (with_new_or_old ds d h k e at) as (λ _. (slice_get ds k ≡ Some e) ⊎ (is_same d e.0 ≡ true)) [ inl old ↦ inl old | inr new ↦ inr ((bytes_decides d e.0).1 new) ]
 event_new_or_old ds (Reply n r) k e at = inl at
 event_new_or_old ds (Lost n) k e at = inl at
@@ -173,7 +173,7 @@ with_has (f ∷ fs) d h = by_test (is_same d f.0) refl (with_has fs d h) where
   by_test false is later = (suc later.0, later.1, later.2, later.3)
 
 event_has : (ds : List (List ℕ × ℕ)) (x : Event) (d : List ℕ) → is_call_of d x ≡ true → IsListed (with_event ds x) d
-event_has ds (Call n h c op) d is = subst (IsListed (with_document ds c h)) ((bytes_decides c d).0 is) (with_has ds c h)
+event_has ds (Call h n c op) d is = subst (IsListed (with_document ds c h)) ((bytes_decides c d).0 is) (with_has ds c h)
 event_has ds (Reply n r) d is = let impossible : false ≡ true = is in absurd (cc)
 event_has ds (Lost n) d is = let impossible : false ≡ true = is in absurd (cc)
 
@@ -302,26 +302,23 @@ begins H n k e at =
       | inr past ↦ le-ltb 0 (length (calls_at (take n H) e.0)) (uncalled_count H n k e at past (calls_at (take n H) e.0) refl) ∙ sym (le-ltb k (length (documents_of (take n H))) past)
     ]
 
-pub documents_cut : (H : List Event) (n : ℕ) (ds : List (List ℕ × ℕ)) (vs : List (Vec ℕ Global)) → ds ≡ documents_of H → length (lists_in vs) ≡ length ds
-    → ((k : ℕ) (e : List ℕ × ℕ) → slice_get ds k ≡ Some e → slice_get (lists_in vs) k ≡ Some (calls_at H e.0))
-    → IsCutAt (λ (v : Vec ℕ Global). starts_below n v.items) vs (length (documents_of (take n H)))
-documents_cut H n ds vs are size lists = record { within = within; passes = passes } where
-  within : length (documents_of (take n H)) ≤ length vs
+pub documents_cut : (H : List Event) (n : ℕ) (ds : List (List ℕ × ℕ)) (ls : List (List ℕ)) → ds ≡ documents_of H → length ls ≡ length ds
+    → ((k : ℕ) (e : List ℕ × ℕ) → slice_get ds k ≡ Some e → slice_get ls k ≡ Some (calls_at H e.0))
+    → IsCutAt (starts_below n) ls (length (documents_of (take n H)))
+documents_cut H n ds ls are size lists = record { within = within; passes = passes } where
+  within : length (documents_of (take n H)) ≤ length ls
   within =
       let most = documents_within H n in
       let all : length ds ≡ length (documents_of H) = ap length are in
-      let each = lists_count vs in
       omega arith
 
-  of_document : (k : ℕ) (v : Vec ℕ Global) (o : Option (List ℕ × ℕ)) → slice_get vs k ≡ Some v → slice_get ds k ≡ o → starts_below n v.items ≡ nat_lt k (length (documents_of (take n H)))
-  of_document k v None at is =
-      let below = slice_get_within vs k v at in
-      let each = lists_count vs in
+  of_document : (k : ℕ) (l : List ℕ) (o : Option (List ℕ × ℕ)) → slice_get ls k ≡ Some l → slice_get ds k ≡ o → starts_below n l ≡ nat_lt k (length (documents_of (take n H)))
+  of_document k l None at is =
+      let below = slice_get_within ls k l at in
       let there = get_within ds k (omega arith) in
       absurd (none_is_not_some there.0 (sym is ∙ there.1))
-  of_document k v (Some e) at is =
-      let list : Some v.items ≡ Some (calls_at H e.0) = sym (slice_get-map (λ (w : Vec ℕ Global). w.items) vs k ∙ ap (option_map (λ (w : Vec ℕ Global). w.items)) at) ∙ lists k e is in
-      ap (starts_below n) (same_some v.items (calls_at H e.0) list) ∙ begins H n k e (ap (λ es. slice_get es k) (sym are) ∙ is)
+  of_document k l (Some e) at is =
+      ap (starts_below n) (same_some l (calls_at H e.0) (sym at ∙ lists k e is)) ∙ begins H n k e (ap (λ es. slice_get es k) (sym are) ∙ is)
 
-  passes : (k : ℕ) (v : Vec ℕ Global) → slice_get vs k ≡ Some v → starts_below n v.items ≡ nat_lt k (length (documents_of (take n H)))
-  passes k v at = of_document k v (slice_get ds k) at refl
+  passes : (k : ℕ) (l : List ℕ) → slice_get ls k ≡ Some l → starts_below n l ≡ nat_lt k (length (documents_of (take n H)))
+  passes k l at = of_document k l (slice_get ds k) at refl

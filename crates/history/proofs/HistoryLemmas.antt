@@ -13,7 +13,7 @@ use Rattle.history.proofs.EventLemmas.{element_passes, passes_element, passes_wi
 
 -- a call is an event that is that call
 pub call_passes : (H : List Event) (i n h : ℕ) (d : List ℕ) (op : Op) → IsCallAt H i n h d op → PassesAt (is_call n) H i
-call_passes H i n h d op at = element_passes (is_call n) H i (Call n h d op) at (eq-eqb n n refl)
+call_passes H i n h d op at = element_passes (is_call n) H i (Call h n d op) at (eq-eqb n n refl)
 
 pub reply_passes : (H : List Event) (i n : ℕ) (r : Answer) → IsReplyAt H i n r → PassesAt (is_ending n) H i
 reply_passes H i n r at = element_passes (is_ending n) H i (Reply n r) at (eq-eqb n n refl)
@@ -29,40 +29,40 @@ once_more t H x once new n i j p q =
     ]
 
 -- an old call, or the new event is one
-call_snoc : (H : List Event) (x : Event) (i n h : ℕ) (d : List ℕ) (op : Op) → IsCallAt (H ++ x ∷ []) i n h d op → IsCallAt H i n h d op ⊎ ((i ≡ length H) × (x ≡ Call n h d op))
-call_snoc H x i n h d op at = get_snoc H x (Call n h d op) i at
+call_snoc : (H : List Event) (x : Event) (i n h : ℕ) (d : List ℕ) (op : Op) → IsCallAt (H ++ x ∷ []) i n h d op → IsCallAt H i n h d op ⊎ ((i ≡ length H) × (x ≡ Call h n d op))
+call_snoc H x i n h d op at = get_snoc H x (Call h n d op) i at
 
 pub history_after_call : (H : List Event) (n h : ℕ) (d : List ℕ) (op : Op) → IsHistory H
     → ((i : ℕ) → PassesAt (is_call n) H i → ⊥)
     → ((i m g : ℕ) (o : Op) → IsCallAt H i m g d o → g ≡ h)
     → h < 1024
-    → IsHistory (H ++ Call n h d op ∷ [])
+    → IsHistory (H ++ Call h n d op ∷ [])
 history_after_call H n h d op old fresh shard within = record {
-  shards = λ i m g e o at. elim (call_snoc H (Call n h d op) i m g e o at) as (λ _. g < 1024)
+  shards = λ i m g e o at. elim (call_snoc H (Call h n d op) i m g e o at) as (λ _. g < 1024)
       [ inl a ↦ old.shards i m g e o a | inr b ↦ (let same : h ≡ g = cc in subst (λ k. k < 1024) same within) ];
-  called_once = once_more is_call H (Call n h d op) old.called_once (λ m i t p. fresh i (subst (λ k. PassesAt (is_call k) H i) (sym (eqb-true n m t)) p));
-  ended_once = once_more is_ending H (Call n h d op) old.ended_once (λ m i t p. let impossible : false ≡ true = t in cc);
-  ended_after_call = λ m i p. elim (passes_snoc (is_ending m) H (Call n h d op) i p) as (λ _. (j : ℕ) × (j < i) × PassesAt (is_call m) (H ++ Call n h d op ∷ []) j) [
-    | inl a ↦ (let c = old.ended_after_call m i a in (c.0, c.1, passes_front (is_call m) H (Call n h d op ∷ []) c.0 c.2))
+  called_once = once_more is_call H (Call h n d op) old.called_once (λ m i t p. fresh i (subst (λ k. PassesAt (is_call k) H i) (sym (eqb-true n m t)) p));
+  ended_once = once_more is_ending H (Call h n d op) old.ended_once (λ m i t p. let impossible : false ≡ true = t in cc);
+  ended_after_call = λ m i p. elim (passes_snoc (is_ending m) H (Call h n d op) i p) as (λ _. (j : ℕ) × (j < i) × PassesAt (is_call m) (H ++ Call h n d op ∷ []) j) [
+    | inl a ↦ (let c = old.ended_after_call m i a in (c.0, c.1, passes_front (is_call m) H (Call h n d op ∷ []) c.0 c.2))
     | inr b ↦ (let impossible : false ≡ true = b.1 in absurd (cc))
   ];
   replies_fit = λ m i j g e o r reply call.
-      elim (get_snoc H (Call n h d op) (Reply m r) i reply) as (λ _. fits o r ≡ true) [
-        | inl a ↦ elim (call_snoc H (Call n h d op) j m g e o call) as (λ _. fits o r ≡ true) [
+      elim (get_snoc H (Call h n d op) (Reply m r) i reply) as (λ _. fits o r ≡ true) [
+        | inl a ↦ elim (call_snoc H (Call h n d op) j m g e o call) as (λ _. fits o r ≡ true) [
           | inl b ↦ old.replies_fit m i j g e o r a b
           | inr b ↦ (let c = old.ended_after_call m i (reply_passes H i m r a) in
               let number : n ≡ m = cc in
               absurd (fresh c.0 (subst (λ k. PassesAt (is_call k) H c.0) (sym number) c.2)))
         ]
-        | inr a ↦ (let impossible : Call n h d op ≡ Reply m r = a.1 in absurd (cc))
+        | inr a ↦ (let impossible : Call h n d op ≡ Reply m r = a.1 in absurd (cc))
       ];
   one_shard = λ i j m k g f e o q a b.
-      elim (call_snoc H (Call n h d op) i m g e o a) as (λ _. g ≡ f) [
-        | inl c ↦ elim (call_snoc H (Call n h d op) j k f e q b) as (λ _. g ≡ f) [
+      elim (call_snoc H (Call h n d op) i m g e o a) as (λ _. g ≡ f) [
+        | inl c ↦ elim (call_snoc H (Call h n d op) j k f e q b) as (λ _. g ≡ f) [
           | inl b ↦ old.one_shard i j m k g f e o q c b
           | inr b ↦ (let doc : d ≡ e = cc in let same : h ≡ f = cc in shard i m g o (subst (λ x. IsCallAt H i m g x o) (sym doc) c) ∙ same)
         ]
-        | inr c ↦ elim (call_snoc H (Call n h d op) j k f e q b) as (λ _. g ≡ f) [
+        | inr c ↦ elim (call_snoc H (Call h n d op) j k f e q b) as (λ _. g ≡ f) [
           | inl b ↦ (let doc : d ≡ e = cc in let same : h ≡ g = cc in sym (shard j k f q (subst (λ x. IsCallAt H j k f x q) (sym doc) b) ∙ same))
           | inr b ↦ (let first : h ≡ g = cc in let second : h ≡ f = cc in sym first ∙ second)
         ]
@@ -73,7 +73,7 @@ history_after_call H n h d op old fresh shard within = record {
 record IsEndingOf (x : Event) (n : ℕ) : Type 0 where
   no_call : (m : ℕ) → is_call m x ≡ false
   ends : (m : ℕ) → is_ending m x ≡ (n == m)
-  other : (m g : ℕ) (e : List ℕ) (o : Op) → x ≡ Call m g e o → ⊥
+  other : (m g : ℕ) (e : List ℕ) (o : Op) → x ≡ Call g m e o → ⊥
 
 history_after_ending : (H : List Event) (x : Event) (n c h : ℕ) (d : List ℕ) (op : Op) → IsHistory H
     → IsEndingOf x n → IsCallAt H c n h d op
@@ -100,7 +100,7 @@ history_after_ending H x n c h d op old ends call fresh fit = record {
           | inl a ↦ old.replies_fit m i j g e o r a b
           | inr a ↦ (let f = fit m r a.1 in
               let place : j ≡ c = old.called_once m j c (call_passes H j m g e o b) (subst (λ k. PassesAt (is_call k) H c) (sym f.0) (call_passes H c n h d op call)) in
-              let same : Some (Call m g e o) ≡ Some (Call n h d op) = sym b ∙ (ap (λ k. slice_get H k) place ∙ call) in
+              let same : Some (Call g m e o) ≡ Some (Call h n d op) = sym b ∙ (ap (λ k. slice_get H k) place ∙ call) in
               let op_same : o ≡ op = cc in
               subst (λ k. fits k r ≡ true) (sym op_same) f.1)
         ]
@@ -136,7 +136,7 @@ history_after_lost H n c h d op old call fresh =
 pub call_at : (H : List Event) (j n : ℕ) → PassesAt (is_call n) H j → (h : ℕ) × (d : List ℕ) × (op : Op) × IsCallAt H j n h d op
 call_at H j n passes = let e = passes_element (is_call n) H j passes in by_event e.0 e.1 e.2 where
   by_event : (e : Event) → slice_get H j ≡ Some e → is_call n e ≡ true → (h : ℕ) × (d : List ℕ) × (op : Op) × IsCallAt H j n h d op
-  by_event (Call m h d op) at is = (h, d, op, at ∙ ap (λ k. Some (Call k h d op)) (eqb-true m n is))
+  by_event (Call h m d op) at is = (h, d, op, at ∙ ap (λ k. Some (Call h k d op)) (eqb-true m n is))
   by_event (Reply m r) at is = let impossible : false ≡ true = is in absurd (cc)
   by_event (Lost m) at is = let impossible : false ≡ true = is in absurd (cc)
 

@@ -36,7 +36,7 @@ get_drop (suc n) (y ∷ xs) i x at = let same : suc (n + i) ≡ suc n + i = omeg
 
 -- no call is answered by an event that is no reply
 answers_none : (H : List Event) (e : Event) → ((m : ℕ) (r : Answer) → e ≡ Reply m r → ⊥) → answered_by H e ≡ None
-answers_none H (Call m h d op) other = refl
+answers_none H (Call h m d op) other = refl
 answers_none H (Reply m r) other = absurd (other m r refl)
 answers_none H (Lost m) other = refl
 
@@ -57,7 +57,7 @@ call_in_front H n i m r history early at =
 
 -- an event of the front answers the same call in the front and in the whole
 answered_in_front : (H : List Event) (n i : ℕ) (e : Event) → IsHistory H → slice_get (take n H) i ≡ Some e → answered_by (take n H) e ≡ answered_by H e
-answered_in_front H n i (Call m h d op) history at = refl
+answered_in_front H n i (Call h m d op) history at = refl
 answered_in_front H n i (Reply m r) history at = let g = get_take H n i (Reply m r) at in call_in_front H n i m r history g.1 g.0
 answered_in_front H n i (Lost m) history at = refl
 

@@ -3,6 +3,7 @@ pub mod SetLemmas
 pub mod EventLemmas
 pub mod HistoryLemmas
 mod IndexLemmas
+mod LinkLemmas
 pub mod DocumentLemmas
 mod CallPlaceLemmas
 mod PushLemmas

@@ -1,8 +1,7 @@
 -- The lists of the places of each document's calls, and the endings of calls, after one more event.
-use Rattle.std.proofs.Common.{ℕ, zero, suc, ◌≡◌, ◌<◌, ◌≤◌, ◌+◌, List, [], ◌∷◌, ◌++◌, length, append-nil, refl, sym, ap, subst, ◌∙◌, inl, inr, arith, Option, Some, None, slice_get, Bool, true, false, cond, eq-eqb, zero-add, map, option_map, Vec, Global}
+use Rattle.std.proofs.Common.{ℕ, zero, suc, ◌≡◌, ◌<◌, ◌≤◌, ◌+◌, List, [], ◌∷◌, ◌++◌, length, append-nil, refl, sym, ap, subst, ◌∙◌, inl, inr, arith, Option, Some, None, slice_get, Bool, true, false, cond, eq-eqb, zero-add, map, option_map}
 use Rattle.std.specs.Prelude.{◌==◌, fold, if◌then◌else◌, is_some, nat_lt, not, position, slice_set}
 use Rattle.std.specs.List.{position_or_len}
-use Rattle.std.proofs.lemmas.List.{length-map}
 use Rattle.std.specs.Map.{lookup}
 use Rattle.std.specs.Cmp.Lexicographic.{bytes_decides}
 use Rattle.std.proofs.lemmas.Bool.{both_ways, eqb-true, le-ltb, lt-ltb, ltb-false, ltb-true}
@@ -10,7 +9,7 @@ use Rattle.doc_register.specs.declared.op.Op.{Op}
 use Rattle.history.specs.declared.event.Event.{Event}
 use Rattle.history.specs.declared.event.Event.TheVariants.{Call, Reply, Lost}
 use Rattle.history.specs.Events.{IsHistory, PassesAt, documents_of, is_call, is_call_of, is_ending, is_same, place_of, with_document, with_event}
-use Rattle.history.specs.aids.Indexes.{calls_at, lists_in, with_listed}
+use Rattle.history.specs.aids.Indexes.{calls_at, with_listed}
 use Rattle.history.proofs.SetLemmas.{slice_get-set_other, slice_get-set_same}
 use Rattle.history.proofs.DocumentLemmas.{lookup_with}
 use Rattle.history.proofs.EventLemmas.{passes_element, passes_snoc, passes_within, place_of-front, place_of-last, place_of-none, place_of-passes}
@@ -36,7 +35,7 @@ distinct_with (e ∷ es) d h distinct = by_test (is_same d e.0) refl (distinct_w
   )
 
 distinct_event : (ds : List (List ℕ × ℕ)) (x : Event) → AreDistinct ds → AreDistinct (with_event ds x)
-distinct_event ds (Call n h d op) distinct = distinct_with ds d h distinct
+distinct_event ds (Call h n d op) distinct = distinct_with ds d h distinct
 distinct_event ds (Reply n r) distinct = distinct
 distinct_event ds (Lost n) distinct = distinct
 
@@ -93,15 +92,15 @@ lists_still H x ds ls no_call lists k e at = lists k e at ∙ ap (λ is. Some is
 
 pub lists_after : (H : List Event) (n h : ℕ) (d : List ℕ) (op : Op) (ds : List (List ℕ × ℕ)) (ls : List (List ℕ)) → length ls ≡ length ds → AreDistinct ds
     → (lookup (is_same d) ds ≡ None → calls_at H d ≡ []) → Lists H ds ls
-    → (length (with_listed ds ls d (length H)) ≡ length (with_document ds d h)) × Lists (H ++ Call n h d op ∷ []) (with_document ds d h) (with_listed ds ls d (length H))
+    → (length (with_listed ds ls d (length H)) ≡ length (with_document ds d h)) × Lists (H ++ Call h n d op ∷ []) (with_document ds d h) (with_listed ds ls d (length H))
 unfolding AreDistinct
 lists_after H n h d op [] ls size distinct none lists = (refl, new) where
-  new : (k : ℕ) (e : List ℕ × ℕ) → slice_get ((d, h) ∷ []) k ≡ Some e → slice_get ((length H ∷ []) ∷ []) k ≡ Some (calls_at (H ++ Call n h d op ∷ []) e.0)
+  new : (k : ℕ) (e : List ℕ × ℕ) → slice_get ((d, h) ∷ []) k ≡ Some e → slice_get ((length H ∷ []) ∷ []) k ≡ Some (calls_at (H ++ Call h n d op ∷ []) e.0)
   new zero e at =
       let same : (d, h) ≡ e = same_some (d, h) e at in
       let doc : d ≡ e.0 = ap (λ y. y.0) same in
-      ap (λ is. Some is) (sym (subst (λ q. calls_at (H ++ Call n h d op ∷ []) q ≡ length H ∷ []) doc
-      (calls_more H (Call n h d op) d ((bytes_decides d d).1 refl) ∙ ap (λ is. is ++ length H ∷ []) (none refl))))
+      ap (λ is. Some is) (sym (subst (λ q. calls_at (H ++ Call h n d op ∷ []) q ≡ length H ∷ []) doc
+      (calls_more H (Call h n d op) d ((bytes_decides d d).1 refl) ∙ ap (λ is. is ++ length H ∷ []) (none refl))))
   new (suc k) e at = absurd (none_is_not_some e at)
 lists_after H n h d op (f ∷ fs) [] size distinct none lists = absurd (omega arith)
 lists_after H n h d op (f ∷ fs) (l ∷ ls) size distinct none lists =
@@ -110,31 +109,31 @@ lists_after H n h d op (f ∷ fs) (l ∷ ls) size distinct none lists =
       first = same_some l (calls_at H f.0) (lists 0 f refl)
 
       here_more : is_same d f.0 ≡ true → (k : ℕ) (e : List ℕ × ℕ) → slice_get (f ∷ fs) k ≡ Some e
-          → slice_get ((l ++ length H ∷ []) ∷ ls) k ≡ Some (calls_at (H ++ Call n h d op ∷ []) e.0)
+          → slice_get ((l ++ length H ∷ []) ∷ ls) k ≡ Some (calls_at (H ++ Call h n d op ∷ []) e.0)
       here_more is zero e at =
           let same : f ≡ e = same_some f e at in
           ap (λ is. Some is) (ap (λ is. is ++ length H ∷ []) first
-          ∙ (sym (calls_more H (Call n h d op) f.0 is) ∙ ap (λ g. calls_at (H ++ Call n h d op ∷ []) g.0) same))
+          ∙ (sym (calls_more H (Call h n d op) f.0 is) ∙ ap (λ g. calls_at (H ++ Call h n d op ∷ []) g.0) same))
       here_more is (suc k) e at =
           let doc : d ≡ f.0 = (bytes_decides d f.0).0 is in
           let other : is_same d e.0 ≡ false = subst (λ q. is_same q e.0 ≡ false) (sym doc) (other_of fs f.0 k e distinct.0 at) in
-          lists (suc k) e at ∙ ap (λ is. Some is) (sym (calls_same H (Call n h d op) e.0 other))
+          lists (suc k) e at ∙ ap (λ is. Some is) (sym (calls_same H (Call h n d op) e.0 other))
 
       here_same : is_same d f.0 ≡ false
-          → Lists (H ++ Call n h d op ∷ []) (with_document fs d h) (with_listed fs ls d (length H))
+          → Lists (H ++ Call h n d op ∷ []) (with_document fs d h) (with_listed fs ls d (length H))
           → (k : ℕ) (e : List ℕ × ℕ) → slice_get (f ∷ with_document fs d h) k ≡ Some e
-          → slice_get (l ∷ with_listed fs ls d (length H)) k ≡ Some (calls_at (H ++ Call n h d op ∷ []) e.0)
+          → slice_get (l ∷ with_listed fs ls d (length H)) k ≡ Some (calls_at (H ++ Call h n d op ∷ []) e.0)
       here_same is later zero e at =
           let same : f ≡ e = same_some f e at in
-          ap (λ is. Some is) (first ∙ (sym (calls_same H (Call n h d op) f.0 is) ∙ ap (λ g. calls_at (H ++ Call n h d op ∷ []) g.0) same))
+          ap (λ is. Some is) (first ∙ (sym (calls_same H (Call h n d op) f.0 is) ∙ ap (λ g. calls_at (H ++ Call h n d op ∷ []) g.0) same))
       here_same is later (suc k) e at = later k e at
 
       by_test : (b : Bool) → is_same d f.0 ≡ b
           → ((lookup (is_same d) fs ≡ None → calls_at H d ≡ [])
-          → (length (with_listed fs ls d (length H)) ≡ length (with_document fs d h)) × Lists (H ++ Call n h d op ∷ []) (with_document fs d h) (with_listed fs ls d (length H)))
+          → (length (with_listed fs ls d (length H)) ≡ length (with_document fs d h)) × Lists (H ++ Call h n d op ∷ []) (with_document fs d h) (with_listed fs ls d (length H)))
           → (length (if b then (l ++ length H ∷ []) ∷ ls else l ∷ with_listed fs ls d (length H)) ≡ length (if b then f ∷ fs else f ∷ with_document fs d h))
           × ((k : ℕ) (e : List ℕ × ℕ) → slice_get (if b then f ∷ fs else f ∷ with_document fs d h) k ≡ Some e
-          → slice_get (if b then (l ++ length H ∷ []) ∷ ls else l ∷ with_listed fs ls d (length H)) k ≡ Some (calls_at (H ++ Call n h d op ∷ []) e.0))
+          → slice_get (if b then (l ++ length H ∷ []) ∷ ls else l ∷ with_listed fs ls d (length H)) k ≡ Some (calls_at (H ++ Call h n d op ∷ []) e.0))
       by_test true is later = (size, here_more is)
       by_test false is later =
           let rest = later (λ missing. none (ap (λ b. cond b (Some f.1) (lookup (is_same d) fs)) is ∙ missing)) in
@@ -144,23 +143,23 @@ lists_after H n h d op (f ∷ fs) (l ∷ ls) size distinct none lists =
 
 pub endings_after_call : (H : List Event) (n h : ℕ) (d : List ℕ) (op : Op) (es : List (Option ℕ)) → IsHistory H → place_of (is_call n) H ≡ None → length es ≡ length H
     → ((i m : ℕ) → PassesAt (is_call m) H i → slice_get es i ≡ Some (place_of (is_ending m) H))
-    → (i m : ℕ) → PassesAt (is_call m) (H ++ Call n h d op ∷ []) i → slice_get (es ++ None ∷ []) i ≡ Some (place_of (is_ending m) (H ++ Call n h d op ∷ []))
+    → (i m : ℕ) → PassesAt (is_call m) (H ++ Call h n d op ∷ []) i → slice_get (es ++ None ∷ []) i ≡ Some (place_of (is_ending m) (H ++ Call h n d op ∷ []))
 endings_after_call H n h d op es history fresh size found i m passes =
-    elim (passes_snoc (is_call m) H (Call n h d op) i passes) as (λ _. slice_get (es ++ None ∷ []) i ≡ Some (place_of (is_ending m) (H ++ Call n h d op ∷ []))) [
+    elim (passes_snoc (is_call m) H (Call h n d op) i passes) as (λ _. slice_get (es ++ None ∷ []) i ≡ Some (place_of (is_ending m) (H ++ Call h n d op ∷ []))) [
       | inl old ↦ get_front es (None ∷ []) i (place_of (is_ending m) H) (found i m old) ∙ ap (λ o. Some o) (sym (stays (place_of (is_ending m) H) refl))
       | inr new ↦ (let number : n ≡ m = eqb-true n m new.1 in
           let here : i ≡ length es = new.0 ∙ sym size in
           ap (slice_get (es ++ None ∷ [])) here ∙ (get_last es None ∙ ap (λ o. Some o) (sym (nothing (place_of (is_ending m) H) refl number))))
     ] where
-      stays : (o : Option ℕ) → place_of (is_ending m) H ≡ o → place_of (is_ending m) (H ++ Call n h d op ∷ []) ≡ place_of (is_ending m) H
-      stays (Some j) is = place_of-front (is_ending m) H (Call n h d op ∷ []) j is ∙ sym is
-      stays None is = place_of-last (is_ending m) H (Call n h d op) is ∙ sym is
+      stays : (o : Option ℕ) → place_of (is_ending m) H ≡ o → place_of (is_ending m) (H ++ Call h n d op ∷ []) ≡ place_of (is_ending m) H
+      stays (Some j) is = place_of-front (is_ending m) H (Call h n d op ∷ []) j is ∙ sym is
+      stays None is = place_of-last (is_ending m) H (Call h n d op) is ∙ sym is
 
-      nothing : (o : Option ℕ) → place_of (is_ending m) H ≡ o → n ≡ m → place_of (is_ending m) (H ++ Call n h d op ∷ []) ≡ None
+      nothing : (o : Option ℕ) → place_of (is_ending m) H ≡ o → n ≡ m → place_of (is_ending m) (H ++ Call h n d op ∷ []) ≡ None
       nothing (Some j) is number =
           let call = history.ended_after_call m j (place_of-passes (is_ending m) H j is) in
           absurd (place_of-none (is_call n) H fresh call.0 (subst (λ k. PassesAt (is_call k) H call.0) (sym number) call.2))
-      nothing None is number = place_of-last (is_ending m) H (Call n h d op) is
+      nothing None is number = place_of-last (is_ending m) H (Call h n d op) is
 
 same_call : (H : List Event) (n m c : ℕ) → PassesAt (is_call n) H c → PassesAt (is_call m) H c → n ≡ m
 same_call H n m c p q =
@@ -168,7 +167,7 @@ same_call H n m c p q =
     let b = passes_element (is_call m) H c q in
     by_event a.0 a.2 (subst (λ y. is_call m y ≡ true) (sym (same_some a.0 b.0 (sym a.1 ∙ b.1))) b.2) where
       by_event : (y : Event) → is_call n y ≡ true → is_call m y ≡ true → n ≡ m
-      by_event (Call k h d op) x z = sym (eqb-true k n x) ∙ eqb-true k m z
+      by_event (Call h k d op) x z = sym (eqb-true k n x) ∙ eqb-true k m z
       by_event (Reply k r) x z = absurd (cc)
       by_event (Lost k) x z = absurd (cc)
 
@@ -220,36 +219,29 @@ later_position p x xs is =
           ap (λ b. cond b (Some (suc k)) None) (le-ltb (suc k) (suc n) (omega arith))
 
 -- the list of a document that is there grows
-pub listed_at : (ds : List (List ℕ × ℕ)) (vs : List (Vec ℕ Global)) (d : List ℕ) (p k : ℕ) (v w : Vec ℕ Global) → position (is_same d) (map (λ e. e.0) ds) ≡ Some k
-    → slice_get vs k ≡ Some v → w.items ≡ v.items ++ p ∷ [] → lists_in (slice_set vs k w) ≡ with_listed ds (lists_in vs) d p
-listed_at [] vs d p k v w at here grown = absurd (none_is_not_some k at)
-listed_at (e ∷ es) [] d p k v w at here grown = absurd (none_is_not_some v here)
-listed_at (e ∷ es) (u ∷ us) d p k v w at here grown = by_test (is_same d e.0) refl (λ j found got. listed_at es us d p j v w found got grown) where
+pub listed_at : (ds : List (List ℕ × ℕ)) (ls : List (List ℕ)) (d : List ℕ) (p k : ℕ) (l : List ℕ) → position (is_same d) (map (λ e. e.0) ds) ≡ Some k
+    → slice_get ls k ≡ Some l → slice_set ls k (l ++ p ∷ []) ≡ with_listed ds ls d p
+listed_at [] ls d p k l at here = absurd (none_is_not_some k at)
+listed_at (e ∷ es) [] d p k l at here = absurd (none_is_not_some l here)
+listed_at (e ∷ es) (m ∷ ms) d p k l at here = by_test (is_same d e.0) refl (λ j found got. listed_at es ms d p j l found got) where
   by_next : (o : Option ℕ) → position (is_same d) (map (λ f. f.0) es) ≡ o
-      → ((j : ℕ) → position (is_same d) (map (λ f. f.0) es) ≡ Some j → slice_get us j ≡ Some v → lists_in (slice_set us j w) ≡ with_listed es (lists_in us) d p)
-      → option_map suc o ≡ Some k → lists_in (slice_set (u ∷ us) k w) ≡ u.items ∷ with_listed es (lists_in us) d p
+      → ((j : ℕ) → position (is_same d) (map (λ f. f.0) es) ≡ Some j → slice_get ms j ≡ Some l → slice_set ms j (l ++ p ∷ []) ≡ with_listed es ms d p)
+      → option_map suc o ≡ Some k → slice_set (m ∷ ms) k (l ++ p ∷ []) ≡ m ∷ with_listed es ms d p
   by_next None is later found = absurd (none_is_not_some k found)
   by_next (Some j) is later found =
       let same : suc j ≡ k = same_some (suc j) k found in
-      subst (λ i. lists_in (slice_set (u ∷ us) i w) ≡ u.items ∷ with_listed es (lists_in us) d p) same
-      (ap (λ ls. u.items ∷ ls) (later j is (subst (λ i. slice_get (u ∷ us) i ≡ Some v) (sym same) here)))
+      subst (λ i. slice_set (m ∷ ms) i (l ++ p ∷ []) ≡ m ∷ with_listed es ms d p) same
+      (ap (λ ks. m ∷ ks) (later j is (subst (λ i. slice_get (m ∷ ms) i ≡ Some l) (sym same) here)))
 
   by_test : (b : Bool) → is_same d e.0 ≡ b
-      → ((j : ℕ) → position (is_same d) (map (λ f. f.0) es) ≡ Some j → slice_get us j ≡ Some v → lists_in (slice_set us j w) ≡ with_listed es (lists_in us) d p)
-      → lists_in (slice_set (u ∷ us) k w) ≡ (if b then (u.items ++ p ∷ []) ∷ lists_in us else u.items ∷ with_listed es (lists_in us) d p)
+      → ((j : ℕ) → position (is_same d) (map (λ f. f.0) es) ≡ Some j → slice_get ms j ≡ Some l → slice_set ms j (l ++ p ∷ []) ≡ with_listed es ms d p)
+      → slice_set (m ∷ ms) k (l ++ p ∷ []) ≡ (if b then (m ++ p ∷ []) ∷ ms else m ∷ with_listed es ms d p)
   by_test true is later =
       let same : 0 ≡ k = same_some 0 k (sym (first_position (is_same d) e.0 (map (λ f. f.0) es) is) ∙ at) in
-      let old : u ≡ v = same_some u v (subst (λ i. slice_get (u ∷ us) i ≡ Some v) (sym same) here) in
-      subst (λ i. lists_in (slice_set (u ∷ us) i w) ≡ (u.items ++ p ∷ []) ∷ lists_in us) same
-      (ap (λ is. is ∷ lists_in us) (grown ∙ ap (λ (x : Vec ℕ Global). x.items ++ p ∷ []) (sym old)))
+      let old : m ≡ l = same_some m l (subst (λ i. slice_get (m ∷ ms) i ≡ Some l) (sym same) here) in
+      subst (λ i. slice_set (m ∷ ms) i (l ++ p ∷ []) ≡ (m ++ p ∷ []) ∷ ms) same (ap (λ is. (is ++ p ∷ []) ∷ ms) (sym old))
   by_test false is later =
       by_next (position (is_same d) (map (λ f. f.0) es)) refl later (sym (later_position (is_same d) e.0 (map (λ f. f.0) es) is) ∙ at)
-
--- a list that is put back as it was
-pub listed_same : (vs : List (Vec ℕ Global)) (k : ℕ) (v w : Vec ℕ Global) → slice_get vs k ≡ Some v → w.items ≡ v.items → lists_in (slice_set vs k w) ≡ lists_in vs
-listed_same [] k v w here same = absurd (none_is_not_some v here)
-listed_same (u ∷ us) zero v w here same = ap (λ is. is ∷ lists_in us) (same ∙ ap (λ (x : Vec ℕ Global). x.items) (sym (same_some u v here)))
-listed_same (u ∷ us) (suc k) v w here same = ap (λ ls. u.items ∷ ls) (listed_same us k v w here same)
 
 -- a document that isn't there gets a list of its own
 pub listed_new : (ds : List (List ℕ × ℕ)) (ls : List (List ℕ)) (d : List ℕ) (p : ℕ) → length ls ≡ length ds → is_some (lookup (is_same d) ds) ≡ false
@@ -263,6 +255,3 @@ listed_new (e ∷ es) (l ∷ ls) d p size none = by_test (is_same d e.0) (λ mis
       → l ∷ (ls ++ (p ∷ []) ∷ []) ≡ (if b then (l ++ p ∷ []) ∷ ls else l ∷ with_listed es ls d p)
   by_test true later none = absurd (cc)
   by_test false later none = ap (λ ks. l ∷ ks) (later none)
-
-pub lists_count : (vs : List (Vec ℕ Global)) → length (lists_in vs) ≡ length vs
-lists_count vs = length-map vs (λ (v : Vec ℕ Global). v.items)

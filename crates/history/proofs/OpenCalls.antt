@@ -34,7 +34,7 @@ open_within H n i opens = passes_within (is_call n) H i (open_passes H n i opens
 op_at : (H : List Event) (n i : ℕ) → PassesAt (is_call n) H i → (op : Op) × (option_and_then op_named (slice_get H i) ≡ Some op)
 op_at H n i passes = let x = passes_element (is_call n) H i passes in by_event x.0 x.1 x.2 where
   by_event : (y : Event) → slice_get H i ≡ Some y → is_call n y ≡ true → (op : Op) × (option_and_then op_named (slice_get H i) ≡ Some op)
-  by_event (Call m h d op) at is = (op, ap (option_and_then op_named) at)
+  by_event (Call h m d op) at is = (op, ap (option_and_then op_named) at)
   by_event (Reply m r) at is = absurd (cc)
   by_event (Lost m) at is = absurd (cc)
 
@@ -104,15 +104,15 @@ pub heard_no_reply : (H : List Event) (n i : ℕ) (e : Event) → Some i ≡ pla
     → None ≡ heard_of H n
 heard_no_reply H n i e ending at is = heard_event H n i e None ending at (sym is)
 
-pub record_is_at : (H : List Event) (i n h : ℕ) (d : List ℕ) (op : Op) (e : Event) (heard : Option (ℕ × Answer)) → slice_get H i ≡ Some e → e ≡ Call n h d op
+pub record_is_at : (H : List Event) (i n h : ℕ) (d : List ℕ) (op : Op) (e : Event) (heard : Option (ℕ × Answer)) → slice_get H i ≡ Some e → e ≡ Call h n d op
     → heard ≡ heard_of H n → Some (record { no = n; op = op; call_at = i; heard = heard }) ≡ record_at H i
 record_is_at H i n h d op e heard at is same =
     ap (λ k. Some (record { no = n; op = op; call_at = i; heard = k })) same
     ∙ sym (ap (option_and_then (record_from H i)) (at ∙ ap (λ y. Some y) is))
 
-pub call_at_place : (H : List Event) (i n h : ℕ) (d : List ℕ) (op : Op) (e : Event) → slice_get H i ≡ Some e → e ≡ Call n h d op → PassesAt (is_call n) H i
+pub call_at_place : (H : List Event) (i n h : ℕ) (d : List ℕ) (op : Op) (e : Event) → slice_get H i ≡ Some e → e ≡ Call h n d op → PassesAt (is_call n) H i
 call_at_place H i n h d op e at is = element_passes (is_call n) H i e at (ap (is_call n) is ∙ same n) where
-  same : (k : ℕ) → is_call k (Call k h d op) ≡ true
+  same : (k : ℕ) → is_call k (Call h k d op) ≡ true
   same k = eq-eqb k k refl
 
 -- a call that has an ending, or has none
@@ -146,7 +146,7 @@ full_told H f is = by_room (nat_lt (length H) most_events) is where
   by_room true told = absurd (none_is_not_some f (sym told))
   by_room false told = no_memory f told
 
-pub call_told : (H : List Event) (n h : ℕ) (d : List ℕ) (op : Op) (f : HistFault) → Some f ≡ refusal_of H (Call n h d op) → reason_told f ≡ refusal_of H (Call n h d op)
+pub call_told : (H : List Event) (n h : ℕ) (d : List ℕ) (op : Op) (f : HistFault) → Some f ≡ refusal_of H (Call h n d op) → reason_told f ≡ refusal_of H (Call h n d op)
 call_told H n h d op f is = by_cases (is_some (place_of (is_call n) H)) (is_moved H d h) is where
   by_cases : (b m : Bool) → Some f ≡ (if b then Some SecondCall else (if m then Some ShardMoved else when_full H))
       → reason_told f ≡ (if b then Some SecondCall else (if m then Some ShardMoved else when_full H))

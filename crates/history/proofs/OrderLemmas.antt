@@ -22,7 +22,7 @@ pub record IsAnsweredBy (H : List Event) (e : Event) (p : Placed) : Type 0 where
   pub call : IsOfCall H p
 
 placed_answered : (H : List Event) (n : ℕ) (r : Answer) (i : ℕ) (e : Event) (p : Placed) → slice_get H i ≡ Some e → is_call n e ≡ true → placed_with r e ≡ Some p → IsAnsweredBy H (Reply n r) p
-placed_answered H n r i (Call m h d op) p at passes placed =
+placed_answered H n r i (Call h m d op) p at passes placed =
     let number : m ≡ n = eqb-true m n passes in
     subst (λ q. IsAnsweredBy H (Reply n r) q) (same_some (record { no = m; entry = record { shard = h; doc = d; op = op; reply = r; hidden = None } }) p placed)
     (record { reply = ap (λ k. Reply k r) (sym number); shown = refl; call = (i, at) })
@@ -38,7 +38,7 @@ call_answered H n r p placed = by_place (place_of (is_call n) H) refl placed whe
       placed_answered H n r i e.0 p e.1 e.2 (sym (ap (option_and_then (placed_with r)) e.1) ∙ placed)
 
 answered : (H : List Event) (e : Event) (p : Placed) → answered_by H e ≡ Some p → IsAnsweredBy H e p
-answered H (Call n h d op) p placed = absurd (none_is_not_some p placed)
+answered H (Call h n d op) p placed = absurd (none_is_not_some p placed)
 answered H (Reply n r) p placed = call_answered H n r p placed
 answered H (Lost n) p placed = absurd (none_is_not_some p placed)
 
@@ -77,7 +77,7 @@ reply_placed H history k n r at =
     by_event first.0 e.0 first.1 e.1 e.2 where
       by_event : (i : ℕ) (e : Event) → place_of (is_call n) H ≡ Some i → slice_get H i ≡ Some e → is_call n e ≡ true
           → (p : Placed) × (call_with H n r ≡ Some p) × (p.no ≡ n) × (p.entry.reply ≡ r)
-      by_event i (Call m h d op) is here passes = (
+      by_event i (Call h m d op) is here passes = (
         record { no = m; entry = record { shard = h; doc = d; op = op; reply = r; hidden = None } },
         ap (option_and_then (λ i. option_and_then (placed_with r) (slice_get H i))) is ∙ ap (option_and_then (placed_with r)) here,
         eqb-true m n passes,

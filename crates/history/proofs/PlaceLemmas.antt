@@ -33,7 +33,7 @@ pub next_at : (H : List Event) (i : ℕ) (e : Event) → IsHistory H → slice_g
 next_at H i e history at = record { history = history; after = drop (suc i) H; split = split_at H i e at }
 
 pub shard_at : (H : List Event) (i : ℕ) (e : Event) → IsHistory H → slice_get H i ≡ Some e → HasShard e
-shard_at H i (Call n h d op) history at = history.shards i n h d op at
+shard_at H i (Call h n d op) history at = history.shards i n h d op at
 shard_at H i (Reply n r) history at = tt
 shard_at H i (Lost n) history at = tt
 

@@ -38,9 +38,9 @@ prefix_history H n history = record {
       let ending : i < n = e.0 in
       let early : c.0 < i = c.1 in
       (c.0, c.1, passes_first n _ H c.0 (omega arith) c.2);
-  replies_fit = λ m i j h d op r reply call. history.replies_fit m i j h d op r (get_take H n i (Reply m r) reply).0 (get_take H n j (Call m h d op) call).0;
-  one_shard = λ i j m k h g d op o a b. history.one_shard i j m k h g d op o (get_take H n i (Call m h d op) a).0 (get_take H n j (Call k g d o) b).0;
-  shards = λ i m h d op at. history.shards i m h d op (get_take H n i (Call m h d op) at).0;
+  replies_fit = λ m i j h d op r reply call. history.replies_fit m i j h d op r (get_take H n i (Reply m r) reply).0 (get_take H n j (Call h m d op) call).0;
+  one_shard = λ i j m k h g d op o a b. history.one_shard i j m k h g d op o (get_take H n i (Call h m d op) a).0 (get_take H n j (Call g k d o) b).0;
+  shards = λ i m h d op at. history.shards i m h d op (get_take H n i (Call h m d op) at).0;
 }
 
 -- ---- the part of an order up to its last call that is answered in the prefix
@@ -106,7 +106,7 @@ cut t (x ∷ xs) = cut_more t x xs (cut t xs)
 
 -- the reply to the call numbered n
 abbrev is_reply : ℕ → Event → Bool
-is_reply n (Call m h d op) = false
+is_reply n (Call h m d op) = false
 is_reply n (Reply m r) = m == n
 is_reply n (Lost m) = false
 
@@ -117,7 +117,7 @@ is_answered G p = is_some (place_of (is_reply p.no) G)
 answered_at : (G : List Event) (p : Placed) → is_answered G p ≡ true → (k : ℕ) × (r : Answer) × IsReplyAt G k p.no r
 answered_at G p h = by_place (place_of (is_reply p.no) G) refl h where
   by_event : (k : ℕ) (e : Event) → slice_get G k ≡ Some e → is_reply p.no e ≡ true → (k : ℕ) × (r : Answer) × IsReplyAt G k p.no r
-  by_event k (Call m h d op) at passes = let impossible : false ≡ true = passes in absurd (cc)
+  by_event k (Call h m d op) at passes = let impossible : false ≡ true = passes in absurd (cc)
   by_event k (Reply m r) at passes = (k, r, at ∙ ap (λ q. Some (Reply q r)) (eqb-true m p.no passes))
   by_event k (Lost m) at passes = let impossible : false ≡ true = passes in absurd (cc)
 
@@ -177,7 +177,7 @@ front_explains conflicts H n order c explains = record {
   called : (i : ℕ) (p : Placed) → slice_get c.front i ≡ Some p → IsOfCall H p → IsOfCall (take n H) p
   called i p at (k, call) =
       elim (cases_lt k n) as (λ _. IsOfCall (take n H) p) [
-        | inl below ↦ (k, take_get H n k (Call p.no p.entry.shard p.entry.doc p.entry.op) below call)
+        | inl below ↦ (k, take_get H n k (Call p.entry.shard p.no p.entry.doc p.entry.op) below call)
         | inr late ↦ (let a = c.covered i p at in
             let r = answered_at (take n H) a.1 a.4 in
             let g = get_take H n r.0 (Reply a.1.no r.1) r.2 in

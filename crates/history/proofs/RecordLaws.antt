@@ -67,9 +67,9 @@ record IsRecordOf (H : List Event) (d : List ℕ) (r : Rec) : Type 0 where
   pub told : r.heard ≡ heard_of H r.no
 
 record_is : (H : List Event) (d : List ℕ) (i : ℕ) (e : Event) (r : Rec) → slice_get H i ≡ Some e → is_call_of d e ≡ true → record_from H i e ≡ Some r → (r.call_at ≡ i) × IsRecordOf H d r
-record_is H d i (Call n h e op) r at passes made =
+record_is H d i (Call h n e op) r at passes made =
     subst (λ s. (s.call_at ≡ i) × IsRecordOf H d s) (same_some (record { no = n; op = op; call_at = i; heard = heard_of H n }) r made)
-    (refl, record { call = (h, at ∙ ap (λ c. Some (Call n h c op)) ((bytes_decides e d).0 passes)); told = refl })
+    (refl, record { call = (h, at ∙ ap (λ c. Some (Call h n c op)) ((bytes_decides e d).0 passes)); told = refl })
 record_is H d i (Reply n s) r at passes made = absurd (none_is_not_some r made)
 record_is H d i (Lost n) r at passes made = absurd (none_is_not_some r made)
 
@@ -99,7 +99,7 @@ in_order H d j k r s at bt below =
 
 recorded : (H : List Event) (i n h : ℕ) (d : List ℕ) (op : Op) → IsCallAt H i n h d op → (j : ℕ) × (r : Rec) × IsRecordAt H d j r × (r.call_at ≡ i)
 recorded H i n h d op at =
-    let p = place_listed 0 (is_call_of d) H i (element_passes (is_call_of d) H i (Call n h d op) at ((bytes_decides d d).1 refl)) in
+    let p = place_listed 0 (is_call_of d) H i (element_passes (is_call_of d) H i (Call h n d op) at ((bytes_decides d d).1 refl)) in
     let here : 0 + i ≡ i = omega arith in
     let r : Rec = record { no = n; op = op; call_at = i; heard = heard_of H n } in
     let k = kept_at (record_at H) (places_from 0 (is_call_of d) H) p.0 i r (p.1 ∙ ap (λ x. Some x) here) (ap (option_and_then (record_from H i)) at) in
@@ -107,7 +107,7 @@ recorded H i n h d op at =
 
 same_document : (H : List Event) (d e : List ℕ) (r s : Rec) → IsRecordOf H d r → IsRecordOf H e s → r.call_at ≡ s.call_at → d ≡ e
 same_document H d e r s a b same =
-    let eq : Some (Call r.no a.call.0 d r.op) ≡ Some (Call s.no b.call.0 e s.op) = sym a.call.1 ∙ (ap (slice_get H) same ∙ b.call.1) in
+    let eq : Some (Call a.call.0 r.no d r.op) ≡ Some (Call b.call.0 s.no e s.op) = sym a.call.1 ∙ (ap (slice_get H) same ∙ b.call.1) in
     cc
 
 not_below : (a b : ℕ) → a ≡ b → a < b → ⊥
@@ -125,7 +125,7 @@ once H d e j k r s at bt same =
 -- ---- what was heard of a call
 
 event_heard : (H : List Event) (n i : ℕ) (e : Event) (p : ℕ) (a : Answer) → slice_get H i ≡ Some e → is_ending n e ≡ true → heard_at i e ≡ Some (p, a) → IsReplyAt H p n a
-event_heard H n i (Call m h d op) p a at passes heard = absurd (none_is_not_some (p, a) heard)
+event_heard H n i (Call h m d op) p a at passes heard = absurd (none_is_not_some (p, a) heard)
 event_heard H n i (Reply m r) p a at passes heard =
     let pair : (i, r) ≡ (p, a) = same_some (i, r) (p, a) heard in
     let place : i ≡ p = ap (λ (x : ℕ × Answer). x.0) pair in

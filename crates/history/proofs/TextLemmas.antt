@@ -13,12 +13,12 @@ reply_front H G v n op status s = record {
   number = s.number;
   has_status = s.has_status;
   status_fits = s.status_fits;
-  call = (s.call.0, s.call.1, s.call.2, get_front H G s.call.0 (Call n s.call.1 s.call.2 op) s.call.3, s.call.4);
+  call = (s.call.0, s.call.1, s.call.2, get_front H G s.call.0 (Call s.call.1 n s.call.2 op) s.call.3, s.call.4);
 }
 
 -- what a line spells after some events it spells when more have come
 pub spells_front : (H G : List Event) (v : Data) (e : Event) → Spells H v e → Spells (H ++ G) v e
-spells_front H G v (Call n h d op) s = s
+spells_front H G v (Call h n d op) s = s
 spells_front H G v (Reply n r) s = (s.0, s.1, reply_front H G v n s.0 s.1 s.2, s.3)
 spells_front H G v (Lost n) (inl s) = inl s
 spells_front H G v (Lost n) (inr s) = inr (s.0, s.1, reply_front H G v n s.0 s.1 s.2, s.3)

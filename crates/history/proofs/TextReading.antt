@@ -89,8 +89,8 @@ first_at t H e is = by_place (place_of t H) refl is where
       (i, is, ap t (same_some e p.0 (sym is ∙ p.1)) ∙ p.2)
 
 -- a call of the number is that call
-call_of : (H : List Event) (n i : ℕ) (e : Event) → slice_get H i ≡ Some e → is_call n e ≡ true → (h : ℕ) × (d : List ℕ) × (op : Op) × (e ≡ Call n h d op)
-call_of H n i (Call m h d op) at is = (h, d, op, ap (λ k. Call k h d op) (eqb-true m n is))
+call_of : (H : List Event) (n i : ℕ) (e : Event) → slice_get H i ≡ Some e → is_call n e ≡ true → (h : ℕ) × (d : List ℕ) × (op : Op) × (e ≡ Call h n d op)
+call_of H n i (Call h m d op) at is = (h, d, op, ap (λ k. Call h k d op) (eqb-true m n is))
 call_of H n i (Reply m r) at is = absurd (cc)
 call_of H n i (Lost m) at is = absurd (cc)
 
@@ -141,7 +141,7 @@ event_spelled H v e told =
       by_kind : (s : LineSaid) → Kind (line_values v) s → event_said H (line_values v).body s ≡ Ok e → Spells H v e
       by_kind s (of_call kind read) told =
           let call = call_is (line_values v) s read in
-          subst (Spells H v) (same_ok (Call call.0 call.1 call.2 call.3) e (subst (λ x. event_said H (line_values v).body x ≡ Ok e) call.4 told))
+          subst (Spells H v) (same_ok (Call call.1 call.0 call.2 call.3) e (subst (λ x. event_said H (line_values v).body x ≡ Ok e) call.4 told))
           (call_spelled v call.0 call.1 call.2 call.3 kind (read ∙ ap ok_of call.4))
       by_kind s (of_reply kind read) told =
           let reply = reply_read (line_values v) s read in
@@ -166,19 +166,19 @@ heard_reply : (H done : List Event) (v : Data) (e : Event) (n status : ℕ) (op 
 heard_reply H done v e n status op w next ends s hears told =
     let kind : (line_values v).e ≡ text (codes "reply") = s.kind in
     let line : line_told (line_values v) ≡ Ok (said.Reply n status) = rw kind (reply_said (line_values v) n status s.number s.has_status s.status_fits) in
-    let call : first_event (is_call n) done ≡ Some (Call n s.call.1 s.call.2 op) =
+    let call : first_event (is_call n) done ≡ Some (Call s.call.1 n s.call.2 op) =
     first_call H done e n s.call.0 s.call.1 s.call.2 op next (call_done H done e n s.call.0 s.call.1 s.call.2 op next ends s.call.3) in
     let none : place_of (is_ending n) done ≡ None = no_ending_done H done e n next ends in
     let same : heard op s.call.2 status (body_values (body_of v)) ≡ w =
     heard_one s.call.2 op status (body_of v) (heard op s.call.2 status (body_values (body_of v))) w (heard_is s.call.2 op status (body_of v)) (hears s.call.4) in
     ap (λ r. r >>= event_said done (line_values v).body) line
     ∙ (ap (λ c. ending_told n status (line_values v).body c (place_of (is_ending n) done)) call
-    ∙ (ap (λ o. ending_told n status (line_values v).body (Some (Call n s.call.1 s.call.2 op)) o) none
+    ∙ (ap (λ o. ending_told n status (line_values v).body (Some (Call s.call.1 n s.call.2 op)) o) none
     ∙ (ap (event_heard n) same ∙ told)))
 
 -- what a value spells that is the next event, it tells
 pub spelled_told : (H done : List Event) (v : Data) (e : Event) → IsNext H done e → Spells H v e → event_told done (line_values v) ≡ Ok e
-spelled_told H done v (Call n h d op) next s = ap (λ r. r >>= event_said done (line_values v).body) (spelled_call v n h d op s)
+spelled_told H done v (Call h n d op) next s = ap (λ r. r >>= event_said done (line_values v).body) (spelled_call v n h d op s)
 spelled_told H done v (Reply n r) next (op, status, s, tells) =
     heard_reply H done v (Reply n r) n status op (heard.Reply r) next (eq-eqb n n refl) s (λ known. (known, tells)) refl
 spelled_told H done v (Lost n) next (inl s) =
@@ -193,7 +193,7 @@ spelled_told H done v (Lost n) next (inr (op, status, s, unknown)) =
 said_shard : (H : List Event) (v : Data) (s : LineSaid) (e : Event) → Kind (line_values v) s → event_said H (line_values v).body s ≡ Ok e → HasShard e
 said_shard H v s e (of_call kind read) told =
     let call = call_is (line_values v) s read in
-    subst HasShard (same_ok (Call call.0 call.1 call.2 call.3) e (subst (λ x. event_said H (line_values v).body x ≡ Ok e) call.4 told))
+    subst HasShard (same_ok (Call call.1 call.0 call.2 call.3) e (subst (λ x. event_said H (line_values v).body x ≡ Ok e) call.4 told))
     (call_shard (line_values v) call.0 call.1 call.2 call.3 (read ∙ ap ok_of call.4))
 said_shard H v s e (of_reply kind read) told =
     let reply = reply_read (line_values v) s read in

@@ -78,7 +78,7 @@ pub plain_lost_value : (n : ℕ) → IsPlain (lost_value n)
 plain_lost_value n = (refl, lit≤ tt)
 
 pub plain_event_value : (H : List Event) (e : Event) → IsPlain (event_value H e)
-plain_event_value H (Call n h d op) = plain_call_value n h d op
+plain_event_value H (Call h n d op) = plain_call_value n h d op
 plain_event_value H (Reply n r) = plain_reply_value n (unwrap_or (id_of H n) []) r
 plain_event_value H (Lost n) = plain_lost_value n
 
@@ -291,7 +291,7 @@ some_id None d is = absurd (cc)
 some_id (Some e) d is = refl
 
 pub has_its_call : (H : List Event) (i : ℕ) (e : Event) → IsHistory H → slice_get H i ≡ Some e → HasItsCall H e
-has_its_call H i (Call n h d op) history at = tt
+has_its_call H i (Call h n d op) history at = tt
 has_its_call H i (Reply n r) history at =
     let c = answered_call H history i n r at in
     some_id (id_of H n) c.2 (id_known H n c.0 c.1 c.2 c.3 history c.4)
@@ -300,7 +300,7 @@ has_its_call H i (Lost n) history at = tt
 -- ---- one line
 
 spelled_event : (H : List Event) (i : ℕ) (e : Event) → IsHistory H → slice_get H i ≡ Some e → IsInRange e → Spells H (event_value H e) e
-spelled_event H i (Call n h d op) history at range = spells_call n h d op range.1 (history.shards i n h d op at)
+spelled_event H i (Call h n d op) history at range = spells_call n h d op range.1 (history.shards i n h d op at)
 spelled_event H i (Reply n r) history at range =
     let c = answered_call H history i n r at in
     let fit : fits c.3 r ≡ true = history.replies_fit n i c.0 c.1 c.2 c.3 r at c.4 in
@@ -331,20 +331,20 @@ abbrev line_of : List Event → Event → List ℕ
 line_of H e = compact_text (event_value H e)
 
 short_line : (H : List Event) (i : ℕ) (e : Event) → IsHistory H → All (IsReadable H) H → slice_get H i ≡ Some e → length (line_of H e) ≤ longest_line
-short_line H i (Call n h d op) history readable at =
-    let range = (all_at (IsReadable H) H i (Call n h d op) readable at).in_range in
+short_line H i (Call h n d op) history readable at =
+    let range = (all_at (IsReadable H) H i (Call h n d op) readable at).in_range in
     let shard : h < 1024 = history.shards i n h d op at in
     call_short n h d op range.0 (omega arith) range.1.within range.2
 short_line H i (Reply n r) history readable at =
     let range = (all_at (IsReadable H) H i (Reply n r) readable at).in_range in
     let c = answered_call H history i n r at in
-    let id = (all_at (IsReadable H) H c.0 (Call n c.1 c.2 c.3) readable c.4).in_range in
+    let id = (all_at (IsReadable H) H c.0 (Call c.1 n c.2 c.3) readable c.4).in_range in
     subst (λ o. length (compact_text (reply_value n (unwrap_or o []) r)) ≤ longest_line) (sym (id_known H n c.0 c.1 c.2 c.3 history c.4))
     (reply_short n c.2 r range.0 id.1.within range.1)
 short_line H i (Lost n) history readable at = lost_short n (all_at (IsReadable H) H i (Lost n) readable at).in_range
 
 line_written : (H : List Event) (e : Event) → is_written (line_of H e) ≡ true
-line_written H (Call n h d op) = refl
+line_written H (Call h n d op) = refl
 line_written H (Reply n r) = refl
 line_written H (Lost n) = refl
 

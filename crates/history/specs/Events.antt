@@ -17,7 +17,7 @@ is_same d e = pointwise ◌==◌ d e
 
 -- the call numbered n, of the document d of the shard h
 abbrev pub IsCallAt : List Event → ℕ → ℕ → ℕ → List ℕ → Op → Type 0
-IsCallAt events i n h d op = slice_get events i ≡ Some (Call n h d op)
+IsCallAt events i n h d op = slice_get events i ≡ Some (Call h n d op)
 
 -- the reply r to the call numbered n
 abbrev pub IsReplyAt : List Event → ℕ → ℕ → Answer → Type 0
@@ -29,30 +29,30 @@ PassesAt test events i = option_map test (slice_get events i) ≡ Some true
 
 -- the call numbered n
 abbrev pub is_call : ℕ → Event → Bool
-is_call n (Call m h d op) = m == n
+is_call n (Call h m d op) = m == n
 is_call n (Reply m r) = false
 is_call n (Lost m) = false
 
 -- the ending of the call numbered n: its reply, or the news that its outcome is lost
 abbrev pub is_ending : ℕ → Event → Bool
-is_ending n (Call m h d op) = false
+is_ending n (Call h m d op) = false
 is_ending n (Reply m r) = m == n
 is_ending n (Lost m) = m == n
 
 -- a call of the document d
 abbrev pub is_call_of : List ℕ → Event → Bool
-is_call_of d (Call m h e op) = is_same e d
+is_call_of d (Call h m e op) = is_same e d
 is_call_of d (Reply m r) = false
 is_call_of d (Lost m) = false
 
 abbrev pub is_any_call : Event → Bool
-is_any_call (Call m h d op) = true
+is_any_call (Call h m d op) = true
 is_any_call (Reply m r) = false
 is_any_call (Lost m) = false
 
 -- a call's shard is one of the 1,024 that there can be
 abbrev pub HasShard : Event → Type 0
-HasShard (Call n h d op) = h < most_shards
+HasShard (Call h n d op) = h < most_shards
 HasShard (Reply n r) = Unit {0}
 HasShard (Lost n) = Unit {0}
 
@@ -96,7 +96,7 @@ with_document [] d h = (d, h) ∷ []
 with_document (e ∷ es) d h = if is_same d e.0 then e ∷ es else e ∷ with_document es d h
 
 abbrev pub with_event : List (List ℕ × ℕ) → Event → List (List ℕ × ℕ)
-with_event ds (Call n h d op) = with_document ds d h
+with_event ds (Call h n d op) = with_document ds d h
 with_event ds (Reply n r) = ds
 with_event ds (Lost n) = ds
 
@@ -118,7 +118,7 @@ places_from i test (e ∷ es) = if test e then i ∷ places_from (suc i) test es
 
 -- the reply at a place, with the place
 abbrev pub heard_at : ℕ → Event → Option (ℕ × Answer)
-heard_at i (Call n h d op) = None
+heard_at i (Call h n d op) = None
 heard_at i (Reply n r) = Some (i, r)
 heard_at i (Lost n) = None
 
@@ -129,7 +129,7 @@ heard_of events n =
 
 -- the call at a place as a record
 abbrev pub record_from : List Event → ℕ → Event → Option Rec
-record_from events i (Call n h d op) = Some (record { no = n; op = op; call_at = i; heard = heard_of events n })
+record_from events i (Call h n d op) = Some (record { no = n; op = op; call_at = i; heard = heard_of events n })
 record_from events i (Reply n r) = None
 record_from events i (Lost n) = None
 

@@ -48,7 +48,7 @@ IsLinearizable conflicts events = (order : List Placed) × Explains conflicts ev
 
 -- a call with the reply r to it, read as not performed where it is a conflict
 abbrev pub placed_with : Answer → Event → Option Placed
-placed_with r (Call n h d op) = Some (record { no = n; entry = record { shard = h; doc = d; op = op; reply = r; hidden = None } })
+placed_with r (Call h n d op) = Some (record { no = n; entry = record { shard = h; doc = d; op = op; reply = r; hidden = None } })
 placed_with r (Reply n s) = None
 placed_with r (Lost n) = None
 
@@ -59,7 +59,7 @@ call_with events n r =
 
 -- the call that a reply answers
 abbrev pub answered_by : List Event → Event → Option Placed
-answered_by events (Call n h d op) = None
+answered_by events (Call h n d op) = None
 answered_by events (Reply n r) = call_with events n r
 answered_by events (Lost n) = None
 

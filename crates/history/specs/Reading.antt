@@ -25,7 +25,7 @@ use Rattle.history.specs.Refusal.{first_event, refusal_of}
 
 -- what is heard of a call by a status and a body; of no other event anything is
 abbrev pub heard_of_call : Event → ℕ → BodyValues → Heard
-heard_of_call (Call n h d op) status body = heard op d status body
+heard_of_call (Call h n d op) status body = heard op d status body
 heard_of_call (Reply n r) status body = heard.Unknown
 heard_of_call (Lost n) status body = heard.Unknown
 
@@ -43,7 +43,7 @@ ending_told n status body (Some call) None = event_heard n (heard_of_call call s
 
 -- the event of what a line says
 abbrev pub event_said : List Event → BodyValues → LineSaid → Result Event TextCause
-event_said events body (said.Call n h d op) = Ok (Call n h d op)
+event_said events body (said.Call n h d op) = Ok (Call h n d op)
 event_said events body (said.Reply n status) =
     ending_told n status body (first_event (is_call n) events) (place_of (is_ending n) events)
 event_said events body (said.Lost n) = Ok (Lost n)

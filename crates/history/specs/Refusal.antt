@@ -18,12 +18,12 @@ abbrev pub first_event : (Event → Bool) → List Event → Option Event
 first_event test events = option_and_then (slice_get events) (place_of test events)
 
 abbrev pub shard_named : Event → Option ℕ
-shard_named (Call n h d op) = Some h
+shard_named (Call h n d op) = Some h
 shard_named (Reply n r) = None
 shard_named (Lost n) = None
 
 abbrev pub op_named : Event → Option Op
-op_named (Call n h d op) = Some op
+op_named (Call h n d op) = Some op
 op_named (Reply n r) = None
 op_named (Lost n) = None
 
@@ -49,7 +49,7 @@ when_ended events n later = if is_some (place_of (is_ending n) events) then Some
 
 -- the first reason to refuse an event, if there is one
 abbrev pub refusal_of : List Event → Event → Option HistFault
-refusal_of events (Call n h d op) =
+refusal_of events (Call h n d op) =
     if is_some (place_of (is_call n) events) then Some SecondCall
     else (if is_moved events d h then Some ShardMoved else when_full events)
 refusal_of events (Reply n r) =

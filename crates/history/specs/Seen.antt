@@ -8,7 +8,7 @@ use Rattle.history.specs.declared.seen.Seen.{Seen}
 
 -- the pair that an event names: the condition of a call, or the pair of a reply
 abbrev pub pair_named : Event → Option Pair
-pair_named (Call n h d op) = condition_of op
+pair_named (Call h n d op) = condition_of op
 pair_named (Reply n r) = pair_of_reply r
 pair_named (Lost n) = None
 

@@ -55,7 +55,7 @@ pub record SpellsLost (v : Data) (n : ℕ) : Type 0 where
 
 -- The event that a value spells. A reply that the table doesn't know is of unknown outcome, as a lost line is.
 abbrev pub Spells : List Event → Data → Event → Type 0
-Spells events v (Call n h d op) = SpellsCall v n h d op
+Spells events v (Call h n d op) = SpellsCall v n h d op
 Spells events v (Reply n r) = (op : Op) × (status : ℕ) × SpellsReply events v n op status
     × Tells op status (body_of v) r
 Spells events v (Lost n) = SpellsLost v n

@@ -62,7 +62,7 @@ lost_value n = object (member (codes "e") (string (codes "lost")) (number_member
 -- ---- the text
 
 abbrev pub id_named : Event → Option (List ℕ)
-id_named (Call n h d op) = Some d
+id_named (Call h n d op) = Some d
 id_named (Reply n r) = None
 id_named (Lost n) = None
 
@@ -72,7 +72,7 @@ id_of events n = option_and_then id_named (first_event (is_call n) events)
 
 -- the value of an event's line; a reply is about the document of its call
 abbrev pub event_value : List Event → Event → Data
-event_value events (Call n h d op) = call_value n h d op
+event_value events (Call h n d op) = call_value n h d op
 event_value events (Reply n r) = reply_value n (unwrap_or (id_of events n) []) r
 event_value events (Lost n) = lost_value n
 

@@ -1,4 +1,5 @@
 pub mod CallPlaces
+pub mod Documents
 pub mod Fronts
 pub mod Indexes
 pub mod Taking

@@ -1,12 +1,11 @@
-ghost use Rattle.std.specs.Prelude.{◌≡◌, ◌==◌, [], IsTrue, None, OnErr, OnOk, length, position};
+ghost use Rattle.std.specs.Prelude.{◌≡◌, ◌==◌, ◌<◌, ◌+◌, [], IfSome, IsTrue, None, Some, OnErr, OnOk, length, position};
 ghost use Rattle.std.specs.Map.{lookup};
 ghost use Rattle.history.specs.Events.{is_same, with_document};
+ghost use Rattle.history.specs.Refusal.{most_events};
 ghost use Rattle.history.specs.aids.CallPlaces.{AreBelow, AreFoundAlike, AreRising};
-ghost use Rattle.history.specs.aids.Indexes.{IsNotedAt, lists_in, with_listed};
+ghost use Rattle.history.specs.aids.Indexes.{IsNotedAt, with_listed};
 
-use crate::hash_keys::HashKeys;
-use crate::noting::note_document_call;
-use indexmap::IndexMap;
+use crate::documents::Documents;
 use std::alloc::Global;
 use std::collections::BTreeMap;
 use std::marker::Model;
@@ -45,6 +44,23 @@ fn is_above_all(calls: &[(u64, usize)], no: u64) -> bool
     }
 }
 
+// The place of the call with this number among those whose numbers rise, where none is left out from it to the last:
+// most recorders count.
+fn counted_place(calls: &[(u64, usize)], no: u64) -> Option<usize>
+    requires { AreRising calls.now }
+    ensures { IfSome result (λ place. lookup (◌==◌ no) calls.now ≡ Some place) }
+{
+    let Some((last, _)) = calls.last() else {
+        return None;
+    };
+    let behind = last.saturating_sub(no) as usize;
+    if behind >= calls.len() {
+        return None;
+    }
+    let (number, place) = calls[calls.len() - 1 - behind];
+    if number == no { Some(place) } else { None }
+}
+
 // The place of the call with this number among those whose numbers rise.
 fn rising_place(calls: &[(u64, usize)], no: u64) -> Option<usize>
     requires { AreRising calls.now }
@@ -52,6 +68,9 @@ fn rising_place(calls: &[(u64, usize)], no: u64) -> Option<usize>
 {
     if is_above_all(calls, no) {
         return None;
+    }
+    if let Some(place) = counted_place(calls, no) {
+        return Some(place);
     }
     match calls.binary_search_by_key(&no, |&(number, _)| number) {
         Ok(at) => Some(calls[at].1),
@@ -84,8 +103,7 @@ impl CallPlaces {
     /// end of the documents. Where memory is refused, nothing is noted.
     pub fn note_call(
         &mut self,
-        documents: &mut IndexMap<DocId, u32, HashKeys>,
-        document_calls: &mut Vec<Vec<usize>>,
+        documents: &mut Documents,
         doc: Option<usize>,
         no: u64,
         id: &DocId,
@@ -93,24 +111,26 @@ impl CallPlaces {
         place: usize,
     ) -> Result<(), NoMemory>
         requires fresh { lookup (◌==◌ no) self.old ≡ None }
-        requires sizes { length document_calls.old.items ≡ length documents.old.entries }
+        requires sizes { length documents.old.lists ≡ length documents.old.entries }
         requires stands { doc ≡ position (λ d. is_same id.now d.0) documents.old.entries }
+        requires place { place < most_events }
+        requires few { documents.old.calls < most_events }
         ensures noted { OnOk result (IsNotedAt no place self.old self.new) }
+        ensures counted { OnOk result (documents.new.calls ≡ documents.old.calls + 1) }
         ensures kept { OnErr result (AreFoundAlike self.old self.new) }
         ensures ok { OnOk result (documents.new.entries ≡ with_document documents.old.entries id.now shard) }
-        ensures listed { OnOk result (lists_in document_calls.new.items
-            ≡ with_listed documents.old.entries (lists_in document_calls.old.items) id.now place) }
-        ensures err { OnErr result (documents.new.entries ≡ documents.old.entries) }
-        ensures unlisted { OnErr result (lists_in document_calls.new.items ≡ lists_in document_calls.old.items) }
+        ensures listed { OnOk result (documents.new.lists
+            ≡ with_listed documents.old.entries documents.old.lists id.now place) }
+        ensures err { OnErr result (documents.new ≡ documents.old) }
     {
         if is_above_all(self.rising.as_slice(), no) {
             self.rising.reserve(1)?;
-            note_document_call(documents, document_calls, doc, id, shard, place)?;
+            documents.note_call(doc, id, shard, place)?;
             self.rising.push_reserved((no, place));
             return Ok(());
         }
         self.others.insert(no, place)?;
-        let noted = note_document_call(documents, document_calls, doc, id, shard, place);
+        let noted = documents.note_call(doc, id, shard, place);
         if noted.is_err() {
             self.others.remove(&no);
         }

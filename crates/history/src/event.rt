@@ -4,10 +4,10 @@ use version_pair::DocId;
 /// One event of a history.
 #[derive(Debug, Drop)]
 pub enum Event {
-    /// The call numbered `no`, on a document of a shard, was made.
+    /// The call numbered `no`, on a document of a shard, was made. The shard stands first: so an event takes 64 bytes.
     Call {
-        no: u64,
         shard: u32,
+        no: u64,
         id: DocId,
         op: Op,
     },

@@ -1,4 +1,4 @@
-ghost use Rattle.std.specs.Prelude.{◌≡◌, ◌<◌, ◌≤◌, ℕ, IfSome, Some, length, option_map, position, slice_get};
+ghost use Rattle.std.specs.Prelude.{◌≡◌, ◌<◌, ◌≤◌, ℕ, IfOk, IfSome, Some, length, option_map, position, slice_get};
 ghost use Rattle.history.specs.Events.{IsHistory, PassesAt, documents_of, is_call, is_ending, is_same, place_of, prefix as first_events};
 ghost use Rattle.history.specs.Refusal.{most_events as limit};
 ghost use Rattle.history.specs.aids.Indexes.{calls_at};
@@ -9,7 +9,7 @@ use crate::hash_keys::HashKeys;
 use crate::history::History;
 use std::alloc::Global;
 use std::marker::Model;
-use version_pair::DocId;
+use version_pair::{DocId, NoMemory};
 
 /// The first events of a history, as a history of its own, without a copy of them. A reply past its end is not heard,
 /// and a document that is first called past its end is none of its documents.
@@ -141,14 +141,15 @@ impl<'h> Front<'h> {
     }
 
     /// The places of the calls of a document, in their order.
-    pub(crate) fn calls_of_document(&self, doc: usize) -> &'h [usize]
+    pub(crate) fn calls_of_document(&self, doc: usize) -> Result<Vec<usize>, NoMemory>
         requires { doc < length (documents_of self.now) }
-        ensures { option_map (λ d. calls_at self.now d.0) (slice_get (documents_of self.now) doc)
-            ≡ Some result.now }
+        ensures { IfOk result (λ places. option_map (λ d. calls_at self.now d.0)
+            (slice_get (documents_of self.now) doc) ≡ Some places.items) }
     {
-        let calls = self.history.calls_of_document(doc);
+        let mut calls = self.history.calls_of_document(doc)?;
         let end = self.end;
         let count = calls.partition_point(|place| *place < end);
-        &calls[..count]
+        calls.truncate(count);
+        Ok(calls)
     }
 }

@@ -2,16 +2,15 @@ ghost use Rattle.std.specs.Prelude.{◌≡◌, ℕ, ◌<◌, ◌≤◌, ◌↔�
 ghost use Rattle.history.specs.declared.event.Event.TheVariants.{Call};
 ghost use Rattle.history.specs.Events.{HasShard, IsHistory, PassesAt, documents_of, is_call, is_ending, is_same, place_of, prefix as first_events};
 ghost use Rattle.history.specs.Refusal.{most_events as limit, refusal_of, refusal_told, shard_of};
-ghost use Rattle.history.specs.aids.Fronts.{starts_below};
 ghost use Rattle.history.specs.aids.Indexes.{IsEndingOf, calls_at};
 
 use crate::call_places::CallPlaces;
+use crate::documents::Documents;
 use crate::event::Event;
 use crate::fault::HistFault;
 use crate::hash_keys::HashKeys;
 use api_lines::SHARDS;
 use doc_register::Op;
-use indexmap::IndexMap;
 use std::alloc::Global;
 use std::marker::Model;
 use version_pair::{DocId, NoMemory};
@@ -30,10 +29,8 @@ pub struct History {
     calls: CallPlaces,
     // For each event the place of the ending of the call that stands there, where it is one and has one.
     endings: Vec<Option<u32>>,
-    // The shard of each document, in the order of the first calls.
-    documents: IndexMap<DocId, u32, HashKeys>,
-    // The places of each document's calls, the documents in the same order.
-    document_calls: Vec<Vec<usize>>,
+    // The documents in the order of the first calls, each with its shard and the places of its calls.
+    documents: Documents,
 }
 
 impl Model for History {
@@ -42,12 +39,12 @@ impl Model for History {
 
     ghost Value = { List Event };
 
-    ghost use Rattle.history.specs.aids.Indexes.{AreIndexed, lists_in};
+    ghost use Rattle.history.specs.aids.Indexes.{AreIndexed};
 
     ghost view = { λ h. h.events.items };
 
     ghost invariant = { λ h. AreIndexed h.events.items h.calls h.endings.items h.documents.entries
-        (lists_in h.document_calls.items) };
+        h.documents.lists h.documents.calls };
 }
 
 impl History {
@@ -68,14 +65,13 @@ impl History {
             events: Vec::new(alloc),
             calls: CallPlaces::new(alloc),
             endings: Vec::new(alloc),
-            documents: IndexMap::with_hasher(alloc, keys),
-            document_calls: Vec::new(alloc),
+            documents: Documents::with_keys(alloc, keys),
         }
     }
 
     /// The keys of the hashes by which documents are found.
     pub fn keys(&self) -> HashKeys {
-        *self.documents.hasher()
+        self.documents.keys()
     }
 
     /// How many events there are, at most 1,048,576.
@@ -139,7 +135,7 @@ impl History {
         ensures { result ≡ shard_of self.now id.now }
     {
         match doc {
-            Some(doc) => match self.documents.get_index(doc) {
+            Some(doc) => match self.documents.get(doc) {
                 Some((_, shard)) => Some(*shard),
                 None => None,
             },
@@ -154,7 +150,7 @@ impl History {
         ensures { IfOk result (λ shared. shared ≡ id) }
     {
         match doc {
-            Some(doc) => match self.documents.get_index(doc) {
+            Some(doc) => match self.documents.get(doc) {
                 Some((known, _)) => known.copy(),
                 None => Ok(id),
             },
@@ -172,10 +168,10 @@ impl History {
         id: DocId,
         op: Op,
     ) -> Result<(), NoMemory>
-        requires accepted { refusal_of self.old (Call no shard id op) ≡ None }
+        requires accepted { refusal_of self.old (Call shard no id op) ≡ None }
         requires shard { shard < SHARDS }
         requires stands { doc ≡ position (λ d. is_same id d.0) (documents_of self.old) }
-        ensures ok { OnOk result (self.new ≡ self.old ++ Call no shard id op ∷ []) }
+        ensures ok { OnOk result (self.new ≡ self.old ++ Call shard no id op ∷ []) }
         ensures err { OnErr result (self.new ≡ self.old) }
         ensures history { IsHistory self.new }
         ensures within { length self.new ≤ limit }
@@ -183,15 +179,8 @@ impl History {
         let place = self.events.len();
         self.events.reserve(1)?;
         self.endings.reserve(1)?;
-        self.calls.note_call(
-            &mut self.documents,
-            &mut self.document_calls,
-            doc,
-            no,
-            &id,
-            shard,
-            place,
-        )?;
+        self.calls
+            .note_call(&mut self.documents, doc, no, &id, shard, place)?;
         self.endings.push_reserved(None);
         self.events.push_reserved(Event::Call { no, shard, id, op });
         Ok(())
@@ -254,7 +243,7 @@ impl History {
         requires { doc < length (documents_of self.now) }
         ensures { option_map (λ d. d.0) (slice_get (documents_of self.now) doc) ≡ Some result.now }
     {
-        match self.documents.get_index(doc) {
+        match self.documents.get(doc) {
             Some((id, _)) => id,
             None => unreachable!(),
         }
@@ -264,24 +253,23 @@ impl History {
     pub fn doc_of(&self, id: &DocId) -> Option<usize>
         ensures { result ≡ position (λ d. is_same id.now d.0) (documents_of self.now) }
     {
-        self.documents.get_index_of(id)
+        self.documents.index_of(id)
     }
 
     /// The places of the calls of a document, in their order.
-    pub(crate) fn calls_of_document(&self, doc: usize) -> &[usize]
+    pub(crate) fn calls_of_document(&self, doc: usize) -> Result<Vec<usize>, NoMemory>
         requires { doc < length (documents_of self.now) }
-        ensures { option_map (λ d. calls_at self.now d.0) (slice_get (documents_of self.now) doc)
-            ≡ Some result.now }
+        ensures { IfOk result (λ places. option_map (λ d. calls_at self.now d.0)
+            (slice_get (documents_of self.now) doc) ≡ Some places.items) }
     {
-        self.document_calls[doc].as_slice()
+        self.documents.calls(doc)
     }
 
     /// How many documents have their first call before the place; these are the first ones.
     pub(crate) fn docs_called_before(&self, end: usize) -> usize
         ensures { result ≡ length (documents_of (first_events self.now end)) }
     {
-        self.document_calls
-            .partition_point(|calls| starts_below(calls.as_slice(), end))
+        self.documents.called_before(end)
     }
 
     /// The shard of a document, that of its first call: 0 to 1,023.
@@ -289,7 +277,7 @@ impl History {
         requires { doc < length (documents_of self.now) }
         ensures { option_map (λ d. d.1) (slice_get (documents_of self.now) doc) ≡ Some result }
     {
-        match self.documents.get_index(doc) {
+        match self.documents.get(doc) {
             Some((_, shard)) => *shard,
             None => unreachable!(),
         }
@@ -303,15 +291,5 @@ fn wide(place: Option<u32>) -> Option<usize>
     match place {
         Some(place) => Some(place as usize),
         None => None,
-    }
-}
-
-// Whether the first of the places is below the bound.
-fn starts_below(places: &[usize], bound: usize) -> bool
-    ensures { result ≡ starts_below bound places.now }
-{
-    match places.first() {
-        Some(place) => *place < bound,
-        None => false,
     }
 }

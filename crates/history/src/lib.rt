@@ -9,6 +9,7 @@
 
 mod bulk_writer;
 mod call_places;
+mod documents;
 mod event;
 mod fault;
 mod front;
@@ -17,7 +18,6 @@ mod history;
 mod history_input;
 pub mod laws;
 mod line_event;
-mod noting;
 mod prefix;
 mod pushing;
 mod reader;

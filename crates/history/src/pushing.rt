@@ -20,9 +20,9 @@ impl History {
         op: Op,
     ) -> Result<(), HistFault>
         requires { shard < SHARDS }
-        ensures ok { OnOk result (self.new ≡ self.old ++ Call no shard id op ∷ []) }
+        ensures ok { OnOk result (self.new ≡ self.old ++ Call shard no id op ∷ []) }
         ensures err { OnErr result (self.new ≡ self.old) }
-        ensures reason { refusal_told result ≡ refusal_of self.old (Call no shard id op) }
+        ensures reason { refusal_told result ≡ refusal_of self.old (Call shard no id op) }
     {
         let doc = self.doc_of(&id);
         if let Some(fault) = self.call_refusal(doc, no, shard, &id) {

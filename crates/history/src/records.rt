@@ -47,10 +47,10 @@ impl Front<'_> {
         ensures { IfOk result (λ records. option_map (λ d. records_of self.now d.0)
             (slice_get (documents_of self.now) doc) ≡ Some records.items) }
     {
-        let places = self.calls_of_document(doc);
+        let places = self.calls_of_document(doc)?;
         let mut records = Vec::with_capacity(self.allocator(), places.len())?;
-        for place in places {
-            push_some(&mut records, self.record(*place))?;
+        for k in 0..places.len() {
+            push_some(&mut records, self.record(places[k]))?;
         }
         Ok(records)
     }

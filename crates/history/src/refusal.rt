@@ -32,7 +32,7 @@ impl History {
         id: &DocId,
     ) -> Option<HistFault>
         requires { doc ≡ position (λ d. is_same id.now d.0) (documents_of self.now) }
-        ensures { (op : Op) → result ≡ refusal_of self.now (Call no shard id.now op) }
+        ensures { (op : Op) → result ≡ refusal_of self.now (Call shard no id.now op) }
     {
         if self.call(no).is_some() {
             return Some(HistFault::SecondCall);

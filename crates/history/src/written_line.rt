@@ -98,7 +98,7 @@ pub fn call_value(
     op: &Op,
 ) -> Result<Value, NoMemory>
     ensures value { IfOk result (λ value. view value ≡ value_of_call no shard id.now op.now) }
-    ensures in_range { IsInRange (Call no shard id.now op.now) }
+    ensures in_range { IsInRange (Call shard no id.now op.now) }
 {
     let id = id.as_str();
     match *op {

@@ -35,14 +35,14 @@ abbrev pub op_if : ℕ → Event → Option Op
 op_if n e = if is_call n e then op_named e else None
 
 op_of-cons : (e : Event) (es : List Event) (n : ℕ) → op_of (e ∷ es) n ≡ first_of_two (op_if n e) (op_of es n)
-op_of-cons (Call m h d op) es n = by_number (m == n) refl where
-  later : (o : Option ℕ) → option_and_then op_named (option_and_then (slice_get (Call m h d op ∷ es)) (option_map suc o))
+op_of-cons (Call h m d op) es n = by_number (m == n) refl where
+  later : (o : Option ℕ) → option_and_then op_named (option_and_then (slice_get (Call h m d op ∷ es)) (option_map suc o))
       ≡ option_and_then op_named (option_and_then (slice_get es) o)
   later None = refl
   later (Some i) = refl
 
   by_number : (b : Bool) → (m == n) ≡ b
-      → option_and_then op_named (option_and_then (slice_get (Call m h d op ∷ es)) (if b then Some 0 else option_map suc (place_of (is_call n) es)))
+      → option_and_then op_named (option_and_then (slice_get (Call h m d op ∷ es)) (if b then Some 0 else option_map suc (place_of (is_call n) es)))
       ≡ first_of_two (if b then Some op else None) (op_of es n)
   by_number true is = refl
   by_number false is = later (place_of (is_call n) es)
@@ -99,12 +99,12 @@ other m n k up below = by_test (m == k) refl where
   by_test false is = refl
 
 no_op : (n k : ℕ) (e : Event) → IsEntryAt n e → n < k → op_if k e ≡ None
-no_op n k (Call m h d op) formed below = ap (λ b. if b then Some op else None) (other m n k (let same : m ≡ n = formed.0 in omega arith) below)
+no_op n k (Call h m d op) formed below = ap (λ b. if b then Some op else None) (other m n k (let same : m ≡ n = formed.0 in omega arith) below)
 no_op n k (Reply m r) formed below = refl
 no_op n k (Lost m) formed below = refl
 
 no_ending : (n k : ℕ) (e : Event) → IsEntryAt n e → n < k → is_ending k e ≡ false
-no_ending n k (Call m h d op) formed below = refl
+no_ending n k (Call h m d op) formed below = refl
 no_ending n k (Reply m r) formed below = other m n k (omega arith) below
 no_ending n k (Lost m) formed below = other m n k (omega arith) below
 
@@ -141,7 +141,7 @@ called_below (e ∷ es) k m op formed below called =
       by_call n o false is same some = let impossible : None ≡ Some op = some in absurd (cc)
 
       by_event : (x : Event) → IsEntryAt e.0 x → op_if m x ≡ Some op → m < k
-      by_event (Call n h d o) formed some = by_call n o (n == m) refl formed.0 some
+      by_event (Call h n d o) formed some = by_call n o (n == m) refl formed.0 some
       by_event (Reply n r) formed some = let impossible : None ≡ Some op = some in absurd (cc)
       by_event (Lost n) formed some = let impossible : None ≡ Some op = some in absurd (cc)
 
@@ -170,9 +170,9 @@ never false = refl
 
 found_after_call : (list : List (ℕ × Event)) (old new : List (ℕ × OwnCall)) (k : ℕ) (d : List ℕ) (op : Op)
     → AreNoted list old → AreBelow list k → IsNotedAt k (record { op = op; is_ended = false }) old new
-    → (n : ℕ) → lookup (◌==◌ n) new ≡ own_call_of (list ++ (k, Call k 0 d op) ∷ []) n
+    → (n : ℕ) → lookup (◌==◌ n) new ≡ own_call_of (list ++ (k, Call 0 k d op) ∷ []) n
 found_after_call list old new k d op noted below at n =
-    at n ∙ (by_number (k == n) refl ∙ sym (own-snoc list (k, Call k 0 d op) n)) where
+    at n ∙ (by_number (k == n) refl ∙ sym (own-snoc list (k, Call 0 k d op) n)) where
       by_number : (b : Bool) → (k == n) ≡ b
           → cond b (Some (record { op = op; is_ended = false })) (lookup (◌==◌ n) old)
           ≡ own (first_of_two (op_of (events_in list) n) (if b then Some op else None)) (is_ended list n || false)
@@ -252,7 +252,7 @@ pub noted_after : (list : List (ℕ × Event)) (old new : List (ℕ × OwnCall))
     → AreNoted list old → All (λ entry. entry.0 < k) list → refusal_of list (numbered event k) ≡ None → NotesEvent event k old new
     → AreNoted (list ++ (k, numbered event k) ∷ []) new
 noted_after list old new k (bare.Call d op) noted below accepted at = record {
-  list_kept = pen_list_more list k (Call k 0 d op) noted.list_kept below (refl, refl) accepted;
+  list_kept = pen_list_more list k (Call 0 k d op) noted.list_kept below (refl, refl) accepted;
   found = found_after_call list old new k d op noted below at;
 }
 noted_after list old new k (bare.Reply m r) noted below accepted at =
@@ -266,7 +266,7 @@ noted_after list old new k (bare.Lost m) noted below accepted at =
 pub record CalledIn (list : List (ℕ × Event)) (m : ℕ) (op : Op) : Type 0 where
   pub place : ℕ
   pub document : List ℕ
-  pub here : slice_get list place ≡ Some (m, Call m 0 document op)
+  pub here : slice_get list place ≡ Some (m, Call 0 m document op)
 
 pub called_entry : (list : List (ℕ × Event)) (m : ℕ) (op : Op) → AreFormed list → op_of (events_in list) m ≡ Some op → CalledIn list m op
 called_entry [] m op formed called = let impossible : None ≡ Some op = called in absurd (cc)
@@ -277,20 +277,20 @@ called_entry (e ∷ es) m op formed called =
       later : (x : ℕ × Event) → CalledIn es m op → CalledIn (x ∷ es) m op
       later x found = record { place = suc found.place; document = found.document; here = found.here }
 
-      first : (k n h : ℕ) (d : List ℕ) (o : Op) → n ≡ k → h ≡ 0 → n ≡ m → o ≡ op → CalledIn ((k, Call n h d o) ∷ es) m op
+      first : (k n h : ℕ) (d : List ℕ) (o : Op) → n ≡ k → h ≡ 0 → n ≡ m → o ≡ op → CalledIn ((k, Call h n d o) ∷ es) m op
       first k n h d o own shard number same = record {
         place = 0;
         document = d;
         here = ap (λ (x : ℕ × Event). Some x)
-            (ap (λ q. (q, Call n h d o)) (sym own ∙ number) ∙ (ap (λ q. (m, Call q h d o)) number ∙ (ap (λ q. (m, Call m q d o)) shard ∙ ap (λ q. (m, Call m 0 d q)) same)));
+            (ap (λ q. (q, Call h n d o)) (sym own ∙ number) ∙ (ap (λ q. (m, Call h q d o)) number ∙ (ap (λ q. (m, Call q m d o)) shard ∙ ap (λ q. (m, Call 0 m d q)) same)));
       }
 
-      by_call : (k n h : ℕ) (d : List ℕ) (o : Op) (b : Bool) → (n == m) ≡ b → n ≡ k → h ≡ 0 → (if b then Some o else None) ≡ Some op → CalledIn ((k, Call n h d o) ∷ es) m op
+      by_call : (k n h : ℕ) (d : List ℕ) (o : Op) (b : Bool) → (n == m) ≡ b → n ≡ k → h ≡ 0 → (if b then Some o else None) ≡ Some op → CalledIn ((k, Call h n d o) ∷ es) m op
       by_call k n h d o true is own shard some = first k n h d o own shard (eqb-true n m is) (let both : Some o ≡ Some op = some in cc)
       by_call k n h d o false is own shard some = let impossible : None ≡ Some op = some in absurd (cc)
 
       by_event : (x : ℕ × Event) → IsEntryAt x.0 x.1 → op_if m x.1 ≡ Some op → CalledIn (x ∷ es) m op
-      by_event (k, Call n h d o) entry some = by_call k n h d o (n == m) refl entry.0 entry.1 some
+      by_event (k, Call h n d o) entry some = by_call k n h d o (n == m) refl entry.0 entry.1 some
       by_event (k, Reply n r) entry some = let impossible : None ≡ Some op = some in absurd (cc)
       by_event (k, Lost n) entry some = let impossible : None ≡ Some op = some in absurd (cc)
 

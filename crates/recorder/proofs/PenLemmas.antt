@@ -10,10 +10,10 @@ use Rattle.recorder.proofs.NoteLemmas.{first_of_two, is_ended-snoc, op_of-snoc}
 
 -- the list has the call under its number, and no ending of it
 pub called_last : (list : List (ℕ × Event)) (n : ℕ) (d : List ℕ) (op : Op) → IsUnused n list
-    → (op_of (events_in (list ++ (n, Call n 0 d op) ∷ [])) n ≡ Some op) × (is_ended (list ++ (n, Call n 0 d op) ∷ []) n ≡ false)
+    → (op_of (events_in (list ++ (n, Call 0 n d op) ∷ [])) n ≡ Some op) × (is_ended (list ++ (n, Call 0 n d op) ∷ []) n ≡ false)
 called_last list n d op unused = (
-  op_of-snoc list (n, Call n 0 d op) n
+  op_of-snoc list (n, Call 0 n d op) n
       ∙ ap (λ o. first_of_two o (if n == n then Some op else None)) unused.0
       ∙ ap (λ b. if b then Some op else None) (eq-eqb n n refl),
-  is_ended-snoc list (n, Call n 0 d op) n ∙ ap (λ b. b || false) unused.1,
+  is_ended-snoc list (n, Call 0 n d op) n ∙ ap (λ b. b || false) unused.1,
 )

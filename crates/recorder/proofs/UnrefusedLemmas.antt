@@ -140,7 +140,7 @@ open_lost list m accepted = by_call (op_of (pens.events_in list) m) refl accepte
   by_call (Some op) called none = by_end op (pens.is_ended list m) refl called none
 
 open_ending : (list : List (ℕ × Event)) (m : ℕ) (e : Event) → is_ending m e ≡ true → pens.refusal_of list e ≡ None → Open list m
-open_ending list m (Call n h d op) ends accepted = let impossible : false ≡ true = ends in absurd (cc)
+open_ending list m (Call h n d op) ends accepted = let impossible : false ≡ true = ends in absurd (cc)
 open_ending list m (Reply n r) ends accepted = subst (Open list) (eqb-true n m ends) (open_reply list n r accepted).0
 open_ending list m (Lost n) ends accepted = subst (Open list) (eqb-true n m ends) (open_lost list n accepted)
 
@@ -230,17 +230,17 @@ unmoved es d h zeroth named = by_place (place_of (is_call_of d) es) refl where
       ∙ (ap (λ o. option_map_or (λ s. not (s == h)) (option_and_then shard_named o) false) found.there
       ∙ (ap (λ o. option_map_or (λ s. not (s == h)) o false) (named k found.event found.there found.passes) ∙ zero_is))
 
-called_there : (es : List Event) (m : ℕ) (d : List ℕ) (op : Op) → slice_get es m ≡ Some (Call m 0 d op) → place_of (is_call m) es ≡ Some m → op_of es m ≡ Some op
+called_there : (es : List Event) (m : ℕ) (d : List ℕ) (op : Op) → slice_get es m ≡ Some (Call 0 m d op) → place_of (is_call m) es ≡ Some m → op_of es m ≡ Some op
 called_there es m d op at first =
     ap (λ o. option_and_then op_named (option_and_then (slice_get es) o)) first ∙ ap (option_and_then op_named) at
 
 call_number : (i m : ℕ) (e : Event) → IsEntryAt i e → is_call m e ≡ true → m ≡ i
-call_number i m (Call n h d op) formed calls = let number : n ≡ m = eqb-true n m calls in let own : n ≡ i = formed.0 in omega arith
+call_number i m (Call h n d op) formed calls = let number : n ≡ m = eqb-true n m calls in let own : n ≡ i = formed.0 in omega arith
 call_number i m (Reply n r) formed calls = let impossible : false ≡ true = calls in absurd (cc)
 call_number i m (Lost n) formed calls = let impossible : false ≡ true = calls in absurd (cc)
 
 shard_zero : (i : ℕ) (d : List ℕ) (e : Event) → IsEntryAt i e → is_call_of d e ≡ true → shard_named e ≡ Some 0
-shard_zero i d (Call n h c op) formed calls = ap (λ (k : ℕ). Some k) formed.1
+shard_zero i d (Call h n c op) formed calls = ap (λ (k : ℕ). Some k) formed.1
 shard_zero i d (Reply n r) formed calls = let impossible : false ≡ true = calls in absurd (cc)
 shard_zero i d (Lost n) formed calls = let impossible : false ≡ true = calls in absurd (cc)
 
@@ -297,13 +297,13 @@ module _ (lists : List (List (ℕ × Event))) (events : List Event) (recording_i
   no_ending_before i m e stands o = none_passing (is_ending m) (take i events) (λ q x at. false_from_ne_true (is_ending m x) (λ ends.
       let mine = kept_at stands.which stands.list stands.of_which in
       let called = called_entry (take stands.place stands.list) m o.op (All-take (λ entry. IsEntryAt entry.0 entry.1) stands.place stands.list mine.formed) o.called in
-      let call_here = (entries_from_take stands.list stands.place called.place (m, Call m 0 called.document o.op) called.here).1 in
+      let call_here = (entries_from_take stands.list stands.place called.place (m, Call 0 m called.document o.op) called.here).1 in
       let before = from_take events i q x at in
       let theirs = own q x before.1 in
       let their_list = kept_at theirs.which theirs.list theirs.of_which in
       let their_open = open_ending (take theirs.place theirs.list) m x ends (their_list.accepted theirs.place (q, x) theirs.here) in
       let their_call = called_entry (take theirs.place theirs.list) m their_open.op (All-take (λ entry. IsEntryAt entry.0 entry.1) theirs.place theirs.list their_list.formed) their_open.called in
-      let call_there = (entries_from_take theirs.list theirs.place their_call.place (m, Call m 0 their_call.document their_open.op) their_call.here).1 in
+      let call_there = (entries_from_take theirs.list theirs.place their_call.place (m, Call 0 m their_call.document their_open.op) their_call.here).1 in
       let one = same_list stands.which theirs.which stands.list theirs.list called.place their_call.place _ _ stands.of_which theirs.of_which call_here call_there refl in
       let ending_here : slice_get stands.list theirs.place ≡ Some (q, x) = ap (λ l. slice_get l theirs.place) one ∙ theirs.here in
       let sooner : theirs.place < stands.place = stands_before stands.list theirs.place stands.place (q, x) (i, e) mine.rising ending_here stands.here before.0 in
@@ -314,10 +314,10 @@ module _ (lists : List (List (ℕ × Event))) (events : List Event) (recording_i
   call_before i m e less stands o =
       let mine = kept_at stands.which stands.list stands.of_which in
       let called = called_entry (take stands.place stands.list) m o.op (All-take (λ entry. IsEntryAt entry.0 entry.1) stands.place stands.list mine.formed) o.called in
-      let call_here = (entries_from_take stands.list stands.place called.place (m, Call m 0 called.document o.op) called.here).1 in
-      let at = to_take events i m (Call m 0 called.document o.op) less (back stands.which stands.list called.place m (Call m 0 called.document o.op) stands.of_which call_here) in
+      let call_here = (entries_from_take stands.list stands.place called.place (m, Call 0 m called.document o.op) called.here).1 in
+      let at = to_take events i m (Call 0 m called.document o.op) less (back stands.which stands.list called.place m (Call 0 m called.document o.op) stands.of_which call_here) in
       called_there (take i events) m called.document o.op at
-      (first_passing (is_call m) (take i events) m (Call m 0 called.document o.op) at (eq-eqb m m refl) (λ q x low there. false_from_ne_true (is_call m x) (λ calls.
+      (first_passing (is_call m) (take i events) m (Call 0 m called.document o.op) at (eq-eqb m m refl) (λ q x low there. false_from_ne_true (is_call m x) (λ calls.
       let before = from_take events i q x there in
       let number : m ≡ q = call_number q m x (formed_at q x before.1) calls in omega arith)))
 
@@ -330,8 +330,8 @@ module _ (lists : List (List (ℕ × Event))) (events : List Event) (recording_i
         not_full (take i events) (omega arith)
 
     by_event : (e : Event) → slice_get events i ≡ Some e → refusal_of (take i events) e ≡ None
-    by_event (Call n h d op) at =
-        let formed = formed_at i (Call n h d op) at in
+    by_event (Call h n d op) at =
+        let formed = formed_at i (Call h n d op) at in
         let first : place_of (is_call n) (take i events) ≡ None = none_passing (is_call n) (take i events) (λ q x there. false_from_ne_true (is_call n x) (λ calls.
         let before = from_take events i q x there in
         let number : n ≡ q = call_number q n x (formed_at q x before.1) calls in

@@ -41,7 +41,7 @@ IsUnused n list = (op_of (events_in list) n ≡ None) × (is_ended list n ≡ fa
 -- the first reason that a pen's list has to refuse an event: for an ending that its call isn't in the list, that it was
 -- ended, that the reply doesn't fit its operation
 abbrev pub refusal_of : List (ℕ × Event) → Event → Option RecFault
-refusal_of list (Call n h d op) = None
+refusal_of list (Call h n d op) = None
 refusal_of list (Reply n r) =
     option_map_or (λ op. if is_ended list n then Some Ended else (if fits op r then None else Some Kind))
     (op_of (events_in list) n) (Some NotMine)

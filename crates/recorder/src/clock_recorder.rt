@@ -75,7 +75,7 @@ impl ClockRecorder {
     /// no number.
     pub fn call(&self, pen: &mut ClockPen, id: DocId, op: Op) -> Result<u64, RecFault>
         requires { pen.old.clock ≡ self.now.clock }
-        ensures records { Records pen.old.pen None (λ n. Call n 0 id op) result pen.new.pen }
+        ensures records { Records pen.old.pen None (λ n. Call 0 n id op) result pen.new.pen }
         ensures clock { pen.new.clock ≡ pen.old.clock }
         ensures forward { (n : ℕ) → result ≢ Err (recording.Rewound n) }
     {

@@ -84,7 +84,7 @@ impl Recorder {
     /// It may wait for the lock. A refusal leaves the pen's list as it was. A pen that was answered `Full` is answered
     /// so from then on.
     pub fn call<R: Wait>(&self, rt: &R, pen: &mut Pen, id: DocId, op: Op) -> Result<u64, RecFault>
-        ensures { Records pen.old None (λ n. Call n 0 id op) result pen.new }
+        ensures { Records pen.old None (λ n. Call 0 n id op) result pen.new }
     {
         self.record(rt, pen, Unnumbered::Call { id, op })
     }

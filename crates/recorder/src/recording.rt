@@ -32,7 +32,7 @@ pub trait Recording {
     /// A refusal leaves the pen's list as it was. A pen that was answered `Full` is answered so from then on.
     fn call<R: Wait>(&self, rt: &R, pen: &mut Self::Pen, id: DocId, op: Op) -> Result<u64, RecFault>
         requires { has_pen self.now pen.old }
-        ensures records { Records (pen_state pen.old) None (λ n. Call n 0 id op) result (pen_state pen.new) }
+        ensures records { Records (pen_state pen.old) None (λ n. Call 0 n id op) result (pen_state pen.new) }
         ensures keeps { has_pen self.now pen.new }
         ensures forward { (n : ℕ) → result ≡ Err (recording.Rewound n) → may_rewind self.now };
 

@@ -29,7 +29,7 @@ with_one_more (e ∷ es) d h = by_test (is_same d e.0) (with_one_more es d h) wh
   by_test false few = omega arith
 
 with_its_own : (ds : List (List ℕ × ℕ)) (x : Event) → length (with_event ds x) ≤ suc (length ds)
-with_its_own ds (Call n h d op) = with_one_more ds d h
+with_its_own ds (Call h n d op) = with_one_more ds d h
 with_its_own ds (Reply n r) = omega arith
 with_its_own ds (Lost n) = omega arith
 

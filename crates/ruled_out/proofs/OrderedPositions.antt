@@ -157,7 +157,7 @@ place_of_record x i p r of = by_found (place_found x.order r.no i p of.entry.at 
 pub called_before : (x : Explained) (i j : ℕ) (p r : Placed) (w c : Rec) (replied : ℕ) (reply : Answer) → IsRecordOf x i p w → IsRecordOf x j r c → c.heard ≡ Some (replied, reply)
     → i < j → w.call_at < replied
 called_before x i j p r w c replied reply of with_it heard before = by_order (cases_lt w.call_at replied) (cases_lt replied w.call_at) where
-  not_both : {m n h : ℕ} {d : List ℕ} {op : Op} {a : Answer} → Some (Reply m a) ≡ Some (Call n h d op) → ⊥
+  not_both : {m n h : ℕ} {d : List ℕ} {op : Op} {a : Answer} → Some (Reply m a) ≡ Some (Call h n d op) → ⊥
   not_both is = cc
 
   by_order : ((w.call_at < replied) ⊎ (replied ≤ w.call_at)) → ((replied < w.call_at) ⊎ (w.call_at ≤ replied)) → w.call_at < replied

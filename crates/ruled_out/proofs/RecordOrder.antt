@@ -40,7 +40,7 @@ record_is conflicts events d history i r at =
           );
     }
 
-not_both : {m n h : ℕ} {d : List ℕ} {op : Op} {a : Answer} → Some (Reply m a) ≡ Some (Call n h d op) → ⊥
+not_both : {m n h : ℕ} {d : List ℕ} {op : Op} {a : Answer} → Some (Reply m a) ≡ Some (Call h n d op) → ⊥
 not_both is = cc
 
 same_number : {m n : ℕ} {a b : Answer} → Some (Reply m a) ≡ Some (Reply n b) → m ≡ n

@@ -38,11 +38,11 @@ module _ (issued : Ticket → List ℕ → Op → Type 0) (gave : Ticket → Pro
       → BeginsTurn issued known k turn old list call → IsHeard issued gave polls call.ticket heard
       → EndsTurn call heard known list new after → TakesTurn issued gave polls known k turn old new after
   turn_taken known after k turn old list new call heard begins hears ends = record {
-    call = (call.no, Call call.no 0 (doc_name turn.doc) (op_of turn.kind (known turn.doc) k));
+    call = (call.no, Call 0 call.no (doc_name turn.doc) (op_of turn.kind (known turn.doc) k));
     ending = (ends.number, ending_of call.no heard);
     grows = ends.grows ∙ ap (λ xs. xs ++ (ends.number, ending_of call.no heard) ∷ []) begins.grows ∙ append_assoc old _ _;
     above = begins.above;
-    later = All-head (λ entry. entry.0 < ends.number) (call.no, Call call.no 0 (doc_name turn.doc) (op_of turn.kind (known turn.doc) k)) []
+    later = All-head (λ entry. entry.0 < ends.number) (call.no, Call 0 call.no (doc_name turn.doc) (op_of turn.kind (known turn.doc) k)) []
         (all_of_second (λ entry. entry.0 < ends.number) old _ (subst (λ xs. All (λ (entry : ℕ × Event). entry.0 < ends.number) xs) begins.grows ends.above));
     is_turn = record { called = refl; ended = ended heard hears };
     knows = ends.knows ∙ ap (λ doc. after_ending known doc (ending_of call.no heard)) begins.is_of;

@@ -31,7 +31,7 @@ after_reply known doc r = λ other. if other == doc then pair_of_reply r else kn
 
 -- what is known after the ending of a call of the document; a lost call leaves it
 abbrev pub after_ending : Known → ℕ → Event → Known
-after_ending known doc (Call n h d op) = known
+after_ending known doc (Call h n d op) = known
 after_ending known doc (Reply n r) = after_reply known doc r
 after_ending known doc (Lost n) = known
 
@@ -69,14 +69,14 @@ module _ (issued : Ticket → List ℕ → Op → Type 0) (gave : Ticket → Pro
 
   -- the event is the ending of the call numbered n, of that document and operation
   abbrev pub Ends : ℕ → List ℕ → Op → Event → Type 0
-  Ends n d op (Call m h e o) = ⊥
+  Ends n d op (Call h m e o) = ⊥
   Ends n d op (Reply m r) = (m ≡ n) × IsAnswered d op r
   Ends n d op (Lost m) = (m ≡ n) × IsUnanswered d op
 
   -- What is recorded of one turn: a call, which is numbered by its own number, of what is asked for at that turn, and its
   -- ending.
   pub record IsTurn (known : Known) (k : ℕ) (turn : Turn) (call ending : ℕ × Event) : Type 0 where
-    pub called : call.1 ≡ Call call.0 0 (doc_name turn.doc) (op_of turn.kind (known turn.doc) k)
+    pub called : call.1 ≡ Call 0 call.0 (doc_name turn.doc) (op_of turn.kind (known turn.doc) k)
     pub ended : Ends call.0 (doc_name turn.doc) (op_of turn.kind (known turn.doc) k) ending.1
 
   -- What is recorded of turns, one after the other, by a client that knows this before them; the write of the first of them

@@ -2,6 +2,7 @@ ghost use Rattle.std.specs.Prelude.{◌≡◌, ◌∷◌, ◌↔◌, IfOk, IsTru
 ghost use Rattle.doc_register.specs.declared.state.DocState.TheVariants.{Never};
 ghost use Rattle.write_chain.specs.Chain.{IsChain, Rises, after_link, performed_records};
 
+use crate::nearly_ordered::sort_nearly_ordered;
 use doc_register::{DocState, Op};
 use history::Rec;
 use std::alloc::Global;
@@ -25,7 +26,7 @@ pub fn chain_of(alloc: Global, records: &[Rec]) -> Result<Vec<(Pair, usize)>, No
     ensures { IfOk result (λ chain. IsChain records.now chain.items) }
 {
     let mut links = performed_by_pair(alloc, records)?;
-    links.sort_unstable();
+    sort_nearly_ordered(&mut links);
     Ok(links)
 }
 

@@ -7,5 +7,7 @@
 #![tactic(auto)]
 
 mod chain;
+mod nearly_ordered;
 
 pub use chain::{chain_of, pairs_of, rises, states_of};
+pub use nearly_ordered::sort_nearly_ordered;

@@ -18,7 +18,7 @@ pub record AreReplies (events : List Event) (n : ℕ) (places : List ℕ) : Type
 
 -- the places with that of one more event, where it is a reply
 abbrev pub places_with : Event → ℕ → List ℕ → List ℕ
-places_with (Call n h d op) p places = places
+places_with (Call h n d op) p places = places
 places_with (Reply n r) p places = places ++ p ∷ []
 places_with (Lost n) p places = places
 

@@ -1,8 +1,7 @@
 -- What a history keeps beside its events, and what that says of them: aids of its type and its contracts.
-use Rattle.std.specs.Prelude.{◌≡◌, ℕ, ◌≤◌, ◌<◌, ◌==◌, List, [], ◌∷◌, ◌++◌, length, Option, Some, None, Result, Ok, Err, Bool, false, option_and_then, Vec, cond, if◌then◌else◌, map, slice_get}
+use Rattle.std.specs.Prelude.{◌≡◌, ℕ, ◌≤◌, ◌<◌, ◌==◌, List, [], ◌∷◌, ◌++◌, length, Option, Some, None, Result, Ok, Err, Bool, false, option_and_then, cond, if◌then◌else◌, slice_get}
 use Rattle.std.specs.Map.{lookup}
 use Rattle.std.specs.Option.{option_map_or}
-use Rattle.std.specs.declared.alloc.Global.{Global}
 use Rattle.doc_register.specs.declared.reply.Reply.{Reply as Answer}
 use Rattle.doc_register.specs.Register.{fits}
 use Rattle.history.specs.declared.event.Event.{Event}
@@ -12,18 +11,14 @@ use Rattle.history.specs.declared.fault.HistFault.TheVariants.{Ended, NoCall}
 use Rattle.history.specs.Events.{IsHistory, PassesAt, documents_of, is_call, is_call_of, is_ending, is_same, place_of, places_from}
 use Rattle.history.specs.Refusal.{most_events, op_named, shard_of}
 
--- the lists in a vector of vectors
-abbrev pub lists_in : List (Vec ℕ Global) → List (List ℕ)
-lists_in vectors = map (λ (v : Vec ℕ Global). v.items) vectors
-
 -- the places of a document's calls
 abbrev pub calls_at : List Event → List ℕ → List ℕ
 calls_at events d = places_from 0 (is_call_of d) events
 
 -- The events are a history within its limit. The first index names the place of each call by its number, the second the
 -- place of the ending of the call at each place; the documents stand in the order of their first calls, each with its
--- shard, and the lists name the places of the calls of each.
-pub record AreIndexed (events : List Event) (calls : List (ℕ × ℕ)) (endings : List (Option ℕ)) (documents : List (List ℕ × ℕ)) (lists : List (List ℕ)) : Type 0 where
+-- shard, and the lists name the places of the calls of each, no more than there are events.
+pub record AreIndexed (events : List Event) (calls : List (ℕ × ℕ)) (endings : List (Option ℕ)) (documents : List (List ℕ × ℕ)) (lists : List (List ℕ)) (listed : ℕ) : Type 0 where
   pub history : IsHistory events
   pub few : length events ≤ most_events
   pub calls_found : (n : ℕ) → lookup (◌==◌ n) calls ≡ place_of (is_call n) events
@@ -33,6 +28,7 @@ pub record AreIndexed (events : List Event) (calls : List (ℕ × ℕ)) (endings
   pub shards_found : (d : List ℕ) → lookup (is_same d) documents ≡ shard_of events d
   pub in_order : documents ≡ documents_of events
   pub lists_size : length lists ≡ length documents
+  pub lists_few : listed ≤ length events
   pub lists_found : (k : ℕ) (d : List ℕ × ℕ) → slice_get documents k ≡ Some d → slice_get lists k ≡ Some (calls_at events d.0)
 
 -- the place is noted under the number, and each other number stays
@@ -56,7 +52,7 @@ open_call_of events n = opened (place_of (is_call n) events) (place_of (is_endin
 
 -- the event is an ending of the call at the place
 abbrev pub IsEndingOf : List Event → ℕ → Event → Type 0
-IsEndingOf events c (Call n h d op) = ⊥
+IsEndingOf events c (Call h n d op) = ⊥
 IsEndingOf events c (Reply n r) = PassesAt (is_call n) events c
 IsEndingOf events c (Lost n) = PassesAt (is_call n) events c
 

@@ -34,7 +34,7 @@ ReplyFits Conflict = Unit {0}
 
 -- the numbers of an event are below 2^64, and the id of a call has the length of one
 abbrev pub IsInRange : Event → Type 0
-IsInRange (Call n h d op) = (n < 2 ^ 64) × IsIdLength (length d) × OpFits op
+IsInRange (Call h n d op) = (n < 2 ^ 64) × IsIdLength (length d) × OpFits op
 IsInRange (Reply n r) = (n < 2 ^ 64) × ReplyFits r
 IsInRange (Lost n) = n < 2 ^ 64
 
@@ -50,6 +50,6 @@ pub record AreWritten (events : List Event) (old new : List ℕ) (es : List Even
 
 -- a reply's call is one of the events
 abbrev pub HasItsCall : List Event → Event → Type 0
-HasItsCall events (Call n h d op) = Unit {0}
+HasItsCall events (Call h n d op) = Unit {0}
 HasItsCall events (Reply n r) = IsSome (id_of events n)
 HasItsCall events (Lost n) = Unit {0}

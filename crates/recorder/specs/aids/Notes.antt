@@ -11,7 +11,7 @@ use Rattle.recorder.specs.Pens.{IsRising, PenState, events_in, is_ended, refusal
 
 -- the event under its number; a call is numbered by it, on shard 0
 abbrev pub numbered : Unnumbered → ℕ → Event
-numbered (bare.Call d op) n = Call n 0 d op
+numbered (bare.Call d op) n = Call 0 n d op
 numbered (bare.Reply m r) n = Reply m r
 numbered (bare.Lost m) n = Lost m
 
@@ -22,7 +22,7 @@ pub record NotesState : Type 0 where
 
 -- an event as it is recorded under the number n: a call is numbered so, on shard 0; an ending is of an earlier number
 abbrev pub IsEntryAt : ℕ → Event → Type 0
-IsEntryAt n (Call m h d op) = (m ≡ n) × (h ≡ 0)
+IsEntryAt n (Call h m d op) = (m ≡ n) × (h ≡ 0)
 IsEntryAt n (Reply m r) = m < n
 IsEntryAt n (Lost m) = m < n
 

@@ -27,7 +27,7 @@ ending_of n (Some r) = Reply n r
 
 -- The list is longer by the call of the turn, which is open: for what is asked for at that turn its ticket was issued.
 pub record BeginsTurn (issued : Ticket → List ℕ → Op → Type 0) (known : Known) (k : ℕ) (turn : Turn) (old new : List (ℕ × Event)) (call : OpenCall) : Type 0 where
-  pub grows : new ≡ old ++ (call.no, Call call.no 0 (doc_name turn.doc) (op_of turn.kind (known turn.doc) k)) ∷ []
+  pub grows : new ≡ old ++ (call.no, Call 0 call.no (doc_name turn.doc) (op_of turn.kind (known turn.doc) k)) ∷ []
   pub above : All (λ entry. entry.0 < call.no) old
   pub is_of : call.doc ≡ turn.doc
   pub was_issued : issued call.ticket (doc_name turn.doc) (op_of turn.kind (known turn.doc) k)

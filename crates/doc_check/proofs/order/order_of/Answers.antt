@@ -6,8 +6,8 @@ use Rattle.doc_check.proofs.order.order_of.Goals as goal
 
 pub returns : goal.returns
 returns c = (
-  c.sort_unstable.new.self.items,
-  subst (λ xs. IsPermutation xs c.sort_unstable.new.self.items) c.in_ok-standings.ensures c.sort_unstable.ensures.permutation,
-  c.sort_unstable.ensures.sorted,
-  c.loop-i.invariant ∙ ap (map place_of) (take_all c.loop-i.i c.sort_unstable.new.self.items (omega arith)),
+  c.sort_nearly_ordered.new.items.items,
+  subst (λ xs. IsPermutation xs c.sort_nearly_ordered.new.items.items) c.in_ok-standings.ensures c.sort_nearly_ordered.ensures.permutation,
+  c.sort_nearly_ordered.ensures.sorted,
+  c.loop-i.invariant ∙ ap (map place_of) (take_all c.loop-i.i c.sort_nearly_ordered.new.items.items (omega arith)),
 )

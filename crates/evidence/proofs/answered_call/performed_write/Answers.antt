@@ -7,7 +7,7 @@ returns-in_default c = λ d q w. call_none c.args.history.now c.args.no w.called
 
 pub returns-in_default-event : goal.returns-in_default-event
 returns-in_default-event c = λ d q w.
-    found_elsewhere c.args.history.now c.args.no c.in-Some.called c.event.result.now (sym c.call.ensures.place ∙ c.in-Some.is) c.event.ensures c.in_default-event.not-Call
+    found_elsewhere c.args.history.now c.args.no c.in-Some.called c.event.result.now (sym c.call.ensures.place ∙ c.in-Some.is) c.event.ensures (λ m h d op. c.in_default-event.not-Call h m d op)
 
 pub returns-in-Some-pair_taken : goal.returns-in-Some-pair_taken
 returns-in-Some-pair_taken c = record {

@@ -8,8 +8,8 @@ use Rattle.doc_check.proofs.stretches.Stretches.guess.Goals as goal
 
 pub returns-in-Found-clause-some : goal.returns-in-Found-clause-some
 returns-in-Found-clause-some c =
-    subst (λ reply. IfSome c.of_found.result (IsGuess (IsReadIn c.args.self.now.states.items c.args.found.op reply) c.args.bound)) (sym c.in-Found.is)
-    (found_guess c.args.self.now.states.items c.args.found.op c.in-Found.pair c.in-Found.k c.args.bound c.of_found.result c.of_found.ensures.some)
+    subst (λ reply. IfSome c.of_found.result (IsGuess (IsReadIn c.args.self.now.states.items c.args.found.now.op reply) c.args.bound)) (sym c.in-Found.is)
+    (found_guess c.args.self.now.states.items c.args.found.now.op c.in-Found.pair c.in-Found.k c.args.bound c.of_found.result c.of_found.ensures.some)
 
 pub returns-in-Missing-clause-some : goal.returns-in-Missing-clause-some
 returns-in-Missing-clause-some c =
@@ -18,10 +18,10 @@ returns-in-Missing-clause-some c =
     let within : c.args.bound < length c.args.self.now.states.items = c.requires.bound in
     let at : slice_get c.args.self.now.absent.items c.args.bound ≡ Some c.index.result.now =
     slice_get_read c.args.self.now.absent.items (length c.args.self.now.absent.items) c.args.bound c.index.result.now refl (omega arith) c.index.ensures in
-    subst (λ reply. IfSome c.index.result.now (IsGuess (IsReadIn c.args.self.now.states.items c.args.found.op reply) c.args.bound)) (sym c.in-Missing.is)
+    subst (λ reply. IfSome c.index.result.now (IsGuess (IsReadIn c.args.self.now.states.items c.args.found.now.op reply) c.args.bound)) (sym c.in-Missing.is)
     (entry_some c.args.self.now.states.items false c.args.self.now.absent.items c.args.bound c.index.result.now
-    (IsReadIn c.args.self.now.states.items c.args.found.op Missing) laid.absent within at
-    (missing_to c.args.self.now.states.items c.args.found.op) (missing_back c.args.self.now.states.items c.args.found.op))
+    (IsReadIn c.args.self.now.states.items c.args.found.now.op Missing) laid.absent within at
+    (missing_to c.args.self.now.states.items c.args.found.now.op) (missing_back c.args.self.now.states.items c.args.found.now.op))
 
 pub returns-in-Missing-clause-none : goal.returns-in-Missing-clause-none
 returns-in-Missing-clause-none c =
@@ -30,7 +30,7 @@ returns-in-Missing-clause-none c =
     let within : c.args.bound < length c.args.self.now.states.items = c.requires.bound in
     let at : slice_get c.args.self.now.absent.items c.args.bound ≡ Some c.index.result.now =
     slice_get_read c.args.self.now.absent.items (length c.args.self.now.absent.items) c.args.bound c.index.result.now refl (omega arith) c.index.ensures in
-    subst (λ reply. IfNone c.index.result.now (HoldsNowhere (IsReadIn c.args.self.now.states.items c.args.found.op reply) c.args.bound)) (sym c.in-Missing.is)
+    subst (λ reply. IfNone c.index.result.now (HoldsNowhere (IsReadIn c.args.self.now.states.items c.args.found.now.op reply) c.args.bound)) (sym c.in-Missing.is)
     (entry_none c.args.self.now.states.items false c.args.self.now.absent.items c.args.bound c.index.result.now
-    (IsReadIn c.args.self.now.states.items c.args.found.op Missing) laid.absent within at
-    (missing_to c.args.self.now.states.items c.args.found.op))
+    (IsReadIn c.args.self.now.states.items c.args.found.now.op Missing) laid.absent within at
+    (missing_to c.args.self.now.states.items c.args.found.now.op))
