@@ -120,7 +120,7 @@ fn id_and_condition(
     let name = action.id.required_text()?;
     let seq = action.seq.optional_number()?;
     let term = action.term.optional_number()?;
-    let id = document_id(alloc, name)?;
+    let id = document_id(name)?.to_id(alloc)?;
     let cond = pair_of_numbers(seq, term)?;
     Ok((id, cond))
 }
@@ -140,7 +140,7 @@ fn said_by(alloc: Global, action: &ActionFields<'_>) -> Result<ActionSaid, LineF
         }
         ActionName::Create => {
             let name = action.id.required_text()?;
-            let id = document_id(alloc, name)?;
+            let id = document_id(name)?.to_id(alloc)?;
             Ok(ActionSaid::Awaits(Awaited::Create { id }))
         }
     }

@@ -1,15 +1,13 @@
 ghost use Rattle.std.specs.Prelude.{◌≡◌};
-ghost use Rattle.api_lines.specs.Faults.{Gives};
 ghost use Rattle.api_lines.specs.Fields.{line_seen};
 ghost use Rattle.api_lines.specs.HistoryLines.{call_told, line_told, lost_told, op_numbers as numbers_of_line, op_told, reply_told, shard_told, status_told};
 
 use crate::fields::LineFields;
 use crate::ids::document_id;
 use crate::number::{Number, pair_of_numbers};
-use crate::text_fault::{LineFault, TextCause};
+use crate::text_fault::TextCause;
 use doc_register::Op;
-use std::alloc::Global;
-use version_pair::DocId;
+use version_pair::IdText;
 
 /// How many shards there are: they are numbered from 0.
 pub const SHARDS: u64 = 1024;
@@ -34,12 +32,12 @@ pub enum OpNumbers {
 
 /// What a line of a history text says by itself.
 #[derive(Debug, Drop)]
-pub enum LineSaid {
+pub enum LineSaid<'l> {
     /// A call with its number, its shard below 1,024, the document's id and the operation.
     Call {
         no: u64,
         shard: u32,
-        id: DocId,
+        id: IdText<'l>,
         op: Op,
     },
     /// A reply to the call with this number, with its status. What it tells is told by its body and its call.
@@ -127,15 +125,14 @@ fn status(number: Number) -> Result<u16, TextCause>
 }
 
 /// The call that a line says. Causes in their order: `Shape` for all fields that count, `Id`, `Half`, `Range`.
-/// `NoMemory` says nothing of the line.
-pub fn call_of(alloc: Global, line: &LineFields<'_>) -> Result<LineSaid, LineFault>
-    ensures { Gives result (call_told (line_seen line.now)) }
+pub fn call_of<'l>(line: &LineFields<'l>) -> Result<LineSaid<'l>, TextCause>
+    ensures { result ≡ call_told (line_seen line.now) }
 {
     let number = line.n.required_number()?;
     let name = line.id.required_text()?;
     let numbers = op_numbers(line)?;
     let named_shard = line.shard.optional_number()?;
-    let id = document_id(alloc, name)?;
+    let id = document_id(name)?;
     let op = numbers.op()?;
     let no = number.whole()?;
     let shard = shard(named_shard)?;
@@ -143,7 +140,7 @@ pub fn call_of(alloc: Global, line: &LineFields<'_>) -> Result<LineSaid, LineFau
 }
 
 /// The reply that a line says. Causes in their order: `Shape`, `Range`.
-pub fn reply_of(line: &LineFields<'_>) -> Result<LineSaid, TextCause>
+pub fn reply_of<'l>(line: &LineFields<'l>) -> Result<LineSaid<'l>, TextCause>
     ensures { result ≡ reply_told (line_seen line.now) }
 {
     let number = line.n.required_number()?;
@@ -154,7 +151,7 @@ pub fn reply_of(line: &LineFields<'_>) -> Result<LineSaid, TextCause>
 }
 
 /// The end without a reply that a line says. Causes in their order: `Shape`, `Range`.
-pub fn lost_of(line: &LineFields<'_>) -> Result<LineSaid, TextCause>
+pub fn lost_of<'l>(line: &LineFields<'l>) -> Result<LineSaid<'l>, TextCause>
     ensures { result ≡ lost_told (line_seen line.now) }
 {
     let number = line.n.required_number()?;
@@ -163,14 +160,14 @@ pub fn lost_of(line: &LineFields<'_>) -> Result<LineSaid, TextCause>
 }
 
 /// What a line of a history text says by itself. Causes in their order: `Shape` for all fields that count, also for an
-/// `e` or an `op` of an unknown text; `Id`, `Half`, `Range`. `NoMemory` says nothing of the line.
-pub fn line_said(alloc: Global, line: &LineFields<'_>) -> Result<LineSaid, LineFault>
-    ensures { Gives result (line_told (line_seen line.now)) }
+/// `e` or an `op` of an unknown text; `Id`, `Half`, `Range`.
+pub fn line_said<'l>(line: &LineFields<'l>) -> Result<LineSaid<'l>, TextCause>
+    ensures { result ≡ line_told (line_seen line.now) }
 {
     match line.e.required_text()? {
-        "call" => call_of(alloc, line),
-        "reply" => Ok(reply_of(line)?),
-        "lost" => Ok(lost_of(line)?),
-        _ => Err(LineFault::Told(TextCause::Shape)),
+        "call" => call_of(line),
+        "reply" => reply_of(line),
+        "lost" => lost_of(line),
+        _ => Err(TextCause::Shape),
     }
 }

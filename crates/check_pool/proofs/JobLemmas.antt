@@ -2,7 +2,7 @@
 use Rattle.std.proofs.Common.{◌≡◌, inl, inr, List, [], ◌∷◌, ◌++◌, length, sym, ap, ◌∙◌}
 use Rattle.check_pool.specs.declared.doc_job.DocJob.{DocJob}
 use Rattle.check_pool.specs.Answers.{AreNumbered}
-use Rattle.history.proofs.ListLemmas.{get_snoc}
+use Rattle.version_pair.proofs.ListLemmas.{get_snoc}
 
 -- one more job, whose number is its place
 pub AreNumbered-snoc : (jobs : List DocJob) (job : DocJob) → AreNumbered jobs → job.doc ≡ length jobs → AreNumbered (jobs ++ job ∷ [])

@@ -16,7 +16,7 @@ use Rattle.check_pool.specs.aids.Messages.{IsOfJob, IsSearched, Sent}
 use Rattle.check_pool.specs.aids.Slots.{AreEmpty, AreFilled, IsFirstEmpty, IsRefused}
 use Rattle.check_pool.proofs.Lists.{get-before, get-last, get-set}
 use Rattle.check_pool.proofs.MessageLemmas.{IsAnswerTo-from_about}
-use Rattle.history.proofs.ListLemmas.{get_snoc}
+use Rattle.version_pair.proofs.ListLemmas.{get_snoc}
 
 -- what is not some value is none
 pub none_from : {X : Type 0} (o : Option X) → ((x : X) → ¬ (o ≡ Some x)) → o ≡ None

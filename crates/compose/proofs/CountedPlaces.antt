@@ -19,7 +19,7 @@ use Rattle.compose.specs.Verdicts.{AreWitnesses}
 use Rattle.compose.proofs.Filtering.{rank, rank_at, rank_once}
 use Rattle.compose.proofs.Locality.{covers_explain}
 use Rattle.compose.proofs.Points.{call_place, called_there}
-use Rattle.history.proofs.ListLemmas.{mapped_from}
+use Rattle.version_pair.proofs.ListLemmas.{mapped_from}
 
 -- ---- the number of a placed call among all calls
 

@@ -12,7 +12,7 @@ use Rattle.history.specs.declared.event.Event.TheVariants.{Call}
 use Rattle.history.specs.declared.record.Rec.{Rec}
 use Rattle.history.specs.Events.{IsHistory, documents_of, records_of}
 use Rattle.history.specs.Order.{Explains, IsOfCall, Placed, run_of}
-use Rattle.history.proofs.ListLemmas.{mapped_from, same_some}
+use Rattle.version_pair.proofs.ListLemmas.{mapped_from, same_some}
 use Rattle.witness.specs.declared.place.Place.{Place}
 use Rattle.witness.specs.Places.{AreValid}
 use Rattle.witness.specs.Laws.{ArePlacedBy, TellsOf}

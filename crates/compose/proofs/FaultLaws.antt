@@ -1,6 +1,6 @@
 -- Entries that have a first fault are no cover.
 use Rattle.std.proofs.Common.{◌≡◌, ◌<◌, arith}
-use Rattle.history.proofs.ListLemmas.{get_take}
+use Rattle.version_pair.proofs.ListLemmas.{get_take}
 use Rattle.witness.proofs.WalkLemmas.{fault_not_valid}
 use Rattle.compose.specs.Laws.{FaultyAreNoCover}
 use Rattle.compose.specs.declared.verify_fault.VerifyFault.TheVariants as fault

@@ -3,7 +3,7 @@ use Rattle.std.proofs.Common.{ℕ, zero, suc, ◌≡◌, ◌<◌, ◌⊎◌, inl
 use Rattle.std.specs.Prelude.{filter}
 use Rattle.doc_check.proofs.Lists.{Has}
 use Rattle.evidence.proofs.FilterLemmas.{kept_from}
-use Rattle.history.proofs.ListLemmas.{compare, none_is_not_some, same_some}
+use Rattle.version_pair.proofs.ListLemmas.{compare, none_is_not_some, same_some}
 
 -- ---- all or none
 

@@ -2,7 +2,7 @@
 use Rattle.std.proofs.Common.{ℕ, zero, suc, ◌≡◌, ◌<◌, ◌+◌, ◌++◌, ◌⊎◌, inl, inr, List, [], ◌∷◌, length, refl, ap, ◌∙◌, arith, Some, slice_get}
 use Rattle.std.specs.Prelude.{flat_map}
 use Rattle.std.proofs.lemmas.Option.{slice_get_within}
-use Rattle.history.proofs.ListLemmas.{get_front, none_is_not_some, same_some}
+use Rattle.version_pair.proofs.ListLemmas.{get_front, none_is_not_some, same_some}
 
 -- ---- one list after another
 

@@ -8,7 +8,7 @@ use Rattle.doc_register.proofs.RunLemmas.{other_id}
 use Rattle.doc_register.specs.declared.state.Conflicts.{Conflicts}
 use Rattle.history.specs.declared.event.Event.{Event}
 use Rattle.history.specs.Events.{IsHistory, records_of}
-use Rattle.history.proofs.ListLemmas.{none_is_not_some, same_some}
+use Rattle.version_pair.proofs.ListLemmas.{none_is_not_some, same_some}
 use Rattle.witness.specs.Laws.{ArePlacedBy, ExplainsDocument}
 use Rattle.witness.specs.Places.{AreValid}
 use Rattle.witness.specs.Text.{DocPlaces}

@@ -11,7 +11,7 @@ use Rattle.history.specs.declared.event.Event.TheVariants.{Call}
 use Rattle.history.specs.Events.{IsCallAt, IsHistory, IsReplyAt, PassesAt, Precedes, is_call, records_of}
 use Rattle.history.specs.Order.{Explains, IsOfCall, Placed, run_of}
 use Rattle.history.proofs.HistoryLemmas.{answered_call, call_passes}
-use Rattle.history.proofs.ListLemmas.{same_some}
+use Rattle.version_pair.proofs.ListLemmas.{same_some}
 use Rattle.witness.specs.Laws.{ArePlacedBy}
 use Rattle.witness.specs.Text.{DocPlaces}
 use Rattle.compose.specs.Covers.{AreCover, IsEntered}

@@ -9,7 +9,7 @@ use Rattle.history.specs.declared.event.Event.TheVariants.{Call, Reply, Lost}
 use Rattle.history.specs.Events.{IsHistory, IsReplyAt, prefix}
 use Rattle.history.specs.Order.{IsPlainlyRight}
 use Rattle.history.specs.Laws.{LateCallsChangeNothing}
-use Rattle.history.proofs.ListLemmas.{get_front, get_snoc, none_is_not_some}
+use Rattle.version_pair.proofs.ListLemmas.{get_front, get_snoc, none_is_not_some}
 use Rattle.compose.specs.aids.Replies.{AreReplies, IsReplyPlace, IsWrongFrom, places_with}
 
 -- one event more that is no reply

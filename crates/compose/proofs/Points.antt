@@ -8,7 +8,7 @@ use Rattle.history.specs.declared.event.Event.{Event}
 use Rattle.history.specs.Events.{PassesAt, is_call, is_same}
 use Rattle.history.specs.Order.{IsOfCall, Placed, run_of}
 use Rattle.history.proofs.HistoryLemmas.{call_passes}
-use Rattle.history.proofs.ListLemmas.{none_is_not_some, same_some}
+use Rattle.version_pair.proofs.ListLemmas.{none_is_not_some, same_some}
 use Rattle.compose.specs.Laws.{part_of_order}
 use Rattle.compose.proofs.Filtering.{filter_made}
 use Rattle.compose.proofs.Sorting.{IsBelowAll, IsRising}

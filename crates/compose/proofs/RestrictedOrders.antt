@@ -19,7 +19,7 @@ use Rattle.history.specs.declared.event.Event.{Event}
 use Rattle.history.specs.Events.{IsCallAt, IsHistory, IsReplyAt, PassesAt, heard_of, is_call, is_same}
 use Rattle.history.specs.Order.{Explains, IsOfCall, Placed, Respects, run_of}
 use Rattle.history.proofs.HistoryLemmas.{call_passes}
-use Rattle.history.proofs.ListLemmas.{compare, mapped_from, none_is_not_some, same_some}
+use Rattle.version_pair.proofs.ListLemmas.{compare, mapped_from, none_is_not_some, same_some}
 use Rattle.witness.specs.Laws.{AllChange, ExplainsDocument}
 use Rattle.compose.specs.Laws.{is_kept, part_of_order, restricted}
 use Rattle.evidence.proofs.FilterLemmas.{kept_from, kept_order}

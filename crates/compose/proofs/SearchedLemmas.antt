@@ -6,7 +6,7 @@ use Rattle.doc_register.specs.declared.reply.Reply.{Reply as Answer}
 use Rattle.doc_register.specs.declared.state.Conflicts.{Conflicts}
 use Rattle.history.specs.declared.event.Event.{Event}
 use Rattle.history.specs.Events.{documents_of, records_of}
-use Rattle.history.proofs.ListLemmas.{mapped_from, none_is_not_some, same_some}
+use Rattle.version_pair.proofs.ListLemmas.{mapped_from, none_is_not_some, same_some}
 use Rattle.witness.specs.declared.place.Place.{Place}
 use Rattle.witness.specs.Documents.{witness_places}
 use Rattle.witness.specs.Places.{AreValid}

@@ -18,7 +18,7 @@ use Rattle.compose.proofs.ShardOrders.{one_shard, part_explained}
 use Rattle.compose.proofs.ShardParts.{has_call, part_call, precedes_in_part, reply_in_part, split_by_shard}
 use Rattle.compose.proofs.ShardRuns.{is_in, legal_all, run_in}
 use Rattle.compose.proofs.Sorting.{IsRising, rising_at}
-use Rattle.history.proofs.ListLemmas.{mapped_from}
+use Rattle.version_pair.proofs.ListLemmas.{mapped_from}
 
 -- ---- the calls of all shards
 

@@ -8,7 +8,7 @@ use Rattle.doc_check.proofs.Lists.{Has}
 use Rattle.doc_register.specs.declared.state.Conflicts.{Conflicts}
 use Rattle.history.specs.declared.event.Event.{Event}
 use Rattle.history.specs.Order.{Explains, IsLinearizable}
-use Rattle.history.proofs.ListLemmas.{none_is_not_some}
+use Rattle.version_pair.proofs.ListLemmas.{none_is_not_some}
 use Rattle.compose.specs.Shards.{part_of_shard}
 use Rattle.compose.proofs.Filtering.{filter_all, filter_none, in_either}
 use Rattle.compose.proofs.Points.{IsReached, Pointed, call_place, place_before, placed_at, placed_of, pointed, pointed_placed, pointed_rising, reached}

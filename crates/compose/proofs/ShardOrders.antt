@@ -8,7 +8,7 @@ use Rattle.doc_register.specs.Run.{Entry, IsLegalRun}
 use Rattle.history.specs.declared.event.Event.{Event}
 use Rattle.history.specs.Events.{IsCallAt, IsHistory, IsReplyAt, Precedes}
 use Rattle.history.specs.Order.{Explains, IsOfCall, Placed, run_of}
-use Rattle.history.proofs.ListLemmas.{compare, mapped_from}
+use Rattle.version_pair.proofs.ListLemmas.{compare, mapped_from}
 use Rattle.compose.specs.Shards.{concerns, part_of_shard}
 use Rattle.evidence.proofs.FilterLemmas.{kept_order}
 use Rattle.compose.proofs.Filtering.{filter_made, part_from, rank, rank_at, rank_rises, ranked_from}

@@ -10,7 +10,7 @@ use Rattle.history.specs.declared.event.Event.{Event}
 use Rattle.history.specs.declared.event.Event.TheVariants.{Call, Reply, Lost}
 use Rattle.history.specs.Events.{IsCallAt, IsHistory, IsReplyAt, PassesAt, Precedes, is_call, is_ending}
 use Rattle.history.proofs.HistoryLemmas.{call_at, call_passes, reply_passes}
-use Rattle.history.proofs.ListLemmas.{compare}
+use Rattle.version_pair.proofs.ListLemmas.{compare}
 use Rattle.compose.specs.Shards.{IsSplitByShard, concerns, is_call_on, part_of_shard}
 use Rattle.evidence.proofs.CallsByNumber.{same_shard}
 use Rattle.evidence.proofs.FilterLemmas.{kept_order}

@@ -10,7 +10,7 @@ use Rattle.version_pair.specs.declared.pair.Pair.{Pair}
 use Rattle.history.specs.declared.event.Event.{Event}
 use Rattle.history.specs.declared.record.Rec.{Rec}
 use Rattle.history.specs.Events.{documents_of, is_same, records_of}
-use Rattle.history.proofs.ListLemmas.{IsMadeAt, kept_at, kept_in_order, made_in_order, made_of, mapped_from, none_is_not_some, same_some}
+use Rattle.version_pair.proofs.ListLemmas.{IsMadeAt, kept_at, kept_in_order, made_in_order, made_of, mapped_from, none_is_not_some, same_some}
 use Rattle.witness.specs.declared.place.Place.{Place}
 use Rattle.witness.specs.Documents.{witness_places}
 use Rattle.witness.specs.Text.{DocPlaces}

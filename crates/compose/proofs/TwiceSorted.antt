@@ -9,7 +9,7 @@ use Rattle.std.proofs.lemmas.Option.{slice_get_within}
 use Rattle.version_pair.specs.declared.pair.Pair.{Pair}
 use Rattle.version_pair.specs.PairOrder.{IsBelow}
 use Rattle.version_pair.proofs.PairLemmas.{same_pair}
-use Rattle.history.proofs.ListLemmas.{get_within, same_some}
+use Rattle.version_pair.proofs.ListLemmas.{get_within, same_some}
 use Rattle.doc_check.proofs.Lists.{not_below, not_below_then, sorted_at}
 use Rattle.doc_register.proofs.RunLemmas.{not_both_below}
 use Rattle.compose.specs.VerifyFaults.{IsAtMost}

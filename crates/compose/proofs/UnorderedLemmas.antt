@@ -5,7 +5,7 @@ use Rattle.doc_register.specs.declared.state.Conflicts.{Conflicts}
 use Rattle.history.specs.declared.event.Event.{Event}
 use Rattle.history.specs.Events.{IsHistory, documents_of, records_of}
 use Rattle.history.specs.Order.{Placed}
-use Rattle.history.proofs.ListLemmas.{none_is_not_some, same_some}
+use Rattle.version_pair.proofs.ListLemmas.{none_is_not_some, same_some}
 use Rattle.witness.specs.declared.place.Place.{Place}
 use Rattle.witness.specs.Laws.{ExplainsDocument}
 use Rattle.witness.specs.Places.{AreValid}

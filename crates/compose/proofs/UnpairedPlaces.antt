@@ -14,7 +14,7 @@ use Rattle.history.specs.declared.record.Rec.{Rec}
 use Rattle.history.specs.Events.{IsHistory, IsReplyAt, heard_of, records_of}
 use Rattle.history.specs.Laws.{IsRecordAt}
 use Rattle.history.specs.Order.{reply_order}
-use Rattle.history.proofs.ListLemmas.{none_is_not_some}
+use Rattle.version_pair.proofs.ListLemmas.{none_is_not_some}
 use Rattle.history.proofs.OrderLemmas.{replied_of}
 use Rattle.history.proofs.RecordLaws.{split_by_document}
 use Rattle.witness.specs.declared.place.Place.{Place}

@@ -10,7 +10,7 @@ use Rattle.version_pair.specs.declared.pair.Pair.{Pair}
 use Rattle.doc_register.specs.declared.state.Conflicts.{Conflicts}
 use Rattle.history.specs.declared.event.Event.{Event}
 use Rattle.history.specs.Events.{documents_of, is_same, records_of}
-use Rattle.history.proofs.ListLemmas.{get_front, get_last, get_middle, get_snoc, get_within, same_some}
+use Rattle.version_pair.proofs.ListLemmas.{get_front, get_last, get_middle, get_snoc, get_within, same_some, slice_get-set_other, slice_get-set_same}
 use Rattle.witness.specs.Documents.{witness_places}
 use Rattle.witness.specs.Places.{AreValid}
 use Rattle.witness.specs.Text.{DocPlaces}
@@ -22,7 +22,6 @@ use Rattle.compose.specs.aids.Taken.{IsLeastTwice, pairs_taken}
 use Rattle.compose.specs.aids.Verified.{AreVerified, IsFaultOfDocument, IsFaultOfEntry, IsOpen, IsWitnessAt}
 use Rattle.compose.specs.declared.verify_fault.VerifyFault.{VerifyFault}
 use Rattle.compose.specs.declared.verify_fault.VerifyFault.TheVariants as fault
-use Rattle.history.proofs.SetLemmas.{slice_get-set_other, slice_get-set_same}
 use Rattle.compose.proofs.ListedDocuments.{documents_apart}
 use Rattle.compose.proofs.TakenPlaces.{AreOwn, taken_twice, twice_taken}
 use Rattle.compose.proofs.PositionLemmas.{position_found, position_none}

@@ -12,7 +12,7 @@ use Rattle.doc_register.proofs.RunLaws.{locality}
 use Rattle.history.specs.declared.event.Event.{Event}
 use Rattle.history.specs.Events.{IsCallAt, IsHistory, records_of}
 use Rattle.history.specs.Order.{IsOfCall, Placed, run_of}
-use Rattle.history.proofs.ListLemmas.{none_is_not_some, same_some}
+use Rattle.version_pair.proofs.ListLemmas.{none_is_not_some, same_some}
 use Rattle.witness.specs.Laws.{TellsOf}
 use Rattle.witness.specs.Text.{DocPlaces}
 use Rattle.witness.proofs.DocumentLaws.{told_by}

@@ -6,7 +6,7 @@ use Rattle.std.proofs.Math.Numerals.{add-one}
 use Rattle.doc_register.specs.declared.state.Conflicts.{Conflicts}
 use Rattle.history.specs.declared.event.Event.{Event}
 use Rattle.history.specs.Events.{documents_of, records_of}
-use Rattle.history.proofs.ListLemmas.{get_within, same_some, take_one_more}
+use Rattle.version_pair.proofs.ListLemmas.{get_within, same_some, take_one_more}
 use Rattle.doc_check.specs.Search.{FindsUnpaired, IsAbout}
 use Rattle.doc_check.specs.declared.search.DocAnswer.{DocAnswer}
 use Rattle.check_pool.specs.Answers.{AreAnswers, IsAnswerTo}

@@ -9,7 +9,7 @@ use Rattle.history.specs.declared.record.Rec.{Rec}
 use Rattle.std.specs.declared.cmp.Ordering.TheVariants.{Less, Equal, Greater}
 use Rattle.std.proofs.lemmas.Bool.{true≢false}
 use Rattle.std.proofs.lemmas.Option.{slice_get_within}
-use Rattle.history.proofs.ListLemmas.{compare, none_is_not_some, same_some}
+use Rattle.version_pair.proofs.ListLemmas.{compare, none_is_not_some, same_some}
 use Rattle.write_chain.specs.Chain.{IsChain, Rises, by_pair, link_at, pair_cmp, performed_records}
 use Rattle.history.specs.Heard.{pair_of}
 use Rattle.doc_check.proofs.Lists.{Has, KeyOnce, KeyRises, not_below_then, once_moved, same_rising, sorted_at}

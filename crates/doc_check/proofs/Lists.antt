@@ -10,7 +10,7 @@ use Rattle.std.proofs.lemmas.Cmp.{ranked}
 use Rattle.std.proofs.lemmas.List.Sorted.{IsPermutation-sym, Contains-permutation, ranks_by, sorted_far}
 use Rattle.std.proofs.lemmas.Map.Keys.{IsDistinct-IsPermutation, IsDistinct-from_apart, apart_from_distinct}
 use Rattle.std.proofs.lemmas.Option.{get_or_from_slice_get, slice_get-get_or, slice_get_within}
-use Rattle.history.proofs.ListLemmas.{compare, none_is_not_some, same_some}
+use Rattle.version_pair.proofs.ListLemmas.{compare, none_is_not_some, same_some}
 
 -- the element stands somewhere in the list
 abbrev pub Has : {X : Type 0} → List X → X → Type 0

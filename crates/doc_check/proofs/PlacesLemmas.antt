@@ -14,7 +14,7 @@ use Rattle.doc_register.specs.declared.state.DocState.TheVariants.{Never, Gone, 
 use Rattle.doc_register.specs.Register.{DocStep, Exceeds, Performs, performed_state}
 use Rattle.doc_register.proofs.RunLemmas.{below_new, leaves_pair, step_kind}
 use Rattle.history.specs.declared.record.Rec.{Rec}
-use Rattle.history.proofs.ListLemmas.{none_is_not_some, same_some}
+use Rattle.version_pair.proofs.ListLemmas.{none_is_not_some, same_some}
 use Rattle.witness.specs.declared.place.Place.{Place}
 use Rattle.witness.specs.Places.{AreValid, IsHeardBefore, IsPlaceOf, IsPlaceRun, StepsAt}
 use Rattle.doc_check.specs.NoOrders.{AreUnpaired}

@@ -9,7 +9,7 @@ use Rattle.doc_register.specs.declared.state.Conflicts.{Conflicts}
 use Rattle.doc_register.specs.declared.state.Conflicts.TheVariants.{Plain, Maybe}
 use Rattle.doc_register.specs.declared.state.DocState.{DocState}
 use Rattle.history.specs.declared.record.Rec.{Rec}
-use Rattle.history.proofs.ListLemmas.{none_is_not_some, same_some}
+use Rattle.version_pair.proofs.ListLemmas.{none_is_not_some, same_some}
 use Rattle.witness.specs.declared.place.Place.{Place}
 use Rattle.witness.specs.Places.{GivesAsMay, IsPlaceOf, IsPlaceRun, IsUnansweredGet, StepsAt}
 use Rattle.doc_check.specs.NoOrders.{SettledHaveNone}

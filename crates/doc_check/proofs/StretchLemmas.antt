@@ -23,7 +23,7 @@ use Rattle.doc_register.specs.declared.state.DocState.TheVariants.{Never, Gone, 
 use Rattle.doc_register.specs.Register.{HasPair, is_here, shown, performed_state}
 use Rattle.doc_register.proofs.RunLemmas.{not_below_itself}
 use Rattle.history.specs.declared.record.Rec.{Rec}
-use Rattle.history.proofs.ListLemmas.{compare, get_front, get_last, none_is_not_some, same_some}
+use Rattle.version_pair.proofs.ListLemmas.{compare, get_front, get_last, none_is_not_some, same_some}
 use Rattle.write_chain.specs.Chain.{Rises, after_link, pair_cmp, written}
 use Rattle.doc_check.specs.aids.Stretches.{AreLaidOut, HoldsNowhere, IsGuess, IsLatest, IsReadIn, IsTable, WriteFits, is_as_asked, is_so, latest_below, state_in, states_of}
 use Rattle.doc_check.specs.declared.stretches.Stretches.{Stretches}

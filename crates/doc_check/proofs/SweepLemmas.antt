@@ -7,8 +7,7 @@ use Rattle.std.proofs.lemmas.Option.{slice_get_within}
 use Rattle.version_pair.specs.declared.pair.Pair.{Pair}
 use Rattle.doc_register.specs.declared.reply.Reply.{Reply}
 use Rattle.history.specs.declared.record.Rec.{Rec}
-use Rattle.history.proofs.SetLemmas.{slice_get-set_other, slice_get-set_same}
-use Rattle.history.proofs.ListLemmas.{none_is_not_some, same_some}
+use Rattle.version_pair.proofs.ListLemmas.{none_is_not_some, same_some, slice_get-set_other, slice_get-set_same}
 use Rattle.witness.specs.declared.place.Place.{Place}
 use Rattle.history.specs.Heard.{pair_of}
 use Rattle.doc_check.specs.aids.Stretches.{Fits, cap}
@@ -72,9 +71,6 @@ call_behind t u x y (inr same) = absurd (false≢true (same.1 refl))
 at_most : (a b : Moment) → IsUpTo a b → a.0 ≤ b.0
 at_most a b (inl less) = omega arith
 at_most a b (inr same) = let equal : a.0 ≡ b.0 = same.0 in omega arith
-
-same_moment : (a b : Moment) → Some a ≡ Some b → a ≡ b
-same_moment a b same = same_some a b same
 
 kinds : (a b : Moment) → a.1 ≡ true → b.1 ≡ false → a ≡ b → ⊥
 kinds a b reply call same = true≢false (sym reply ∙ (ap (λ m. m.1) same ∙ call))
@@ -150,7 +146,7 @@ called_more records chain moments i given bound lowered t x stretch r are swept 
       lower = λ k u z s less met others. elim (below_suc k i less) as (λ _. (l : ℕ) × IsGiven given z l × (lowered ≤ cap (pair_of s.heard) l)) [
         | inl early ↦ let old = swept.lower k u z s early met others in let above : bound ≤ cap (pair_of s.heard) old.0 = old.2 in (old.0, old.1, (omega arith))
         | inr here ↦
-            let same : (t, false, x) ≡ (u, false, z) = same_moment (t, false, x) (u, false, z) (sym at ∙ (ap (slice_get moments) (sym here) ∙ met)) in
+            let same : (t, false, x) ≡ (u, false, z) = same_some {X = Moment} (t, false, x) (u, false, z) (sym at ∙ (ap (slice_get moments) (sym here) ∙ met)) in
             let rec_is : x ≡ z = ap (λ (m : Moment). m.2) same in
             let record_is : r ≡ s = same_some r s (sym names ∙ (ap (slice_get records) rec_is ∙ others)) in
             (stretch, subst (λ n. IsGiven given n stretch) rec_is is, subst (λ q. lowered ≤ cap (pair_of q.heard) stretch) record_is low)
@@ -158,7 +154,7 @@ called_more records chain moments i given bound lowered t x stretch r are swept 
       before = λ k u z y j l s q h less met others ys heard early yj zl. elim (below_suc k i less) as (λ _. j ≤ cap (pair_of s.heard) l) [
         | inl first ↦ swept.before k u z y j l s q h first met others ys heard early yj zl
         | inr here ↦
-            let same : (t, false, x) ≡ (u, false, z) = same_moment (t, false, x) (u, false, z) (sym at ∙ (ap (slice_get moments) (sym here) ∙ met)) in
+            let same : (t, false, x) ≡ (u, false, z) = same_some {X = Moment} (t, false, x) (u, false, z) (sym at ∙ (ap (slice_get moments) (sym here) ∙ met)) in
             let place : t ≡ u = ap (λ (m : Moment). m.0) same in
             let reply = swept.met y j yj in
             let of_reply : reply.1 ≡ h.0 = reply_place records reply.1 y q h (are.sound reply.0 (reply.1, true, y) reply.3) ys heard in
@@ -168,7 +164,7 @@ called_more records chain moments i given bound lowered t x stretch r are swept 
       met = λ y j yj. let old = swept.met y j yj in let less : old.0 < i = old.2 in (old.0, old.1, (omega arith), old.3);
       all_met = λ k u y less met. elim (below_suc k i less) as (λ _. (j : ℕ) × IsGiven given y j) [
         | inl early ↦ swept.all_met k u y early met
-        | inr here ↦ absurd (kinds (u, true, y) (t, false, x) refl refl (same_moment (u, true, y) (t, false, x) (sym met ∙ (ap (slice_get moments) here ∙ at))))
+        | inr here ↦ absurd (kinds (u, true, y) (t, false, x) refl refl (same_some {X = Moment} (u, true, y) (t, false, x) (sym met ∙ (ap (slice_get moments) here ∙ at))))
       ];
       latest = swept.latest;
       reached = elim one as (λ _. (lowered ≡ length chain) ⊎ ((k u z l : ℕ) × (s : Rec) × (k < suc i) × (slice_get moments k ≡ Some (u, false, z)) × (slice_get records z ≡ Some s)
@@ -196,7 +192,7 @@ replied_again records chain moments i given bound t y stretch swept at is = reco
   all_met = λ k u o less met. elim (below_suc k i less) as (λ _. (j : ℕ) × IsGiven given o j) [
     | inl early ↦ swept.all_met k u o early met
     | inr here ↦
-        let rec_is : y ≡ o = ap (λ (m : Moment). m.2) (same_moment (t, true, y) (u, true, o) (sym at ∙ (ap (slice_get moments) (sym here) ∙ met))) in
+        let rec_is : y ≡ o = ap (λ (m : Moment). m.2) (same_some {X = Moment} (t, true, y) (u, true, o) (sym at ∙ (ap (slice_get moments) (sym here) ∙ met))) in
         (stretch, subst (λ n. IsGiven given n stretch) rec_is is)
   ];
   latest = swept.latest;
@@ -209,7 +205,7 @@ replied_again records chain moments i given bound t y stretch swept at is = reco
   call_early : (k u z : ℕ) → k < suc i → slice_get moments k ≡ Some (u, false, z) → k < i
   call_early k u z less met = elim (below_suc k i less) as (λ _. k < i) [
     | inl early ↦ early
-    | inr here ↦ absurd (kinds (t, true, y) (u, false, z) refl refl (same_moment (t, true, y) (u, false, z) (sym at ∙ (ap (slice_get moments) (sym here) ∙ met))))
+    | inr here ↦ absurd (kinds (t, true, y) (u, false, z) refl refl (same_some {X = Moment} (t, true, y) (u, false, z) (sym at ∙ (ap (slice_get moments) (sym here) ∙ met))))
   ]
 
 -- at a reply of a record that has none it is given the latest that it fits
@@ -254,7 +250,7 @@ replied_first records chain moments i given bound t y stretch r are swept at nam
       all_met = λ k u z less met. elim (below_suc k i less) as (λ _. (j : ℕ) × IsGiven (set given y (Some stretch)) z j) [
         | inl early ↦ let old = swept.all_met k u z early met in (old.0, still_given z old.0 old.1)
         | inr here ↦
-            let rec_is : y ≡ z = ap (λ (m : Moment). m.2) (same_moment (t, true, y) (u, true, z) (sym at ∙ (ap (slice_get moments) (sym here) ∙ met))) in
+            let rec_is : y ≡ z = ap (λ (m : Moment). m.2) (same_some {X = Moment} (t, true, y) (u, true, z) (sym at ∙ (ap (slice_get moments) (sym here) ∙ met))) in
             (stretch, subst (λ n. IsGiven (set given y (Some stretch)) n stretch) rec_is (slice_get-set_same given y (Some stretch) (slice_get_within given y None none)))
       ];
       latest = λ places spread z j m is stands. elim (now_given z j is) as (λ _. m ≤ j) [
@@ -295,7 +291,7 @@ replied_first records chain moments i given bound t y stretch r are swept at nam
       call_early : (k u z : ℕ) → k < suc i → slice_get moments k ≡ Some (u, false, z) → k < i
       call_early k u z less met = elim (below_suc k i less) as (λ _. k < i) [
         | inl early ↦ early
-        | inr here ↦ absurd (kinds (t, true, y) (u, false, z) refl refl (same_moment (t, true, y) (u, false, z) (sym at ∙ (ap (slice_get moments) (sym here) ∙ met))))
+        | inr here ↦ absurd (kinds (t, true, y) (u, false, z) refl refl (same_some {X = Moment} (t, true, y) (u, false, z) (sym at ∙ (ap (slice_get moments) (sym here) ∙ met))))
       ]
 
 pub swept_more : (records : List Rec) (chain : List (Pair × ℕ)) (moments : List Moment) (i : ℕ) (given : List (Option ℕ)) (bound lowered stretch : ℕ) (m : Moment) (r : Rec)

@@ -72,7 +72,11 @@ fn sweep_order(alloc: Global, records: &[Rec]) -> Result<Option<Vec<Place>>, NoM
     }
     let stretches = Stretches::of(alloc, records, chain)?;
     match sweep(alloc, records, &stretches)? {
-        Some(given) => Ok(Some(order_of(alloc, records, &given)?)),
+        Some(given) => {
+            // The order doesn't need them, and what they take is as much as its own lists.
+            drop(stretches);
+            Ok(Some(order_of(alloc, records, &given)?))
+        }
         None => Ok(None),
     }
 }

@@ -4,6 +4,7 @@ use Rattle.std.specs.Cmp.Lexicographic.{pointwise, bytes_decides}
 use Rattle.std.proofs.lemmas.List.Elements.{Contains-append_cases, Contains-append_right}
 use Rattle.version_pair.specs.declared.pair.Pair.{Pair}
 use Rattle.version_pair.specs.PairOrder.{IsBelow}
+use Rattle.version_pair.proofs.ListLemmas.{none_is_not_some, same_some}
 use Rattle.doc_register.specs.declared.op.Op.{Op}
 use Rattle.doc_register.specs.declared.op.Op.TheVariants.{Get, Index, Delete, Create}
 use Rattle.doc_register.specs.declared.reply.Reply.{Reply}
@@ -34,23 +35,18 @@ step_decided s (Create k) r h t u a b = write_decided s (Create k) r h t u a b
 
 -- ---- the pairs of one document rise
 
-some_not_none : {X : Type 0} (x : X) → None ≡ Some x → ⊥
-some_not_none x h = cc
-
-same_some : {X : Type 0} (x y : X) → Some x ≡ Some y → x ≡ y
-same_some x y h = cc
-
 -- the pair of a step, where it takes one
 pub pair_performs : (s : DocState) (e : Entry) (t : DocState) (q : Pair) → pair_taken e.reply e.hidden ≡ Some q → IsKind s e.op e.reply e.hidden t → Performs s e.op q t
-pair_performs s e t q is (inl none) = absurd (some_not_none q (sym none.0 ∙ is))
+pair_performs s e t q is (inl none) = absurd (none_is_not_some q (sym none.0 ∙ is))
 pair_performs s e t q is (inr (p, at, w)) = subst (λ x. Performs s e.op x t) (same_some p q (sym at ∙ is)) w
 
-still_most : (s : DocState) (e : Entry) (t : DocState) (p : Pair) → AtMost p s → IsKind s e.op e.reply e.hidden t → AtMost p t
+-- a document's pair does not fall in a step of its own
+pub still_most : (s : DocState) (e : Entry) (t : DocState) (p : Pair) → AtMost p s → IsKind s e.op e.reply e.hidden t → AtMost p t
 still_most s e t p a (inl none) = subst (AtMost p) (sym none.1) a
 still_most s e t p a (inr (q, at, w)) = leaves_pair s e.op q t p w (inr (below_new p q s a w.rises))
 
 above : (es : List Entry) (s t : DocState) (p : Pair) → AtMost p s → IsDocRun s es t → (i : ℕ) (q : Pair) → IsPairAt es i q → IsBelow p q
-above [] s t p a run i q (e, at, is) = absurd (some_not_none e at)
+above [] s t p a run i q (e, at, is) = absurd (none_is_not_some e at)
 above (x ∷ es) s t p a (m, step, rest) zero q (e, at, is) =
     let same : x ≡ e = same_some x e at in
     let own : pair_taken x.reply x.hidden ≡ Some q = ap (λ (y : Entry). pair_taken y.reply y.hidden) same ∙ is in
@@ -58,7 +54,7 @@ above (x ∷ es) s t p a (m, step, rest) zero q (e, at, is) =
 above (x ∷ es) s t p a (m, step, rest) (suc i) q at = above es m t p (still_most s x m p a (step_kind s x.op x.reply x.hidden m step)) rest i q at
 
 rise : (es : List Entry) (s t : DocState) → IsDocRun s es t → (i j : ℕ) (p q : Pair) → i < j → IsPairAt es i p → IsPairAt es j q → IsBelow p q
-rise [] s t run i j p q l (e, at, is) b = absurd (some_not_none e at)
+rise [] s t run i j p q l (e, at, is) b = absurd (none_is_not_some e at)
 rise (x ∷ es) s t (m, step, rest) zero zero p q l a b = absurd (omega (arith, l))
 rise (x ∷ es) s t (m, step, rest) zero (suc j) p q l (e, at, is) b =
     let same : x ≡ e = same_some x e at in
@@ -99,7 +95,7 @@ run_decided es t u a b = runs_same es start start t u (λ d. refl) refl a b
 -- ---- no pair comes twice
 
 not_used : (es : List Entry) (s t : State) → IsRun s es t → (i : ℕ) (q : ℕ × Pair) → taken_at es i ≡ Some q → Contains s.used q → ⊥
-not_used [] s t run i q at c = some_not_none q at
+not_used [] s t run i q at c = none_is_not_some q at
 not_used (e ∷ es) s t (m, first, rest) zero q at c =
     let fresh : ¬ Contains s.used q = subst (λ o. IfSome o (λ x. ¬ Contains s.used x)) at first.unused in fresh c
 not_used (e ∷ es) s t (m, first, rest) (suc i) q at c =
@@ -111,7 +107,7 @@ now_used s e m q step at =
     subst (λ x. Contains x q) (sym is) (0, omega arith, refl)
 
 distinct : (es : List Entry) (s t : State) → IsRun s es t → PairsDistinct es
-distinct [] s t run i j q a b = absurd (some_not_none q a)
+distinct [] s t run i j q a b = absurd (none_is_not_some q a)
 distinct (e ∷ es) s t (m, first, rest) zero zero q a b = refl
 distinct (e ∷ es) s t (m, first, rest) zero (suc j) q a b = absurd (not_used es m t rest j q b (now_used s e m q first a))
 distinct (e ∷ es) s t (m, first, rest) (suc i) zero q a b = absurd (not_used es m t rest i q a (now_used s e m q first b))
@@ -127,7 +123,7 @@ same_state s m same used = λ i. record { document = λ d. same d i; used = used
 
 own_still : (s : DocState) (e : Entry) (t : DocState) → taken e ≡ None → IsKind s e.op e.reply e.hidden t → t ≡ s
 own_still s e t none (inl same) = same.1
-own_still s e t none (inr (q, at, w)) = absurd (some_not_none (e.shard, q) (sym none ∙ taken_of e (Some q) at))
+own_still s e t none (inr (q, at, w)) = absurd (none_is_not_some (e.shard, q) (sym none ∙ taken_of e (Some q) at))
 
 -- an entry that takes no pair leaves the state
 pub step_still : (s : State) (e : Entry) (m : State) → taken e ≡ None → Step s e m → m ≡ s

@@ -5,7 +5,7 @@ use Rattle.history.specs.declared.event.Event.{Event}
 use Rattle.history.specs.declared.event.Event.TheVariants.{Call}
 use Rattle.history.specs.Events.{IsCallAt, PassesAt, is_call, place_of}
 use Rattle.history.proofs.HistoryLemmas.{call_at, call_passes}
-use Rattle.history.proofs.ListLemmas.{none_is_not_some, same_some}
+use Rattle.version_pair.proofs.ListLemmas.{none_is_not_some, same_some}
 use Rattle.history.proofs.EventLemmas.{place_of-passes, same_call}
 
 -- ---- the first place at which a test passes

@@ -11,9 +11,9 @@ use Rattle.doc_register.specs.declared.state.DocState.TheVariants.{Gone, Here}
 use Rattle.doc_register.specs.Register.{DocStep, WriteStep, value_of}
 use Rattle.doc_register.specs.Run.{Entry, IsRun, State, Step, pair_taken}
 use Rattle.doc_register.proofs.RunLemmas.{AtMost, IsKind, below_new, leaves_pair, step_kind}
-use Rattle.doc_register.proofs.RunLaws.{pair_performs}
+use Rattle.doc_register.proofs.RunLaws.{pair_performs, still_most}
 use Rattle.history.specs.Events.{is_same}
-use Rattle.history.proofs.ListLemmas.{none_is_not_some, same_some}
+use Rattle.version_pair.proofs.ListLemmas.{none_is_not_some, same_some}
 
 -- the step of the document before which it has the pair or one above it
 pub record StepsAbove (q : Pair) (e : Entry) : Type 0 where
@@ -28,11 +28,6 @@ pub record StepsAbove (q : Pair) (e : Entry) : Type 0 where
 taken_most : (s : DocState) (e : Entry) (t : DocState) (q : Pair) → pair_taken e.reply e.hidden ≡ Some q → DocStep s e.op e.reply e.hidden t → AtMost q t
 taken_most s e t q is step = leaves_pair s e.op q t q (pair_performs s e t q is (step_kind s e.op e.reply e.hidden t step)) (inl refl)
 
--- a document's pair does not fall in a step of its own
-own_keeps : (s : DocState) (e : Entry) (t : DocState) (q : Pair) → AtMost q s → IsKind s e.op e.reply e.hidden t → AtMost q t
-own_keeps s e t q most (inl none) = subst (AtMost q) (sym none.1) most
-own_keeps s e t q most (inr (p, is, w)) = leaves_pair s e.op p t q w (inr (below_new q p s most w.rises))
-
 -- other documents stay in a step
 other_stays : (s : State) (e : Entry) (m : State) (d : List ℕ) → Step s e m → is_same e.doc d ≡ false → m.document d ≡ s.document d
 other_stays s e m d step is = step.others d (λ same. true≢false (sym ((bytes_decides e.doc d).1 (sym same)) ∙ is))
@@ -44,7 +39,7 @@ step_keeps s e m d q step most = by_test (is_same e.doc d) refl where
   by_test true is =
       let same : e.doc ≡ d = (bytes_decides e.doc d).0 is in
       subst (λ x. AtMost q (m.document x)) same
-      (own_keeps (s.document e.doc) e (m.document e.doc) q (subst (λ x. AtMost q (s.document x)) (sym same) most)
+      (still_most (s.document e.doc) e (m.document e.doc) q (subst (λ x. AtMost q (s.document x)) (sym same) most)
       (step_kind (s.document e.doc) e.op e.reply e.hidden (m.document e.doc) step.own))
   by_test false is = subst (AtMost q) (sym (other_stays s e m d step is)) most
 

@@ -19,7 +19,7 @@ use Rattle.history.specs.declared.event.Event.TheVariants.{Call, Reply}
 use Rattle.history.specs.Events.{IsCallAt, IsHistory, PassesAt, Precedes, heard_of, is_call}
 use Rattle.history.specs.Order.{Explains, IsLinearizable, IsOfCall, Placed, run_of}
 use Rattle.history.proofs.HistoryLemmas.{call_passes}
-use Rattle.history.proofs.ListLemmas.{mapped_from, none_is_not_some, same_some}
+use Rattle.version_pair.proofs.ListLemmas.{mapped_from, none_is_not_some, same_some}
 use Rattle.history.specs.Heard.{taken_by}
 use Rattle.evidence.specs.Evidence.{EvidenceRefutes, HasNoWriter, IsPairTwice, IsPerformed, IsStaleGet, IsStaleSwap, MayTake}
 use Rattle.evidence.specs.declared.refuted.Refuted.TheVariants as evidence

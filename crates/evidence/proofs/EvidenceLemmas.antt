@@ -13,7 +13,7 @@ use Rattle.history.specs.declared.event.Event.{Event}
 use Rattle.history.specs.declared.event.Event.TheVariants.{Call, Reply}
 use Rattle.history.specs.Events.{IsCallAt, IsHistory, IsReplyAt, PassesAt, Precedes, heard_of, is_call_of}
 use Rattle.history.proofs.HistoryLemmas.{call_passes, reply_passes}
-use Rattle.history.proofs.ListLemmas.{same_some}
+use Rattle.version_pair.proofs.ListLemmas.{same_some}
 use Rattle.history.specs.Heard.{taken_by}
 use Rattle.doc_register.specs.Register.{condition_of, value_of}
 use Rattle.evidence.specs.Evidence.{HasNoWriter, IsFound, IsPairTwice, IsPerformed, IsStaleGet, IsStaleSwap, IsWriter, MayTake}

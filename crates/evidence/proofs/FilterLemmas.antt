@@ -1,7 +1,7 @@
 -- Places among the elements that a test keeps, and places of what a function makes of each element.
 use Rattle.std.proofs.Common.{ℕ, zero, suc, ◌≡◌, ◌<◌, List, [], ◌∷◌, refl, sym, ap, ◌∙◌, arith, Bool, true, false, cond, Some, slice_get}
 use Rattle.std.specs.Prelude.{filter}
-use Rattle.history.proofs.ListLemmas.{none_is_not_some, same_some}
+use Rattle.version_pair.proofs.ListLemmas.{none_is_not_some, same_some}
 
 -- ---- what a test keeps
 

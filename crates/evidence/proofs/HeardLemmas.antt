@@ -9,7 +9,7 @@ use Rattle.history.specs.declared.record.Rec.{Rec}
 use Rattle.history.specs.Events.{IsCallAt, IsHistory, IsReplyAt, heard_of, is_call_of, places_from, record_at, record_from}
 use Rattle.history.specs.Laws.{IsRecordAt}
 use Rattle.history.proofs.HistoryLemmas.{answered_call}
-use Rattle.history.proofs.ListLemmas.{made_of, none_is_not_some, same_some}
+use Rattle.version_pair.proofs.ListLemmas.{made_of, none_is_not_some, same_some}
 use Rattle.history.proofs.RecordLaws.{split_by_document}
 use Rattle.history.proofs.EventLemmas.{same_call}
 

@@ -7,7 +7,7 @@ use Rattle.doc_register.specs.declared.state.Conflicts.{Conflicts}
 use Rattle.history.specs.declared.event.Event.{Event}
 use Rattle.history.specs.declared.record.Rec.{Rec}
 use Rattle.history.specs.Events.{IsHistory, documents_of, records_of}
-use Rattle.history.proofs.ListLemmas.{none_is_not_some, same_some}
+use Rattle.version_pair.proofs.ListLemmas.{none_is_not_some, same_some}
 use Rattle.ruled_out.specs.Told.{told}
 use Rattle.ruled_out.specs.Placings.{AreInOrder, IsRuledOutAt}
 use Rattle.ruled_out.proofs.RecordOrder.{records_in_order}

@@ -13,7 +13,7 @@ use Rattle.history.specs.Events.{HasShard, IsCallAt, IsHistory, PassesAt, is_cal
 use Rattle.history.specs.Refusal.{first_event, is_moved, most_events, op_named, op_of, refusal_of, shard_named, when_ended, when_full}
 use Rattle.history.proofs.EventLemmas.{element_passes, passes_element, passes_front, passes_within, place_of-none, place_of-passes, place_of-some}
 use Rattle.history.proofs.HistoryLemmas.{call_passes, history_after_call, history_after_lost, history_after_reply}
-use Rattle.history.proofs.ListLemmas.{get_front, get_middle, get_of_front}
+use Rattle.version_pair.proofs.ListLemmas.{get_front, get_middle, get_of_front}
 use Rattle.history.proofs.PushLemmas.{chosen, fitting, longer, op_of-call, shard_of-call, told, when_full_room}
 use Rattle.version_pair.proofs.TruthLemmas.{none_from_is_some}
 

@@ -2,6 +2,7 @@
 use Rattle.std.proofs.Common.{Bool, Err, List, None, Ok, Option, Result, Some, [], ap, append_assoc, arith, false, length, length-append, length-take-le, map, slice_get, suc, sym, take, true, ℕ, ◌++◌, ◌+◌, ◌<◌, ◌∙◌, ◌∷◌, ◌≡◌}
 use Rattle.std.specs.Prelude.{◌==◌, if◌then◌else◌}
 use Rattle.std.proofs.lemmas.Grind.{flat_map-append}
+use Rattle.version_pair.proofs.TruthLemmas.{err_is_not_ok, same_ok}
 use Rattle.doc_register.specs.declared.op.Op.{Op}
 use Rattle.serde_json.specs.Data.{Data}
 use Rattle.serde_json.specs.Written.{compact_text}
@@ -68,38 +69,32 @@ endings_next old text new first i items hs item h at heard within same before af
 
 -- ---- as many endings as calls
 
-ok_same : {X : Type 0} (x y : X) → ◌≡◌ {A = Result X BulkFault} (Ok x) (Ok y) → x ≡ y
-ok_same x y is = cc
-
-err_not_ok : {X P : Type 0} (e : BulkFault) (x : X) → Err e ≡ Ok x → P
-err_not_ok e x is = absurd (cc)
-
 items_heard : (i : ℕ) (so_far : List Heard) (calls : List (List ℕ × Op)) (vs : List Data) (hs : List Heard) → heard_items i so_far calls vs ≡ Ok hs
     → length hs ≡ length so_far + length calls
-items_heard i so_far [] vs hs is = let same : length so_far ≡ length hs = ap length (ok_same so_far hs is) in omega arith
-items_heard i so_far (call ∷ calls) [] hs is = err_not_ok Count hs is
+items_heard i so_far [] vs hs is = let same : length so_far ≡ length hs = ap length (same_ok so_far hs is) in omega arith
+items_heard i so_far (call ∷ calls) [] hs is = err_is_not_ok Count hs is
 items_heard i so_far (call ∷ calls) (v ∷ vs) hs is = by_item (heard_item i call v) (λ h. items_heard (suc i) (so_far ++ h ∷ []) calls vs hs) is where
   by_item : (r : Result Heard BulkFault) → ((h : Heard) → heard_items (suc i) (so_far ++ h ∷ []) calls vs ≡ Ok hs → length hs ≡ length (so_far ++ h ∷ []) + length calls)
       → (r >>= (λ h. heard_items (suc i) (so_far ++ h ∷ []) calls vs)) ≡ Ok hs → length hs ≡ length so_far + suc (length calls)
   by_item (Ok h) later is =
       let rest = later h is in
       let longer : length (so_far ++ h ∷ []) ≡ length so_far + 1 = length-append so_far (h ∷ []) in omega arith
-  by_item (Err fault) later is = err_not_ok fault hs is
+  by_item (Err fault) later is = err_is_not_ok fault hs is
 
 pub as_many_heard : (items : List (List ℕ × Op)) (status : ℕ) (reply : List ℕ) (hs : List Heard) → bulk_reply items status reply ≡ Ok hs → length hs ≡ length items
 as_many_heard items status reply hs is = by_status (status == 200) is where
   by_count : (vs : List Data) (b : Bool) → (if b then heard_items 0 [] items vs else Err Count) ≡ Ok hs → length hs ≡ length items
   by_count vs true is = let same : length hs ≡ 0 + length items = items_heard 0 [] items vs hs is in omega arith
-  by_count vs false is = err_not_ok Count hs is
+  by_count vs false is = err_is_not_ok Count hs is
 
   by_array : (o : Option (List Data)) → heard_array items o ≡ Ok hs → length hs ≡ length items
-  by_array None is = err_not_ok Count hs is
+  by_array None is = err_is_not_ok Count hs is
   by_array (Some vs) is = by_count vs (length vs == length items) is
 
   by_json : (o : Option Data) → heard_json items o ≡ Ok hs → length hs ≡ length items
-  by_json None is = err_not_ok (Syntax 1) hs is
+  by_json None is = err_is_not_ok (Syntax 1) hs is
   by_json (Some v) is = by_array (items_in v) is
 
   by_status : (b : Bool) → (if b then heard_json items (json_value reply) else Ok (map (λ call. Unknown) items)) ≡ Ok hs → length hs ≡ length items
   by_status true is = by_json (json_value reply) is
-  by_status false is = ap length (sym (ok_same (map (λ (call : List ℕ × Op). Unknown) items) hs is)) ∙ length-map items (λ (call : List ℕ × Op). Unknown)
+  by_status false is = ap length (sym (same_ok (map (λ (call : List ℕ × Op). Unknown) items) hs is)) ∙ length-map items (λ (call : List ℕ × Op). Unknown)

@@ -12,7 +12,7 @@ use Rattle.std.proofs.lemmas.Cmp.{ranked}
 use Rattle.std.proofs.lemmas.List.Sorted.{IsNonDecreasingBy-from_default}
 use Rattle.history.specs.aids.CallPlaces.{AreBelow, AreFoundAlike, AreRising, number_at}
 use Rattle.history.specs.aids.Indexes.{IsNotedAt}
-use Rattle.history.proofs.ListLemmas.{none_is_not_some}
+use Rattle.version_pair.proofs.ListLemmas.{none_is_not_some}
 
 -- ---- what a search by halves finds
 

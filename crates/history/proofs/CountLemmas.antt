@@ -9,7 +9,7 @@ use Rattle.history.specs.declared.event.Event.{Event}
 use Rattle.history.specs.declared.event.Event.TheVariants.{Call, Reply, Lost}
 use Rattle.history.specs.declared.record.Rec.{Rec}
 use Rattle.history.specs.Events.{is_any_call, is_call_of, is_same, places_from, record_at, records_of}
-use Rattle.history.proofs.ListLemmas.{take_one_more}
+use Rattle.version_pair.proofs.ListLemmas.{take_one_more}
 
 -- ---- distinct numbers
 

@@ -4,7 +4,7 @@ use Rattle.std.specs.List.Sorted.{IsPartitionPoint, IsPartitionedBy}
 use Rattle.std.proofs.lemmas.Bool.{both_ways, le-ltb, lt-ltb, ltb-true}
 use Rattle.std.proofs.lemmas.Option.{slice_get-get_or}
 use Rattle.history.specs.aids.Documents.{IsCutAt}
-use Rattle.history.proofs.ListLemmas.{compare, get_within}
+use Rattle.version_pair.proofs.ListLemmas.{compare, get_within}
 
 -- the item at a place passes just where the place is before the cut
 passes_at : {X : Type 0} (p : X → Bool) (xs : List X) (m : ℕ) → IsCutAt p xs m → (j : ℕ) (d : X) → j < length xs → p (get_or xs j d) ≡ nat_lt j m

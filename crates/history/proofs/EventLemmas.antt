@@ -6,7 +6,7 @@ use Rattle.history.specs.declared.event.Event.{Event}
 use Rattle.history.specs.declared.event.Event.TheVariants.{Call}
 use Rattle.history.specs.Events.{IsCallAt, PassesAt, place_of}
 use Rattle.doc_register.specs.declared.op.Op.{Op}
-use Rattle.history.proofs.ListLemmas.{get_front, get_snoc, same_some}
+use Rattle.version_pair.proofs.ListLemmas.{get_front, get_snoc, none_is_not_some, same_some}
 
 -- ---- events that pass a test
 
@@ -42,13 +42,10 @@ pub place_of-front : (t : Event → Bool) (xs ys : List Event) (i : ℕ) → pla
 place_of-front t [] ys i h = let impossible : None ≡ Some i = h in cc
 place_of-front t (x ∷ xs) ys i h = step_front (t x) (place_of t xs) (place_of t (xs ++ ys)) i h (λ j e. place_of-front t xs ys j e)
 
-some_is_not_none : (j : ℕ) → Some j ≡ None → ⊥
-some_is_not_none j h = cc
-
 step_none : (b : Bool) (p : Option ℕ) → (if b then Some 0 else option_map suc p) ≡ None → (b ≡ false) × (p ≡ None)
-step_none true p h = absurd (some_is_not_none 0 h)
+step_none true p h = absurd (none_is_not_some 0 (sym h))
 step_none false None h = (refl, refl)
-step_none false (Some j) h = absurd (some_is_not_none (suc j) h)
+step_none false (Some j) h = absurd (none_is_not_some (suc j) (sym h))
 
 step_last : (b c : Bool) (p : Option ℕ) (n : ℕ) → b ≡ false → p ≡ (if c then Some n else None) → (if b then Some 0 else option_map suc p) ≡ (if c then Some (suc n) else None)
 step_last true c p n e h = let impossible : true ≡ false = e in cc

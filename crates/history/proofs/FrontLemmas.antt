@@ -13,7 +13,7 @@ use Rattle.history.specs.Events.{PassesAt, documents_of, is_call_of, is_same, pl
 use Rattle.history.specs.aids.Fronts.{starts_below, when_below}
 use Rattle.history.specs.aids.Indexes.{calls_at}
 use Rattle.history.specs.aids.Documents.{IsCutAt}
-use Rattle.history.proofs.ListLemmas.{get_front, get_of_front, get_within, none_is_not_some, same_some}
+use Rattle.version_pair.proofs.ListLemmas.{get_front, get_of_front, get_within, none_is_not_some, same_some}
 use Rattle.history.proofs.ListedLemmas.{distinct_place, documents_distinct, first_position, later_position}
 use Rattle.history.proofs.PrefixLaws.{in_front_or_back}
 use Rattle.history.proofs.RecordLaws.{place_listed, place_passes}

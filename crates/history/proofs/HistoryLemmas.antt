@@ -8,7 +8,7 @@ use Rattle.doc_register.specs.Register.{fits}
 use Rattle.history.specs.declared.event.Event.{Event}
 use Rattle.history.specs.declared.event.Event.TheVariants.{Call, Reply, Lost}
 use Rattle.history.specs.Events.{IsCallAt, IsReplyAt, IsHistory, PassesAt, is_call, is_ending}
-use Rattle.history.proofs.ListLemmas.{get_snoc}
+use Rattle.version_pair.proofs.ListLemmas.{get_snoc}
 use Rattle.history.proofs.EventLemmas.{element_passes, passes_element, passes_within, passes_front, passes_snoc}
 
 -- a call is an event that is that call

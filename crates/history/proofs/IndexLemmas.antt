@@ -6,7 +6,7 @@ use Rattle.std.proofs.lemmas.Bool.{eqb-true}
 use Rattle.history.specs.declared.event.Event.{Event}
 use Rattle.history.specs.Events.{place_of}
 use Rattle.history.specs.Refusal.{first_event}
-use Rattle.history.proofs.ListLemmas.{get_front, get_last, none_is_not_some}
+use Rattle.version_pair.proofs.ListLemmas.{get_front, get_last, none_is_not_some}
 use Rattle.history.proofs.EventLemmas.{passes_element, place_of-front, place_of-last, place_of-passes}
 
 -- ---- places by number

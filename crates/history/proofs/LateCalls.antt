@@ -16,7 +16,7 @@ use Rattle.history.specs.aids.Fronts.{when_below}
 use Rattle.history.proofs.EventLemmas.{passes_element, place_of-some, place_of-passes}
 use Rattle.history.proofs.FrontLemmas.{place_of_front}
 use Rattle.history.proofs.HistoryLemmas.{reply_passes}
-use Rattle.history.proofs.ListLemmas.{get_take, none_is_not_some, take_get}
+use Rattle.version_pair.proofs.ListLemmas.{get_take, none_is_not_some, take_get}
 
 -- what two functions keep of elements on which they agree
 same_kept : {X Y : Type 0} (f g : X → Option Y) (xs : List X) → ((i : ℕ) (x : X) → slice_get xs i ≡ Some x → f x ≡ g x) → filter_map f xs ≡ filter_map g xs

@@ -8,7 +8,7 @@ use Rattle.doc_register.proofs.RunLaws.{leaving_out}
 use Rattle.history.specs.Events.{IsReplyAt}
 use Rattle.history.specs.Order.{Placed, run_of}
 use Rattle.history.specs.Laws.{UnansweredLeftOut}
-use Rattle.history.proofs.ListLemmas.{same_some}
+use Rattle.version_pair.proofs.ListLemmas.{same_some}
 
 -- the place, in the list with one more element after the front, of what stands at a place of the list without it
 abbrev moved : {X : Type 0} → List X → ℕ → ℕ

@@ -1,5 +1,3 @@
-pub mod ListLemmas
-pub mod SetLemmas
 pub mod EventLemmas
 pub mod HistoryLemmas
 mod IndexLemmas
@@ -22,7 +20,7 @@ mod AcceptedEvents
 mod TextLaws
 mod ListedLemmas
 mod OpenCalls
-mod PlaceLemmas
+pub mod PlaceLemmas
 mod WrittenText
 mod BulkTextLemmas
 mod CutLemmas

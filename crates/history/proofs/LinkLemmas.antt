@@ -2,13 +2,13 @@
 use Rattle.std.proofs.Common.{ℕ, zero, suc, ◌≡◌, ◌<◌, ◌≤◌, ◌+◌, ◌⊎◌, List, [], ◌∷◌, ◌++◌, length, length-append, append-nil, map, refl, sym, ap, subst, ◌∙◌, inl, inr, arith, Some, slice_get, nat_lt, add-one}
 use Rattle.std.specs.Prelude.{set, reverse, option_map}
 use Rattle.std.specs.Option.{option_map_or}
-use Rattle.std.proofs.lemmas.List.{length-map, map-set, reverse-append}
+use Rattle.std.proofs.lemmas.List.{length-map, map-append, map-set, reverse-append}
 use Rattle.std.proofs.lemmas.Option.{slice_get-map}
 use Rattle.history.specs.declared.documents.Ends.{Ends}
 use Rattle.history.specs.declared.documents.Link.{Link}
 use Rattle.history.specs.aids.Documents.{AreCalls, AreLinked, IsCutAt, places_back, places_of}
 use Rattle.history.specs.aids.Fronts.{starts_below}
-use Rattle.history.proofs.ListLemmas.{get_front, get_last, get_snoc, get_within, same_some}
+use Rattle.version_pair.proofs.ListLemmas.{from_set, get_front, get_last, get_snoc, get_within, same_some}
 
 -- each link leads to a link
 abbrev LeadBack : List Link → Type 0
@@ -79,20 +79,13 @@ back_more links new back within i link at =
       | inr last ↦ (let same : new.before ≡ link.before = ap (λ (l : Link). l.before) last.1 in simp length-append (omega arith))
     ]
 
-set_cases : {X : Type 0} (xs : List X) (k : ℕ) (x : X) (j : ℕ) (y : X) → slice_get (set xs k x) j ≡ Some y → (x ≡ y) ⊎ (slice_get xs j ≡ Some y)
-set_cases [] k x j y at = inr at
-set_cases (z ∷ zs) zero x zero y at = inl (same_some x y at)
-set_cases (z ∷ zs) zero x (suc j) y at = inr at
-set_cases (z ∷ zs) (suc k) x zero y at = inr at
-set_cases (z ∷ zs) (suc k) x (suc j) y at = set_cases zs k x j y at
-
 pub linked_more : (links : List Link) (ends : List Ends) (k place : ℕ) (calls : Ends) → AreLinked links ends → slice_get ends k ≡ Some calls
     → AreLinked (links ++ link_to place calls ∷ []) (set ends k (one_more links calls))
 linked_more links ends k place calls old here = record {
   back = back_more links (link_to place calls) old.back (let below : calls.last < length links = (old.calls k calls here).last in omega arith);
-  calls = λ j c at. elim (set_cases ends k (one_more links calls) j c at) as (λ _. AreCalls (links ++ link_to place calls ∷ []) c) [
-    | inl new ↦ subst (AreCalls (links ++ link_to place calls ∷ [])) new (calls_more links calls place old.back (old.calls k calls here))
-    | inr kept ↦ calls_front links (link_to place calls) c old.back (old.calls j c kept)
+  calls = λ j c at. elim (from_set ends k j (one_more links calls) c at) as (λ _. AreCalls (links ++ link_to place calls ∷ []) c) [
+    | inl new ↦ subst (AreCalls (links ++ link_to place calls ∷ [])) (sym new.1) (calls_more links calls place old.back (old.calls k calls here))
+    | inr kept ↦ calls_front links (link_to place calls) c old.back (old.calls j c kept.1)
   ];
 }
 
@@ -131,14 +124,10 @@ linked_new links ends place old = record {
   ];
 }
 
-map_snoc : {X Y : Type 0} (f : X → Y) (xs : List X) (x : X) → map f (xs ++ x ∷ []) ≡ map f xs ++ f x ∷ []
-map_snoc f [] x = refl
-map_snoc f (y ∷ xs) x = ap (λ ys. f y ∷ ys) (map_snoc f xs x)
-
 pub listed_with_new : (links : List Link) (ends : List Ends) (place : ℕ) → AreLinked links ends
     → map (places_of (links ++ first_link links place ∷ [])) (ends ++ first_call links place ∷ []) ≡ map (places_of links) ends ++ (place ∷ []) ∷ []
 listed_with_new links ends place old =
-    map_snoc (places_of (links ++ first_link links place ∷ [])) ends (first_call links place)
+    map-append (places_of (links ++ first_link links place ∷ [])) ends (first_call links place ∷ [])
     ∙ (ap (λ ls. ls ++ places_of (links ++ first_link links place ∷ []) (first_call links place) ∷ []) (map_front links (first_link links place) old.back ends old.calls)
     ∙ ap (λ ps. map (places_of links) ends ++ ps ∷ []) (places_new links place))
 

@@ -10,10 +10,9 @@ use Rattle.history.specs.declared.event.Event.{Event}
 use Rattle.history.specs.declared.event.Event.TheVariants.{Call, Reply, Lost}
 use Rattle.history.specs.Events.{IsHistory, PassesAt, documents_of, is_call, is_call_of, is_ending, is_same, place_of, with_document, with_event}
 use Rattle.history.specs.aids.Indexes.{calls_at, with_listed}
-use Rattle.history.proofs.SetLemmas.{slice_get-set_other, slice_get-set_same}
 use Rattle.history.proofs.DocumentLemmas.{lookup_with}
 use Rattle.history.proofs.EventLemmas.{passes_element, passes_snoc, passes_within, place_of-front, place_of-last, place_of-none, place_of-passes}
-use Rattle.history.proofs.ListLemmas.{get_front, get_last, none_is_not_some, same_some}
+use Rattle.version_pair.proofs.ListLemmas.{get_front, get_last, none_is_not_some, same_some, slice_get-set_other, slice_get-set_same}
 use Rattle.history.proofs.RecordLemmas.{places_snoc}
 
 -- ---- no document twice

@@ -13,7 +13,7 @@ use Rattle.history.specs.Events.{IsHistory, PassesAt, heard_at, heard_of, is_cal
 use Rattle.history.specs.Refusal.{is_moved, most_events, op_named, op_of, reason_told, refusal_of, when_ended, when_full}
 use Rattle.history.specs.aids.Indexes.{is_answerable, open_call_of, opened}
 use Rattle.history.proofs.EventLemmas.{element_passes, passes_element, passes_within, place_of-none, place_of-passes}
-use Rattle.history.proofs.ListLemmas.{none_is_not_some, same_some}
+use Rattle.version_pair.proofs.ListLemmas.{none_is_not_some, same_some}
 
 -- the places of a call that is opens
 pub open_places : (H : List Event) (n i : ℕ) → open_call_of H n ≡ Ok i → (place_of (is_call n) H ≡ Some i) × (place_of (is_ending n) H ≡ None)

@@ -9,7 +9,7 @@ use Rattle.history.specs.declared.event.Event.{Event}
 use Rattle.history.specs.declared.event.Event.TheVariants.{Call, Reply, Lost}
 use Rattle.history.specs.Events.{IsHistory, IsReplyAt, PassesAt, is_call, is_ending, place_of}
 use Rattle.history.specs.Order.{Explains, IsOfCall, Placed, Respects, answered_by, call_with, placed_with, reply_order, run_of}
-use Rattle.history.proofs.ListLemmas.{IsMadeAt, compare, kept_at, kept_in_order, made_in_order, made_of, none_is_not_some, same_some}
+use Rattle.version_pair.proofs.ListLemmas.{IsMadeAt, compare, kept_at, kept_in_order, made_in_order, made_of, none_is_not_some, same_some}
 use Rattle.history.proofs.EventLemmas.{passes_element, place_of-passes, place_of-some}
 use Rattle.history.proofs.HistoryLemmas.{reply_passes}
 

@@ -10,7 +10,7 @@ use Rattle.history.specs.Events.{HasShard, IsHistory}
 use Rattle.history.specs.Refusal.{most_events, reason_told, refusal_of}
 use Rattle.history.specs.Seen.{pair_named, seen_in, seen_with}
 use Rattle.history.proofs.AcceptedEvents.{IsNext, accepted}
-use Rattle.history.proofs.ListLemmas.{take_one_more}
+use Rattle.version_pair.proofs.ListLemmas.{take_one_more}
 
 -- the first i + 1 items are the first i, then the item at i
 pub take_next : {X : Type 0} (xs : List X) (i : ℕ) (x : X) → slice_get xs i ≡ Some x → take (i + 1) xs ≡ take i xs ++ x ∷ []

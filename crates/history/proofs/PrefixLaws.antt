@@ -11,7 +11,7 @@ use Rattle.history.specs.declared.event.Event.TheVariants.{Call, Reply, Lost}
 use Rattle.history.specs.Events.{IsHistory, IsReplyAt, PassesAt, Precedes, place_of}
 use Rattle.history.specs.Order.{Explains, IsOfCall, Placed, run_of}
 use Rattle.history.specs.Laws.{PrefixesStay}
-use Rattle.history.proofs.ListLemmas.{get_front, get_take, none_is_not_some, same_some, take_get}
+use Rattle.version_pair.proofs.ListLemmas.{get_front, get_take, none_is_not_some, same_some, take_get}
 use Rattle.history.proofs.EventLemmas.{passes_element, element_passes, place_of-passes, place_of-some}
 use Rattle.history.proofs.HistoryLemmas.{call_passes}
 

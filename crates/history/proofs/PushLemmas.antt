@@ -21,22 +21,19 @@ use Rattle.history.proofs.EventLemmas.{passes_element, element_passes, place_of-
 use Rattle.history.proofs.HistoryLemmas.{history_after_call, history_after_reply, history_after_lost}
 use Rattle.history.proofs.IndexLemmas.{found_after, found_still, first_front, first_last, first_none}
 use Rattle.history.proofs.DocumentLemmas.{lookup_with}
-use Rattle.history.proofs.ListLemmas.{get_snoc, none_is_not_some}
+use Rattle.version_pair.proofs.ListLemmas.{get_snoc, none_is_not_some}
 use Rattle.history.proofs.ListedLemmas.{AreDistinct, documents_distinct, endings_after_call, endings_after_ending, lists_after, lists_still}
 use Rattle.version_pair.proofs.TruthLemmas.{none_from_is_some}
 
 -- ---- what the refusals rule out
 
-some_not_none : {X : Type 0} (x : X) → Some x ≡ None → ⊥
-some_not_none x h = cc
-
 pub chosen : {X : Type 0} (b : Bool) (f : X) (r : Option X) → (if b then Some f else r) ≡ None → (b ≡ false) × (r ≡ None)
-chosen true f r h = absurd (some_not_none f h)
+chosen true f r h = absurd (none_is_not_some f (sym h))
 chosen false f r h = (refl, h)
 
 room : (b : Bool) → (if b then None else Some Full) ≡ None → b ≡ true
 room true h = refl
-room false h = absurd (some_not_none Full h)
+room false h = absurd (none_is_not_some Full (sym h))
 
 pub when_full_room : (H : List Event) → when_full H ≡ None → length H < most_events
 when_full_room H h = ltb-true (length H) most_events (room (nat_lt (length H) most_events) h)
@@ -53,7 +50,7 @@ op_of-call H n op h = by_place (place_of (is_call n) H) refl where
   by_event c (Lost m) at passes named = let impossible : false ≡ true = passes in absurd (cc)
 
   by_place : (o : Option ℕ) → place_of (is_call n) H ≡ o → (c h : ℕ) × (d : List ℕ) × IsCallAt H c n h d op
-  by_place None is = absurd (some_not_none op (sym h ∙ ap (option_and_then op_named) (first_none (is_call n) H is)))
+  by_place None is = absurd (none_is_not_some op (sym (ap (option_and_then op_named) (first_none (is_call n) H is)) ∙ h))
   by_place (Some c) is =
       let e = passes_element (is_call n) H c (place_of-passes (is_call n) H c is) in
       by_event c e.0 e.1 e.2
@@ -130,7 +127,7 @@ no_calls H d none = empty H 0 (by_place (place_of (is_call_of d) H) refl) where
   by_place (Some j) found i passes =
       let x = passes_element (is_call_of d) H j (place_of-passes (is_call_of d) H j found) in
       let s = call_names_shard d x.0 x.2 in
-      some_not_none s.0 (sym (ap (option_and_then shard_named) (ap (option_and_then (slice_get H)) found ∙ x.1) ∙ s.1) ∙ none)
+      none_is_not_some s.0 (sym none ∙ (ap (option_and_then shard_named) (ap (option_and_then (slice_get H)) found ∙ x.1) ∙ s.1))
 
   empty : (xs : List Event) (k : ℕ) → ((i : ℕ) → PassesAt (is_call_of d) xs i → ⊥) → places_from k (is_call_of d) xs ≡ []
   empty [] k nowhere = refl
@@ -174,12 +171,12 @@ indexed_after_call H calls fs es docs ls c n h d op old accepted within updated 
     }
 
 pub told : (o : Option Op) (f : Op → Option HistFault) → option_map_or f o (Some NoCall) ≡ None → (op : Op) × (o ≡ Some op) × (f op ≡ None)
-told None f h = absurd (some_not_none NoCall h)
+told None f h = absurd (none_is_not_some NoCall (sym h))
 told (Some op) f h = (op, refl, h)
 
 pub fitting : (b : Bool) (r : Option HistFault) → (if b then r else Some Kind) ≡ None → (b ≡ true) × (r ≡ None)
 fitting true r h = (refl, h)
-fitting false r h = absurd (some_not_none Kind h)
+fitting false r h = absurd (none_is_not_some Kind (sym h))
 
 set_within : (es : List (Option ℕ)) (c k : ℕ) (H : List Event) (x : Event) → k ≡ length H → ((i j : ℕ) → slice_get es i ≡ Some (Some j) → j < length H)
     → (i j : ℕ) → slice_get (slice_set es c (Some k)) i ≡ Some (Some j) → j < length (H ++ x ∷ [])

@@ -10,7 +10,7 @@ use Rattle.history.specs.declared.event.Event.TheVariants.{Call, Reply, Lost}
 use Rattle.history.specs.declared.record.Rec.{Rec}
 use Rattle.history.specs.Events.{IsCallAt, IsHistory, IsReplyAt, PassesAt, Precedes, heard_at, heard_of, is_call_of, is_ending, place_of, places_from, record_at, record_from}
 use Rattle.history.specs.Laws.{IsRecordAt, SplitByDocument}
-use Rattle.history.proofs.ListLemmas.{IsMadeAt, compare, kept_at, made_in_order, made_of, none_is_not_some, same_some}
+use Rattle.version_pair.proofs.ListLemmas.{IsMadeAt, compare, kept_at, made_in_order, made_of, none_is_not_some, same_some}
 use Rattle.history.proofs.EventLemmas.{passes_element, element_passes, place_of-passes, place_of-some}
 use Rattle.history.proofs.HistoryLemmas.{call_passes, reply_passes}
 

@@ -9,7 +9,7 @@ use Rattle.history.specs.declared.event.Event.{Event}
 use Rattle.history.specs.declared.record.Rec.{Rec}
 use Rattle.history.specs.Events.{is_call_of, places_from, record_at, records_of}
 use Rattle.history.specs.aids.Indexes.{calls_at}
-use Rattle.history.proofs.ListLemmas.{same_some, take_one_more}
+use Rattle.version_pair.proofs.ListLemmas.{same_some, take_one_more}
 
 -- the places of a test in a list with one more event
 pub places_snoc : (k : ℕ) (t : Event → Bool) (xs : List Event) (x : Event) → places_from k t (xs ++ x ∷ []) ≡ places_from k t xs ++ cond (t x) ((k + length xs) ∷ []) []

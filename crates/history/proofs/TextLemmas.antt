@@ -5,7 +5,7 @@ use Rattle.doc_register.specs.declared.op.Op.{Op}
 use Rattle.history.specs.declared.event.Event.{Event}
 use Rattle.history.specs.declared.event.Event.TheVariants.{Call, Reply, Lost}
 use Rattle.history.specs.Text.{IsLineOf, Spells, SpellsReply}
-use Rattle.history.proofs.ListLemmas.{get_front}
+use Rattle.version_pair.proofs.ListLemmas.{get_front}
 
 reply_front : (H G : List Event) (v : Data) (n : ℕ) (op : Op) (status : ℕ) → SpellsReply H v n op status → SpellsReply (H ++ G) v n op status
 reply_front H G v n op status s = record {

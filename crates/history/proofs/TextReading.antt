@@ -36,7 +36,7 @@ use Rattle.history.specs.Text.{Spells, SpellsReply}
 use Rattle.history.proofs.SaidLines.{call_is, call_shard, call_spelled, lost_read, lost_said, named, ok_of, reply_read, reply_said, same_ok, spelled_call, text_read}
 use Rattle.history.proofs.AcceptedEvents.{IsNext, call_done, first_call, no_ending_done}
 use Rattle.history.proofs.EventLemmas.{passes_element, place_of-passes}
-use Rattle.history.proofs.ListLemmas.{none_is_not_some, same_some}
+use Rattle.version_pair.proofs.ListLemmas.{none_is_not_some, same_some}
 
 -- ---- what a line is
 

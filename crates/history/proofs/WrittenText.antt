@@ -32,7 +32,7 @@ use Rattle.history.specs.Written.{call_end, call_value, call_with, condition_mem
 use Rattle.history.specs.aids.Writing.{AreWritten, HasItsCall, IsInRange, IsReadable, OpFits, ReplyFits}
 use Rattle.history.proofs.EventLemmas.{place_of-passes, place_of-some}
 use Rattle.history.proofs.HistoryLemmas.{answered_call, call_passes}
-use Rattle.history.proofs.ListLemmas.{get_middle}
+use Rattle.version_pair.proofs.ListLemmas.{get_middle}
 use Rattle.history.proofs.PlaceLemmas.{take_next}
 
 -- ---- calls
@@ -76,11 +76,6 @@ plain_reply_value n d Conflict = (refl, lit≤ tt)
 
 pub plain_lost_value : (n : ℕ) → IsPlain (lost_value n)
 plain_lost_value n = (refl, lit≤ tt)
-
-pub plain_event_value : (H : List Event) (e : Event) → IsPlain (event_value H e)
-plain_event_value H (Call h n d op) = plain_call_value n h d op
-plain_event_value H (Reply n r) = plain_reply_value n (unwrap_or (id_of H n) []) r
-plain_event_value H (Lost n) = plain_lost_value n
 
 -- ---- lines are short
 

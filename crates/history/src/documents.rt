@@ -7,11 +7,12 @@ ghost use Rattle.history.specs.aids.Documents.{IsCutAt, no_documents};
 ghost use Rattle.history.specs.aids.Fronts.{starts_below};
 ghost use Rattle.history.specs.aids.Indexes.{with_listed};
 
+use crate::by_text::ByText;
 use crate::hash_keys::HashKeys;
 use indexmap::IndexMap;
 use std::alloc::Global;
 use std::marker::Model;
-use version_pair::{DocId, NoMemory};
+use version_pair::{DocId, IdText, NoMemory};
 
 /// A call: its place in the history, and the link of the call before it of its document.
 #[derive(Clone, Copy, Debug)]
@@ -83,10 +84,10 @@ impl Documents {
     }
 
     /// Where the document with this id stands.
-    pub fn index_of(&self, id: &DocId) -> Option<usize>
+    pub fn index_of(&self, id: &IdText<'_>) -> Option<usize>
         ensures { result ≡ position (λ d. is_same id.now d.0) self.now.entries }
     {
-        self.shards.get_index_of(id)
+        self.shards.get_index_of(ByText::of(id))
     }
 
     // Notes the place of one more call of the document that stands at `doc`. Where memory is refused, nothing is noted.

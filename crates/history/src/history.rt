@@ -13,7 +13,7 @@ use api_lines::SHARDS;
 use doc_register::Op;
 use std::alloc::Global;
 use std::marker::Model;
-use version_pair::{DocId, NoMemory};
+use version_pair::{DocId, IdText, NoMemory};
 
 /// The most events that a history has.
 pub const MOST_EVENTS: usize = 1_048_576;
@@ -130,7 +130,7 @@ impl History {
     }
 
     /// The shard of the document, which stands at `doc` where it was called before.
-    pub(crate) fn known_shard(&self, doc: Option<usize>, id: &DocId) -> Option<u32>
+    pub(crate) fn known_shard(&self, doc: Option<usize>, id: &IdText<'_>) -> Option<u32>
         requires { doc ≡ position (λ d. is_same id.now d.0) (documents_of self.now) }
         ensures { result ≡ shard_of self.now id.now }
     {
@@ -145,16 +145,16 @@ impl History {
 
     /// The id of a document's call, which stands at `doc` where it was called before: then a copy of the id that the
     /// documents have, so that its text is kept once.
-    pub(crate) fn shared_id(&self, doc: Option<usize>, id: DocId) -> Result<DocId, NoMemory>
-        requires { doc ≡ position (λ d. is_same id d.0) (documents_of self.now) }
-        ensures { IfOk result (λ shared. shared ≡ id) }
+    pub(crate) fn shared_id(&self, doc: Option<usize>, id: &IdText<'_>) -> Result<DocId, NoMemory>
+        requires { doc ≡ position (λ d. is_same id.now d.0) (documents_of self.now) }
+        ensures { IfOk result (λ shared. shared ≡ id.now) }
     {
         match doc {
             Some(doc) => match self.documents.get(doc) {
                 Some((known, _)) => known.copy(),
-                None => Ok(id),
+                None => id.to_id(self.allocator()),
             },
-            None => Ok(id),
+            None => id.to_id(self.allocator()),
         }
     }
 
@@ -217,7 +217,7 @@ impl History {
         ensures within { length self.new ≤ limit }
     {
         let pushed = match event {
-            Event::Call { no, shard, id, op } => self.push_call(no, shard, id, op),
+            Event::Call { no, shard, id, op } => self.push_call(no, shard, &id.text(), op),
             Event::Reply { no, reply } => self.push_reply(no, reply),
             Event::Lost { no } => self.push_lost(no),
         };
@@ -251,6 +251,13 @@ impl History {
 
     /// The number of the document with this id, where it was called.
     pub fn doc_of(&self, id: &DocId) -> Option<usize>
+        ensures { result ≡ position (λ d. is_same id.now d.0) (documents_of self.now) }
+    {
+        self.doc_of_text(&id.text())
+    }
+
+    /// The number of the document with this id, where it was called.
+    pub(crate) fn doc_of_text(&self, id: &IdText<'_>) -> Option<usize>
         ensures { result ≡ position (λ d. is_same id.now d.0) (documents_of self.now) }
     {
         self.documents.index_of(id)

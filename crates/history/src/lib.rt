@@ -8,6 +8,7 @@
 #![tactic(auto)]
 
 mod bulk_writer;
+mod by_text;
 mod call_places;
 mod documents;
 mod event;

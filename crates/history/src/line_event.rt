@@ -59,17 +59,17 @@ fn take_reply(
 /// `Full`; for a lost line `NoCall`, `Ended`, `Full`. A reply of unknown outcome is a loss.
 pub fn take_said(
     history: &mut History,
-    said: LineSaid,
+    said: LineSaid<'_>,
     body: &BodyFields<'_>,
 ) -> Result<(), LineFault>
     requires { HasSaidShard said }
-    ensures ok { OnOk result (takes_said history.old (body_seen body.now) said ≡ Ok history.new) }
+    ensures ok { OnOk result (takes_said history.old (body_seen body.now) said.entry ≡ Ok history.new) }
     ensures err { IfErr result (λ fault. IfTold fault
-        (λ cause. takes_said history.old (body_seen body.now) said ≡ Err cause)) }
+        (λ cause. takes_said history.old (body_seen body.now) said.entry ≡ Err cause)) }
     ensures unchanged { OnErr result (history.new ≡ history.old) }
 {
     match said {
-        LineSaid::Call { no, shard, id, op } => of_line(history.push_call(no, shard, id, op)),
+        LineSaid::Call { no, shard, id, op } => of_line(history.push_call(no, shard, &id, op)),
         LineSaid::Reply { no, status } => take_reply(history, no, status, body),
         LineSaid::Lost { no } => of_line(history.push_lost(no)),
     }

@@ -8,7 +8,7 @@ use crate::fault::HistFault;
 use crate::history::History;
 use api_lines::SHARDS;
 use doc_register::{Op, Reply};
-use version_pair::DocId;
+use version_pair::IdText;
 
 impl History {
     /// Adds a call, or refuses it: `SecondCall`, `ShardMoved`, `Full`, `NoMemory`.
@@ -16,16 +16,16 @@ impl History {
         &mut self,
         no: u64,
         shard: u32,
-        id: DocId,
+        id: &IdText<'_>,
         op: Op,
     ) -> Result<(), HistFault>
         requires { shard < SHARDS }
-        ensures ok { OnOk result (self.new ≡ self.old ++ Call shard no id op ∷ []) }
+        ensures ok { OnOk result (self.new ≡ self.old ++ Call shard no id.now op ∷ []) }
         ensures err { OnErr result (self.new ≡ self.old) }
-        ensures reason { refusal_told result ≡ refusal_of self.old (Call shard no id op) }
+        ensures reason { refusal_told result ≡ refusal_of self.old (Call shard no id.now op) }
     {
-        let doc = self.doc_of(&id);
-        if let Some(fault) = self.call_refusal(doc, no, shard, &id) {
+        let doc = self.doc_of_text(id);
+        if let Some(fault) = self.call_refusal(doc, no, shard, id) {
             return Err(fault);
         }
         let Ok(shared) = self.shared_id(doc, id) else {

@@ -17,15 +17,15 @@ use std::alloc::Global;
 use std::marker::Model;
 
 // Takes the fields of one more line. A line that is refused leaves the history as it was.
-fn take_fields(alloc: Global, history: &mut History, line: &LineFields<'_>) -> Result<(), LineFault>
+fn take_fields(history: &mut History, line: &LineFields<'_>) -> Result<(), LineFault>
     ensures ok { OnOk result (takes_line history.old (line_seen line.now) ≡ Ok history.new) }
     ensures err { IfErr result (λ fault. IfTold fault
         (λ cause. takes_line history.old (line_seen line.now) ≡ Err cause)) }
     ensures unchanged { OnErr result (history.new ≡ history.old) }
 {
-    match line_said(alloc, line) {
+    match line_said(line) {
         Ok(said) => take_said(history, said, &line.body),
-        Err(fault) => Err(fault),
+        Err(cause) => Err(LineFault::Told(cause)),
     }
 }
 
@@ -43,7 +43,7 @@ fn take_value(
     ensures unchanged { OnErr result (history.new ≡ history.old) }
 {
     match given_line(alloc, number, line) {
-        Ok(Some(value)) => take_fields(alloc, history, &line_fields(&value)),
+        Ok(Some(value)) => take_fields(history, &line_fields(&value)),
         Ok(None) => Ok(()),
         Err(fault) => Err(fault),
     }
@@ -65,7 +65,7 @@ fn take_other_line(
 {
     let mut fields = LineFields::absent();
     if given_unescaped_fields(number, line, room, &mut fields) {
-        return take_fields(alloc, history, &fields);
+        return take_fields(history, &fields);
     }
     take_value(alloc, history, number, line)
 }
@@ -86,7 +86,7 @@ fn take_line(
 {
     let mut fields = LineFields::absent();
     if given_fields(number, line, &mut fields) {
-        return take_fields(alloc, history, &fields);
+        return take_fields(history, &fields);
     }
     take_other_line(alloc, history, room, number, line)
 }

@@ -9,7 +9,7 @@ use crate::event::Event;
 use crate::fault::HistFault;
 use crate::history::{History, MOST_EVENTS};
 use doc_register::Reply;
-use version_pair::DocId;
+use version_pair::IdText;
 
 impl History {
     /// `Full`, where there is no room for one more event.
@@ -29,7 +29,7 @@ impl History {
         doc: Option<usize>,
         no: u64,
         shard: u32,
-        id: &DocId,
+        id: &IdText<'_>,
     ) -> Option<HistFault>
         requires { doc ≡ position (λ d. is_same id.now d.0) (documents_of self.now) }
         ensures { (op : Op) → result ≡ refusal_of self.now (Call shard no id.now op) }

@@ -10,7 +10,7 @@ use Rattle.repl_group.specs.declared.replica.Replica.{Replica}
 use Rattle.repl_group.specs.aids.Following.{follows}
 use Rattle.repl_group.specs.aids.Holding.{HeldState}
 use Rattle.repl_group.specs.aids.Keeping.{taken_by}
-use Rattle.repl_group.proofs.ListLemmas.{same_some}
+use Rattle.version_pair.proofs.ListLemmas.{same_some}
 
 -- ---- one copy
 
@@ -46,7 +46,7 @@ module _ {X : Type 0} where
       let whole : length old ≡ n + 1 = ap length equal ∙ length-replicate (n + 1) w in
       let less : len - 1 ≡ n = omega arith in
       let some : 0 < len = omega arith in (
-        same_some (value w some) ∙ (ap (λ l. get_or l (len - 1) w) equal ∙ get_or-replicate (n + 1) (len - 1) w),
+        same_some _ _ (value w some) ∙ (ap (λ l. get_or l (len - 1) w) equal ∙ get_or-replicate (n + 1) (len - 1) w),
         rest ∙ (ap (λ l. take (len - 1) l) equal ∙ (ap (λ k. take k (replicate (n + 1) w)) less ∙ (ap (λ k. take n (replicate k w)) (one_more n) ∙ take-replicate n w))),
       ) where
         one_more : (k : ℕ) → k + 1 ≡ suc k
@@ -58,19 +58,19 @@ module _ {X : Type 0} where
   pub count-set : (p : X → Bool) (xs : List X) (i : ℕ) (x y : X) → slice_get xs i ≡ Some x → p y ≡ p x → count_by p (slice_set xs i y) ≡ count_by p xs
   count-set p [] i x y at same = refl
   count-set p (z ∷ zs) zero x y at same =
-      count-cons p y zs ∙ (ap (λ b. cond b 1 0 + count_by p zs) (same ∙ ap p (sym (same_some at))) ∙ sym (count-cons p z zs))
+      count-cons p y zs ∙ (ap (λ b. cond b 1 0 + count_by p zs) (same ∙ ap p (sym (same_some _ _ at))) ∙ sym (count-cons p z zs))
   count-set p (z ∷ zs) (suc i) x y at same =
       count-cons p z (slice_set zs i y) ∙ (ap (λ n. cond (p z) 1 0 + n) (count-set p zs i x y at same) ∙ sym (count-cons p z zs))
 
   pub map-set : {Y : Type 0} (f : X → Y) (xs : List X) (i : ℕ) (x y : X) → slice_get xs i ≡ Some x → f y ≡ f x → map f (slice_set xs i y) ≡ map f xs
   map-set f [] i x y at same = refl
-  map-set f (z ∷ zs) zero x y at same = ap (λ v. v ∷ map f zs) (same ∙ ap f (sym (same_some at)))
+  map-set f (z ∷ zs) zero x y at same = ap (λ v. v ∷ map f zs) (same ∙ ap f (sym (same_some _ _ at)))
   map-set f (z ∷ zs) (suc i) x y at same = ap (λ vs. f z ∷ vs) (map-set f zs i x y at same)
 
   pub count-some : (p : X → Bool) (xs : List X) (i : ℕ) (x : X) → slice_get xs i ≡ Some x → p x ≡ true → 1 ≤ count_by p xs
   count-some p [] i x at is = let impossible : None ≡ Some x = at in absurd (cc)
   count-some p (z ∷ zs) zero x at is =
-      let flag : cond {A = ℕ} (p z) 1 0 ≡ 1 = ap (λ b. cond {A = ℕ} b 1 0) (ap p (same_some at) ∙ is) in
+      let flag : cond {A = ℕ} (p z) 1 0 ≡ 1 = ap (λ b. cond {A = ℕ} b 1 0) (ap p (same_some _ _ at) ∙ is) in
       let whole : count_by p (z ∷ zs) ≡ cond {A = ℕ} (p z) 1 0 + count_by p zs = count-cons p z zs in omega arith
   count-some p (z ∷ zs) (suc i) x at is =
       let rest : 1 ≤ count_by p zs = count-some p zs i x at is in

@@ -1,6 +1,6 @@
 -- The steps of an honest group keep it sound.
 use Rattle.std.proofs.Common.{ℕ, zero, suc, ◌≡◌, ◌≢◌, ◌≤◌, ◌<◌, ◌+◌, ◌⊎◌, inl, inr, List, [], ◌∷◌, ◌++◌, refl, sym, ap, subst, ◌∙◌, arith, Option, Some, None, Bool, true, false, cond, max, true≢false, is_some}
-use Rattle.std.specs.Prelude.{◌==◌, fold, if◌then◌else◌, map, slice_get, slice_set}
+use Rattle.std.specs.Prelude.{◌==◌, fold, if◌then◌else◌, map, option_map, slice_get, slice_set}
 use Rattle.std.specs.Map.{lookup}
 use Rattle.std.proofs.lemmas.Bool.{eqb-true, eq-eqb}
 use Rattle.version_pair.specs.declared.pair.Pair.{Pair}
@@ -15,7 +15,8 @@ use Rattle.repl_group.specs.Honest.{pair_acknowledged, pair_given}
 use Rattle.repl_group.specs.Operations.{is_get}
 use Rattle.repl_group.specs.Requests.{flight_of, is_queued, lost_from, lost_request, with_flights_lost, with_stage}
 use Rattle.repl_group.specs.aids.Sound.{IsOwn, IsSound}
-use Rattle.repl_group.proofs.ListLemmas.{from_append, from_map, from_set, same_some, set-other, set-same}
+use Rattle.std.proofs.lemmas.Option.{slice_get-map, slice_get_within}
+use Rattle.version_pair.proofs.ListLemmas.{from_set, get_front, get_snoc, mapped_from, same_some, slice_get-set_other, slice_get-set_same}
 
 abbrev Held : Type 0
 Held = List (ℕ × HeldWrite)
@@ -46,7 +47,7 @@ pub from_with_write : (writes : Held) (t u : ℕ) (write found : HeldWrite) → 
     → (lookup (◌==◌ u) writes ≡ Some found) ⊎ ((u ≡ t) × (found ≡ write))
 from_with_write writes t u write found at = by_held (holds writes t) at where
   by_key : (b : Bool) → (u == t) ≡ b → (if b then Some write else None) ≡ Some found → (u ≡ t) × (found ≡ write)
-  by_key true same is = (eqb-true u t same, same_some (sym is))
+  by_key true same is = (eqb-true u t same, same_some _ _ (sym is))
   by_key false other is = nothing_found is
 
   by_before : (b : Bool) → (if b then lookup (◌==◌ u) writes else (if u == t then Some write else None)) ≡ Some found → (lookup (◌==◌ u) writes ≡ Some found) ⊎ ((u ≡ t) × (found ≡ write))
@@ -87,7 +88,7 @@ seq_below n (e ∷ es) t write found = by_key (t == e.0) (seq_below (max n (e.1.
   by_key : (b : Bool) → (lookup (◌==◌ t) es ≡ Some write → write.pair.seq < fold (λ next entry. max next (entry.1.pair.seq + 1)) (max n (e.1.pair.seq + 1)) es)
       → cond b (Some e.1) (lookup (◌==◌ t) es) ≡ Some write → write.pair.seq < fold (λ next entry. max next (entry.1.pair.seq + 1)) (max n (e.1.pair.seq + 1)) es
   by_key true rest is =
-      let here : e.1 ≡ write = same_some is in
+      let here : e.1 ≡ write = same_some _ _ is in
       let number : e.1.pair.seq ≡ write.pair.seq = ap (λ (h : HeldWrite). h.pair.seq) here in
       let from : max n (e.1.pair.seq + 1) ≤ fold (λ next entry. max next (entry.1.pair.seq + 1)) (max n (e.1.pair.seq + 1)) es = seq_from (max n (e.1.pair.seq + 1)) es in
       omega arith
@@ -102,17 +103,17 @@ own_kept requests t x s u write at kept own = by_place (u == t) refl where
   by_place true same =
       let here : u ≡ t = eqb-true u t same in
       let found : slice_get requests t ≡ Some own.request = subst (λ v. slice_get requests v ≡ Some own.request) here own.found in
-      let is_x : own.request ≡ x = same_some (sym found ∙ at) in
+      let is_x : own.request ≡ x = same_some _ _ (sym found ∙ at) in
       let request : Request = record x { stage = s } in
       record {
         request = record x { stage = s };
-        found = subst (λ v. slice_get (with_stage requests t x s) v ≡ Some request) (sym here) (set-same requests t x (record x { stage = s }) at);
+        found = subst (λ v. slice_get (with_stage requests t x s) v ≡ Some request) (sym here) (slice_get-set_same requests t (record x { stage = s }) (slice_get_within requests t x at));
         given = kept write.pair (ap (λ (r : Request). pair_given r.stage) (sym is_x) ∙ own.given);
         same = own.same ∙ ap (λ (r : Request). write_of r write.pair) is_x;
       }
   by_place false other = record {
     request = own.request;
-    found = set-other requests t u (record x { stage = s }) (λ here. absurd (true≢false (sym (eq-eqb u t here) ∙ other))) ∙ own.found;
+    found = slice_get-set_other requests t u (record x { stage = s }) (λ here. absurd (true≢false (sym (eq-eqb u t here) ∙ other))) ∙ own.found;
     given = own.given;
     same = own.same;
   }
@@ -165,7 +166,7 @@ module _ (term primary : ℕ) (requests : List Request) (copies : List ShardCopy
         (λ there. sound.recent u z q y there given now lead);
     own = λ c u y write there found. (let own = sound.own c u y write there found in record {
       request = own.request;
-      found = further requests u own.request own.found;
+      found = get_front requests (x ∷ []) u own.request own.found;
       given = own.given;
       same = own.same;
     });
@@ -179,12 +180,7 @@ module _ (term primary : ℕ) (requests : List Request) (copies : List ShardCopy
         (λ is. not_acknowledged x q queued (ap (λ (r : Request). pair_acknowledged r.stage) (sym is) ∙ given)) (λ before. sound.acknowledged u c z y q before there given sync);
   } where
     by_places : {P : Type 0} (u : ℕ) (z : Request) → slice_get (requests ++ x ∷ []) u ≡ Some z → (z ≡ x → P) → (slice_get requests u ≡ Some z → P) → P
-    by_places u z found here there = elim (from_append requests u x z found) [ inl is ↦ here is.1 | inr is ↦ there is ]
-
-    further : (rs : List Request) (u : ℕ) (z : Request) → slice_get rs u ≡ Some z → slice_get (rs ++ x ∷ []) u ≡ Some z
-    further [] u z found = nothing_found found
-    further (r ∷ rs) zero z found = found
-    further (r ∷ rs) (suc u) z found = further rs u z found
+    by_places u z found here there = elim (get_snoc requests x z u found) [ inl is ↦ there is | inr is ↦ here (sym is.1) ]
 
     at_queued : {P : Type 0} (r : Stage) → is_queued r ≡ true → (r ≡ Queued → P) → P
     at_queued Queued is then_ = then_ refl
@@ -230,9 +226,9 @@ module _ (term primary : ℕ) (requests : List Request) (copies : List ShardCopy
     by_primary : (b : Bool) → (primary == c) ≡ b → (v : ShardCopy) × (slice_get (slice_set copies c z) primary ≡ Some v) × (v.is_in_sync ≡ true)
     by_primary true same =
         let here : primary ≡ c = eqb-true primary c same in
-        (z, subst (λ k. slice_get (slice_set copies c z) k ≡ Some z) (sym here) (set-same copies c y z at), stays (sym here))
+        (z, subst (λ k. slice_get (slice_set copies c z) k ≡ Some z) (sym here) (slice_get-set_same copies c z (slice_get_within copies c y at)), stays (sym here))
     by_primary false other =
-        (sound.leads.0, set-other copies c primary z (λ here. absurd (true≢false (sym (eq-eqb primary c here) ∙ other))) ∙ sound.leads.1, sound.leads.2)
+        (sound.leads.0, slice_get-set_other copies c primary z (λ here. absurd (true≢false (sym (eq-eqb primary c here) ∙ other))) ∙ sound.leads.1, sound.leads.2)
 
   -- ---- the primary performs a write
 
@@ -240,7 +236,7 @@ module _ (term primary : ℕ) (requests : List Request) (copies : List ShardCopy
       → slice_get copies primary ≡ Some y → q.term ≡ term → q.seq ≡ next_seq y.writes
       → IsSound term primary (with_stage requests t x (InFlight q before)) (slice_set copies primary (copy_with y t (write_of x q)))
   performed_sound t x y q before at queued writes lead now next = record {
-    leads = (z, set-same copies primary y z lead, ap (λ (k : ShardCopy). k.is_in_sync) (same_some (sym lead ∙ sound.leads.1)) ∙ sound.leads.2);
+    leads = (z, slice_get-set_same copies primary z (slice_get_within copies primary y lead), ap (λ (k : ShardCopy). k.is_in_sync) (same_some _ _ (sym lead ∙ sound.leads.1)) ∙ sound.leads.2);
     terms = λ u r p found given. by_places u r found
         (λ here is. (let pair : q.term ≡ p.term = ap (λ (k : Pair). k.term) (new_pair r p is given) in omega arith))
         (λ other there. sound.terms u r p there given);
@@ -284,7 +280,7 @@ module _ (term primary : ℕ) (requests : List Request) (copies : List ShardCopy
         elim (from_set copies primary c (copy_with y t (write_of x q)) v there) [ inl is ↦ here is.0 is.1 | inr is ↦ other is.0 is.1 ]
 
     new_pair : (r : Request) (p : Pair) → r ≡ record x { stage = InFlight q before } → pair_given r.stage ≡ Some p → q ≡ p
-    new_pair r p is given = same_some (ap (λ (k : Request). pair_given k.stage) (sym is) ∙ given)
+    new_pair r p is given = same_some _ _ (ap (λ (k : Request). pair_given k.stage) (sym is) ∙ given)
 
     not_given : {P : Type 0} (s : Stage) (p : Pair) → is_queued s ≡ true → pair_given s ≡ Some p → P
     not_given Queued p is given = nothing_found given
@@ -300,7 +296,7 @@ module _ (term primary : ℕ) (requests : List Request) (copies : List ShardCopy
     by_writes u write (inl old) = kept u write (sound.own primary u y write lead old)
     by_writes u write (inr new) = record {
       request = record x { stage = InFlight q before };
-      found = subst (λ k. slice_get (with_stage requests t x (InFlight q before)) k ≡ Some (record x { stage = InFlight q before })) (sym new.0) (set-same requests t x (record x { stage = InFlight q before }) at);
+      found = subst (λ k. slice_get (with_stage requests t x (InFlight q before)) k ≡ Some (record x { stage = InFlight q before })) (sym new.0) (slice_get-set_same requests t (record x { stage = InFlight q before }) (slice_get_within requests t x at));
       given = ap (λ (h : HeldWrite). Some h.pair) (sym new.1);
       same = new.1 ∙ ap (λ (h : HeldWrite). write_of x h.pair) (sym new.1);
     }
@@ -311,8 +307,8 @@ module _ (term primary : ℕ) (requests : List Request) (copies : List ShardCopy
         let is_now : p.term ≡ term = ap (λ (k : Pair). k.term) (sym same) ∙ now in
         let held = held_found y.writes v (sound.recent v r p y there given is_now lead) in
         let own = sound.own primary v y held.0 lead held.1 in
-        let is_r : own.request ≡ r = same_some (sym own.found ∙ there) in
-        let is_p : held.0.pair ≡ p = same_some (sym own.given ∙ (ap (λ (k : Request). pair_given k.stage) is_r ∙ given)) in
+        let is_r : own.request ≡ r = same_some _ _ (sym own.found ∙ there) in
+        let is_p : held.0.pair ≡ p = same_some _ _ (sym own.given ∙ (ap (λ (k : Request). pair_given k.stage) is_r ∙ given)) in
         let below : held.0.pair.seq < next_seq y.writes = seq_below 0 y.writes v held.0 held.1 in
         let number : held.0.pair.seq ≡ q.seq = ap (λ (k : Pair). k.seq) (is_p ∙ sym same) in
         absurd (omega arith)
@@ -322,29 +318,24 @@ module _ (term primary : ℕ) (requests : List Request) (copies : List ShardCopy
   pub promoted_sound : (c : ℕ) (y : ShardCopy) → slice_get copies c ≡ Some y → y.is_in_sync ≡ true → y.is_cut ≡ false
       → IsSound (term + 1) c (with_flights_lost requests) (map (led_by y.writes) copies)
   promoted_sound c y lead sync reached = record {
-    leads = (led_by y.writes y, to_map (led_by y.writes) copies c y lead, led_sync y sync reached);
-    terms = λ u z q found given. (let from = from_map lost_request requests u z found in
-        let old : q.term ≤ term = sound.terms u from.0 q from.1 (given_before from.0 z q from.2 given) in omega arith);
-    recent = λ u z q v found given is_now there. (let from = from_map lost_request requests u z found in
-        let old : q.term ≤ term = sound.terms u from.0 q from.1 (given_before from.0 z q from.2 given) in absurd (omega arith));
-    own = λ d u v write there found. (let from = from_map (led_by y.writes) copies d v there in
+    leads = (led_by y.writes y, (slice_get-map (led_by y.writes) copies c ∙ ap (option_map (led_by y.writes)) lead), led_sync y sync reached);
+    terms = λ u z q found given. (let from = mapped_from lost_request requests u z found in
+        let old : q.term ≤ term = sound.terms u from.0 q from.1 (given_before from.0 z q (sym from.2) given) in omega arith);
+    recent = λ u z q v found given is_now there. (let from = mapped_from lost_request requests u z found in
+        let old : q.term ≤ term = sound.terms u from.0 q from.1 (given_before from.0 z q (sym from.2) given) in absurd (omega arith));
+    own = λ d u v write there found. (let from = mapped_from (led_by y.writes) copies d v there in
         own_lost u write (elim (led_writes from.0) [
-          | inl own ↦ sound.own d u from.0 write from.1 (ap (λ ws. lookup (◌==◌ u) ws) (sym own) ∙ (ap (λ (k : ShardCopy). lookup (◌==◌ u) k.writes) (sym from.2) ∙ found))
-          | inr handed ↦ sound.own c u y write lead (ap (λ ws. lookup (◌==◌ u) ws) (sym handed) ∙ (ap (λ (k : ShardCopy). lookup (◌==◌ u) k.writes) (sym from.2) ∙ found))
+          | inl own ↦ sound.own d u from.0 write from.1 (ap (λ ws. lookup (◌==◌ u) ws) (sym own) ∙ (ap (λ (k : ShardCopy). lookup (◌==◌ u) k.writes) from.2 ∙ found))
+          | inr handed ↦ sound.own c u y write lead (ap (λ ws. lookup (◌==◌ u) ws) (sym handed) ∙ (ap (λ (k : ShardCopy). lookup (◌==◌ u) k.writes) from.2 ∙ found))
         ]));
-    writes = λ u z q s found flies. (let from = from_map lost_request requests u z found in
-        nothing_found (sym (ap (λ (k : Request). flight_of k.stage) from.2 ∙ lost_grounded from.0.stage) ∙ flies));
-    pairs = λ u v z z' q found found' given given'. (let from = from_map lost_request requests u z found in let from' = from_map lost_request requests v z' found' in
-        sound.pairs u v from.0 from'.0 q from.1 from'.1 (given_before from.0 z q from.2 given) (given_before from'.0 z' q from'.2 given'));
-    acknowledged = λ u d z v q found there told in_sync. (let from = from_map lost_request requests u z found in let at = from_map (led_by y.writes) copies d v there in
-        let held : holds y.writes u ≡ true = sound.acknowledged u c from.0 y q from.1 lead (sym (ap (λ (k : Request). pair_acknowledged k.stage) from.2 ∙ lost_acknowledged from.0.stage) ∙ told) sync in
-        ap (λ (k : ShardCopy). holds k.writes u) at.2 ∙ (ap (λ ws. holds ws u) (led_whole at.0 (ap (λ (k : ShardCopy). k.is_in_sync) (sym at.2) ∙ in_sync)) ∙ held));
+    writes = λ u z q s found flies. (let from = mapped_from lost_request requests u z found in
+        nothing_found (sym (ap (λ (k : Request). flight_of k.stage) (sym from.2) ∙ lost_grounded from.0.stage) ∙ flies));
+    pairs = λ u v z z' q found found' given given'. (let from = mapped_from lost_request requests u z found in let from' = mapped_from lost_request requests v z' found' in
+        sound.pairs u v from.0 from'.0 q from.1 from'.1 (given_before from.0 z q (sym from.2) given) (given_before from'.0 z' q (sym from'.2) given'));
+    acknowledged = λ u d z v q found there told in_sync. (let from = mapped_from lost_request requests u z found in let at = mapped_from (led_by y.writes) copies d v there in
+        let held : holds y.writes u ≡ true = sound.acknowledged u c from.0 y q from.1 lead (sym (ap (λ (k : Request). pair_acknowledged k.stage) (sym from.2) ∙ lost_acknowledged from.0.stage) ∙ told) sync in
+        ap (λ (k : ShardCopy). holds k.writes u) (sym at.2) ∙ (ap (λ ws. holds ws u) (led_whole at.0 (ap (λ (k : ShardCopy). k.is_in_sync) at.2 ∙ in_sync)) ∙ held));
   } where
-    to_map : {X Y : Type 0} (f : X → Y) (xs : List X) (u : ℕ) (v : X) → slice_get xs u ≡ Some v → slice_get (map f xs) u ≡ Some (f v)
-    to_map f [] u v found = nothing_found found
-    to_map f (k ∷ ks) zero v found = ap (λ m. Some (f m)) (same_some found)
-    to_map f (k ∷ ks) (suc u) v found = to_map f ks u v found
-
     lost_given : (s : Stage) → pair_given (lost_from s) ≡ pair_given s
     lost_given Queued = refl
     lost_given (InFlight q b) = refl
@@ -369,7 +360,7 @@ module _ (term primary : ℕ) (requests : List Request) (copies : List ShardCopy
     own_lost : (u : ℕ) (write : HeldWrite) → IsOwn requests u write → IsOwn (with_flights_lost requests) u write
     own_lost u write own = record {
       request = lost_request own.request;
-      found = to_map lost_request requests u own.request own.found;
+      found = slice_get-map lost_request requests u ∙ ap (option_map lost_request) own.found;
       given = lost_given own.request.stage ∙ own.given;
       same = own.same;
     }

@@ -14,7 +14,7 @@ use Rattle.repl_group.specs.aids.Holding.{HeldState}
 use Rattle.repl_group.specs.aids.Keeping.{AreKept, IsKept, copy_of, new_replica, taken_by}
 use Rattle.repl_group.specs.aids.Logging.{held_at}
 use Rattle.repl_group.specs.aids.Tracking.{AreNoted}
-use Rattle.repl_group.proofs.ListLemmas.{from_map, from_set, same_some}
+use Rattle.version_pair.proofs.ListLemmas.{from_set, mapped_from, same_some}
 use Rattle.repl_group.proofs.LogLemmas.{entry_at, get-there, held_at-append, held_at-last, length-more}
 use Rattle.repl_group.proofs.WriteLemmas.{noted_after, with_write-absent, with_write-there}
 
@@ -47,7 +47,7 @@ module _ {X Y : Type 0} where
 module _ {X : Type 0} where
   pub set-back : (xs : List X) (i : ℕ) (x : X) → slice_get xs i ≡ Some x → slice_set xs i x ≡ xs
   set-back [] i x at = refl
-  set-back (y ∷ ys) zero x at = ap (λ z. z ∷ ys) (sym (same_some at))
+  set-back (y ∷ ys) zero x at = ap (λ z. z ∷ ys) (sym (same_some _ _ at))
   set-back (y ∷ ys) (suc i) x at = ap (λ zs. y ∷ zs) (set-back ys i x at)
 
   pub set-length : (xs : List X) (i : ℕ) (x : X) → length (slice_set xs i x) ≡ length xs
@@ -57,12 +57,12 @@ module _ {X : Type 0} where
 
   pub from_replicate : (n : ℕ) (x : X) (i : ℕ) (y : X) → slice_get (replicate n x) i ≡ Some y → y ≡ x
   from_replicate zero x i y at = let impossible : None ≡ Some y = at in absurd (cc)
-  from_replicate (suc n) x zero y at = same_some (sym at)
+  from_replicate (suc n) x zero y at = same_some _ _ (sym at)
   from_replicate (suc n) x (suc i) y at = from_replicate n x i y at
 
   pub not_all : (p : X → Bool) (xs : List X) (i : ℕ) (x : X) → slice_get xs i ≡ Some x → p x ≡ false → list_all p xs ≡ false
   not_all p [] i x at fails = let impossible : None ≡ Some x = at in absurd (cc)
-  not_all p (y ∷ ys) zero x at fails = ap (λ b. b && list_all p ys) (ap p (same_some at) ∙ fails)
+  not_all p (y ∷ ys) zero x at fails = ap (λ b. b && list_all p ys) (ap p (same_some _ _ at) ∙ fails)
   not_all p (y ∷ ys) (suc i) x at fails = ap (λ b. p y && b) (not_all p ys i x at fails) ∙ either (p y) where
     either : (b : Bool) → (b && false) ≡ false
     either true = refl
@@ -70,7 +70,7 @@ module _ {X : Type 0} where
 
   all_next : (p : X → Bool) (xs : List X) (i : ℕ) (x : X) → slice_get xs i ≡ Some x → list_all p (take i xs) ≡ true → p x ≡ true → list_all p (take (suc i) xs) ≡ true
   all_next p [] i x at all passes = let impossible : None ≡ Some x = at in absurd (cc)
-  all_next p (y ∷ ys) zero x at all passes = ap (λ b. b && true) (ap p (same_some at) ∙ passes)
+  all_next p (y ∷ ys) zero x at all passes = ap (λ b. b && true) (ap p (same_some _ _ at) ∙ passes)
   all_next p (y ∷ ys) (suc i) x at all passes = both (p y) (list_all p (take i ys)) all (λ rest. all_next p ys i x at rest passes) where
     both : (a b : Bool) → (a && b) ≡ true → (b ≡ true → list_all p (take (suc i) ys) ≡ true) → (a && list_all p (take (suc i) ys)) ≡ true
     both true b is rest = rest is
@@ -95,7 +95,7 @@ seen sets rs v c z view at = ap (λ w. slice_get w c) (sym view) ∙ (get-map (c
 
 pub same_seen : (sets : Sets) (rs : List Replica) (v : List ShardCopy) (c : ℕ) (z : Replica) (y : ShardCopy) → map (copy_of sets) rs ≡ v → slice_get rs c ≡ Some z
     → slice_get v c ≡ Some y → copy_of sets z ≡ y
-same_seen sets rs v c z y view at is = same_some (sym (seen sets rs v c z view at) ∙ is)
+same_seen sets rs v c z y view at is = same_some _ _ (sym (seen sets rs v c z view at) ∙ is)
 
 pub writes_seen : (sets : Sets) (rs : List Replica) (v : List ShardCopy) (c : ℕ) (z : Replica) → map (copy_of sets) rs ≡ v → slice_get rs c ≡ Some z
     → option_map_or (λ (y : ShardCopy). y.writes) (slice_get v c) [] ≡ held_at sets z.held.place
@@ -171,15 +171,15 @@ seen_led sets (z ∷ zs) held =
 
 pub kept_led : (sets : Sets) (rs : List Replica) (held : HeldState) → AreKept sets rs → IsKept sets held → AreKept sets (map (taken_by held) rs)
 kept_led sets rs held kept own = record {
-  kept = λ c y at. from c y (from_map (taken_by held) rs c y at);
+  kept = λ c y at. from c y (mapped_from (taken_by held) rs c y at);
 } where
   either : (z : Replica) (a b : Bool) → IsKept sets z.held → IsKept sets (if a then (if b then record z { is_in_sync = false } else record z { held = held }) else z).held
   either z true true is = is
   either z true false is = own
   either z false b is = is
 
-  from : (c : ℕ) (y : Replica) → (z : Replica) × (slice_get rs c ≡ Some z) × (y ≡ taken_by held z) → IsKept sets y.held
-  from c y (z, at, is) = subst (λ (x : Replica). IsKept sets x.held) (sym is) (either z z.is_in_sync z.is_cut (kept.kept c z at))
+  from : (c : ℕ) (y : Replica) → (z : Replica) × (slice_get rs c ≡ Some z) × (taken_by held z ≡ y) → IsKept sets y.held
+  from c y (z, at, is) = subst (λ (x : Replica). IsKept sets x.held) is (either z z.is_in_sync z.is_cut (kept.kept c z at))
 
 -- ---- a write more at a copy
 

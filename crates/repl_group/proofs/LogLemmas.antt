@@ -8,7 +8,8 @@ use Rattle.repl_group.specs.declared.held_write.HeldWrite.{HeldWrite}
 use Rattle.repl_group.specs.declared.write_log.Logged.{Logged}
 use Rattle.repl_group.specs.Copies.{holds}
 use Rattle.repl_group.specs.aids.Logging.{IsLog, held_at, held_behind, held_sets, sets_from}
-use Rattle.repl_group.proofs.ListLemmas.{from_append, same_some}
+use Rattle.version_pair.proofs.ListLemmas.{get_snoc, same_some}
+use Rattle.version_pair.proofs.TruthLemmas.{or-true}
 
 abbrev Writes : Type 0
 Writes = List (ℕ × HeldWrite)
@@ -74,7 +75,7 @@ made : (sets : List Writes) (es : List Logged) (i : ℕ) (e : Logged) → slice_
     → held_at (sets_from sets es) (length sets + i) ≡ held_at (sets_from sets es) e.before ++ (e.ticket, e.write) ∷ []
 made sets [] i e at less = let impossible : None ≡ Some e = at in absurd (cc)
 made sets (f ∷ es) zero e at less =
-    let same : f ≡ e = same_some at in
+    let same : f ≡ e = same_some _ _ at in
     let next : List Writes = sets ++ held_behind sets f ∷ [] in
     let longer : length next ≡ length sets + 1 = length-more sets (held_behind sets f) in
     let before : e.before < length sets = omega (arith, less) in
@@ -165,10 +166,7 @@ held_here es first t at e log some within is same =
     let there : slice_get es (at - 1) ≡ Some e = entry_at es (at - 1) e (omega (arith, some, within)) is in
     let ticket : (t == e.ticket) ≡ true = eq-eqb t e.ticket (sym same) in
     ap (λ p. holds (held_at (held_sets es) p) t) (sym (step_number at some))
-    ∙ (holds_at es (at - 1) e t there (log.behind (at - 1) e there) ∙ ap (λ b. holds (held_at (held_sets es) e.before) t || b) ticket ∙ either (holds (held_at (held_sets es) e.before) t)) where
-      either : (b : Bool) → (b || true) ≡ true
-      either true = refl
-      either false = refl
+    ∙ (holds_at es (at - 1) e t there (log.behind (at - 1) e there) ∙ ap (λ b. holds (held_at (held_sets es) e.before) t || b) ticket ∙ or-true (holds (held_at (held_sets es) e.before) t))
 
 -- it is that of another ticket
 pub held_further : (es : List Logged) (first : List (ℕ × ℕ)) (t at : ℕ) (e : Logged) → IsLog es first → 0 < at → at ≤ length es → e ≡ get_or es (at - 1) e
@@ -198,13 +196,13 @@ first_after first ticket number t =
 pub log_after : (es : List Logged) (first next : List (ℕ × ℕ)) (e : Logged) → IsLog es first → e.before ≤ length es
     → ((t : ℕ) → lookup (◌==◌ t) next ≡ first_after first e.ticket (length es) t) → IsLog (es ++ e ∷ []) next
 log_after es first next e log before noted = record {
-  behind = λ i x at. elim (from_append es i e x at) [
-    | inl last ↦ let place : i ≡ length es = last.0 in let same : x.before ≡ e.before = ap (λ (y : Logged). y.before) last.1 in omega (arith, before)
-    | inr old ↦ log.behind i x old
+  behind = λ i x at. elim (get_snoc es e x i at) [
+    | inl old ↦ log.behind i x old
+    | inr last ↦ let place : i ≡ length es = last.0 in let same : e.before ≡ x.before = ap (λ (y : Logged). y.before) last.1 in omega (arith, before)
   ];
-  found = λ i x at. elim (from_append es i e x at) [
-    | inl last ↦ own i x last.0 last.1 (lookup (◌==◌ e.ticket) first) refl
-    | inr old ↦ earlier i x old (log.found i x old)
+  found = λ i x at. elim (get_snoc es e x i at) [
+    | inl old ↦ earlier i x old (log.found i x old)
+    | inr last ↦ own i x last.0 (sym last.1) (lookup (◌==◌ e.ticket) first) refl
   ];
   within = λ t f at. bounded t f (lookup (◌==◌ e.ticket) first) refl (t == e.ticket) refl at;
 } where
@@ -244,7 +242,7 @@ log_after es first next e log before noted = record {
       let here : Some (length es) ≡ Some f =
       sym (ap (λ o. if is_some o then lookup (◌==◌ t) first else (if t == e.ticket then Some (length es) else lookup (◌==◌ t) first)) is
       ∙ ap (λ b. if b then Some (length es) else lookup (◌==◌ t) first) same) ∙ (sym (noted t) ∙ at) in
-      let number : length es ≡ f = same_some here in let more = longer in omega arith
+      let number : length es ≡ f = same_some _ _ here in let more = longer in omega arith
   bounded t f None is false same at =
       let here : lookup (◌==◌ t) first ≡ Some f =
       sym (ap (λ o. if is_some o then lookup (◌==◌ t) first else (if t == e.ticket then Some (length es) else lookup (◌==◌ t) first)) is

@@ -9,12 +9,12 @@ use Rattle.repl_group.specs.declared.request.Stage.{Stage}
 use Rattle.repl_group.specs.declared.request.Stage.TheVariants.{Queued, InFlight, Answered, Lost}
 use Rattle.repl_group.specs.Requests.{in_flight_from, is_in_flight, lost_from, lost_request, with_flights_lost}
 use Rattle.repl_group.proofs.FollowLemmas.{map-set}
-use Rattle.repl_group.proofs.ListLemmas.{same_some}
+use Rattle.version_pair.proofs.ListLemmas.{same_some}
 use Rattle.repl_group.proofs.LogLemmas.{get-within}
 use Rattle.repl_group.proofs.RequestLemmas.{lost_grounded}
 
 first : {t u : ℕ} {ts us : List ℕ} → t ∷ ts ≡ u ∷ us → (t ≡ u) × (ts ≡ us)
-first {t} {u} {ts} {us} same = (same_some (ap head same), ap tail same) where
+first {t} {u} {ts} {us} same = (same_some _ _ (ap head same), ap tail same) where
   head : List ℕ → Option ℕ
   head [] = None
   head (n ∷ ns) = Some n

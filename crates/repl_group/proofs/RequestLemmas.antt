@@ -10,7 +10,8 @@ use Rattle.repl_group.specs.declared.request.Stage.{Stage}
 use Rattle.repl_group.specs.declared.request.Stage.TheVariants.{Queued, InFlight, Answered, Lost}
 use Rattle.repl_group.specs.Requests.{in_flight_from, is_busy, is_in_flight, is_queued, lost_from, lost_request, with_flights_lost, with_stage}
 use Rattle.repl_group.specs.aids.Tracking.{AreApart, AreListed, put_in_order, queued_request}
-use Rattle.repl_group.proofs.ListLemmas.{first_or_len, from_append, from_map, from_set, list_any-none, list_any-set_alike, list_any-set_more, none_passes}
+use Rattle.version_pair.proofs.ListLemmas.{from_set, get_snoc, mapped_from}
+use Rattle.repl_group.proofs.ListLemmas.{first_or_len, list_any-none, list_any-set_alike, list_any-set_more, none_passes}
 
 -- ---- a place in order
 
@@ -251,9 +252,9 @@ module _ (xs : List Request) (in_flight busy : List ℕ) (listed : AreListed xs 
 
     before : (i : ℕ) (a : Request) → slice_get (xs ++ queued_request d op ∷ []) i ≡ Some a → is_in_flight a.stage ≡ true → slice_get xs i ≡ Some a
     before i a at flies =
-        elim (from_append xs i (queued_request d op) a at) [
-          | inl here ↦ never_flies (ap (λ (q : Request). is_in_flight q.stage) (sym here.1) ∙ flies)
-          | inr there ↦ there
+        elim (get_snoc xs (queued_request d op) a i at) [
+          | inl there ↦ there
+          | inr here ↦ never_flies (ap (λ (q : Request). is_in_flight q.stage) here.1 ∙ flies)
         ]
 
   module _ (t : ℕ) (x : Request) (at : slice_get xs t ≡ Some x) where
@@ -296,5 +297,5 @@ listed_lost xs in_flight busy no_flights no_busy = record {
 } where
   lost : (u : ℕ) (z : Request) → slice_get (with_flights_lost xs) u ≡ Some z → is_in_flight z.stage ≡ false
   lost u z found =
-      let from = from_map lost_request xs u z found in
-      ap (λ (q : Request). is_in_flight q.stage) from.2 ∙ lost_grounded from.0.stage
+      let from = mapped_from lost_request xs u z found in
+      ap (λ (q : Request). is_in_flight q.stage) (sym from.2) ∙ lost_grounded from.0.stage

@@ -30,7 +30,7 @@ use Rattle.repl_group.specs.Operations.{is_get}
 use Rattle.repl_group.specs.Requests.{flight_of, is_busy, is_queued}
 use Rattle.repl_group.specs.aids.Sound.{IsOwn, IsSound, IsSoundUnlessFaulty}
 use Rattle.repl_group.proofs.HonestLemmas.{from_with_write, held_found, nothing_found, performed_sound, promoted_sound, recopied, restaged, with_request, with_write-more}
-use Rattle.repl_group.proofs.ListLemmas.{same_some}
+use Rattle.version_pair.proofs.ListLemmas.{same_some}
 use Rattle.doc_register.proofs.RunLemmas.{shown_takes_none}
 use Rattle.version_pair.proofs.TruthLemmas.{both}
 
@@ -126,7 +126,7 @@ module _ (w n : GroupState) (a : Answer) (sound : Sound w) where
 
         flight_given : (s : Stage) (f : Pair × DocState) → flight_of s ≡ Some f → pair_given s ≡ Some f.0
         flight_given Queued f is = nothing_found is
-        flight_given (InFlight q b) f is = ap (λ (k : Pair × DocState). Some k.0) (same_some is)
+        flight_given (InFlight q b) f is = ap (λ (k : Pair × DocState). Some k.0) (same_some _ _ is)
         flight_given (Answered r) f is = nothing_found is
         flight_given (Lost q) f is = nothing_found is
 
@@ -151,7 +151,7 @@ module _ (w n : GroupState) (a : Answer) (sound : Sound w) where
       rest) where
         given : (s : Stage) (f : Pair × DocState) → flight_of s ≡ Some f → pair_given s ≡ Some f.0
         given Queued f is = nothing_found is
-        given (InFlight q b) f is = ap (λ (k : Pair × DocState). Some k.0) (same_some is)
+        given (InFlight q b) f is = ap (λ (k : Pair × DocState). Some k.0) (same_some _ _ is)
         given (Answered r) f is = nothing_found is
         given (Lost q) f is = nothing_found is
 
@@ -165,7 +165,7 @@ module _ (w n : GroupState) (a : Answer) (sound : Sound w) where
             → y.is_in_sync ≡ true → holds y.writes t ≡ true
         on_all [] c y there all sync = nothing_found there
         on_all (z ∷ zs) zero y there all sync =
-            let here : z ≡ y = same_some there in
+            let here : z ≡ y = same_some _ _ there in
             either (not y.is_in_sync) (holds y.writes t) (ap (λ (k : ShardCopy). not k.is_in_sync || holds k.writes t) (sym here) ∙ (both (not z.is_in_sync || holds z.writes t) (list_all (λ k. not k.is_in_sync || holds k.writes t) zs) all).0)
             (ap not sync) where
               either : (b d : Bool) → (b || d) ≡ true → b ≡ false → d ≡ true
@@ -182,7 +182,7 @@ module _ (w n : GroupState) (a : Answer) (sound : Sound w) where
   rearranged c y z there same was stays =
       recopied w.term w.primary w.requests w.copies sound c y z there
       (λ t write found. sound.own c t y write there (ap (λ ws. lookup (◌==◌ t) ws) (sym same) ∙ found))
-      (λ here. stays here (subst (λ (k : ShardCopy). k.is_in_sync ≡ true) (same_some (sym sound.leads.1 ∙ (ap (slice_get w.copies) (sym here) ∙ there))) sound.leads.2))
+      (λ here. stays here (subst (λ (k : ShardCopy). k.is_in_sync ≡ true) (same_some _ _ (sym sound.leads.1 ∙ (ap (slice_get w.copies) (sym here) ∙ there))) sound.leads.2))
       (λ here t held. ap (λ ws. holds ws t) same ∙ held)
       (λ sync t x q found told. ap (λ ws. holds ws t) same ∙ sound.acknowledged t c x y q found there told (was sync))
 
@@ -299,7 +299,7 @@ sound_after w n (step.Promote c) a honest sound takes =
 
 every_new : (count c : ℕ) (y : ShardCopy) → slice_get (replicate count new_copy) c ≡ Some y → y ≡ new_copy
 every_new zero c y there = nothing_found there
-every_new (suc count) zero y there = same_some (sym there)
+every_new (suc count) zero y there = same_some _ _ (sym there)
 every_new (suc count) (suc c) y there = every_new count c y there
 
 start_sound : (count : ℕ) → 0 < count → IsSound 1 0 [] (replicate count new_copy)
@@ -342,8 +342,8 @@ honest_from w sound = record {
       → (write : HeldWrite) × (lookup (◌==◌ t) y.writes ≡ Some write) → lookup (◌==◌ t) y.writes ≡ Some (write_of x q)
   held t c x y q found there told (write, at) =
       let own = sound.own c t y write there at in
-      let is_x : own.request ≡ x = same_some (sym own.found ∙ found) in
-      let pair : write.pair ≡ q = same_some (sym own.given ∙ (ap (λ (k : Request). pair_given k.stage) is_x ∙ told_given x.stage q told)) in
+      let is_x : own.request ≡ x = same_some _ _ (sym own.found ∙ found) in
+      let pair : write.pair ≡ q = same_some _ _ (sym own.given ∙ (ap (λ (k : Request). pair_given k.stage) is_x ∙ told_given x.stage q told)) in
       at ∙ ap Some (own.same ∙ (ap (λ (k : Request). write_of k write.pair) is_x ∙ ap (write_of x) pair))
 
 pub honest_unless_faulty : (w : GroupState) → IsSoundUnlessFaulty w → IsHonestUnlessFaulty w

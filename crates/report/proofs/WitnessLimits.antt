@@ -9,7 +9,7 @@ use Rattle.history.specs.declared.event.Event.TheVariants.{Call, Reply, Lost}
 use Rattle.history.specs.Events.{IsHistory, documents_of, is_same, records_of, with_document, with_event}
 use Rattle.history.specs.Refusal.{most_events}
 use Rattle.history.proofs.CountLemmas.{AreOnce, calls_within, distinct_within, fewer_records}
-use Rattle.history.proofs.ListLemmas.{none_is_not_some, same_some}
+use Rattle.version_pair.proofs.ListLemmas.{none_is_not_some, same_some}
 use Rattle.witness.specs.Documents.{witness_places}
 use Rattle.witness.specs.Text.{AreWithinLimits, DocPlaces, items_in}
 use Rattle.witness.specs.Witness.{Witness}

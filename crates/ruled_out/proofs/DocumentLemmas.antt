@@ -5,7 +5,7 @@ use Rattle.std.proofs.lemmas.Option.{slice_get_past, slice_get_within}
 use Rattle.std.specs.Slice.{IsItemAt}
 use Rattle.doc_register.specs.declared.reply.Reply.{Reply}
 use Rattle.history.specs.declared.record.Rec.{Rec}
-use Rattle.history.proofs.ListLemmas.{none_is_not_some, same_some}
+use Rattle.version_pair.proofs.ListLemmas.{none_is_not_some, same_some}
 use Rattle.ruled_out.specs.declared.walk.Walk.{Walk}
 use Rattle.ruled_out.specs.Placings.{AreInOrder, IsRuledOut}
 use Rattle.ruled_out.specs.aids.Answers.{AreAnswers}

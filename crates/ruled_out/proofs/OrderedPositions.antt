@@ -15,7 +15,7 @@ use Rattle.history.specs.declared.record.Rec.{Rec}
 use Rattle.history.specs.Events.{IsReplyAt}
 use Rattle.history.specs.Heard.{pair_of}
 use Rattle.history.specs.Order.{Placed}
-use Rattle.history.proofs.ListLemmas.{none_is_not_some, same_some}
+use Rattle.version_pair.proofs.ListLemmas.{none_is_not_some, same_some}
 use Rattle.ruled_out.specs.Told.{IsKnown}
 use Rattle.ruled_out.specs.Positions.{IsNext, gap_of, version_of}
 use Rattle.ruled_out.specs.Placings.{MayTake}

@@ -23,7 +23,7 @@ use Rattle.history.specs.Laws.{IsSplitByDocument}
 use Rattle.history.specs.Order.{IsOfCall, Placed, run_of}
 use Rattle.history.proofs.EventLemmas.{same_call}
 use Rattle.history.proofs.HistoryLemmas.{call_passes}
-use Rattle.history.proofs.ListLemmas.{compare, mapped_from, none_is_not_some, same_some}
+use Rattle.version_pair.proofs.ListLemmas.{compare, mapped_from, none_is_not_some, same_some}
 use Rattle.history.proofs.RecordLaws.{split_by_document}
 use Rattle.ruled_out.specs.Laws.{ExplainsWithin}
 use Rattle.ruled_out.specs.Told.{IsListed, as_told, told, told_of}

@@ -8,7 +8,7 @@ use Rattle.version_pair.specs.declared.pair.Pair.{Pair}
 use Rattle.doc_register.specs.declared.op.Op.TheVariants.{Delete}
 use Rattle.doc_register.specs.Register.{condition_of, value_of}
 use Rattle.history.specs.declared.record.Rec.{Rec}
-use Rattle.history.proofs.ListLemmas.{get_snoc, none_is_not_some, same_some}
+use Rattle.version_pair.proofs.ListLemmas.{get_snoc, none_is_not_some, same_some}
 use Rattle.ruled_out.specs.declared.walk.Walk.{Walk}
 use Rattle.ruled_out.specs.declared.writers.Writers.{Writers}
 use Rattle.ruled_out.specs.Told.{IsGone, IsKnown, IsToldOf}

@@ -6,7 +6,7 @@ use Rattle.version_pair.specs.declared.pair.Pair.{Pair}
 use Rattle.version_pair.specs.PairOrder.{IsBelow}
 use Rattle.doc_register.proofs.RunLemmas.{below_trans}
 use Rattle.history.specs.declared.record.Rec.{Rec}
-use Rattle.history.proofs.ListLemmas.{get_last, none_is_not_some, same_some, take_one_more}
+use Rattle.version_pair.proofs.ListLemmas.{get_last, none_is_not_some, same_some, take_one_more}
 use Rattle.ruled_out.specs.Told.{IsKnown, known_pairs}
 use Rattle.ruled_out.specs.Positions.{count_below, is_below}
 use Rattle.ruled_out.specs.declared.version.Version.{Version}

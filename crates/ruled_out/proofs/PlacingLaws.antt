@@ -16,7 +16,7 @@ use Rattle.history.specs.declared.record.Rec.{Rec}
 use Rattle.history.specs.Events.{IsHistory, records_of}
 use Rattle.history.specs.Heard.{pair_of}
 use Rattle.history.specs.Order.{Explains, Placed}
-use Rattle.history.proofs.ListLemmas.{get_within, none_is_not_some, same_some}
+use Rattle.version_pair.proofs.ListLemmas.{get_within, none_is_not_some, same_some}
 use Rattle.ruled_out.specs.Told.{IsGone, IsKnown, IsListed, IsToldOf, pair_shown, told}
 use Rattle.ruled_out.specs.Positions.{position_after, version_of}
 use Rattle.ruled_out.specs.Placings.{IsPlacing, IsReached, Lifts, MayAnswer, MayBeAbsent, MayBePresent, MayChange, MayConflict, MayRefuse, MayStand, MayWrite}

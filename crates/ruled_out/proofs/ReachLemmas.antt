@@ -5,7 +5,7 @@ use Rattle.std.proofs.lemmas.Option.{get_or_from_slice_get, slice_get_within}
 use Rattle.version_pair.specs.declared.pair.Pair.{Pair}
 use Rattle.version_pair.specs.PairOrder.{IsBelow}
 use Rattle.history.specs.declared.record.Rec.{Rec}
-use Rattle.history.proofs.ListLemmas.{none_is_not_some}
+use Rattle.version_pair.proofs.ListLemmas.{none_is_not_some}
 use Rattle.ruled_out.specs.declared.walk.Walk.{Walk}
 use Rattle.ruled_out.specs.Told.{IsKnown, IsToldOf}
 use Rattle.ruled_out.specs.Positions.{version_of}

@@ -8,7 +8,7 @@ use Rattle.history.specs.declared.event.Event.TheVariants.{Call, Reply}
 use Rattle.history.specs.declared.record.Rec.{Rec}
 use Rattle.history.specs.Events.{IsCallAt, IsHistory, IsReplyAt, PassesAt, is_call, records_of}
 use Rattle.history.proofs.HistoryLemmas.{call_passes, reply_passes}
-use Rattle.history.proofs.ListLemmas.{mapped_from}
+use Rattle.version_pair.proofs.ListLemmas.{mapped_from}
 use Rattle.history.proofs.RecordLaws.{split_by_document}
 use Rattle.ruled_out.specs.Told.{as_told, told}
 use Rattle.ruled_out.specs.Placings.{AreInOrder}

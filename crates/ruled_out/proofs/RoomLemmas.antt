@@ -7,7 +7,7 @@ use Rattle.version_pair.specs.declared.pair.Pair.{Pair}
 use Rattle.version_pair.specs.PairOrder.{IsBelow}
 use Rattle.doc_register.proofs.RunLemmas.{below_trans, not_below_itself, not_both_below}
 use Rattle.history.specs.declared.record.Rec.{Rec}
-use Rattle.history.proofs.ListLemmas.{get_front, get_last, get_snoc, none_is_not_some, same_some}
+use Rattle.version_pair.proofs.ListLemmas.{get_front, get_last, get_snoc, none_is_not_some, same_some}
 use Rattle.std.specs.Option.{option_to_list}
 use Rattle.ruled_out.specs.Told.{IsKnown, known_pairs}
 use Rattle.ruled_out.specs.Positions.{count_below, gap_of, is_below, version_of}

@@ -4,7 +4,7 @@ use Rattle.std.specs.Prelude.{◌↔◌}
 use Rattle.std.specs.BTreeSet.{BTreeSet}
 use Rattle.version_pair.specs.declared.pair.Pair.{Pair}
 use Rattle.history.specs.declared.record.Rec.{Rec}
-use Rattle.history.proofs.ListLemmas.{get_front, get_last, get_snoc, none_is_not_some}
+use Rattle.version_pair.proofs.ListLemmas.{get_front, get_last, get_snoc, none_is_not_some}
 use Rattle.ruled_out.specs.Told.{IsGone, IsKnown, pair_shown}
 use Rattle.ruled_out.specs.Positions.{version_of}
 use Rattle.ruled_out.specs.aids.KnownPairs.{AreKnown}

@@ -13,7 +13,7 @@ use Rattle.doc_register.proofs.RunLemmas.{shown_takes_none}
 use Rattle.history.specs.declared.record.Rec.{Rec}
 use Rattle.history.specs.Heard.{pair_of}
 use Rattle.history.specs.Order.{Placed}
-use Rattle.history.proofs.ListLemmas.{none_is_not_some, same_some}
+use Rattle.version_pair.proofs.ListLemmas.{none_is_not_some, same_some}
 use Rattle.ruled_out.specs.Told.{IsGone, IsKnown, IsListed, IsToldOf, condition_met, pair_shown}
 use Rattle.ruled_out.proofs.Counts.{IsShown, known_shown}
 use Rattle.ruled_out.proofs.DocumentSteps.{leaves_it, meets, met_pair}

@@ -14,8 +14,7 @@ use Rattle.doc_register.specs.declared.reply.Reply.TheVariants.{Indexed, Deleted
 use Rattle.doc_register.proofs.RunLemmas.{not_below_itself}
 use Rattle.history.specs.declared.record.Rec.{Rec}
 use Rattle.history.specs.Heard.{pair_of}
-use Rattle.history.proofs.ListLemmas.{none_is_not_some, same_some}
-use Rattle.history.proofs.SetLemmas.{slice_get-set_same, slice_get-set_other}
+use Rattle.version_pair.proofs.ListLemmas.{none_is_not_some, same_some, slice_get-set_other, slice_get-set_same}
 use Rattle.ruled_out.specs.declared.version.Number.{Number}
 use Rattle.ruled_out.specs.declared.version.Number.TheVariants.{Unseen, One, Several}
 use Rattle.ruled_out.specs.declared.version.Version.{Version}

@@ -10,7 +10,7 @@ use Rattle.doc_register.specs.declared.reply.Reply.{Reply}
 use Rattle.doc_register.specs.declared.reply.Reply.TheVariants.{Indexed, Deleted, Found, Missing, Conflict}
 use Rattle.history.specs.declared.record.Rec.{Rec}
 use Rattle.history.specs.Heard.{pair_of}
-use Rattle.history.proofs.ListLemmas.{same_some}
+use Rattle.version_pair.proofs.ListLemmas.{same_some}
 use Rattle.ruled_out.specs.Positions.{gap_of, position_after}
 use Rattle.ruled_out.specs.Placings.{AreInOrder, IsPlacing, IsReached, IsRuledOut, Lifts, MayAnswer, MayBeAbsent, MayBePresent, MayChange, MayConflict, MayRefuse, MayStand, MayTake, MayWrite}
 use Rattle.ruled_out.specs.aids.Walks.{IsAnswerAt, IsEarliest, IsWalked}

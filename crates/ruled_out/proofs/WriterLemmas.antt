@@ -9,8 +9,7 @@ use Rattle.version_pair.specs.PairOrder.{IsBelow}
 use Rattle.doc_register.specs.Register.{condition_of, value_of}
 use Rattle.doc_register.proofs.RunLemmas.{not_below_itself}
 use Rattle.history.specs.declared.record.Rec.{Rec}
-use Rattle.history.proofs.ListLemmas.{get_front, get_last, get_snoc, none_is_not_some, same_some}
-use Rattle.history.proofs.SetLemmas.{slice_get-set_same, slice_get-set_other}
+use Rattle.version_pair.proofs.ListLemmas.{get_front, get_last, get_snoc, none_is_not_some, same_some, slice_get-set_other, slice_get-set_same}
 use Rattle.ruled_out.specs.declared.version.Number.{Number}
 use Rattle.ruled_out.specs.declared.writers.Writers.{Writers}
 use Rattle.ruled_out.specs.Told.{IsFoundWith, IsKnown, known_pairs}

@@ -1,4 +1,4 @@
-ghost use Rattle.std.specs.Prelude.{◌≡◌, ℕ, ◌<◌, ◌≤◌, ◌↔◌, ◌==◌, List, [], length, IsTrue, IfOk, IsErrOf};
+ghost use Rattle.std.specs.Prelude.{◌≡◌, ℕ, ◌<◌, ◌≤◌, ◌↔◌, ◌==◌, ◌⊎◌, List, [], length, IsTrue, IfOk, IfSome, IsErrOf, None};
 ghost use Rattle.std.specs.Arc.{arc_str_bytes};
 ghost use Rattle.std.specs.Cmp.{partial_equiv_from_equiv};
 ghost use Rattle.std.specs.Cmp.Lexicographic.{pointwise, nat_list_eq_equiv};
@@ -33,6 +33,50 @@ pub enum IdFault {
     NoMemory,
 }
 
+/// A text that is a document's id, one of 1 to 512 bytes, where it stands.
+#[derive(Debug, Drop)]
+pub struct IdText<'t> {
+    text: &'t str,
+}
+
+impl<'t> Model for IdText<'t> {
+    ghost Value = { List ℕ };
+
+    ghost view = { λ d. d.text.now };
+
+    ghost invariant = { λ d. IsIdLength (length d.text.now) };
+}
+
+impl<'t> IdText<'t> {
+    /// The text as an id, where it has 1 to 512 bytes.
+    pub fn new(text: &'t str) -> Option<IdText<'t>>
+        ensures some { IfSome result (λ id. (id ≡ text.now) × IsIdLength (length text.now)) }
+        ensures none { (result ≡ None) ↔ ((length text.now ≡ 0) ⊎ (512 < length text.now)) }
+    {
+        if text.is_empty() || text.len() > LONGEST_ID {
+            return None;
+        }
+        Some(IdText { text })
+    }
+
+    /// The id as text.
+    pub fn as_str(&self) -> &'t str
+        ensures same { result.now ≡ self.now }
+        ensures id { IsIdLength (length self.now) }
+    {
+        self.text
+    }
+
+    /// The id with these bytes, in memory of its own.
+    pub fn to_id(&self, alloc: Global) -> Result<DocId, NoMemory>
+        ensures { IfOk result (λ id. id ≡ self.now) }
+    {
+        Ok(DocId {
+            text: ArcStr::from_str(alloc, self.text)?,
+        })
+    }
+}
+
 /// The id of a document: a text of 1 to 512 bytes. Its copies share the text.
 #[derive(Debug, Drop)]
 pub struct DocId {
@@ -54,15 +98,22 @@ impl DocId {
         ensures empty { IsErrOf result IdFault.Empty ↔ (length text.now ≡ 0) }
         ensures too_long { IsErrOf result IdFault.TooLong ↔ (512 < length text.now) }
     {
-        if text.is_empty() {
-            return Err(IdFault::Empty);
-        }
-        if text.len() > LONGEST_ID {
-            return Err(IdFault::TooLong);
-        }
-        match ArcStr::from_str(alloc, text) {
-            Ok(text) => Ok(DocId { text }),
-            Err(_) => Err(IdFault::NoMemory),
+        let Some(id) = IdText::new(text) else {
+            return Err(if text.is_empty() {
+                IdFault::Empty
+            } else {
+                IdFault::TooLong
+            });
+        };
+        id.to_id(alloc).map_err(|_| IdFault::NoMemory)
+    }
+
+    /// The text of the id, where the id keeps it.
+    pub fn text(&self) -> IdText<'_>
+        ensures { result ≡ self.now }
+    {
+        IdText {
+            text: self.text.as_str(),
         }
     }
 
@@ -124,6 +175,16 @@ mod tests {
             DocId::new(rt.alloc(), too_long).err(),
             Some(IdFault::TooLong)
         );
+        Ok(())
+    }
+
+    #[test]
+    fn texts_of_ids(rt: HostRuntime) -> Result<(), Fail> {
+        assert!(rt; IdText::new("").is_none());
+        let text = IdText::new("d").ok_or("an id")?;
+        let id = text.to_id(rt.alloc())?;
+        assert_eq!(rt; id.as_str(), "d");
+        assert_eq!(rt; id.text().as_str(), "d");
         Ok(())
     }
 

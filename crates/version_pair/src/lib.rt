@@ -9,5 +9,5 @@
 mod doc_id;
 mod pair;
 
-pub use doc_id::{DocId, IdFault, NoMemory};
+pub use doc_id::{DocId, IdFault, IdText, NoMemory};
 pub use pair::Pair;

@@ -23,7 +23,7 @@ use Rattle.history.specs.Events.{IsCallAt, IsHistory, IsPending, IsReplyAt, Pass
 use Rattle.history.specs.Laws.{IsRecordAt, IsSplitByDocument}
 use Rattle.history.specs.Order.{IsOfCall, Placed, run_of}
 use Rattle.history.proofs.HistoryLemmas.{call_passes}
-use Rattle.history.proofs.ListLemmas.{none_is_not_some, same_some}
+use Rattle.version_pair.proofs.ListLemmas.{none_is_not_some, same_some}
 use Rattle.history.proofs.RecordLaws.{split_by_document}
 use Rattle.witness.specs.declared.place.Place.{Place}
 use Rattle.witness.specs.Places.{AreRight, AreValid, GivesAsMay, IsHeardBefore, IsNamed, IsPlaceOf, IsPlaceRun, IsUnansweredGet, StepsAt}

@@ -8,7 +8,7 @@ use Rattle.doc_register.specs.declared.state.Conflicts.{Conflicts}
 use Rattle.history.specs.declared.record.Rec.{Rec}
 use Rattle.history.specs.Order.{Placed}
 use Rattle.history.proofs.CountLemmas.{distinct_within}
-use Rattle.history.proofs.ListLemmas.{none_is_not_some}
+use Rattle.version_pair.proofs.ListLemmas.{none_is_not_some}
 use Rattle.witness.specs.declared.place.Place.{Place}
 use Rattle.witness.specs.Laws.{ArePlacedBy}
 use Rattle.witness.specs.Places.{AreRight}

@@ -11,8 +11,7 @@ use Rattle.doc_register.specs.declared.state.DocState.TheVariants.{Never}
 use Rattle.doc_register.specs.Register.{performed_reply}
 use Rattle.doc_register.proofs.RunLaws.{step_decided}
 use Rattle.history.specs.declared.record.Rec.{Rec}
-use Rattle.history.proofs.SetLemmas.{slice_get-set_other, slice_get-set_same}
-use Rattle.history.proofs.ListLemmas.{get_front, get_last, get_snoc, get_take, none_is_not_some, same_some, take_one_more}
+use Rattle.version_pair.proofs.ListLemmas.{get_front, get_last, get_snoc, get_take, none_is_not_some, same_some, slice_get-set_other, slice_get-set_same, take_one_more}
 use Rattle.std.proofs.lemmas.Bool.{cases_eq}
 use Rattle.std.proofs.lemmas.List.{length-set}
 use Rattle.std.proofs.lemmas.Option.{slice_get_within}

@@ -12,7 +12,7 @@ use Rattle.witness.specs.declared.witness_line.WitnessLine.TheVariants as line
 use Rattle.witness.specs.Text.{DocPlaces, said_by, value_of, written}
 use Rattle.witness.specs.Witness.{Witness}
 use Rattle.witness.specs.declared.place.Place.{Place}
-use Rattle.history.proofs.ListLemmas.{take_one_more}
+use Rattle.version_pair.proofs.ListLemmas.{take_one_more}
 
 pub written_none : (text : List ℕ) → IsWrittenOn text text []
 written_none text = record { added = sym (append-nil text); readable = All-nil IsReadable }

@@ -61,7 +61,7 @@ fn document(alloc: Global, id: &str) -> Result<WitnessLine, LineFault>
     ensures { MatchResult result (λ line. document_told id.now ≡ Ok line)
         (λ fault. IfTold fault (λ cause. document_told id.now ≡ Err cause)) }
 {
-    let id = document_id(alloc, id)?;
+    let id = document_id(id)?.to_id(alloc)?;
     Ok(WitnessLine::Document(id))
 }
 

@@ -19,7 +19,7 @@ use Rattle.workload.specs.declared.target.Ticket.{Ticket}
 use Rattle.workload.specs.declared.turn.Turn.{Turn}
 use Rattle.workload.proofs.ClientLemmas.{longer_at_start, run_at_end}
 use Rattle.workload.proofs.RunningLemmas.{longer_by_each}
-use Rattle.history.proofs.ListLemmas.{mapped_from}
+use Rattle.version_pair.proofs.ListLemmas.{mapped_from}
 
 module _ {X : Type 0} where
   -- an element after one was set is the one that was set, or as before

@@ -17,7 +17,7 @@ use Rattle.workload.specs.declared.run_fault.RunFault.TheVariants.{NoMemory}
 use Rattle.workload.specs.declared.target.Progress.{Progress}
 use Rattle.workload.specs.declared.target.Ticket.{Ticket}
 use Rattle.workload.specs.declared.turn.Turn.{Turn}
-use Rattle.history.proofs.ListLemmas.{mapped_from}
+use Rattle.version_pair.proofs.ListLemmas.{mapped_from}
 
 -- ---- the fault of the least client
 

@@ -4,7 +4,7 @@ use Rattle.std.proofs.lemmas.Bool.{cases_lt}
 use Rattle.std.proofs.lemmas.Option.{slice_get_read}
 use Rattle.version_pair.specs.declared.pair.Pair.{Pair}
 use Rattle.version_pair.specs.PairOrder.{IsBelow}
-use Rattle.history.proofs.ListLemmas.{same_some}
+use Rattle.version_pair.proofs.ListLemmas.{same_some}
 use Rattle.write_chain.specs.Chain.{Rises}
 
 two_read : (chain : List (Pair × ℕ)) (k : ℕ) (a b : Pair × ℕ) → 1 ≤ k → k < length chain → a ≡ get_or chain (k - 1) a → b ≡ get_or chain k b

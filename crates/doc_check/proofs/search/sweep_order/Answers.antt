@@ -13,16 +13,16 @@ returns-then-not-rises c = λ conflicts.
     equal_pairs_none c.args.records.now c.in_ok-chain.chain.items c.in_ok-chain.ensures
     (λ rising. false≢true (sym c.if-not-rises.true ∙ c.rises.ensures.1 (subst Rises (sym c.deref.ensures.value) rising))) conflicts
 
-pub returns-in-Some : goal.returns-in-Some
-returns-in-Some c = λ conflicts.
+pub returns-in_ok-order_of-in-Some : goal.returns-in_ok-order_of-in-Some
+returns-in_ok-order_of-in-Some c = λ conflicts.
     let laid = c.in_ok-stretches.ensures.0 in
     order_of_sweep c.args.records.now c.in_ok-stretches.stretches.chain.items c.in-Some.given.items c.in_ok-order_of-in-Some.field-0.items laid.chain laid.rising
     (MatchOption-at_some ((places : List Place) → AreSpread c.args.records.now c.in_ok-stretches.stretches.chain.items places → ⊥)
     (λ (given : Vec (Option ℕ) Global). AreGiven c.args.records.now c.in_ok-stretches.stretches.chain.items given.items) c.in-Some.given c.in-Some.is c.in_ok-given.ensures)
     (subst (λ given. IsStretchOrder c.args.records.now given c.in_ok-order_of-in-Some.field-0.items) c.deref-in-Some.ensures.value c.in_ok-order_of-in-Some.ensures) conflicts
 
-pub returns : goal.returns
-returns c = λ conflicts.
+pub returns-in-None : goal.returns-in-None
+returns-in-None c = λ conflicts.
     unspread_none c.args.records.now c.in_ok-stretches.stretches.chain.items c.in_ok-stretches.ensures.0.chain
     (MatchOption-at_none ((places : List Place) → AreSpread c.args.records.now c.in_ok-stretches.stretches.chain.items places → ⊥)
     (λ (given : Vec (Option ℕ) Global). AreGiven c.args.records.now c.in_ok-stretches.stretches.chain.items given.items) c.in-None.is c.in_ok-given.ensures) conflicts

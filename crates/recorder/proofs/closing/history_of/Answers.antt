@@ -4,7 +4,8 @@ use Rattle.std.proofs.lemmas.Iterator.Consumers.{YieldsList-so_far, YieldsList-t
 use Rattle.std.proofs.lemmas.List.{map-id}
 use Rattle.std.proofs.lemmas.Option.{slice_get-get_or}
 use Rattle.history.specs.Refusal.{refusal_of}
-use Rattle.recorder.proofs.RefusalLemmas.{only_memory, told_fault}
+use Rattle.history.proofs.PlaceLemmas.{only_memory}
+use Rattle.recorder.proofs.RefusalLemmas.{told_fault}
 use Rattle.recorder.proofs.closing.history_of.Goals as goal
 
 pub returns-in_err-push-clause-accepted : goal.returns-in_err-push-clause-accepted

@@ -1,7 +1,7 @@
 use Rattle.std.proofs.Common.{◌≡◌, ℕ, refl, sym, subst, ◌∙◌, Some, slice_get, slice_index_or}
 use Rattle.std.proofs.lemmas.Option.{slice_get-get_or, slice_get_read}
 use Rattle.history.specs.declared.record.Rec.{Rec}
-use Rattle.history.proofs.ListLemmas.{same_some}
+use Rattle.version_pair.proofs.ListLemmas.{same_some}
 use Rattle.ruled_out.specs.aids.Standing.{AnswersOrEnds}
 use Rattle.ruled_out.specs.aids.Walks.{IsAnswerAt}
 use Rattle.ruled_out.proofs.DocumentLemmas.{earlier_up, get_none, walked_end, walked_next, walked_start, walked_up}

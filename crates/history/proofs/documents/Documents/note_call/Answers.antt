@@ -4,7 +4,7 @@ use Rattle.std.specs.Map.{lookup}
 use Rattle.indexmap.proofs.MapLemmas.{OnOk-map}
 use Rattle.history.specs.Events.{is_same, with_document}
 use Rattle.history.proofs.DocumentLemmas.{is_known, known_place, position_of_id, with_known}
-use Rattle.history.proofs.ListLemmas.{get_within}
+use Rattle.version_pair.proofs.ListLemmas.{get_within}
 use Rattle.history.proofs.ListedLemmas.{listed_at, listed_new}
 use Rattle.history.proofs.documents.Documents.note_call.Goals as goal
 

@@ -5,7 +5,7 @@ use Rattle.history.proofs.OpenCalls.{call_told}
 use Rattle.history.proofs.history.History.push_call.Goals as goal
 
 pub returns-in-Some-clause-reason : goal.returns-in-Some-clause-reason
-returns-in-Some-clause-reason c = call_told c.args.self.now c.args.no c.args.shard c.args.id c.args.op c.in-Some.fault (c.in-Some.ensures c.args.op)
+returns-in-Some-clause-reason c = call_told c.args.self.now c.args.no c.args.shard c.args.id.now c.args.op c.in-Some.fault (c.in-Some.ensures c.args.op)
 
 pub append_call-requires-clause-accepted : goal.append_call-requires-clause-accepted
 append_call-requires-clause-accepted c = ap (λ d. refusal_of c.args.self.now (Call c.args.shard c.args.no d c.args.op)) c.in-Ok.ensures ∙ sym (c.in_default.ensures c.args.op)

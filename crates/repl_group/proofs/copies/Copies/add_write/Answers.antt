@@ -2,7 +2,7 @@ use Rattle.std.proofs.Common.{◌∙◌, ◌<◌, ◌++◌, ◌∷◌, [], ap, s
 use Rattle.repl_group.specs.Copies.{holds}
 use Rattle.repl_group.specs.aids.Logging.{held_at}
 use Rattle.repl_group.proofs.KeepLemmas.{length_any, kept_added, kept_still, on_err, seen_added, seen_still, seen_there, there}
-use Rattle.repl_group.proofs.ListLemmas.{same_some}
+use Rattle.version_pair.proofs.ListLemmas.{same_some}
 use Rattle.repl_group.proofs.copies.Copies.add_write.Goals as goal
 
 pub holds-requires : goal.holds-requires
@@ -37,7 +37,7 @@ pub invariant_of-self-2 : goal.invariant_of-self-2
 invariant_of-self-2 c =
     let read = there c.self.inside.log c.self.inside.list.items c.args.self.now c.args.copy c.index.result.now c.self.view_is c.requires c.index.ensures in
     let at = there c.self.inside.log c.self.inside.list.items c.args.self.now c.args.copy c.index_mut.result.now c.self.view_is c.requires c.index_mut.ensures.value in
-    let place = c.place-place.ensures ∙ ap (λ z. z.held.place) (same_some (sym read ∙ at)) in
+    let place = c.place-place.ensures ∙ ap (λ z. z.held.place) (same_some _ _ (sym read ∙ at)) in
     kept_added c.self.inside.log c.self.inside.list.items c.args.copy c.index_mut.result.now c.args.ticket c.args.write c.push.new.self c.add.new.self c.self.invariant at
     (c.in_ok-next.ensures.sets ∙ ap (λ p. c.self.inside.log ++ (held_at c.self.inside.log p ++ (c.args.ticket, c.args.write) ∷ []) ∷ []) place)
     (c.in_ok-add.ensures.place ∙ c.in_ok-next.ensures.place) c.in_ok-add.ensures.documents c.in_ok-add.ensures.next
@@ -46,7 +46,7 @@ pub returns-clause-ok : goal.returns-clause-ok
 returns-clause-ok c y is =
     let read = there c.self.inside.log c.self.inside.list.items c.args.self.now c.args.copy c.index.result.now c.self.view_is c.requires c.index.ensures in
     let at = there c.self.inside.log c.self.inside.list.items c.args.self.now c.args.copy c.index_mut.result.now c.self.view_is c.requires c.index_mut.ensures.value in
-    let place = c.place-place.ensures ∙ ap (λ z. z.held.place) (same_some (sym read ∙ at)) in
+    let place = c.place-place.ensures ∙ ap (λ z. z.held.place) (same_some _ _ (sym read ∙ at)) in
     seen_added c.self.inside.log c.self.inside.list.items c.args.self.now c.args.copy c.index_mut.result.now c.args.ticket c.args.write c.push.new.self c.add.new.self y c.self.view_is c.self.invariant at is
     (ap (λ p. holds (held_at c.self.inside.log p) c.args.ticket) (sym place) ∙ (sym c.holds.ensures ∙ c.if-holds.false))
     (c.in_ok-next.ensures.sets ∙ ap (λ p. c.self.inside.log ++ (held_at c.self.inside.log p ++ (c.args.ticket, c.args.write) ∷ []) ∷ []) place)

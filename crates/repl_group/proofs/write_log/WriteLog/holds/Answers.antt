@@ -1,5 +1,5 @@
 use Rattle.std.proofs.Common.{◌≡◌, ◌<◌, ◌∙◌, sym, refl, arith, Some}
-use Rattle.repl_group.proofs.ListLemmas.{same_some}
+use Rattle.version_pair.proofs.ListLemmas.{same_some}
 use Rattle.repl_group.proofs.LogLemmas.{held_further, held_here, place_within, unheld_at}
 use Rattle.repl_group.proofs.write_log.WriteLog.holds.Goals as goal
 
@@ -37,4 +37,4 @@ returns c =
     rw (← c.self.view_is)
     (sym (c.loop-at.invariant.1 ∙ unheld_at c.self.inside.entries.items c.self.inside.first.entries c.args.ticket c.loop-at.at c.copied.result c.self.invariant
     (sym c.get.ensures.value ∙ sym c.copied.ensures) c.loop-at.invariant.0
-    (λ f at. let same : f ≡ c.in-Some.first = same_some (sym at ∙ found) in omega (arith, c.loop-at-test.false))))
+    (λ f at. let same : f ≡ c.in-Some.first = same_some _ _ (sym at ∙ found) in omega (arith, c.loop-at-test.false))))

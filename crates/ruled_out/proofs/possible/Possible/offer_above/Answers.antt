@@ -1,5 +1,5 @@
 use Rattle.std.proofs.Common.{◌<◌, sym, subst, ◌∙◌, Some}
-use Rattle.history.proofs.ListLemmas.{same_some}
+use Rattle.version_pair.proofs.ListLemmas.{same_some}
 use Rattle.ruled_out.specs.aids.KnownPairs.{IsGapAbove}
 use Rattle.ruled_out.proofs.OfferLemmas.{offered_nothing, offered_one}
 use Rattle.ruled_out.proofs.possible.Possible.offer_above.Goals as goal

@@ -1,6 +1,6 @@
 use Rattle.std.proofs.Common.{rules, ◌≡◌, ◌≤◌, length, sym, ap, subst, ◌∙◌, Some, List, slice_get, true≢false}
 use Rattle.version_pair.specs.declared.pair.Pair.{Pair}
-use Rattle.history.proofs.ListLemmas.{same_some}
+use Rattle.version_pair.proofs.ListLemmas.{same_some}
 use Rattle.ruled_out.specs.aids.Standing.{IsTaken}
 use Rattle.ruled_out.proofs.ItemLemmas.{copied_get}
 use Rattle.ruled_out.proofs.KnownLemmas.{there_known}

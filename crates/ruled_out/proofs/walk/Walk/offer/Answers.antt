@@ -1,7 +1,7 @@
 use Rattle.std.proofs.Common.{◌≡◌, sym, ap, ◌∙◌}
 use Rattle.doc_register.specs.declared.op.Op.TheVariants.{Get, Delete}
 use Rattle.doc_register.specs.Register.{condition_of, value_of}
-use Rattle.history.proofs.ListLemmas.{none_is_not_some}
+use Rattle.version_pair.proofs.ListLemmas.{none_is_not_some}
 use Rattle.version_pair.proofs.TruthLemmas.{none_from_is_some}
 use Rattle.ruled_out.proofs.PassLemmas.{answered_is, knows_nothing, ok_then}
 use Rattle.ruled_out.proofs.walk.Walk.offer.Goals as goal

@@ -1,6 +1,6 @@
--- Places in lists.
+-- Places in lists, as every crate above needs them.
 use Rattle.std.proofs.Common.{ℕ, zero, suc, ◌≡◌, ◌<◌, List, [], ◌∷◌, ◌++◌, length, map, take, refl, sym, inl, inr, arith, Some, None, slice_get, ◌⊎◌, Option, ap, ◌∙◌}
-use Rattle.std.specs.Prelude.{filter_map, option_map}
+use Rattle.std.specs.Prelude.{filter_map, option_map, set}
 use Rattle.std.specs.List.{cons_option}
 use Rattle.std.proofs.lemmas.Bool.{cases_lt}
 use Rattle.std.proofs.lemmas.Option.{slice_get-map}
@@ -144,3 +144,27 @@ mapped_from {X} {Y} f xs i y at = by_option (slice_get xs i) refl (sym (slice_ge
   by_option : (o : Option X) → slice_get xs i ≡ o → option_map f o ≡ Some y → (x : X) × (slice_get xs i ≡ Some x) × (f x ≡ y)
   by_option None is made = absurd (none_is_not_some y made)
   by_option (Some x) is made = (x, is, same_some (f x) y made)
+
+-- ---- one element is set
+
+-- it stands there
+pub slice_get-set_same : {X : Type 0} (xs : List X) (k : ℕ) (x : X) → k < length xs → slice_get (set xs k x) k ≡ Some x
+slice_get-set_same [] k x within = absurd (omega arith)
+slice_get-set_same (y ∷ xs) zero x within = refl
+slice_get-set_same (y ∷ xs) (suc k) x within = slice_get-set_same xs k x (omega arith)
+
+-- elsewhere stands what stood there
+pub slice_get-set_other : {X : Type 0} (xs : List X) (k j : ℕ) (x : X) → (j ≡ k → ⊥) → slice_get (set xs k x) j ≡ slice_get xs j
+slice_get-set_other [] k j x other = refl
+slice_get-set_other (y ∷ xs) zero zero x other = absurd (other refl)
+slice_get-set_other (y ∷ xs) zero (suc j) x other = refl
+slice_get-set_other (y ∷ xs) (suc k) zero x other = refl
+slice_get-set_other (y ∷ xs) (suc k) (suc j) x other = slice_get-set_other xs k j x (λ same. other (ap suc same))
+
+-- what stands there is the one that was set, or as before
+pub from_set : {X : Type 0} (xs : List X) (k j : ℕ) (x y : X) → slice_get (set xs k x) j ≡ Some y → ((j ≡ k) × (y ≡ x)) ⊎ ((j ≡ k → ⊥) × (slice_get xs j ≡ Some y))
+from_set [] k j x y at = absurd (none_is_not_some y at)
+from_set (z ∷ zs) zero zero x y at = inl (refl, sym (same_some x y at))
+from_set (z ∷ zs) zero (suc j) x y at = inr ((λ same. absurd (omega arith)), at)
+from_set (z ∷ zs) (suc k) zero x y at = inr ((λ same. absurd (omega arith)), at)
+from_set (z ∷ zs) (suc k) (suc j) x y at = elim (from_set zs k j x y at) [ inl here ↦ inl (ap suc here.0, here.1) | inr there ↦ inr ((λ same. there.0 (omega arith)), there.1) ]
