@@ -9,6 +9,7 @@
 
 mod earlier;
 mod forward;
+mod near;
 mod rules;
 
 pub use forward::search_forward;

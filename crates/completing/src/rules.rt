@@ -1,6 +1,7 @@
 use crate::rules::lost::Lost;
 use crate::rules::named::named_chain;
 use crate::rules::numbers::places_with_pairs;
+use crate::rules::refused::Refused;
 use crate::rules::round::{Round, next_round};
 use doc_register::Conflicts;
 use history::{Rec, Seen};
@@ -23,6 +24,7 @@ pub mod refused;
 pub mod room;
 pub mod round;
 pub mod stand;
+pub mod unsettled;
 
 /// An order that completes unanswered writes, by rules: first the pairs that are named get their writes; then, in
 /// rounds, the flags that do not fit ask for writes, then the calls that find no stretch, and then the conflicts that
@@ -37,8 +39,9 @@ pub fn complete_by_rules(
     let Some(mut links) = named_chain(alloc, records, &mut lost, conflicts)? else {
         return Ok(None);
     };
+    let mut refused = Refused::of(alloc, records, &lost)?;
     for _ in 0..records.len().saturating_add(1) {
-        match next_round(alloc, records, links, &mut lost, conflicts)? {
+        match next_round(alloc, records, links, &mut lost, &mut refused, conflicts)? {
             Round::More(more) => links = more,
             Round::Done(links, stretches) => {
                 return places_with_pairs(alloc, records, &links, &stretches, seen);

@@ -21,7 +21,7 @@ fn serve(
         Op::Get => (true, false),
         Op::Create { .. } => (false, true),
         Op::Index { .. } | Op::Delete { .. } => {
-            let next = plan.next_needs(records, stretch);
+            let next = plan.next_needs(stretch);
             (next != Some(true), next != Some(false))
         }
     };

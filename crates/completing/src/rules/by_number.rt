@@ -22,15 +22,22 @@ pub fn number_of(found: Rec, conflicts: Conflicts) -> Option<u64> {
 }
 
 impl ByNumber {
-    /// The writes of a document by number.
-    pub fn of(alloc: Global, records: &[Rec], conflicts: Conflicts) -> Result<ByNumber, NoMemory> {
+    /// Those of the unsettled writes of a document, by number.
+    pub fn of(
+        alloc: Global,
+        records: &[Rec],
+        unsettled: &[usize],
+        conflicts: Conflicts,
+    ) -> Result<ByNumber, NoMemory> {
         let mut entries = Vec::new(alloc);
         let mut left = Vec::new(alloc);
-        for rec in 0..records.len() {
-            let found = records[rec];
-            if let Some(k) = number_of(found, conflicts) {
+        for rec in unsettled {
+            let Some(found) = records.get(*rec) else {
+                continue;
+            };
+            if let Some(k) = number_of(*found, conflicts) {
                 left.push(entries.len())?;
-                entries.push((k, found.heard.is_some(), found.call_at, rec))?;
+                entries.push((k, found.heard.is_some(), found.call_at, *rec))?;
             }
         }
         entries.sort_unstable();

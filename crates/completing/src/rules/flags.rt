@@ -14,7 +14,7 @@ pub fn fit_flag(
     refused: &mut Refused,
     stretch: usize,
 ) -> Result<bool, NoMemory> {
-    let Some(live) = plan.next_needs(records, stretch) else {
+    let Some(live) = plan.next_needs(stretch) else {
         return Ok(true);
     };
     if plan.ends_live(records, stretch) == live {

@@ -3,7 +3,7 @@ use history::Rec;
 use version_pair::Pair;
 
 /// A write of the chain as the rules see it.
-#[derive(Clone, Copy, PartialEq, Eq, PartialOrd, Ord)]
+#[derive(Clone, Copy)]
 pub struct Link {
     /// Its pair; `None` for one that is invented at the end.
     pub pair: Option<Pair>,

@@ -1,5 +1,6 @@
 use crate::earlier::earlier;
 use crate::rules::queue::{Queue, is_left};
+use crate::rules::unsettled::unsettled_writes;
 use doc_register::Op;
 use history::Rec;
 use std::alloc::Global;
@@ -8,6 +9,8 @@ use version_pair::{NoMemory, Pair};
 /// The unanswered writes that may be completed, each kind in the order of calls, and which records are taken.
 #[derive(Drop)]
 pub struct Lost {
+    // The writes of which no reply says that they were performed.
+    unsettled: Vec<usize>,
     // Whether the record stands in the chain.
     taken: Vec<bool>,
     // Those without a condition.
@@ -48,17 +51,21 @@ impl Lost {
     /// The unanswered writes of a document.
     pub fn of(alloc: Global, records: &[Rec]) -> Result<Lost, NoMemory> {
         let mut lost = Lost {
+            unsettled: Vec::new(alloc),
             taken: vec![in alloc; false; records.len()]?,
             deletes: Queue::new(alloc),
             indexes: Queue::new(alloc),
             creates: Queue::new(alloc),
             swaps: Vec::new(alloc),
         };
-        for rec in 0..records.len() {
-            if records[rec].heard.is_none() {
-                lost.note(rec, records[rec])?;
+        let unsettled = unsettled_writes(alloc, records)?;
+        for rec in &unsettled {
+            match records.get(*rec) {
+                Some(found) if found.heard.is_none() => lost.note(*rec, *found)?,
+                _ => {}
             }
         }
+        lost.unsettled = unsettled;
         lost.deletes.sort();
         lost.indexes.sort();
         lost.creates.sort();
@@ -83,6 +90,11 @@ impl Lost {
                 Ok(())
             }
         }
+    }
+
+    /// The writes of which no reply says that they were performed, in their order.
+    pub fn unsettled(&self) -> &[usize] {
+        &self.unsettled
     }
 
     /// Takes the record into the chain.

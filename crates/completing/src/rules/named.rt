@@ -1,3 +1,4 @@
+use crate::near::{entry_at, place_near};
 use crate::rules::by_number::ByNumber;
 use crate::rules::link::Link;
 use crate::rules::lost::Lost;
@@ -7,27 +8,41 @@ use history::Rec;
 use std::alloc::Global;
 use std::collections::BTreeSet;
 use version_pair::{NoMemory, Pair};
-use write_chain::{chain_of, rises};
+use write_chain::{chain_of, rises, sort_nearly_ordered};
 
-// The pairs and numbers that gets found, by pair.
-fn shown(alloc: Global, records: &[Rec]) -> Result<Vec<(Pair, u64)>, NoMemory> {
-    let mut shown = Vec::new(alloc);
+// The pairs and numbers that gets found and no write of the chain has, by pair.
+fn unwritten(
+    alloc: Global,
+    records: &[Rec],
+    chain: &[(Pair, usize)],
+) -> Result<Vec<(Pair, u64)>, NoMemory> {
+    let mut unwritten = Vec::new(alloc);
+    let mut near = 0;
     for found in records {
         if let Some((_, Reply::Found { pair, k })) = found.heard {
-            shown.push((pair, k))?;
+            near = place_near(chain, pair, near);
+            if entry_at(chain, near, pair).is_none() {
+                unwritten.push((pair, k))?;
+            }
         }
     }
-    shown.sort_unstable();
-    Ok(shown)
+    sort_nearly_ordered(&mut unwritten);
+    Ok(unwritten)
 }
 
 // The unanswered indexes in the order of calls.
-fn unanswered_indexes(alloc: Global, records: &[Rec]) -> Result<Queue, NoMemory> {
+fn unanswered_indexes(
+    alloc: Global,
+    records: &[Rec],
+    unsettled: &[usize],
+) -> Result<Queue, NoMemory> {
     let mut indexes = Queue::new(alloc);
-    for rec in 0..records.len() {
-        let found = records[rec];
-        if found.heard.is_none() && matches!(found.op, Op::Index { .. }) {
-            indexes.push(found.call_at, rec)?;
+    for rec in unsettled {
+        match records.get(*rec) {
+            Some(found) if found.heard.is_none() && matches!(found.op, Op::Index { .. }) => {
+                indexes.push(found.call_at, *rec)?;
+            }
+            _ => {}
         }
     }
     indexes.sort();
@@ -36,32 +51,36 @@ fn unanswered_indexes(alloc: Global, records: &[Rec]) -> Result<Queue, NoMemory>
 
 // The chain that is being named.
 #[derive(Drop)]
-struct Naming {
-    links: Vec<Link>,
-    // The pairs of the writes.
-    known: BTreeSet<Pair>,
+struct Naming<'a> {
+    // The performed answered writes, by pair.
+    chain: &'a [(Pair, usize)],
+    // The writes that are given pairs.
+    named: Vec<(Pair, usize)>,
+    // The pairs that they are given.
+    given: BTreeSet<Pair>,
     // The conditions of the writes that are no pairs of the writes, or were none when they were noted.
     asked: BTreeSet<Pair>,
 }
 
-impl Naming {
-    // Takes the record into the chain, with the pair.
-    fn add(
+impl Naming<'_> {
+    // Whether a write has the pair, which is looked for near a place of the chain first.
+    fn has(&self, pair: Pair, near: usize) -> bool {
+        let place = place_near(self.chain, pair, near);
+        entry_at(self.chain, place, pair).is_some() || self.given.contains(&pair)
+    }
+
+    // Takes the record, whose pair stands near a place of the chain.
+    fn take(
         &mut self,
         records: &[Rec],
         lost: &mut Lost,
-        pair: Pair,
         rec: usize,
+        near: usize,
     ) -> Result<(), NoMemory> {
         lost.take(rec);
-        self.known.insert(pair)?;
-        self.links.push(Link {
-            pair: Some(pair),
-            rec,
-        })?;
         if let Some(found) = records.get(rec) {
             if let Some(named) = found.op.condition() {
-                if !self.known.contains(&named) {
+                if !self.has(named, near) {
                     self.asked.insert(named)?;
                 }
             }
@@ -69,22 +88,27 @@ impl Naming {
         Ok(())
     }
 
-    // The chain of the performed answered writes.
-    fn of(
-        alloc: Global,
+    // Gives the record the pair.
+    fn give(
+        &mut self,
         records: &[Rec],
-        chain: &[(Pair, usize)],
         lost: &mut Lost,
-    ) -> Result<Naming, NoMemory> {
-        let mut naming = Naming {
-            links: Vec::new(alloc),
-            known: BTreeSet::new(alloc),
-            asked: BTreeSet::new(alloc),
-        };
-        for (pair, rec) in chain {
-            naming.add(records, lost, *pair, *rec)?;
+        pair: Pair,
+        rec: usize,
+    ) -> Result<(), NoMemory> {
+        self.given.insert(pair)?;
+        self.named.push((pair, rec))?;
+        self.take(records, lost, rec, place_near(self.chain, pair, 0))
+    }
+
+    // Takes the performed answered writes.
+    fn take_chain(&mut self, records: &[Rec], lost: &mut Lost) -> Result<(), NoMemory> {
+        let chain = self.chain;
+        for place in 0..chain.len() {
+            let (_, rec) = chain[place];
+            self.take(records, lost, rec, place)?;
         }
-        Ok(naming)
+        Ok(())
     }
 
     // A pair that a get found and no write of the chain has is given to the first unanswered write of its number by
@@ -96,11 +120,11 @@ impl Naming {
         lost: &mut Lost,
         conflicts: Conflicts,
     ) -> Result<bool, NoMemory> {
-        let mut writes = ByNumber::of(alloc, records, conflicts)?;
-        for (pair, k) in &shown(alloc, records)? {
-            if !self.known.contains(pair) {
+        let mut writes = ByNumber::of(alloc, records, lost.unsettled(), conflicts)?;
+        for (pair, k) in &unwritten(alloc, records, self.chain)? {
+            if !self.given.contains(pair) {
                 match writes.first(*k, lost.taken()) {
-                    Some(rec) => self.add(records, lost, *pair, rec)?,
+                    Some(rec) => self.give(records, lost, *pair, rec)?,
                     None => return Ok(false),
                 }
             }
@@ -116,20 +140,50 @@ impl Naming {
         records: &[Rec],
         lost: &mut Lost,
     ) -> Result<bool, NoMemory> {
-        let mut indexes = unanswered_indexes(alloc, records)?;
+        let mut indexes = unanswered_indexes(alloc, records, lost.unsettled())?;
         // Each write asks for one pair at the most.
         for _ in 0..records.len() {
             let Some(pair) = self.asked.pop_first() else {
                 return Ok(true);
             };
-            if !self.known.contains(&pair) {
+            if !self.has(pair, 0) {
                 match indexes.first(lost.taken()) {
-                    Some((_, rec)) => self.add(records, lost, pair, rec)?,
+                    Some((_, rec)) => self.give(records, lost, pair, rec)?,
                     None => return Ok(false),
                 }
             }
         }
         Ok(true)
+    }
+
+    // The links of all writes, by pair.
+    fn links(&mut self, alloc: Global) -> Result<Vec<Link>, NoMemory> {
+        self.named.sort_unstable();
+        let room = self.chain.len().saturating_add(self.named.len());
+        let mut links = Vec::with_capacity(alloc, room)?;
+        let mut next = 0;
+        for (pair, rec) in self.chain {
+            for i in next..self.named.len() {
+                if self.named[i].0 > *pair {
+                    break;
+                }
+                links.push(link_of(self.named[i]))?;
+                next = i + 1;
+            }
+            links.push(link_of((*pair, *rec)))?;
+        }
+        for i in next..self.named.len() {
+            links.push(link_of(self.named[i]))?;
+        }
+        Ok(links)
+    }
+}
+
+// The link of a write that has this pair.
+fn link_of((pair, rec): (Pair, usize)) -> Link {
+    Link {
+        pair: Some(pair),
+        rec,
     }
 }
 
@@ -145,13 +199,17 @@ pub fn named_chain(
     if !rises(&chain) {
         return Ok(None);
     }
-    let mut naming = Naming::of(alloc, records, &chain, lost)?;
+    let mut naming = Naming {
+        chain: &chain,
+        named: Vec::new(alloc),
+        given: BTreeSet::new(alloc),
+        asked: BTreeSet::new(alloc),
+    };
+    naming.take_chain(records, lost)?;
     if !naming.name_shown(alloc, records, lost, conflicts)?
         || !naming.name_asked(alloc, records, lost)?
     {
         return Ok(None);
     }
-    let mut links = naming.links;
-    links.sort_unstable();
-    Ok(Some(links))
+    Ok(Some(naming.links(alloc)?))
 }

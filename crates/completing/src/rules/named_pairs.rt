@@ -1,6 +1,7 @@
 use history::Rec;
 use std::alloc::Global;
 use version_pair::{NoMemory, Pair};
+use write_chain::sort_nearly_ordered;
 
 /// The pairs that conditions of a document name: an invented write takes one only where no other number is left.
 #[derive(Drop)]
@@ -39,9 +40,9 @@ impl NamedPairs {
                 }
             }
         }
-        named.sort_unstable();
+        sort_nearly_ordered(&mut named);
         named.dedup();
-        refused.sort_unstable();
+        sort_nearly_ordered(&mut refused);
         Ok(NamedPairs { named, refused })
     }
 

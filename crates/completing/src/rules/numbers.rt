@@ -4,12 +4,13 @@ use history::{Rec, Seen};
 use std::alloc::Global;
 use version_pair::{NoMemory, Pair};
 use witness::Place;
+use write_chain::sort_nearly_ordered;
 
 // How far apart the numbers of two places are, so that calls fit between.
 const STEP: u64 = 1_048_576;
 
-// Where a record stands: its stretch, whether it comes after the stretch's write, the place of its reply, its number.
-type Standing = (usize, bool, usize, usize);
+// Where a record outside the chain stands: its stretch, the place of its reply, its number.
+type Standing = (usize, usize, usize);
 
 // The pair of an invented write with no greater pair after it.
 fn last_pair(seen: Seen, place: usize, call_at: usize) -> Option<Pair> {
@@ -41,8 +42,8 @@ struct Behind {
     invented: u64,
 }
 
-// What comes behind each link.
-fn behind_links(alloc: Global, links: &[Link]) -> Result<Vec<Behind>, NoMemory> {
+// What comes behind each invented write, from the last to the first.
+fn behind_invented(alloc: Global, links: &[Link]) -> Result<Vec<Behind>, NoMemory> {
     let mut behind = Vec::new(alloc);
     let mut next = Behind {
         pair: None,
@@ -52,38 +53,32 @@ fn behind_links(alloc: Global, links: &[Link]) -> Result<Vec<Behind>, NoMemory> 
         let link = links[links.len() - 1 - back];
         if link.pair.is_none() {
             next.invented = next.invented.saturating_add(1);
-        }
-        behind.push(next)?;
-        if link.pair.is_some() {
+            behind.push(next)?;
+        } else {
             next = Behind {
                 pair: link.pair,
                 invented: 0,
             };
         }
     }
-    behind.reverse();
     Ok(behind)
 }
 
-// The records of the order, by stretch, its write first, then by place of reply.
-fn records_in_order(
+// The answered records outside the chain, by stretch, then by place of reply.
+fn reads_in_order(
     alloc: Global,
     records: &[Rec],
-    links: &[Link],
     stretches: &[Option<usize>],
 ) -> Result<Vec<Standing>, NoMemory> {
-    let mut standings = Vec::new(alloc);
-    for j in 0..links.len() {
-        standings.push((j + 1, false, 0, links[j].rec))?;
-    }
+    let mut standings = Vec::with_capacity(alloc, records.len())?;
     for rec in 0..records.len() {
-        if let Some(heard) = records[rec].heard {
-            if let Some(Some(stretch)) = stretches.get(rec) {
-                standings.push((*stretch, true, heard.0, rec))?;
+        if let Some(Some(stretch)) = stretches.get(rec) {
+            if let Some(heard) = records[rec].heard {
+                standings.push((*stretch, heard.0, rec))?;
             }
         }
     }
-    standings.sort_unstable();
+    sort_nearly_ordered(&mut standings);
     Ok(standings)
 }
 
@@ -92,6 +87,7 @@ fn records_in_order(
 struct Numbering {
     seen: Seen,
     named: NamedPairs,
+    // What comes behind each invented write that is left, from the last to the first.
     behind: Vec<Behind>,
     // The next write, and the pair of the one before it.
     next: usize,
@@ -109,15 +105,15 @@ impl Numbering {
         Ok(Numbering {
             seen,
             named: NamedPairs::of(alloc, records, stretches)?,
-            behind: behind_links(alloc, links)?,
+            behind: behind_invented(alloc, links)?,
             next: 0,
             last: None,
         })
     }
 
     // The pair of an invented write after the last pair and before the next, where there is one.
-    fn invented_pair(&self, found: Rec, place: usize) -> Option<Pair> {
-        let behind = self.behind.get(self.next)?;
+    fn invented_pair(&mut self, found: Rec, place: usize) -> Option<Pair> {
+        let behind = self.behind.pop()?;
         let Some(next) = behind.pair else {
             return last_pair(self.seen, place, found.call_at);
         };
@@ -148,9 +144,44 @@ impl Numbering {
     }
 }
 
-/// The places of the order, the invented pairs being numbered: without a greater pair after it by a new term, before a
-/// greater term by a sequence number that was not seen, and between equal terms by the least number that is left, one
-/// that a condition names only where no other is.
+// The place of the next write of the chain, which is this record, in the order; `None` where no number is left for it.
+fn place_of_write(
+    numbering: &mut Numbering,
+    records: &[Rec],
+    links: &[Link],
+    rec: usize,
+    place: usize,
+) -> Option<Place> {
+    let found = records.get(rec)?;
+    let own = numbering.pair(links, *found, place)?;
+    // A reply that shows the pair needs no other word of it.
+    let pair = match found.pair_taken() {
+        Some(_) => None,
+        None => Some(own),
+    };
+    Some(Place { rec, pair })
+}
+
+// Adds the places of the reads, from one of them on, up to a stretch; and which one is next.
+fn push_reads(
+    places: &mut Vec<Place>,
+    reads: &[Standing],
+    next: usize,
+    last: usize,
+) -> Result<usize, NoMemory> {
+    for i in next..reads.len() {
+        let (stretch, _, rec) = reads[i];
+        if stretch > last {
+            return Ok(i);
+        }
+        places.push(Place { rec, pair: None })?;
+    }
+    Ok(reads.len())
+}
+
+/// The places of the order, by stretch, its write first, then by place of reply; the invented pairs being numbered: without a
+/// greater pair after it by a new term, before a greater term by a sequence number that was not seen, and between equal terms
+/// by the least number that is left, one that a condition names only where no other is.
 /// `None` where there is no such number.
 pub fn places_with_pairs(
     alloc: Global,
@@ -160,24 +191,18 @@ pub fn places_with_pairs(
     seen: Seen,
 ) -> Result<Option<Vec<Place>>, NoMemory> {
     let mut numbering = Numbering::of(alloc, records, links, stretches, seen)?;
-    let standings = records_in_order(alloc, records, links, stretches)?;
-    let mut places = Vec::new(alloc);
-    for place in 0..standings.len() {
-        let (_, is_read, _, rec) = standings[place];
-        let mut pair = None;
-        if !is_read {
-            let Some(found) = records.get(rec) else {
-                return Ok(None);
-            };
-            let Some(own) = numbering.pair(links, *found, place) else {
-                return Ok(None);
-            };
-            // A reply that shows the pair needs no other word of it.
-            if found.pair_taken().is_none() {
-                pair = Some(own);
-            }
+    let reads = reads_in_order(alloc, records, stretches)?;
+    let room = links.len().saturating_add(reads.len());
+    let mut places = Vec::with_capacity(alloc, room)?;
+    let mut next = 0;
+    for stretch in 0..links.len() {
+        next = push_reads(&mut places, &reads, next, stretch)?;
+        let rec = links[stretch].rec;
+        match place_of_write(&mut numbering, records, links, rec, places.len()) {
+            Some(place) => places.push(place)?,
+            None => return Ok(None),
         }
-        places.push(Place { rec, pair })?;
     }
+    push_reads(&mut places, &reads, next, usize::MAX)?;
     Ok(Some(places))
 }

@@ -11,8 +11,8 @@ pub struct Plan {
     pub links: Vec<Link>,
     /// Of each stretch whether the document is there.
     pub live: Vec<bool>,
-    /// Of each stretch the pair that the document has, where it is there and its pair is known.
-    pub pairs: Vec<Option<Pair>>,
+    // Of each stretch but the last what the write after it needs the document to be.
+    needs: Vec<Option<bool>>,
     // Of each stretch the least reply of the writes after it.
     limits: Vec<usize>,
     // Of each stretch but the first the greatest call of the writes before it.
@@ -35,72 +35,56 @@ pub enum Side {
     Before,
 }
 
-// The place of the record's reply.
-fn reply_of(records: &[Rec], rec: usize) -> Option<usize> {
-    let (reply_at, _) = records.get(rec)?.heard?;
-    Some(reply_at)
-}
-
 impl Plan {
     /// The plan of a round over the chain.
     pub fn of(alloc: Global, records: &[Rec], links: Vec<Link>) -> Result<Plan, NoMemory> {
+        let stretches = links.len().saturating_add(1);
         let mut plan = Plan {
-            live: Vec::new(alloc),
-            pairs: Vec::new(alloc),
-            limits: Vec::new(alloc),
-            calls: Vec::new(alloc),
+            live: Vec::with_capacity(alloc, stretches)?,
+            needs: Vec::with_capacity(alloc, stretches)?,
+            limits: Vec::with_capacity(alloc, stretches)?,
+            calls: Vec::with_capacity(alloc, stretches)?,
             rooms: Rooms::of(alloc, &links)?,
-            inserted: vec![in alloc; None; links.len().saturating_add(1)]?,
+            inserted: vec![in alloc; None; stretches]?,
             inserted_call: 0,
             news: Vec::new(alloc),
             links,
         };
-        plan.note_states(records)?;
-        plan.note_limits(records)?;
-        plan.note_calls(records)?;
+        plan.note_writes(records)?;
+        plan.lower_limits();
         Ok(plan)
     }
 
-    // Notes the document in each stretch.
-    fn note_states(&mut self, records: &[Rec]) -> Result<(), NoMemory> {
+    // Notes the writes of the chain, and as the limit of each stretch the reply of the write after it.
+    fn note_writes(&mut self, records: &[Rec]) -> Result<(), NoMemory> {
+        let mut latest = 0;
         self.live.push(false)?;
-        self.pairs.push(None)?;
         for link in &self.links {
-            let live = match records.get(link.rec) {
-                Some(found) => leaves_it(found.op),
-                None => false,
+            let (live, need, limit) = match records.get(link.rec) {
+                Some(found) => {
+                    latest = found.call_at.max(latest);
+                    let limit = found.heard.map_or(usize::MAX, |heard| heard.0);
+                    (leaves_it(found.op), needs(*found), limit)
+                }
+                None => (false, None, usize::MAX),
             };
             self.live.push(live)?;
-            self.pairs.push(if live { link.pair } else { None })?;
-        }
-        Ok(())
-    }
-
-    // Notes the least reply of the writes after each stretch.
-    fn note_limits(&mut self, records: &[Rec]) -> Result<(), NoMemory> {
-        let mut limit = usize::MAX;
-        self.limits.push(limit)?;
-        for back in 0..self.links.len() {
-            let link = self.links[self.links.len() - 1 - back];
-            if let Some(reply_at) = reply_of(records, link.rec) {
-                limit = limit.min(reply_at);
-            }
+            self.needs.push(need)?;
             self.limits.push(limit)?;
-        }
-        self.limits.reverse();
-        Ok(())
-    }
-
-    // Notes the greatest call of the writes up to each.
-    fn note_calls(&mut self, records: &[Rec]) -> Result<(), NoMemory> {
-        let mut latest = 0;
-        for link in &self.links {
-            if let Some(found) = records.get(link.rec) {
-                latest = found.call_at.max(latest);
-            }
             self.calls.push(latest)?;
         }
+        self.limits.push(usize::MAX)?;
         Ok(())
+    }
+
+    // Lowers each limit to the least of those from its stretch on.
+    fn lower_limits(&mut self) {
+        let mut least = usize::MAX;
+        for back in 0..self.limits.len() {
+            let stretch = self.limits.len() - 1 - back;
+            least = least.min(self.limits[stretch]);
+            self.limits[stretch] = least;
+        }
     }
 
     /// Inserts the record's write in the stretch, where a number is left for it.
@@ -147,9 +131,16 @@ impl Plan {
     }
 
     /// What the write at the end of the stretch needs the document to be.
-    pub fn next_needs(&self, records: &[Rec], stretch: usize) -> Option<bool> {
-        let next = self.links.get(stretch)?;
-        needs(*records.get(next.rec)?)
+    pub fn next_needs(&self, stretch: usize) -> Option<bool> {
+        self.needs.get(stretch).copied().unwrap_or(None)
+    }
+
+    /// The pair that the document has in the stretch, where it is there and its pair is known.
+    pub fn pair_in(&self, stretch: usize) -> Option<Pair> {
+        match self.live.get(stretch) {
+            Some(true) => self.links.get(stretch.checked_sub(1)?)?.pair,
+            _ => None,
+        }
     }
 
     /// The first stretch whose next write is called after the place.
@@ -177,7 +168,7 @@ impl Plan {
     ) -> Ask {
         let on = match self.last_inserted(stretch) {
             Some(_) => None,
-            None => self.pairs.get(stretch).copied().unwrap_or(None),
+            None => self.pair_in(stretch),
         };
         let least = self.limits.get(stretch).copied().unwrap_or(limit);
         Ask {
@@ -197,7 +188,8 @@ impl Plan {
     /// The chain with all that is inserted.
     pub fn merge(&mut self, alloc: Global) -> Result<Vec<Link>, NoMemory> {
         self.news.sort_unstable();
-        let mut merged = Vec::new(alloc);
+        let room = self.links.len().saturating_add(self.news.len());
+        let mut merged = Vec::with_capacity(alloc, room)?;
         let mut next = 0;
         for link in 0..self.links.len() {
             for i in next..self.news.len() {

@@ -1,40 +1,49 @@
 use crate::rules::link::is_free_conflict;
-use crate::rules::lost::Ask;
+use crate::rules::lost::{Ask, Lost};
 use crate::rules::queue::is_left;
 use doc_register::Op;
 use history::Rec;
 use std::alloc::Global;
 use version_pair::NoMemory;
+use write_chain::sort_nearly_ordered;
 
-/// The conflicts without a condition that have no place in the chain yet, in the order of their replies. They are taken
-/// along one walk from the first write of the chain to the last.
+/// The conflicts without a condition that had no place in the chain at first, in the order of their replies. They are taken
+/// along walks from the first write of the chain to the last.
 #[derive(Drop)]
 pub struct Refused {
     // The place of the reply, and the record.
     entries: Vec<(usize, usize)>,
-    // Before them no delete, and no index, can stand where the walk is.
+    // Before them no delete, and no index, is left that can stand where the walk is.
     next_delete: usize,
     next_index: usize,
 }
 
 impl Refused {
     /// The conflicts of a document that are left.
-    pub fn of(alloc: Global, records: &[Rec], taken: &[bool]) -> Result<Refused, NoMemory> {
+    pub fn of(alloc: Global, records: &[Rec], lost: &Lost) -> Result<Refused, NoMemory> {
         let mut entries = Vec::new(alloc);
-        for rec in 0..records.len() {
-            let found = records[rec];
+        for rec in lost.unsettled() {
+            let Some(found) = records.get(*rec) else {
+                continue;
+            };
             if let Some(heard) = found.heard {
-                if is_free_conflict(found) && is_left(taken, rec) {
-                    entries.push((heard.0, rec))?;
+                if is_free_conflict(*found) && is_left(lost.taken(), *rec) {
+                    entries.push((heard.0, *rec))?;
                 }
             }
         }
-        entries.sort_unstable();
+        sort_nearly_ordered(&mut entries);
         Ok(Refused {
             entries,
             next_delete: 0,
             next_index: 0,
         })
+    }
+
+    /// Begins a walk.
+    pub fn begin(&mut self) {
+        self.next_delete = 0;
+        self.next_index = 0;
     }
 
     /// How many there were at first.

@@ -28,8 +28,9 @@ fn room_between(last: Option<Pair>, next: Pair) -> u64 {
 impl Rooms {
     /// The rooms of a chain. Its invented writes have used up numbers already.
     pub fn of(alloc: Global, links: &[Link]) -> Result<Rooms, NoMemory> {
-        let mut gaps = Vec::new(alloc);
-        let mut rooms = Vec::new(alloc);
+        let stretches = links.len().saturating_add(1);
+        let mut gaps = Vec::with_capacity(alloc, stretches)?;
+        let mut rooms = Vec::with_capacity(alloc, stretches)?;
         let mut last = None;
         let mut invented = 0u64;
         gaps.push(0)?;

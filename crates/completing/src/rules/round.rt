@@ -22,17 +22,6 @@ pub enum Round {
     Stuck,
 }
 
-// The calls from the last to the first.
-fn falling_calls(alloc: Global, records: &[Rec]) -> Result<Vec<(usize, usize)>, NoMemory> {
-    let mut calls = Vec::new(alloc);
-    for rec in 0..records.len() {
-        calls.push((records[rec].call_at, rec))?;
-    }
-    calls.sort_unstable();
-    calls.reverse();
-    Ok(calls)
-}
-
 // Gives a record outside the chain, answered there, its stretch, where need be with a write that is inserted for it.
 // False where it gets none.
 fn place_read(
@@ -48,13 +37,13 @@ fn place_read(
         return Ok(false);
     };
     let bound = stand.bound(reply_at, plan.links.len());
-    let stretch = match stand.latest(plan, *found, rec, bound) {
+    let stretch = match stand.latest(plan, *found, bound) {
         Some(stretch) => Some(stretch),
         None => ask(records, plan, stand, lost, conflicts, bound, rec)?,
     };
     match stretch {
         Some(stretch) => {
-            stand.give(rec, stretch);
+            stand.give(rec, Some(stretch));
             stand.meet(found.call_at, stretch)?;
             Ok(true)
         }
@@ -65,27 +54,29 @@ fn place_read(
 // The stretches of the answered records outside the chain, each as late as it may be, by falling call. Conflicts
 // without a condition are left out. False where one has none and no write is there to be inserted for it.
 fn place_reads(
-    alloc: Global,
     records: &[Rec],
     plan: &mut Plan,
     stand: &mut Stand,
     lost: &mut Lost,
     conflicts: Conflicts,
 ) -> Result<bool, NoMemory> {
-    for (call_at, rec) in &falling_calls(alloc, records)? {
-        if let Some(stretch) = stand.of_link(*rec) {
+    for back in 0..records.len() {
+        let rec = records.len() - 1 - back;
+        let found = records[rec];
+        if let Some(stretch) = stand.of_link(rec) {
             // What was answered before a write's call stands before the write's own stretch.
-            stand.meet(*call_at, stretch.saturating_sub(1))?;
+            stand.meet(found.call_at, stretch.saturating_sub(1))?;
             continue;
         }
-        let Some(found) = records.get(*rec) else {
-            return Ok(false);
-        };
+        if let Some(stretch) = stand.of_read(rec) {
+            stand.meet(found.call_at, stretch)?;
+            continue;
+        }
         let Some(heard) = found.heard else {
             continue;
         };
-        if !is_free_conflict(*found)
-            && !place_read(records, plan, stand, lost, conflicts, heard.0, *rec)?
+        if !is_free_conflict(found)
+            && !place_read(records, plan, stand, lost, conflicts, heard.0, rec)?
         {
             return Ok(false);
         }
@@ -101,24 +92,25 @@ pub fn next_round(
     records: &[Rec],
     links: Vec<Link>,
     lost: &mut Lost,
+    refused: &mut Refused,
     conflicts: Conflicts,
 ) -> Result<Round, NoMemory> {
-    let mut refused = Refused::of(alloc, records, lost.taken())?;
+    refused.begin();
     if conflicts == Conflicts::Plain && !refused.is_empty() {
         return Ok(Round::Stuck);
     }
     let mut plan = Plan::of(alloc, records, links)?;
-    if !fit_flags(records, &mut plan, lost, &mut refused)? {
+    if !fit_flags(records, &mut plan, lost, refused)? {
         return Ok(Round::Stuck);
     }
     if !plan.is_done() {
         return Ok(Round::More(plan.merge(alloc)?));
     }
     let mut stand = Stand::of(alloc, records, &plan)?;
-    if !place_reads(alloc, records, &mut plan, &mut stand, lost, conflicts)? {
+    if !place_reads(records, &mut plan, &mut stand, lost, conflicts)? {
         return Ok(Round::Stuck);
     }
-    if plan.is_done() && !perform_refused(records, &mut plan, lost, &mut refused)? {
+    if plan.is_done() && !perform_refused(records, &mut plan, lost, refused)? {
         return Ok(Round::Stuck);
     }
     if plan.is_done() {

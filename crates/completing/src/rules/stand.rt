@@ -1,9 +1,14 @@
+use crate::near::{entry_at, place_near};
 use crate::rules::link::Link;
 use crate::rules::plan::Plan;
 use doc_register::{Op, Reply};
 use history::Rec;
 use std::alloc::Global;
 use version_pair::{NoMemory, Pair};
+use write_chain::sort_nearly_ordered;
+
+// How many of the calls that were met last are looked at before all of them are searched.
+const NEAR: usize = 16;
 
 /// Where the records of a round stand.
 #[derive(Drop)]
@@ -18,10 +23,10 @@ pub struct Stand {
     absent: Vec<Option<usize>>,
     present: Vec<Option<usize>>,
     // Of each reply of a write of the chain or of a get that found a pair, from the first to the last, the greatest
-    // stretch of those up to it.
+    // stretch of those up to it; without those behind the last call that was asked for.
     floors: Vec<(usize, usize)>,
-    // Of each call that was met, from the last to the first, the greatest stretch for what was answered before those up
-    // to it.
+    // Of each call that was met and lowered it, from the last to the first, the greatest stretch for what was answered
+    // before those up to it.
     bounds: Vec<(usize, usize)>,
 }
 
@@ -31,7 +36,7 @@ fn latest_stretches(
     live: &[bool],
     asked: bool,
 ) -> Result<Vec<Option<usize>>, NoMemory> {
-    let mut table = Vec::new(alloc);
+    let mut table = Vec::with_capacity(alloc, live.len())?;
     let mut latest = None;
     for stretch in 0..live.len() {
         if live[stretch] == asked {
@@ -42,16 +47,24 @@ fn latest_stretches(
     Ok(table)
 }
 
+// The pair that a get found.
+fn pair_found(reply: Reply) -> Option<Pair> {
+    match reply {
+        Reply::Found { pair, .. } => Some(pair),
+        _ => None,
+    }
+}
+
 impl Stand {
     /// Where the writes of the chain stand, and no others yet.
     pub fn of(alloc: Global, records: &[Rec], plan: &Plan) -> Result<Stand, NoMemory> {
         let mut stand = Stand {
             links: vec![in alloc; None; records.len()]?,
             given: vec![in alloc; None; records.len()]?,
-            known: Vec::new(alloc),
+            known: Vec::with_capacity(alloc, plan.links.len())?,
             absent: latest_stretches(alloc, &plan.live, false)?,
             present: latest_stretches(alloc, &plan.live, true)?,
-            floors: Vec::new(alloc),
+            floors: Vec::with_capacity(alloc, records.len())?,
             bounds: Vec::new(alloc),
         };
         stand.note_links(&plan.links)?;
@@ -73,16 +86,24 @@ impl Stand {
         Ok(())
     }
 
-    // Notes the greatest stretch up to each reply.
+    // Notes the stretches of the gets that found a pair, and the greatest stretch up to each reply.
     fn note_floors(&mut self, records: &[Rec]) -> Result<(), NoMemory> {
+        let mut near = 0;
         for rec in 0..records.len() {
-            if let Some(heard) = records[rec].heard {
-                if let Some(stretch) = self.fixed_stretch(records[rec], rec) {
-                    self.floors.push((heard.0, stretch))?;
-                }
+            let Some(heard) = records[rec].heard else {
+                continue;
+            };
+            let mut stretch = self.of_link(rec);
+            if let Some(pair) = pair_found(heard.1) {
+                near = place_near(&self.known, pair, near);
+                stretch = entry_at(&self.known, near, pair);
+                self.give(rec, stretch);
+            }
+            if let Some(stretch) = stretch {
+                self.floors.push((heard.0, stretch))?;
             }
         }
-        self.floors.sort_unstable();
+        sort_nearly_ordered(&mut self.floors);
         let mut floor = 0;
         for (_, stretch) in &mut self.floors {
             floor = floor.max(*stretch);
@@ -103,28 +124,40 @@ impl Stand {
         self.links.get(rec).copied().unwrap_or(None)
     }
 
-    // The stretch of a write of the chain, or of a get that found a pair.
-    fn fixed_stretch(&self, found: Rec, rec: usize) -> Option<usize> {
-        if let Some(stretch) = self.of_link(rec) {
-            return Some(stretch);
-        }
-        match found.heard {
-            Some((_, Reply::Found { pair, .. })) => self.of_pair(pair),
-            _ => None,
-        }
+    /// The stretch of the record, where it is a get that found a pair or was given one.
+    pub fn of_read(&self, rec: usize) -> Option<usize> {
+        self.given.get(rec).copied().unwrap_or(None)
     }
 
-    // The least stretch for a call there: none is before a stretch that was answered before.
-    fn floor(&self, call_at: usize) -> usize {
-        let answered = self.floors.partition_point(|entry| entry.0 < call_at);
-        match answered.checked_sub(1) {
-            Some(last) => self.floors.get(last).map_or(0, |entry| entry.1),
-            None => 0,
+    // The least stretch for a call there, asked for after all later ones: none is before a stretch that was answered
+    // before.
+    fn floor(&mut self, call_at: usize) -> usize {
+        for _ in 0..self.floors.len() {
+            match self.floors.last() {
+                Some(entry) if entry.0 < call_at => return entry.1,
+                _ => self.floors.pop(),
+            };
         }
+        0
+    }
+
+    // The same as of all calls that were met, where one of the last few stands behind the reply.
+    fn near_bound(&self, reply_at: usize) -> Option<usize> {
+        let met = self.bounds.len();
+        for back in 0..met.min(NEAR) {
+            let (call_at, bound) = self.bounds[met - 1 - back];
+            if call_at > reply_at {
+                return Some(bound);
+            }
+        }
+        None
     }
 
     /// The greatest stretch for a reply there, of those up to the last one: none is behind what was called after it.
     pub fn bound(&self, reply_at: usize, last: usize) -> usize {
+        if let Some(bound) = self.near_bound(reply_at) {
+            return bound;
+        }
         let met = self.bounds.partition_point(|entry| entry.0 > reply_at);
         match met.checked_sub(1) {
             Some(latest) => self.bounds.get(latest).map_or(last, |entry| entry.1),
@@ -134,18 +167,20 @@ impl Stand {
 
     /// Notes a call, after all later ones, before which nothing stands behind the stretch.
     pub fn meet(&mut self, call_at: usize, stretch: usize) -> Result<(), NoMemory> {
-        let bound = match self.bounds.last() {
-            Some(entry) => stretch.min(entry.1),
-            None => stretch,
+        let is_lower = match self.bounds.last() {
+            Some(entry) => stretch < entry.1,
+            None => true,
         };
-        self.bounds.push((call_at, bound))?;
+        if is_lower {
+            self.bounds.push((call_at, stretch))?;
+        }
         Ok(())
     }
 
-    /// Gives the record outside the chain its stretch.
-    pub fn give(&mut self, rec: usize, stretch: usize) {
+    /// Gives the record outside the chain its stretch, or none.
+    pub fn give(&mut self, rec: usize, stretch: Option<usize>) {
         if let Some(place) = self.given.get_mut(rec) {
-            *place = Some(stretch);
+            *place = stretch;
         }
     }
 
@@ -161,7 +196,7 @@ impl Stand {
             Op::Create { .. } => self.present.get(bound).copied()?,
             Op::Index { .. } | Op::Delete { .. } => {
                 let pair = found.op.condition()?;
-                if plan.pairs.get(bound) == Some(&Some(pair)) {
+                if plan.pair_in(bound) == Some(pair) {
                     bound.checked_sub(1)
                 } else {
                     Some(bound)
@@ -170,11 +205,11 @@ impl Stand {
         }
     }
 
-    /// The latest stretch of an answered record outside the chain: that of the pair that it found; else up to the bound
-    /// and not too early, where there is one.
-    pub fn latest(&self, plan: &Plan, found: Rec, rec: usize, bound: usize) -> Option<usize> {
+    /// The latest stretch of an answered record outside the chain that has none yet: up to the bound and not too early, where
+    /// there is one.
+    pub fn latest(&mut self, plan: &Plan, found: Rec, bound: usize) -> Option<usize> {
         if let Some((_, Reply::Found { .. })) = found.heard {
-            return self.fixed_stretch(found, rec);
+            return None;
         }
         let latest = self.latest_allowed(plan, found, bound)?;
         if latest < self.floor(found.call_at) {

@@ -1,0 +1,48 @@
+use version_pair::Pair;
+
+// How many entries on either side are looked at before the whole list is searched.
+const NEAR: usize = 16;
+
+// The first place from one on whose entry is not below the pair, where it is one of the next few.
+fn place_above(entries: &[(Pair, usize)], pair: Pair, from: usize) -> Option<usize> {
+    let end = from.saturating_add(NEAR).min(entries.len());
+    for at in from..end {
+        if entries[at].0 >= pair {
+            return Some(at);
+        }
+    }
+    None
+}
+
+// The last place up to one with an entry below the pair before it, where it is one of the few before.
+fn place_below(entries: &[(Pair, usize)], pair: Pair, from: usize) -> Option<usize> {
+    for back in 0..NEAR {
+        let at = from.saturating_sub(back);
+        match at.checked_sub(1) {
+            Some(before) if entries.get(before)?.0 < pair => return Some(at),
+            Some(_) => {}
+            None => return Some(0),
+        }
+    }
+    None
+}
+
+/// The place of the first entry that is not below the pair, in a list by rising pair. It is looked for near another place
+/// first: pairs that are asked for one after the other mostly stand near one another.
+pub fn place_near(entries: &[(Pair, usize)], pair: Pair, near: usize) -> usize {
+    let from = near.min(entries.len());
+    let place = match entries.get(from) {
+        Some(entry) if entry.0 < pair => place_above(entries, pair, from),
+        _ => place_below(entries, pair, from),
+    };
+    match place {
+        Some(at) => at,
+        None => entries.partition_point(|entry| entry.0 < pair),
+    }
+}
+
+/// What stands with the pair at the place, where the place's pair is this one.
+pub fn entry_at(entries: &[(Pair, usize)], place: usize, pair: Pair) -> Option<usize> {
+    let (own, entry) = *entries.get(place)?;
+    if own == pair { Some(entry) } else { None }
+}
