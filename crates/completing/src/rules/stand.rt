@@ -141,7 +141,7 @@ impl Stand {
         0
     }
 
-    // The same as of all calls that were met, where one of the last few stands behind the reply.
+    // The greatest stretch for a reply there, where one of the last few calls that were met stands behind it.
     fn near_bound(&self, reply_at: usize) -> Option<usize> {
         let met = self.bounds.len();
         for back in 0..met.min(NEAR) {
