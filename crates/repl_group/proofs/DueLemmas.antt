@@ -12,6 +12,7 @@ use Rattle.repl_group.specs.declared.request.Stage.TheVariants.{InFlight}
 use Rattle.repl_group.specs.declared.standing.Standing.{Standing}
 use Rattle.repl_group.specs.declared.step.Answer.TheVariants.{Done, NotNow}
 use Rattle.repl_group.proofs.MachineLemmas.{performs_done}
+use Rattle.version_pair.proofs.ListLemmas.{none_is_not_some, same_some}
 
 pub OnErr-always : {A E : Type 0} {P : Type 0} (r : Result A E) → P → OnErr r P
 OnErr-always (Ok a) p = tt
@@ -26,8 +27,8 @@ copy_there : (copies : List ShardCopy) (c : ℕ) (s : Standing) → option_map s
     → (y : ShardCopy) × (slice_get copies c ≡ Some y) × (standing_of y ≡ s)
 copy_there copies c s found = by_copy (slice_get copies c) refl found where
   by_copy : (o : Option ShardCopy) → slice_get copies c ≡ o → option_map standing_of o ≡ Some s → (y : ShardCopy) × (slice_get copies c ≡ Some y) × (standing_of y ≡ s)
-  by_copy None is there = absurd (let impossible : None ≡ Some s = there in cc)
-  by_copy (Some y) is there = (y, is, (let same : Some (standing_of y) ≡ Some s = there in cc))
+  by_copy None is there = absurd (none_is_not_some s there)
+  by_copy (Some y) is there = (y, is, same_some (standing_of y) s there)
 
 pub heal_due : (w : GroupState) (c : ℕ) (s : Standing) → option_map standing_of (slice_get w.copies c) ≡ Some s
     → (n : GroupState) × OnCopy (λ y. Does (healed w c y)) w c Done n

@@ -1,16 +1,17 @@
 -- The copies that follow a new primary.
-use Rattle.std.proofs.Common.{ℕ, zero, suc, ◌≡◌, ◌≤◌, ◌+◌, ◌-◌, ◌<◌, List, [], ◌∷◌, ◌++◌, length, take, drop, get_or, refl, sym, ap, ◌∙◌, arith, Some, None, Bool, true, false, cond, true≢false}
+use Rattle.std.proofs.Common.{ℕ, zero, suc, ◌≡◌, ◌≤◌, ◌+◌, ◌-◌, ◌<◌, List, [], ◌∷◌, ◌++◌, length, take, drop, get_or, refl, sym, ap, ◌∙◌, add-one, add_comm, arith, Some, None, Bool, true, false, cond, true≢false}
 use Rattle.std.specs.Prelude.{◌&&◌, count_by, if◌then◌else◌, map, not, replicate, slice_get, slice_set}
 use Rattle.std.proofs.Math.Seq.{drop-cons}
 use Rattle.std.proofs.lemmas.Grind.{replicate_next}
-use Rattle.std.proofs.lemmas.List.{length-replicate}
+use Rattle.std.proofs.lemmas.List.{get_or-replicate, length-replicate, take-replicate}
 use Rattle.std.proofs.lemmas.List.Edits.{map_over_more}
 use Rattle.std.proofs.lemmas.List.Sums.{sum_by-cons}
 use Rattle.repl_group.specs.declared.replica.Replica.{Replica}
 use Rattle.repl_group.specs.aids.Following.{follows}
 use Rattle.repl_group.specs.aids.Holding.{HeldState}
 use Rattle.repl_group.specs.aids.Keeping.{taken_by}
-use Rattle.version_pair.proofs.ListLemmas.{same_some}
+use Rattle.version_pair.proofs.ListLemmas.{none_is_not_some, same_some}
+use Rattle.repl_group.proofs.ListLemmas.{count-some}
 
 -- ---- one copy
 
@@ -31,56 +32,21 @@ led-other y held is = by_flags y.is_in_sync y.is_cut refl is where
 -- ---- a set taken from equal ones
 
 module _ {X : Type 0} where
-  get_or-replicate : (n i : ℕ) (w : X) → get_or (replicate n w) i w ≡ w
-  get_or-replicate zero i w = refl
-  get_or-replicate (suc n) zero w = refl
-  get_or-replicate (suc n) (suc i) w = get_or-replicate n i w
-
-  take-replicate : (n : ℕ) (w : X) → take n (replicate (suc n) w) ≡ replicate n w
-  take-replicate zero w = refl
-  take-replicate (suc n) w = ap (λ ws. w ∷ ws) (take-replicate n w)
-
   pub popped : (old new : List X) (r : X) (n len : ℕ) (w : X) → old ≡ replicate (n + 1) w → len ≡ length old
       → ((d : X) → 0 < len → Some r ≡ Some (get_or old (len - 1) d)) → new ≡ take (len - 1) old → (r ≡ w) × (new ≡ replicate n w)
   popped old new r n len w equal len_is value rest =
       let whole : length old ≡ n + 1 = ap length equal ∙ length-replicate (n + 1) w in
       let less : len - 1 ≡ n = omega arith in
       let some : 0 < len = omega arith in (
-        same_some _ _ (value w some) ∙ (ap (λ l. get_or l (len - 1) w) equal ∙ get_or-replicate (n + 1) (len - 1) w),
-        rest ∙ (ap (λ l. take (len - 1) l) equal ∙ (ap (λ k. take k (replicate (n + 1) w)) less ∙ (ap (λ k. take n (replicate k w)) (one_more n) ∙ take-replicate n w))),
-      ) where
-        one_more : (k : ℕ) → k + 1 ≡ suc k
-        one_more k = omega arith
-
-  count-cons : (p : X → Bool) (x : X) (xs : List X) → count_by p (x ∷ xs) ≡ cond (p x) 1 0 + count_by p xs
-  count-cons p x xs = sum_by-cons (λ (z : X). cond (p z) 1 0) x xs
-
-  pub count-set : (p : X → Bool) (xs : List X) (i : ℕ) (x y : X) → slice_get xs i ≡ Some x → p y ≡ p x → count_by p (slice_set xs i y) ≡ count_by p xs
-  count-set p [] i x y at same = refl
-  count-set p (z ∷ zs) zero x y at same =
-      count-cons p y zs ∙ (ap (λ b. cond b 1 0 + count_by p zs) (same ∙ ap p (sym (same_some _ _ at))) ∙ sym (count-cons p z zs))
-  count-set p (z ∷ zs) (suc i) x y at same =
-      count-cons p z (slice_set zs i y) ∙ (ap (λ n. cond (p z) 1 0 + n) (count-set p zs i x y at same) ∙ sym (count-cons p z zs))
-
-  pub map-set : {Y : Type 0} (f : X → Y) (xs : List X) (i : ℕ) (x y : X) → slice_get xs i ≡ Some x → f y ≡ f x → map f (slice_set xs i y) ≡ map f xs
-  map-set f [] i x y at same = refl
-  map-set f (z ∷ zs) zero x y at same = ap (λ v. v ∷ map f zs) (same ∙ ap f (sym (same_some _ _ at)))
-  map-set f (z ∷ zs) (suc i) x y at same = ap (λ vs. f z ∷ vs) (map-set f zs i x y at same)
-
-  pub count-some : (p : X → Bool) (xs : List X) (i : ℕ) (x : X) → slice_get xs i ≡ Some x → p x ≡ true → 1 ≤ count_by p xs
-  count-some p [] i x at is = let impossible : None ≡ Some x = at in absurd (cc)
-  count-some p (z ∷ zs) zero x at is =
-      let flag : cond {A = ℕ} (p z) 1 0 ≡ 1 = ap (λ b. cond {A = ℕ} b 1 0) (ap p (same_some _ _ at) ∙ is) in
-      let whole : count_by p (z ∷ zs) ≡ cond {A = ℕ} (p z) 1 0 + count_by p zs = count-cons p z zs in omega arith
-  count-some p (z ∷ zs) (suc i) x at is =
-      let rest : 1 ≤ count_by p zs = count-some p zs i x at is in
-      let whole : count_by p (z ∷ zs) ≡ cond {A = ℕ} (p z) 1 0 + count_by p zs = count-cons p z zs in omega arith
+        same_some _ _ (value w some) ∙ (ap (λ l. get_or l (len - 1) w) equal ∙ get_or-replicate (n + 1) (len - 1) w w (omega arith)),
+        rest ∙ (ap (λ l. take (len - 1) l) equal ∙ (ap (λ k. take k (replicate (n + 1) w)) less ∙ take-replicate n (n + 1) w (omega arith))),
+      )
 
   pub popped_some : {P : Type 0} (old : List X) (n len : ℕ) (w : X) → old ≡ replicate (n + 1) w → len ≡ length old → ((d : X) → 0 < len → None ≡ Some (get_or old (len - 1) d)) → P
   popped_some old n len w equal len_is value =
       let whole : length old ≡ n + 1 = ap length equal ∙ length-replicate (n + 1) w in
       let some : 0 < len = omega arith in
-      let impossible : None ≡ Some (get_or old (len - 1) w) = value w some in absurd (cc)
+      absurd (none_is_not_some (get_or old (len - 1) w) (value w some))
 
 -- ---- all copies
 
@@ -92,15 +58,9 @@ pub led_more : (old now : List Replica) (i : ℕ) (x new : Replica) (sets sets' 
     → (slice_set now i new ≡ map (taken_by held) (take (i + 1) old) ++ drop (i + 1) old) × (sets' ≡ replicate (count_by follows (drop (i + 1) old)) held)
 led_more old now i x new sets sets' held within is (done, left) leads =
     let item : get_or old i x ≡ x = sym (is ∙ (ap (λ l. get_or l i x) done ∙ past old i x within)) in
-    let cut : drop i old ≡ x ∷ drop (i + 1) old = drop-cons old i x within ∙ (ap (λ v. v ∷ drop (suc i) old) item ∙ ap (λ k. x ∷ drop k old) (one_more i)) in
-    let step = leads (count_by follows (drop (i + 1) old)) (left ∙ ap (λ k. replicate k held) (ap (count_by follows) cut ∙ (count-cons follows x (drop (i + 1) old) ∙ swap (cond (follows x) 1 0) (count_by follows (drop (i + 1) old))))) in
+    let cut : drop i old ≡ x ∷ drop (i + 1) old = drop-cons old i x within ∙ (ap (λ v. v ∷ drop (suc i) old) item ∙ ap (λ k. x ∷ drop k old) (sym (add-one i))) in
+    let step = leads (count_by follows (drop (i + 1) old)) (left ∙ ap (λ k. replicate k held) (ap (count_by follows) cut ∙ (sum_by-cons (λ z. cond (follows z) 1 0) x (drop (i + 1) old) ∙ add_comm (cond (follows x) 1 0) (count_by follows (drop (i + 1) old))))) in
     (ap (slice_set now i) step.0 ∙ map_over_more (taken_by held) old now i x within done is, step.1) where
-      one_more : (k : ℕ) → suc k ≡ k + 1
-      one_more k = omega arith
-
-      swap : (a b : ℕ) → a + b ≡ b + a
-      swap a b = omega arith
-
       past : (xs : List Replica) (k : ℕ) (d : Replica) → k < length xs → get_or (map (taken_by held) (take k xs) ++ drop k xs) k d ≡ get_or xs k d
       past [] k d less = absurd (omega (arith, less))
       past (z ∷ zs) zero d less = refl

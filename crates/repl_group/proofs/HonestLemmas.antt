@@ -1,5 +1,5 @@
 -- The steps of an honest group keep it sound.
-use Rattle.std.proofs.Common.{ℕ, zero, suc, ◌≡◌, ◌≢◌, ◌≤◌, ◌<◌, ◌+◌, ◌⊎◌, inl, inr, List, [], ◌∷◌, ◌++◌, refl, sym, ap, subst, ◌∙◌, arith, Option, Some, None, Bool, true, false, cond, max, true≢false, is_some}
+use Rattle.std.proofs.Common.{ℕ, ◌≡◌, ◌≢◌, ◌≤◌, ◌<◌, ◌+◌, ◌⊎◌, inl, inr, List, [], ◌∷◌, ◌++◌, refl, sym, ap, subst, ◌∙◌, arith, Option, Some, None, Bool, true, false, cond, max, true≢false, is_some}
 use Rattle.std.specs.Prelude.{◌==◌, fold, if◌then◌else◌, map, option_map, slice_get, slice_set}
 use Rattle.std.specs.Map.{lookup}
 use Rattle.std.proofs.lemmas.Bool.{eqb-true, eq-eqb}
@@ -16,13 +16,13 @@ use Rattle.repl_group.specs.Operations.{is_get}
 use Rattle.repl_group.specs.Requests.{flight_of, is_queued, lost_from, lost_request, with_flights_lost, with_stage}
 use Rattle.repl_group.specs.aids.Sound.{IsOwn, IsSound}
 use Rattle.std.proofs.lemmas.Option.{slice_get-map, slice_get_within}
-use Rattle.version_pair.proofs.ListLemmas.{from_set, get_front, get_snoc, mapped_from, same_some, slice_get-set_other, slice_get-set_same}
+use Rattle.version_pair.proofs.ListLemmas.{from_set, get_front, get_snoc, mapped_from, none_is_not_some, same_some, slice_get-set_other, slice_get-set_same}
 
 abbrev Held : Type 0
 Held = List (ℕ × HeldWrite)
 
 pub nothing_found : {X P : Type 0} {x : X} → None ≡ Some x → P
-nothing_found {X} {P} {x} found = let impossible : None ≡ Some x = found in absurd (cc)
+nothing_found {X} {P} {x} found = absurd (none_is_not_some x found)
 
 -- ---- what is held
 

@@ -1,6 +1,6 @@
 -- Copies as they are kept, and as they are seen.
-use Rattle.std.proofs.Common.{ℕ, zero, suc, ◌≡◌, ◌+◌, ◌<◌, List, [], ◌∷◌, ◌++◌, get_or, length, take, refl, sym, ap, subst, ◌∙◌, arith, inl, inr, Result, Ok, Err, Some, None, Bool, true, false, true≢false}
-use Rattle.std.specs.Prelude.{◌==◌, max, unwrap_or, ◌&&◌, if◌then◌else◌, map, option_map, not, ◌||◌, OnErr, replicate, slice_get, slice_set}
+use Rattle.std.proofs.Common.{ℕ, suc, ◌≡◌, ◌+◌, ◌<◌, List, [], ◌∷◌, ◌++◌, get_or, length, refl, sym, ap, subst, ◌∙◌, arith, inl, inr, Some, None, Bool, true, false}
+use Rattle.std.specs.Prelude.{◌==◌, max, unwrap_or, ◌&&◌, if◌then◌else◌, map, option_map, not, ◌||◌, replicate, slice_get, slice_set}
 use Rattle.std.specs.List.{list_all}
 use Rattle.std.specs.Map.{lookup}
 use Rattle.std.specs.Option.{option_map_or}
@@ -14,72 +14,17 @@ use Rattle.repl_group.specs.aids.Holding.{HeldState}
 use Rattle.repl_group.specs.aids.Keeping.{AreKept, IsKept, copy_of, new_replica, taken_by}
 use Rattle.repl_group.specs.aids.Logging.{held_at}
 use Rattle.repl_group.specs.aids.Tracking.{AreNoted}
-use Rattle.version_pair.proofs.ListLemmas.{from_set, mapped_from, same_some}
-use Rattle.repl_group.proofs.LogLemmas.{entry_at, get-there, held_at-append, held_at-last, length-more}
+use Rattle.std.proofs.lemmas.List.{length-map, length-set, length_push, map-set}
+use Rattle.std.proofs.lemmas.List.Folds.{list_all-map}
+use Rattle.std.proofs.lemmas.Option.{slice_get-map, slice_get_read}
+use lib.LanesLaws.{map-replicate}
+use Rattle.version_pair.proofs.ListLemmas.{from_set, get_within, mapped_from, same_some}
+use Rattle.repl_group.proofs.ListLemmas.{from_replicate, set-back}
+use Rattle.repl_group.proofs.LogLemmas.{held_at-append, held_at-last}
 use Rattle.repl_group.proofs.WriteLemmas.{noted_after, with_write-absent, with_write-there}
 
 abbrev Sets : Type 0
 Sets = List (List (ℕ × HeldWrite))
-
-module _ {X Y : Type 0} where
-  pub get-map : (f : X → Y) (xs : List X) (i : ℕ) → slice_get (map f xs) i ≡ option_map f (slice_get xs i)
-  get-map f [] i = refl
-  get-map f (x ∷ xs) zero = refl
-  get-map f (x ∷ xs) (suc i) = get-map f xs i
-
-  pub map-set_at : (f : X → Y) (xs : List X) (i : ℕ) (y : X) → map f (slice_set xs i y) ≡ slice_set (map f xs) i (f y)
-  map-set_at f [] i y = refl
-  map-set_at f (x ∷ xs) zero y = refl
-  map-set_at f (x ∷ xs) (suc i) y = ap (λ zs. f x ∷ zs) (map-set_at f xs i y)
-
-  pub map-length : (f : X → Y) (xs : List X) → length (map f xs) ≡ length xs
-  map-length f [] = refl
-  map-length f (x ∷ xs) = ap suc (map-length f xs)
-
-  pub map-replicate : (f : X → Y) (n : ℕ) (x : X) → map f (replicate n x) ≡ replicate n (f x)
-  map-replicate f zero x = refl
-  map-replicate f (suc n) x = ap (λ ys. f x ∷ ys) (map-replicate f n x)
-
-  pub all-map : (p : Y → Bool) (f : X → Y) (xs : List X) → list_all p (map f xs) ≡ list_all (λ x. p (f x)) xs
-  all-map p f [] = refl
-  all-map p f (x ∷ xs) = ap (λ b. p (f x) && b) (all-map p f xs)
-
-module _ {X : Type 0} where
-  pub set-back : (xs : List X) (i : ℕ) (x : X) → slice_get xs i ≡ Some x → slice_set xs i x ≡ xs
-  set-back [] i x at = refl
-  set-back (y ∷ ys) zero x at = ap (λ z. z ∷ ys) (sym (same_some _ _ at))
-  set-back (y ∷ ys) (suc i) x at = ap (λ zs. y ∷ zs) (set-back ys i x at)
-
-  pub set-length : (xs : List X) (i : ℕ) (x : X) → length (slice_set xs i x) ≡ length xs
-  set-length [] i x = refl
-  set-length (y ∷ ys) zero x = refl
-  set-length (y ∷ ys) (suc i) x = ap suc (set-length ys i x)
-
-  pub from_replicate : (n : ℕ) (x : X) (i : ℕ) (y : X) → slice_get (replicate n x) i ≡ Some y → y ≡ x
-  from_replicate zero x i y at = let impossible : None ≡ Some y = at in absurd (cc)
-  from_replicate (suc n) x zero y at = same_some _ _ (sym at)
-  from_replicate (suc n) x (suc i) y at = from_replicate n x i y at
-
-  pub not_all : (p : X → Bool) (xs : List X) (i : ℕ) (x : X) → slice_get xs i ≡ Some x → p x ≡ false → list_all p xs ≡ false
-  not_all p [] i x at fails = let impossible : None ≡ Some x = at in absurd (cc)
-  not_all p (y ∷ ys) zero x at fails = ap (λ b. b && list_all p ys) (ap p (same_some _ _ at) ∙ fails)
-  not_all p (y ∷ ys) (suc i) x at fails = ap (λ b. p y && b) (not_all p ys i x at fails) ∙ either (p y) where
-    either : (b : Bool) → (b && false) ≡ false
-    either true = refl
-    either false = refl
-
-  all_next : (p : X → Bool) (xs : List X) (i : ℕ) (x : X) → slice_get xs i ≡ Some x → list_all p (take i xs) ≡ true → p x ≡ true → list_all p (take (suc i) xs) ≡ true
-  all_next p [] i x at all passes = let impossible : None ≡ Some x = at in absurd (cc)
-  all_next p (y ∷ ys) zero x at all passes = ap (λ b. b && true) (ap p (same_some _ _ at) ∙ passes)
-  all_next p (y ∷ ys) (suc i) x at all passes = both (p y) (list_all p (take i ys)) all (λ rest. all_next p ys i x at rest passes) where
-    both : (a b : Bool) → (a && b) ≡ true → (b ≡ true → list_all p (take (suc i) ys) ≡ true) → (a && list_all p (take (suc i) ys)) ≡ true
-    both true b is rest = rest is
-    both false b is rest = absurd (true≢false (sym is))
-
-  pub all_further : (p : X → Bool) (xs : List X) (i : ℕ) (x : X) → slice_get xs i ≡ Some x → list_all p (take i xs) ≡ true → p x ≡ true → list_all p (take (i + 1) xs) ≡ true
-  all_further p xs i x at all passes = ap (λ k. list_all p (take k xs)) (one_more i) ∙ all_next p xs i x at all passes where
-    one_more : (k : ℕ) → k + 1 ≡ suc k
-    one_more k = omega arith
 
 -- ---- what is seen of a copy
 
@@ -87,11 +32,11 @@ module _ {X : Type 0} where
 pub there : (sets : Sets) (rs : List Replica) (v : List ShardCopy) (c : ℕ) (z : Replica) → map (copy_of sets) rs ≡ v → c < length v → z ≡ get_or rs c z
     → slice_get rs c ≡ Some z
 there sets rs v c z view less is =
-    let same : length rs ≡ length v = sym (map-length (copy_of sets) rs) ∙ ap length view in entry_at rs c z (omega (arith, less)) is
+    let same : length rs ≡ length v = sym (length-map rs (copy_of sets)) ∙ ap length view in slice_get_read rs (length rs) c z refl (omega (arith, less)) is
 
 pub seen : (sets : Sets) (rs : List Replica) (v : List ShardCopy) (c : ℕ) (z : Replica) → map (copy_of sets) rs ≡ v → slice_get rs c ≡ Some z
     → slice_get v c ≡ Some (copy_of sets z)
-seen sets rs v c z view at = ap (λ w. slice_get w c) (sym view) ∙ (get-map (copy_of sets) rs c ∙ ap (option_map (copy_of sets)) at)
+seen sets rs v c z view at = ap (λ w. slice_get w c) (sym view) ∙ (slice_get-map (copy_of sets) rs c ∙ ap (option_map (copy_of sets)) at)
 
 pub same_seen : (sets : Sets) (rs : List Replica) (v : List ShardCopy) (c : ℕ) (z : Replica) (y : ShardCopy) → map (copy_of sets) rs ≡ v → slice_get rs c ≡ Some z
     → slice_get v c ≡ Some y → copy_of sets z ≡ y
@@ -104,7 +49,7 @@ writes_seen sets rs v c z view at = ap (λ o. option_map_or (λ (y : ShardCopy).
 pub nothing_seen : (sets : Sets) (rs : List Replica) (v : List ShardCopy) (c : ℕ) → map (copy_of sets) rs ≡ v → slice_get rs c ≡ None
     → option_map_or (λ (y : ShardCopy). y.writes) (slice_get v c) [] ≡ []
 nothing_seen sets rs v c view at =
-    ap (λ o. option_map_or (λ (y : ShardCopy). y.writes) o []) (ap (λ w. slice_get w c) (sym view) ∙ (get-map (copy_of sets) rs c ∙ ap (option_map (copy_of sets)) at))
+    ap (λ o. option_map_or (λ (y : ShardCopy). y.writes) o []) (ap (λ w. slice_get w c) (sym view) ∙ (slice_get-map (copy_of sets) rs c ∙ ap (option_map (copy_of sets)) at))
 
 -- ---- copies that are changed
 
@@ -118,15 +63,12 @@ kept_set sets rs c z kept own = record {
 
 pub seen_set : (sets : Sets) (rs : List Replica) (v : List ShardCopy) (c : ℕ) (z : Replica) (y : ShardCopy) → map (copy_of sets) rs ≡ v → copy_of sets z ≡ y
     → map (copy_of sets) (slice_set rs c z) ≡ slice_set v c y
-seen_set sets rs v c z y view is = map-set_at (copy_of sets) rs c z ∙ (ap (λ w. slice_set w c (copy_of sets z)) view ∙ ap (slice_set v c) is)
+seen_set sets rs v c z y view is = map-set (copy_of sets) rs c z ∙ (ap (λ w. slice_set w c (copy_of sets z)) view ∙ ap (slice_set v c) is)
 
 -- their number stays, in whatever log
 pub length_any : (sets next : Sets) (rs : List Replica) (v : List ShardCopy) (c : ℕ) (z : Replica) → map (copy_of sets) rs ≡ v → length (map (copy_of next) (slice_set rs c z)) ≡ length v
 length_any sets next rs v c z view =
-    map-length (copy_of next) (slice_set rs c z) ∙ (set-length rs c z ∙ (sym (map-length (copy_of sets) rs) ∙ ap length view))
-
-pub length_set : (sets : Sets) (rs : List Replica) (v : List ShardCopy) (c : ℕ) (z : Replica) → map (copy_of sets) rs ≡ v → length (map (copy_of sets) (slice_set rs c z)) ≡ length v
-length_set sets rs v c z view = length_any sets sets rs v c z view
+    length-map (slice_set rs c z) (copy_of next) ∙ (length-set rs c z ∙ (sym (length-map rs (copy_of sets)) ∙ ap length view))
 
 -- copies that hold nothing
 pub kept_new : (count : ℕ) → AreKept ([] ∷ []) (replicate count new_replica)
@@ -145,7 +87,7 @@ seen_new sets rs count none new =
 pub kept_more : (sets : Sets) (set : List (ℕ × HeldWrite)) (rs : List Replica) → AreKept sets rs → AreKept (sets ++ set ∷ []) rs
 kept_more sets set rs kept = record {
   kept = λ c y at. let own = kept.kept c y at in let less : y.held.place < length sets = own.there in
-      let longer : length (sets ++ set ∷ []) ≡ length sets + 1 = length-more sets set in record {
+      let longer : length (sets ++ set ∷ []) ≡ length sets + 1 = length_push sets set in record {
         there = omega (arith, less);
         noted = subst (λ w. AreNoted w y.held.documents y.held.next_seq) (sym (held_at-append sets (set ∷ []) y.held.place less)) own.noted;
       };
@@ -194,7 +136,7 @@ kept_added sets rs c z t write next held kept at next_is place documents seq =
     let old = (kept.kept c z at).noted in
     let set : List (ℕ × HeldWrite) = held_at sets z.held.place ++ (t, write) ∷ [] in
     let now : held_at (sets ++ set ∷ []) held.place ≡ set = ap (held_at (sets ++ set ∷ [])) place ∙ held_at-last sets set in
-    let longer : length (sets ++ set ∷ []) ≡ length sets + 1 = length-more sets set in
+    let longer : length (sets ++ set ∷ []) ≡ length sets + 1 = length_push sets set in
     let noted : AreNoted set held.documents held.next_seq =
     subst (λ n. AreNoted set held.documents n) (sym seq) (noted_after (held_at sets z.held.place) z.held.documents held.documents z.held.next_seq t write old documents) in
     subst (λ l. AreKept l (slice_set rs c (record z { held = held }))) (sym next_is)
@@ -240,11 +182,6 @@ seen_there sets rs v c z t write y view at is there =
     let held : holds y.writes t ≡ true = ap (λ (x : ShardCopy). holds x.writes t) (sym same) ∙ there in
     sym (ap (λ (w : List (ℕ × HeldWrite)). slice_set v c (record y { writes = w })) (with_write-there y.writes t write held) ∙ set-back v c y is)
 
--- a refusal
-pub on_err : {T E P : Type 0} (r : Result T E) → P → OnErr r P
-on_err (Ok x) p = tt
-on_err (Err y) p = p
-
 -- ---- whether all copies in sync hold a write
 
 abbrev pub has_or_lags : Sets → ℕ → Replica → Bool
@@ -253,7 +190,7 @@ has_or_lags sets t z = not z.is_in_sync || holds (held_at sets z.held.place) t
 pub all_seen : (sets : Sets) (rs : List Replica) (v : List ShardCopy) (t : ℕ) → map (copy_of sets) rs ≡ v
     → list_all (λ y. not y.is_in_sync || holds y.writes t) v ≡ list_all (has_or_lags sets t) rs
 all_seen sets rs v t view =
-    ap (λ l. list_all (λ (y : ShardCopy). not y.is_in_sync || holds y.writes t) l) (sym view) ∙ all-map (λ (y : ShardCopy). not y.is_in_sync || holds y.writes t) (copy_of sets) rs
+    ap (λ l. list_all (λ (y : ShardCopy). not y.is_in_sync || holds y.writes t) l) (sym view) ∙ list_all-map (λ (y : ShardCopy). not y.is_in_sync || holds y.writes t) (copy_of sets) rs
 
 pub lacks : (sets : Sets) (t : ℕ) (z : Replica) → z.is_in_sync ≡ true → holds (held_at sets z.held.place) t ≡ false → has_or_lags sets t z ≡ false
 lacks sets t z sync absent = ap (λ b. not b || holds (held_at sets z.held.place) t) sync ∙ absent
@@ -264,7 +201,7 @@ module _ (sets : Sets) (rs : List Replica) (v : List ShardCopy) (p : ℕ) (new :
     (leads : (y : ShardCopy) → slice_get v p ≡ Some y → (y.is_in_sync && not y.is_cut) ≡ true)
     (led : (z : Replica) → slice_get rs p ≡ Some z → follows z ≡ true → new ≡ map (taken_by z.held) rs) where
   lead : (z : Replica) × (slice_get rs p ≡ Some z)
-  lead = let same : length rs ≡ length v = sym (map-length (copy_of sets) rs) ∙ ap length view in get-there rs p (omega (arith, less))
+  lead = let same : length rs ≡ length v = sym (length-map rs (copy_of sets)) ∙ ap length view in get_within rs p (omega (arith, less))
 
   after : new ≡ map (taken_by lead.0.held) rs
   after = led lead.0 lead.1 (leads (copy_of sets lead.0) (seen sets rs v p lead.0 view lead.1))
@@ -278,4 +215,4 @@ module _ (sets : Sets) (rs : List Replica) (v : List ShardCopy) (p : ℕ) (new :
       ∙ (ap (map (led_by (held_at sets lead.0.held.place))) view ∙ ap (λ (x : ShardCopy). map (led_by x.writes) v) (same_seen sets rs v p lead.0 y view lead.1 is)))
 
   pub follow_length : length (map (copy_of sets) new) ≡ length v
-  follow_length = map-length (copy_of sets) new ∙ (ap length after ∙ (map-length (taken_by lead.0.held) rs ∙ (sym (map-length (copy_of sets) rs) ∙ ap length view)))
+  follow_length = length-map new (copy_of sets) ∙ (ap length after ∙ (length-map rs (taken_by lead.0.held) ∙ (sym (length-map rs (copy_of sets)) ∙ ap length view)))

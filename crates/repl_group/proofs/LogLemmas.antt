@@ -1,14 +1,16 @@
 -- What is held at the places of a log.
-use Rattle.std.proofs.Common.{ℕ, zero, suc, ◌≡◌, ◌≢◌, ◌≤◌, ◌+◌, ◌-◌, ◌<◌, List, [], ◌∷◌, ◌++◌, get_or, length, refl, sym, ap, ◌∙◌, arith, Option, Some, None, Bool, true, false, inl, inr}
+use Rattle.std.proofs.Common.{ℕ, zero, suc, ◌≡◌, ◌≢◌, ◌≤◌, ◌+◌, ◌-◌, ◌<◌, List, [], ◌∷◌, ◌++◌, get_or, length, refl, sym, ap, ◌∙◌, add-zero, one-add, arith, Option, Some, None, Bool, true, false, inl, inr}
 use Rattle.std.specs.Prelude.{◌==◌, ◌||◌, if◌then◌else◌, is_some, slice_get, unwrap_or}
 use Rattle.std.specs.Map.{lookup}
-use Rattle.std.proofs.lemmas.Bool.{eqb-true, eq-eqb}
-use Rattle.std.proofs.lemmas.Option.{get_or_from_slice_get}
+use Rattle.std.proofs.lemmas.Bool.{eqb-true, eq-eqb, ne_eqb}
+use Rattle.std.proofs.lemmas.List.{get_or_append_left, length_push}
+use Rattle.std.proofs.lemmas.Option.{slice_get_read, unwrap_or-slice_get}
+use Rattle.std.proofs.Math.Bool.{or-false}
 use Rattle.repl_group.specs.declared.held_write.HeldWrite.{HeldWrite}
 use Rattle.repl_group.specs.declared.write_log.Logged.{Logged}
 use Rattle.repl_group.specs.Copies.{holds}
 use Rattle.repl_group.specs.aids.Logging.{IsLog, held_at, held_behind, held_sets, sets_from}
-use Rattle.version_pair.proofs.ListLemmas.{get_snoc, same_some}
+use Rattle.version_pair.proofs.ListLemmas.{get_last, get_snoc, get_within, none_is_not_some, same_some}
 use Rattle.version_pair.proofs.TruthLemmas.{or-true}
 
 abbrev Writes : Type 0
@@ -16,44 +18,21 @@ Writes = List (ℕ × HeldWrite)
 
 -- ---- places
 
-module _ {X : Type 0} where
-  pub get-append : (xs ys : List X) (i : ℕ) → i < length xs → slice_get (xs ++ ys) i ≡ slice_get xs i
-  get-append [] ys i less = absurd (omega (arith, less))
-  get-append (x ∷ xs) ys zero less = refl
-  get-append (x ∷ xs) ys (suc i) less = get-append xs ys i (omega (arith, less))
-
-  pub get-last : (xs : List X) (y : X) → slice_get (xs ++ y ∷ []) (length xs) ≡ Some y
-  get-last [] y = refl
-  get-last (x ∷ xs) y = get-last xs y
-
-  pub get-there : (xs : List X) (i : ℕ) → i < length xs → (x : X) × (slice_get xs i ≡ Some x)
-  get-there [] i less = absurd (omega (arith, less))
-  get-there (x ∷ xs) zero less = (x, refl)
-  get-there (x ∷ xs) (suc i) less = get-there xs i (omega (arith, less))
-
-  pub get-within : (xs : List X) (i : ℕ) (x : X) → slice_get xs i ≡ Some x → i < length xs
-  get-within [] i x at = let impossible : None ≡ Some x = at in absurd (cc)
-  get-within (y ∷ ys) zero x at = omega arith
-  get-within (y ∷ ys) (suc i) x at = let less : i < length ys = get-within ys i x at in omega arith
-
-  pub length-more : (xs : List X) (y : X) → length (xs ++ y ∷ []) ≡ length xs + 1
-  length-more [] y = refl
-  length-more (x ∷ xs) y = let rest : length (xs ++ y ∷ []) ≡ length xs + 1 = length-more xs y in omega arith
-
 -- what is held at a place stays when places are added
 pub held_at-append : (sets more : List Writes) (p : ℕ) → p < length sets → held_at (sets ++ more) p ≡ held_at sets p
-held_at-append sets more p less = ap (λ o. unwrap_or o []) (get-append sets more p less)
+held_at-append sets more p less =
+    unwrap_or-slice_get (sets ++ more) p [] ∙ (get_or_append_left sets more [] p less ∙ sym (unwrap_or-slice_get sets p []))
 
 -- and at the new place is what was added
 pub held_at-last : (sets : List Writes) (set : Writes) → held_at (sets ++ set ∷ []) (length sets) ≡ set
-held_at-last sets set = ap (λ o. unwrap_or o []) (get-last sets set)
+held_at-last sets set = ap (λ o. unwrap_or o []) (get_last sets set)
 
 -- ---- the places of a log
 
 stays : (sets : List Writes) (es : List Logged) (p : ℕ) → p < length sets → held_at (sets_from sets es) p ≡ held_at sets p
 stays sets [] p less = refl
 stays sets (e ∷ es) p less =
-    let longer : length (sets ++ held_behind sets e ∷ []) ≡ length sets + 1 = length-more sets (held_behind sets e) in
+    let longer : length (sets ++ held_behind sets e ∷ []) ≡ length sets + 1 = length_push sets (held_behind sets e) in
     stays (sets ++ held_behind sets e ∷ []) es p (omega arith) ∙ held_at-append sets (held_behind sets e ∷ []) p less
 
 pub sets-append : (sets : List Writes) (es : List Logged) (e : Logged) → sets_from sets (es ++ e ∷ []) ≡ sets_from sets es ++ held_behind (sets_from sets es) e ∷ []
@@ -63,7 +42,7 @@ sets-append sets (f ∷ es) e = sets-append (sets ++ held_behind sets f ∷ []) 
 sets-length : (sets : List Writes) (es : List Logged) → length (sets_from sets es) ≡ length sets + length es
 sets-length sets [] = omega arith
 sets-length sets (e ∷ es) =
-    let longer : length (sets ++ held_behind sets e ∷ []) ≡ length sets + 1 = length-more sets (held_behind sets e) in
+    let longer : length (sets ++ held_behind sets e ∷ []) ≡ length sets + 1 = length_push sets (held_behind sets e) in
     let rest : length (sets_from (sets ++ held_behind sets e ∷ []) es) ≡ length (sets ++ held_behind sets e ∷ []) + length es = sets-length (sets ++ held_behind sets e ∷ []) es in
     omega arith
 
@@ -73,30 +52,26 @@ places es = let whole : length (sets_from ([] ∷ []) es) ≡ 1 + length es = se
 -- at the place that a write makes it is held, behind what is held at its own earlier place
 made : (sets : List Writes) (es : List Logged) (i : ℕ) (e : Logged) → slice_get es i ≡ Some e → e.before < length sets + i
     → held_at (sets_from sets es) (length sets + i) ≡ held_at (sets_from sets es) e.before ++ (e.ticket, e.write) ∷ []
-made sets [] i e at less = let impossible : None ≡ Some e = at in absurd (cc)
+made sets [] i e at less = absurd (none_is_not_some e at)
 made sets (f ∷ es) zero e at less =
     let same : f ≡ e = same_some _ _ at in
     let next : List Writes = sets ++ held_behind sets f ∷ [] in
-    let longer : length next ≡ length sets + 1 = length-more sets (held_behind sets f) in
+    let longer : length next ≡ length sets + 1 = length_push sets (held_behind sets f) in
     let before : e.before < length sets = omega (arith, less) in
-    ap (held_at (sets_from next es)) (nothing (length sets))
+    ap (held_at (sets_from next es)) (add-zero (length sets))
     ∙ (stays next es (length sets) (omega arith)
     ∙ (held_at-last sets (held_behind sets f)
     ∙ (ap (held_behind sets) same
-    ∙ ap (λ s. s ++ (e.ticket, e.write) ∷ []) (sym (held_at-append sets (held_behind sets f ∷ []) e.before before) ∙ sym (stays next es e.before (omega arith)))))) where
-      nothing : (n : ℕ) → n + 0 ≡ n
-      nothing n = omega arith
+    ∙ ap (λ s. s ++ (e.ticket, e.write) ∷ []) (sym (held_at-append sets (held_behind sets f ∷ []) e.before before) ∙ sym (stays next es e.before (omega arith))))))
 made sets (f ∷ es) (suc i) e at less =
     let next : List Writes = sets ++ held_behind sets f ∷ [] in
-    let longer : length next ≡ length sets + 1 = length-more sets (held_behind sets f) in
+    let longer : length next ≡ length sets + 1 = length_push sets (held_behind sets f) in
     let number : length sets + suc i ≡ length next + i = omega arith in
     ap (held_at (sets_from next es)) number ∙ made next es i e at (omega (arith, less))
 
 pub made_at : (es : List Logged) (i : ℕ) (e : Logged) → slice_get es i ≡ Some e → e.before ≤ i
     → held_at (held_sets es) (suc i) ≡ held_at (held_sets es) e.before ++ (e.ticket, e.write) ∷ []
-made_at es i e at behind = ap (held_at (held_sets es)) (one i) ∙ made ([] ∷ []) es i e at (omega (arith, behind)) where
-  one : (n : ℕ) → suc n ≡ 1 + n
-  one n = omega arith
+made_at es i e at behind = ap (held_at (held_sets es)) (sym (one-add i)) ∙ made ([] ∷ []) es i e at (omega (arith, behind))
 
 -- ---- who holds what
 
@@ -123,7 +98,7 @@ pub none_before : (es : List Logged) (first : List (ℕ × ℕ)) (t f : ℕ) →
 none_before es first t f log none bound zero below early within = ap (λ s. holds s t) (stays ([] ∷ []) es 0 (omega arith))
 none_before es first t f log none zero (suc p) below early within = absurd (omega (arith, below))
 none_before es first t f log none (suc bound) (suc p) below early within =
-    let there = get-there es p (omega (arith, within)) in
+    let there = get_within es p (omega (arith, within)) in
     let behind : there.0.before ≤ p = log.behind p there.0 there.1 in
     holds_at es p there.0 t there.1 behind
     ∙ (ap (λ b. b || (t == there.0.ticket)) (none_before es first t f log none bound there.0.before (omega (arith, behind, below)) (omega (arith, behind, early)) (omega (arith, behind, within)))
@@ -146,10 +121,6 @@ unheld_at es first t p o log is within early = none_before es first t p log none
   none : (i : ℕ) (e : Logged) → slice_get es i ≡ Some e → i < p → (t == e.ticket) ≡ false
   none i e at less = by_test e i (t == e.ticket) refl (log.found i e at) less
 
-pub entry_at : {X : Type 0} (xs : List X) (i : ℕ) (x : X) → i < length xs → x ≡ get_or xs i x → slice_get xs i ≡ Some x
-entry_at xs i x less is =
-    let there = get-there xs i less in there.1 ∙ ap Some (sym (is ∙ get_or_from_slice_get xs i there.0 x there.1))
-
 -- a place of the log is at most the number of its writes
 pub place_within : (es : List Logged) (sets : List Writes) (p : ℕ) → held_sets es ≡ sets → p < length sets → p ≤ length es
 place_within es sets p view less =
@@ -163,7 +134,7 @@ step_number at some = omega (arith, some)
 pub held_here : (es : List Logged) (first : List (ℕ × ℕ)) (t at : ℕ) (e : Logged) → IsLog es first → 0 < at → at ≤ length es → e ≡ get_or es (at - 1) e
     → e.ticket ≡ t → holds (held_at (held_sets es) at) t ≡ true
 held_here es first t at e log some within is same =
-    let there : slice_get es (at - 1) ≡ Some e = entry_at es (at - 1) e (omega (arith, some, within)) is in
+    let there : slice_get es (at - 1) ≡ Some e = slice_get_read es (length es) (at - 1) e refl (omega (arith, some, within)) is in
     let ticket : (t == e.ticket) ≡ true = eq-eqb t e.ticket (sym same) in
     ap (λ p. holds (held_at (held_sets es) p) t) (sym (step_number at some))
     ∙ (holds_at es (at - 1) e t there (log.behind (at - 1) e there) ∙ ap (λ b. holds (held_at (held_sets es) e.before) t || b) ticket ∙ or-true (holds (held_at (held_sets es) e.before) t))
@@ -172,19 +143,12 @@ held_here es first t at e log some within is same =
 pub held_further : (es : List Logged) (first : List (ℕ × ℕ)) (t at : ℕ) (e : Logged) → IsLog es first → 0 < at → at ≤ length es → e ≡ get_or es (at - 1) e
     → e.ticket ≢ t → (e.before < at) × (holds (held_at (held_sets es) at) t ≡ holds (held_at (held_sets es) e.before) t)
 held_further es first t at e log some within is other =
-    let there : slice_get es (at - 1) ≡ Some e = entry_at es (at - 1) e (omega (arith, some, within)) is in
+    let there : slice_get es (at - 1) ≡ Some e = slice_get_read es (length es) (at - 1) e refl (omega (arith, some, within)) is in
     let behind : e.before ≤ at - 1 = log.behind (at - 1) e there in (
       omega (arith, some, behind),
       ap (λ p. holds (held_at (held_sets es) p) t) (sym (step_number at some))
-          ∙ (holds_at es (at - 1) e t there behind ∙ (ap (λ b. holds (held_at (held_sets es) e.before) t || b) (not_same (t == e.ticket) refl) ∙ neither (holds (held_at (held_sets es) e.before) t))),
-    ) where
-      not_same : (b : Bool) → (t == e.ticket) ≡ b → b ≡ false
-      not_same true same = absurd (other (sym (eqb-true t e.ticket same)))
-      not_same false same = refl
-
-      neither : (b : Bool) → (b || false) ≡ b
-      neither true = refl
-      neither false = refl
+          ∙ (holds_at es (at - 1) e t there behind ∙ (ap (λ b. holds (held_at (held_sets es) e.before) t || b) (ne_eqb t e.ticket (λ same. other (sym same))) ∙ or-false (holds (held_at (held_sets es) e.before) t))),
+    )
 
 -- ---- one write more
 
@@ -223,7 +187,7 @@ log_after es first next e log before noted = record {
   kept t f at (Some g) is b same = noted t ∙ (ap (λ o. if is_some o then lookup (◌==◌ t) first else (if t == e.ticket then Some (length es) else lookup (◌==◌ t) first)) is ∙ at)
   kept t f at None is true same =
       let here : lookup (◌==◌ t) first ≡ None = ap (λ u. lookup (◌==◌ u) first) (eqb-true t e.ticket same) ∙ is in
-      let impossible : None ≡ Some f = sym here ∙ at in absurd (cc)
+      absurd (none_is_not_some f (sym here ∙ at))
   kept t f at None is false same =
       noted t ∙ (ap (λ o. if is_some o then lookup (◌==◌ t) first else (if t == e.ticket then Some (length es) else lookup (◌==◌ t) first)) is
       ∙ (ap (λ b. if b then Some (length es) else lookup (◌==◌ t) first) same ∙ at))
@@ -232,7 +196,7 @@ log_after es first next e log before noted = record {
   earlier i x old (f, at, below) = (f, kept x.ticket f at (lookup (◌==◌ e.ticket) first) refl (x.ticket == e.ticket) refl, below)
 
   longer : length (es ++ e ∷ []) ≡ length es + 1
-  longer = length-more es e
+  longer = length_push es e
 
   bounded : (t f : ℕ) → (o : Option ℕ) → lookup (◌==◌ e.ticket) first ≡ o → (b : Bool) → (t == e.ticket) ≡ b → lookup (◌==◌ t) next ≡ Some f → f < length (es ++ e ∷ [])
   bounded t f (Some g) is b same at =

@@ -1,9 +1,9 @@
 -- Steps of a machine, put together.
-use Rattle.std.proofs.Common.{ℕ, ◌≡◌, ◌<◌, ◌^◌, List, ◌∷◌, ◌++◌, [], length, refl, sym, ap, subst, ◌∙◌, arith, Bool, true, false, true≢false}
+use Rattle.std.proofs.Common.{ℕ, ◌≡◌, ◌<◌, ◌^◌, List, ◌∷◌, ◌++◌, [], length, refl, sym, ap, subst, ◌∙◌, arith, Bool, true, false}
 use Rattle.std.specs.Prelude.{◌==◌, MatchBool, nat_lt, not, slice_set}
 use Rattle.std.specs.Cmp.Lexicographic.{pointwise}
 use Rattle.std.specs.List.{position_or_len}
-use Rattle.std.proofs.lemmas.Bool.{ltb-true, not-false}
+use Rattle.std.proofs.lemmas.Bool.{le-ltb, not-false}
 use Rattle.indexmap.specs.IndexSet.{insert_key}
 use Rattle.version_pair.specs.declared.pair.Pair.{Pair}
 use Rattle.doc_register.specs.declared.op.Op.{Op}
@@ -16,17 +16,11 @@ use Rattle.repl_group.specs.Group.{Does, GroupState, Performs, Gives, copy_with,
 use Rattle.repl_group.specs.Requests.{with_stage}
 use Rattle.repl_group.specs.aids.Tracking.{queued_request}
 
-not_past : (n : ℕ) → n < 2 ^ 63 → (b : Bool) → nat_lt greatest n ≡ b → b ≡ false
-not_past n fits true is = let past : greatest < n = ltb-true greatest n is in absurd (omega arith)
-not_past n fits false is = refl
-
 at_true : (P Q : Type 0) (b : Bool) → b ≡ true → P → MatchBool b P Q
-at_true P Q true is p = p
-at_true P Q false is p = absurd (true≢false (sym is))
+at_true P Q b is p = subst (λ k. MatchBool k P Q) (sym is) p
 
 at_false : (P Q : Type 0) (b : Bool) → b ≡ false → Q → MatchBool b P Q
-at_false P Q true is q = absurd (true≢false is)
-at_false P Q false is q = q
+at_false P Q b is q = subst (λ k. MatchBool k P Q) (sym is) q
 
 pub performs_done : (w v : GroupState) (t : ℕ) (x : Request) (y : ShardCopy) (q : Pair) (requests : List Request) (copies : List ShardCopy)
     → v ≡ w → q.term ≡ v.term → q.seq ≡ next_seq y.writes
@@ -41,7 +35,7 @@ performs_done w v t x y q requests copies same term seq requests_are copies_are 
     ∙ ap (λ (c : List ShardCopy). record v { requests = with_stage v.requests t x (InFlight q (document_in y.writes x.doc)); copies = c }) copies_are in
     let gives : (r : Pair) × (r.term ≡ v.term) × (r.seq ≡ next_seq y.writes) × Does (performed v t x y r) Done (record v { requests = requests; copies = copies }) =
     (q, term, seq, (refl, leaves)) in
-    subst P same (at_false _ _ (nat_lt greatest (next_seq y.writes)) (not_past (next_seq y.writes) number (nat_lt greatest (next_seq y.writes)) refl) gives)
+    subst P same (at_false _ _ (nat_lt greatest (next_seq y.writes)) (le-ltb greatest (next_seq y.writes) (omega arith)) gives)
 
 pub submits : (w v : GroupState) (id : List ℕ) (op : Op) (doc ticket : ℕ) (docs : List (List ℕ)) (requests : List Request)
     → v ≡ w → ticket ≡ length v.requests → not (nat_lt (length w.requests) most_tickets) ≡ false

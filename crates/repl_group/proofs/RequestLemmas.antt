@@ -1,8 +1,9 @@
 -- What is listed beside the requests stays right where a request changes its stage.
-use Rattle.std.proofs.Common.{ℕ, zero, suc, ◌≡◌, ◌≢◌, ◌≤◌, ◌+◌, ◌<◌, ◌⊎◌, inl, inr, List, [], ◌∷◌, ◌++◌, length, refl, sym, ap, ◌∙◌, arith, Option, Some, None, Bool, true, false, cond, filter, true≢false}
-use Rattle.std.specs.Prelude.{◌==◌, ◌&&◌, ◌||◌, if◌then◌else◌, insert, nat_lt, not, slice_get, slice_set, unwrap_or}
+use Rattle.std.proofs.Common.{ℕ, zero, suc, ◌≡◌, ◌≢◌, ◌≤◌, ◌+◌, ◌⊎◌, inl, inr, List, [], ◌∷◌, ◌++◌, length, refl, sym, ap, ◌∙◌, add-zero, one-add, zero-add, arith, Option, Some, Bool, true, false, cond, filter, true≢false}
+use Rattle.std.specs.Prelude.{◌==◌, ◌&&◌, if◌then◌else◌, insert, nat_lt, not, slice_get, slice_set, unwrap_or}
 use Rattle.std.specs.List.{list_any, position, position_or_len}
-use Rattle.std.proofs.lemmas.Bool.{eqb-true, eq-eqb, ltb-true, ltb-false}
+use Rattle.std.proofs.lemmas.Bool.{eqb-true, eq-eqb, false≢true, le-ltb, lt-ltb, ne_eqb}
+use Rattle.std.proofs.Math.Bool.{or-false}
 use Rattle.std.proofs.lemmas.List.Folds.{list_any-append}
 use Rattle.doc_register.specs.declared.op.Op.{Op}
 use Rattle.repl_group.specs.declared.request.Request.{Request}
@@ -10,13 +11,10 @@ use Rattle.repl_group.specs.declared.request.Stage.{Stage}
 use Rattle.repl_group.specs.declared.request.Stage.TheVariants.{Queued, InFlight, Answered, Lost}
 use Rattle.repl_group.specs.Requests.{in_flight_from, is_busy, is_in_flight, is_queued, lost_from, lost_request, with_flights_lost, with_stage}
 use Rattle.repl_group.specs.aids.Tracking.{AreApart, AreListed, put_in_order, queued_request}
-use Rattle.version_pair.proofs.ListLemmas.{from_set, get_snoc, mapped_from}
+use Rattle.version_pair.proofs.ListLemmas.{from_set, get_snoc, mapped_from, none_is_not_some}
 use Rattle.repl_group.proofs.ListLemmas.{first_or_len, list_any-none, list_any-set_alike, list_any-set_more, none_passes}
 
 -- ---- a place in order
-
-one-plus : {n : ℕ} → 1 + n ≡ suc n
-one-plus {n} = omega arith
 
 pub insert-in_order : (us : List ℕ) (t : ℕ) → insert us (position_or_len (nat_lt t) us) t ≡ put_in_order t us
 insert-in_order [] t = refl
@@ -24,7 +22,7 @@ insert-in_order (u ∷ us) t = by_test (nat_lt t u) (insert-in_order us t) where
   by_test : (b : Bool) → insert us (position_or_len (nat_lt t) us) t ≡ put_in_order t us
       → insert (u ∷ us) (cond (not b) (1 + position_or_len (nat_lt t) us) 0) t ≡ (if b then t ∷ u ∷ us else u ∷ put_in_order t us)
   by_test true rest = refl
-  by_test false rest = ap (λ n. insert (u ∷ us) n t) (one-plus {n = position_or_len (nat_lt t) us}) ∙ ap (λ vs. u ∷ vs) rest
+  by_test false rest = ap (λ n. insert (u ∷ us) n t) (one-add (position_or_len (nat_lt t) us)) ∙ ap (λ vs. u ∷ vs) rest
 
 -- the place of the first greater number, or the length where there is none
 pub place_or_len : (us : List ℕ) (t : ℕ) (vs : List ℕ) (first : Option ℕ) (len place : ℕ) → place ≡ unwrap_or first len → first ≡ position (nat_lt t) vs → vs ≡ us → len ≡ length us
@@ -53,17 +51,13 @@ in_flight-from i (x ∷ xs) =
 
 put-first : (t : ℕ) (ts : List ℕ) → AreFrom (t + 1) ts → put_in_order t ts ≡ t ∷ ts
 put-first t [] from = refl
-put-first t (u ∷ us) from = by_test (nat_lt t u) refl where
-  by_test : (b : Bool) → nat_lt t u ≡ b → (if b then t ∷ u ∷ us else u ∷ put_in_order t us) ≡ t ∷ u ∷ us
-  by_test true is = refl
-  by_test false is = let low : u ≤ t = ltb-false t u is in let high : t + 1 ≤ u = from.0 in absurd (omega arith)
+put-first t (u ∷ us) from = ap (λ b. if b then t ∷ u ∷ us else u ∷ put_in_order t us) (lt-ltb t u (let high : t + 1 ≤ u = from.0 in omega arith))
 
 filter-others : (t : ℕ) (ts : List ℕ) → AreFrom (t + 1) ts → filter (λ u. not (u == t)) ts ≡ ts
 filter-others t [] from = refl
-filter-others t (u ∷ us) from = by_test (u == t) refl (filter-others t us from.1) where
-  by_test : (b : Bool) → (u == t) ≡ b → filter (λ v. not (v == t)) us ≡ us → cond (not b) (u ∷ filter (λ v. not (v == t)) us) (filter (λ v. not (v == t)) us) ≡ u ∷ us
-  by_test true is rest = let same : u ≡ t = eqb-true u t is in let high : t + 1 ≤ u = from.0 in absurd (omega arith)
-  by_test false is rest = ap (λ vs. u ∷ vs) rest
+filter-others t (u ∷ us) from =
+    ap (λ b. cond (not b) (u ∷ filter (λ v. not (v == t)) us) (filter (λ v. not (v == t)) us)) (ne_eqb u t (λ same. (let high : t + 1 ≤ u = from.0 in absurd (omega arith))))
+    ∙ ap (λ vs. u ∷ vs) (filter-others t us from.1)
 
 -- the tickets in flight, from the first request on
 abbrev first_or : Bool → ℕ → List ℕ → List ℕ
@@ -78,62 +72,41 @@ in_flight-same i (z ∷ zs) zero x y at same =
     ap (λ b. first_or b i (in_flight_from (i + 1) zs)) (same ∙ ap (λ (r : Request). is_in_flight r.stage) (sym here))
 in_flight-same i (z ∷ zs) (suc t) x y at same = ap (first_or (is_in_flight z.stage) i) (in_flight-same (i + 1) zs t x y at same)
 
+-- the place behind the first one
+pub one_further : (n m : ℕ) → n + 1 + m ≡ n + suc m
+one_further n m = omega arith
+
 -- a flight begins
 pub in_flight-begun : (i : ℕ) (xs : List Request) (t : ℕ) (x y : Request) → slice_get xs t ≡ Some x → is_in_flight x.stage ≡ false → is_in_flight y.stage ≡ true
     → in_flight_from i (slice_set xs t y) ≡ put_in_order (i + t) (in_flight_from i xs)
-in_flight-begun i [] t x y at was is = let impossible : None ≡ Some x = at in absurd (cc)
+in_flight-begun i [] t x y at was is = absurd (none_is_not_some x at)
 in_flight-begun i (z ∷ zs) zero x y at was is =
     let here : z ≡ x = cc in
     ap (λ b. first_or b i (in_flight_from (i + 1) zs)) is
     ∙ (sym (put-first i (in_flight_from (i + 1) zs) (in_flight-from (i + 1) zs))
-    ∙ (ap (λ n. put_in_order n (in_flight_from (i + 1) zs)) (sym (nothing i))
-    ∙ ap (λ b. put_in_order (i + 0) (first_or b i (in_flight_from (i + 1) zs))) (sym (ap (λ (r : Request). is_in_flight r.stage) here ∙ was)))) where
-      nothing : (n : ℕ) → n + 0 ≡ n
-      nothing n = omega arith
-in_flight-begun i (z ∷ zs) (suc t) x y at was is = by_test (is_in_flight z.stage) (in_flight-begun (i + 1) zs t x y at was is ∙ ap (λ n. put_in_order n (in_flight_from (i + 1) zs)) (next i t)) where
-  next : (n m : ℕ) → n + 1 + m ≡ n + suc m
-  next n m = omega arith
-
-  before : (b : Bool) → nat_lt (i + suc t) i ≡ b → i ∷ put_in_order (i + suc t) (in_flight_from (i + 1) zs)
-      ≡ (if b then (i + suc t) ∷ i ∷ in_flight_from (i + 1) zs else i ∷ put_in_order (i + suc t) (in_flight_from (i + 1) zs))
-  before true less = let low : i + suc t < i = ltb-true (i + suc t) i less in absurd (omega arith)
-  before false less = refl
-
+    ∙ (ap (λ n. put_in_order n (in_flight_from (i + 1) zs)) (sym (add-zero i))
+    ∙ ap (λ b. put_in_order (i + 0) (first_or b i (in_flight_from (i + 1) zs))) (sym (ap (λ (r : Request). is_in_flight r.stage) here ∙ was))))
+in_flight-begun i (z ∷ zs) (suc t) x y at was is = by_test (is_in_flight z.stage) (in_flight-begun (i + 1) zs t x y at was is ∙ ap (λ n. put_in_order n (in_flight_from (i + 1) zs)) (one_further i t)) where
   by_test : (b : Bool) → in_flight_from (i + 1) (slice_set zs t y) ≡ put_in_order (i + suc t) (in_flight_from (i + 1) zs)
       → first_or b i (in_flight_from (i + 1) (slice_set zs t y)) ≡ put_in_order (i + suc t) (first_or b i (in_flight_from (i + 1) zs))
-  by_test true rest = ap (λ ts. i ∷ ts) rest ∙ before (nat_lt (i + suc t) i) refl
+  by_test true rest = ap (λ ts. i ∷ ts) rest ∙ ap (λ b. if b then (i + suc t) ∷ i ∷ in_flight_from (i + 1) zs else i ∷ put_in_order (i + suc t) (in_flight_from (i + 1) zs)) (sym (le-ltb (i + suc t) i (omega arith)))
   by_test false rest = rest
 
 -- a flight ends
 pub in_flight-ended : (i : ℕ) (xs : List Request) (t : ℕ) (x y : Request) → slice_get xs t ≡ Some x → is_in_flight x.stage ≡ true → is_in_flight y.stage ≡ false
     → in_flight_from i (slice_set xs t y) ≡ filter (λ u. not (u == (i + t))) (in_flight_from i xs)
-in_flight-ended i [] t x y at was is = let impossible : None ≡ Some x = at in absurd (cc)
+in_flight-ended i [] t x y at was is = absurd (none_is_not_some x at)
 in_flight-ended i (z ∷ zs) zero x y at was is =
     let here : z ≡ x = cc in
     ap (λ b. first_or b i (in_flight_from (i + 1) zs)) is
     ∙ (sym (filter-others i (in_flight_from (i + 1) zs) (in_flight-from (i + 1) zs))
-    ∙ (itself (i == i) (eq-eqb i i refl)
-    ∙ (ap (λ n. filter (λ u. not (u == n)) (i ∷ in_flight_from (i + 1) zs)) (sym (nothing i))
-    ∙ ap (λ b. filter (λ u. not (u == (i + 0))) (first_or b i (in_flight_from (i + 1) zs))) (sym (ap (λ (r : Request). is_in_flight r.stage) here ∙ was))))) where
-      nothing : (n : ℕ) → n + 0 ≡ n
-      nothing n = omega arith
-
-      itself : (b : Bool) → b ≡ true → filter (λ u. not (u == i)) (in_flight_from (i + 1) zs)
-          ≡ cond (not b) (i ∷ filter (λ u. not (u == i)) (in_flight_from (i + 1) zs)) (filter (λ u. not (u == i)) (in_flight_from (i + 1) zs))
-      itself true is = refl
-      itself false is = absurd (true≢false (sym is))
-in_flight-ended i (z ∷ zs) (suc t) x y at was is = by_test (is_in_flight z.stage) (in_flight-ended (i + 1) zs t x y at was is ∙ ap (λ n. filter (λ u. not (u == n)) (in_flight_from (i + 1) zs)) (next i t)) where
-  next : (n m : ℕ) → n + 1 + m ≡ n + suc m
-  next n m = omega arith
-
-  kept : (b : Bool) → (i == (i + suc t)) ≡ b → i ∷ filter (λ u. not (u == (i + suc t))) (in_flight_from (i + 1) zs)
-      ≡ cond (not b) (i ∷ filter (λ u. not (u == (i + suc t))) (in_flight_from (i + 1) zs)) (filter (λ u. not (u == (i + suc t))) (in_flight_from (i + 1) zs))
-  kept true same = let equal : i ≡ i + suc t = eqb-true i (i + suc t) same in absurd (omega arith)
-  kept false same = refl
-
+    ∙ (ap (λ b. cond (not b) (i ∷ filter (λ u. not (u == i)) (in_flight_from (i + 1) zs)) (filter (λ u. not (u == i)) (in_flight_from (i + 1) zs))) (sym (eq-eqb i i refl))
+    ∙ (ap (λ n. filter (λ u. not (u == n)) (i ∷ in_flight_from (i + 1) zs)) (sym (add-zero i))
+    ∙ ap (λ b. filter (λ u. not (u == (i + 0))) (first_or b i (in_flight_from (i + 1) zs))) (sym (ap (λ (r : Request). is_in_flight r.stage) here ∙ was)))))
+in_flight-ended i (z ∷ zs) (suc t) x y at was is = by_test (is_in_flight z.stage) (in_flight-ended (i + 1) zs t x y at was is ∙ ap (λ n. filter (λ u. not (u == n)) (in_flight_from (i + 1) zs)) (one_further i t)) where
   by_test : (b : Bool) → in_flight_from (i + 1) (slice_set zs t y) ≡ filter (λ u. not (u == (i + suc t))) (in_flight_from (i + 1) zs)
       → first_or b i (in_flight_from (i + 1) (slice_set zs t y)) ≡ filter (λ u. not (u == (i + suc t))) (first_or b i (in_flight_from (i + 1) zs))
-  by_test true rest = ap (λ ts. i ∷ ts) rest ∙ kept (i == (i + suc t)) refl
+  by_test true rest = ap (λ ts. i ∷ ts) rest ∙ ap (λ b. cond (not b) (i ∷ filter (λ u. not (u == (i + suc t))) (in_flight_from (i + 1) zs)) (filter (λ u. not (u == (i + suc t))) (in_flight_from (i + 1) zs))) (sym (ne_eqb i (i + suc t) (λ same. absurd (omega arith))))
   by_test false rest = rest
 
 -- a request that is not in flight comes last
@@ -154,13 +127,7 @@ in_flight-lost i (z ∷ zs) = ap (λ b. first_or b i (in_flight_from (i + 1) (wi
 -- ---- documents with a write in flight
 
 swapped : (d e : ℕ) → (e == d) ≡ false → (d == e) ≡ false
-swapped d e other = by_test (d == e) refl where
-  by_test : (b : Bool) → (d == e) ≡ b → b ≡ false
-  by_test true same = absurd (true≢false (sym (eq-eqb e d (sym (eqb-true d e same))) ∙ other))
-  by_test false other_way = refl
-
-from_zero : (n : ℕ) → n ≡ 0 + n
-from_zero n = omega arith
+swapped d e other = ne_eqb d e (λ same. false≢true (sym other ∙ eq-eqb e d (sym same)))
 
 abbrev on : ℕ → Request → Bool
 on d x = is_in_flight x.stage && (d == x.doc)
@@ -234,7 +201,7 @@ grounded (Answered r) is = refl
 grounded (Lost q) is = refl
 
 pub never_flies : {P : Type 0} → false ≡ true → P
-never_flies impossible = absurd (true≢false (sym impossible))
+never_flies impossible = absurd (false≢true impossible)
 
 -- ---- all together
 
@@ -242,14 +209,10 @@ module _ (xs : List Request) (in_flight busy : List ℕ) (listed : AreListed xs 
   pub listed_added : (d : ℕ) (op : Op) → AreListed (xs ++ queued_request d op ∷ []) in_flight busy
   listed_added d op = record {
     listed = listed.listed ∙ sym (in_flight-append 0 xs (queued_request d op) refl);
-    busy_is = λ e. listed.busy_is e ∙ sym (list_any-append (on e) xs (queued_request d op ∷ []) ∙ nothing_more (is_busy xs e));
+    busy_is = λ e. listed.busy_is e ∙ sym (list_any-append (on e) xs (queued_request d op ∷ []) ∙ or-false (is_busy xs e));
     apart = λ i j a b at_i at_j fly_i fly_j same.
         listed.apart i j a b (before i a at_i fly_i) (before j b at_j fly_j) fly_i fly_j same;
   } where
-    nothing_more : (b : Bool) → (b || false) ≡ b
-    nothing_more true = refl
-    nothing_more false = refl
-
     before : (i : ℕ) (a : Request) → slice_get (xs ++ queued_request d op ∷ []) i ≡ Some a → is_in_flight a.stage ≡ true → slice_get xs i ≡ Some a
     before i a at flies =
         elim (get_snoc xs (queued_request d op) a i at) [
@@ -272,7 +235,7 @@ module _ (xs : List Request) (in_flight busy : List ℕ) (listed : AreListed xs 
         → ((e : ℕ) → list_any (◌==◌ e) busy' ≡ cond (x.doc == e) true (list_any (◌==◌ e) busy))
         → AreListed (with_stage xs t x s) in_flight' busy'
     listed_launched s in_flight' busy' queued free is put updated = record {
-      listed = put ∙ (ap (put_in_order t) listed.listed ∙ (ap (λ n. put_in_order n (in_flight_from 0 xs)) (from_zero t)
+      listed = put ∙ (ap (put_in_order t) listed.listed ∙ (ap (λ n. put_in_order n (in_flight_from 0 xs)) (sym (zero-add t))
           ∙ sym (in_flight-begun 0 xs t x (record x { stage = s }) at (grounded x.stage queued) is)));
       busy_is = λ e. updated e ∙ (ap (cond (x.doc == e) true) (listed.busy_is e) ∙ sym (busy-begun xs t x s e at (grounded x.stage queued) is));
       apart = apart-set xs t x s listed.apart (λ _ u z found flies same. never_flies (sym (none_passes (on x.doc) xs u z free found) ∙ (flies_on x.doc z flies ∙ eq-eqb x.doc z.doc (sym same))));
@@ -283,7 +246,7 @@ module _ (xs : List Request) (in_flight busy : List ℕ) (listed : AreListed xs 
         → ((e : ℕ) → list_any (◌==◌ e) busy' ≡ cond (x.doc == e) false (list_any (◌==◌ e) busy))
         → AreListed (with_stage xs t x s) in_flight' busy'
     listed_ended s in_flight' busy' was is taken updated = record {
-      listed = taken ∙ (ap (filter (λ u. not (u == t))) listed.listed ∙ (ap (λ n. filter (λ u. not (u == n)) (in_flight_from 0 xs)) (from_zero t)
+      listed = taken ∙ (ap (filter (λ u. not (u == t))) listed.listed ∙ (ap (λ n. filter (λ u. not (u == n)) (in_flight_from 0 xs)) (sym (zero-add t))
           ∙ sym (in_flight-ended 0 xs t x (record x { stage = s }) at was is)));
       busy_is = λ e. updated e ∙ (ap (cond (x.doc == e) false) (listed.busy_is e) ∙ sym (busy-ended xs t x s e listed.apart at was is));
       apart = apart-set xs t x s listed.apart (λ flies. never_flies (sym is ∙ flies));

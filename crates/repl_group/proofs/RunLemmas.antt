@@ -4,7 +4,7 @@ use Rattle.std.specs.Prelude.{◌==◌, ◌&&◌, ◌||◌, IfOk, OnErr, Result,
 use Rattle.std.specs.List.{list_all}
 use Rattle.std.specs.Map.{lookup}
 use Rattle.std.specs.Option.{option_map_or}
-use Rattle.std.proofs.lemmas.Bool.{eq-eqb}
+use Rattle.std.proofs.lemmas.Bool.{eq-eqb, not-true, or_parts}
 use Rattle.version_pair.specs.declared.pair.Pair.{Pair}
 use Rattle.doc_register.specs.Register.{performed_reply, shown}
 use Rattle.doc_register.specs.Run.{pair_taken}
@@ -31,6 +31,7 @@ use Rattle.repl_group.specs.Requests.{flight_of, is_busy, is_queued}
 use Rattle.repl_group.specs.aids.Sound.{IsOwn, IsSound, IsSoundUnlessFaulty}
 use Rattle.repl_group.proofs.HonestLemmas.{from_with_write, held_found, nothing_found, performed_sound, promoted_sound, recopied, restaged, with_request, with_write-more}
 use Rattle.version_pair.proofs.ListLemmas.{same_some}
+use Rattle.repl_group.proofs.ListLemmas.{all_pass, from_replicate}
 use Rattle.doc_register.proofs.RunLemmas.{shown_takes_none}
 use Rattle.version_pair.proofs.TruthLemmas.{both}
 
@@ -48,10 +49,6 @@ by_there {X} {P} {R} {Q} o chosen none some = by_cases o refl chosen where
   by_cases None is p = none p
   by_cases (Some x) is q = some x is q
 
-not_true : (a : Bool) → not a ≡ true → a ≡ false
-not_true true is = absurd (true≢false (sym is))
-not_true false is = refl
-
 -- ---- sound groups
 
 abbrev Sound : GroupState → Type 0
@@ -62,6 +59,13 @@ unanswered Queued r is none = none
 unanswered (InFlight q b) r is none = absurd (true≢false (sym is))
 unanswered (Answered r') r is none = absurd (true≢false (sym is))
 unanswered (Lost q) r is none = absurd (true≢false (sym is))
+
+-- the pair of a flight
+flight_given : (s : Stage) (f : Pair × DocState) → flight_of s ≡ Some f → pair_given s ≡ Some f.0
+flight_given Queued f is = nothing_found is
+flight_given (InFlight q b) f is = ap (λ (k : Pair × DocState). Some k.0) (same_some _ _ is)
+flight_given (Answered r) f is = nothing_found is
+flight_given (Lost q) f is = nothing_found is
 
 -- a queued operation is answered with no pair
 answered_sound : (w : GroupState) (t : ℕ) (x : Request) (r : Reply) → Sound w → slice_get w.requests t ≡ Some x → is_queued x.stage ≡ true → pair_taken r None ≡ None → Sound (answered w t x r)
@@ -124,12 +128,6 @@ module _ (w n : GroupState) (a : Answer) (sound : Sound w) where
         in_sync : (y.is_in_sync && not y.is_cut && not (is_primary_cut w)) ≡ true → y.is_in_sync ≡ true
         in_sync may = (both y.is_in_sync (not y.is_cut) (both (y.is_in_sync && not y.is_cut) (not (is_primary_cut w)) may).0).0
 
-        flight_given : (s : Stage) (f : Pair × DocState) → flight_of s ≡ Some f → pair_given s ≡ Some f.0
-        flight_given Queued f is = nothing_found is
-        flight_given (InFlight q b) f is = ap (λ (k : Pair × DocState). Some k.0) (same_some _ _ is)
-        flight_given (Answered r) f is = nothing_found is
-        flight_given (Lost q) f is = nothing_found is
-
         by_write : (u : ℕ) (write : HeldWrite) (flight : Pair × DocState) → flight_of x.stage ≡ Some flight
             → ((lookup (◌==◌ u) y.writes ≡ Some write) ⊎ ((u ≡ t) × (write ≡ write_of x flight.0))) → IsOwn w.requests u write
         by_write u write flight flies (inl old) = sound.own c u y write there old
@@ -145,34 +143,15 @@ module _ (w n : GroupState) (a : Answer) (sound : Sound w) where
       by_there (flight_of x.stage) acts (λ is. refused is)
       (λ flight flies rest. where_may (not (is_primary_cut w) && is_held w t) (answered w t x (performed_reply flight.1 x.op flight.0))
       (λ may. restaged w.term w.primary w.requests w.copies sound t x (Answered (performed_reply flight.1 x.op flight.0)) at
-      (reply_pair x.op flight.1 flight.0 (sound.writes t x flight.0 flight.1 at flies) ∙ sym (given x.stage flight flies)) refl
-      (λ c y q there told sync. on_all w.copies c y there (sym (ap (λ f. if is_early f then holds (writes_at w w.primary) t else list_all (λ z. not z.is_in_sync || holds z.writes t) w.copies) honest)
-      ∙ (both (not (is_primary_cut w)) (is_held w t) may).1) sync))
+      (reply_pair x.op flight.1 flight.0 (sound.writes t x flight.0 flight.1 at flies) ∙ sym (flight_given x.stage flight flies)) refl
+      (λ c y q there told sync. ap (λ b. not b || holds y.writes t) (sym sync) ∙ all_pass (λ z. not z.is_in_sync || holds z.writes t) w.copies c y (sym (ap (λ f. if is_early f then holds (writes_at w w.primary) t else list_all (λ z. not z.is_in_sync || holds z.writes t) w.copies) honest)
+      ∙ (both (not (is_primary_cut w)) (is_held w t) may).1) there))
       rest) where
-        given : (s : Stage) (f : Pair × DocState) → flight_of s ≡ Some f → pair_given s ≡ Some f.0
-        given Queued f is = nothing_found is
-        given (InFlight q b) f is = ap (λ (k : Pair × DocState). Some k.0) (same_some _ _ is)
-        given (Answered r) f is = nothing_found is
-        given (Lost q) f is = nothing_found is
-
         reply_pair : (op : Op) (before : DocState) (q : Pair) → is_get op ≡ false → pair_taken (performed_reply before op q) None ≡ Some q
         reply_pair Get before q is = absurd (true≢false is)
         reply_pair (Index k c) before q is = refl
         reply_pair (Delete c) before q is = refl
         reply_pair (Create k) before q is = refl
-
-        on_all : (copies : List ShardCopy) (c : ℕ) (y : ShardCopy) → slice_get copies c ≡ Some y → list_all (λ z. not z.is_in_sync || holds z.writes t) copies ≡ true
-            → y.is_in_sync ≡ true → holds y.writes t ≡ true
-        on_all [] c y there all sync = nothing_found there
-        on_all (z ∷ zs) zero y there all sync =
-            let here : z ≡ y = same_some _ _ there in
-            either (not y.is_in_sync) (holds y.writes t) (ap (λ (k : ShardCopy). not k.is_in_sync || holds k.writes t) (sym here) ∙ (both (not z.is_in_sync || holds z.writes t) (list_all (λ k. not k.is_in_sync || holds k.writes t) zs) all).0)
-            (ap not sync) where
-              either : (b d : Bool) → (b || d) ≡ true → b ≡ false → d ≡ true
-              either true d is out = absurd (true≢false out)
-              either false d is out = is
-        on_all (z ∷ zs) (suc c) y there all sync =
-            on_all zs c y there (both (not z.is_in_sync || holds z.writes t) (list_all (λ k. not k.is_in_sync || holds k.writes t) zs) all).1 sync
 
   -- ---- steps of copies
 
@@ -194,10 +173,6 @@ module _ (w n : GroupState) (a : Answer) (sound : Sound w) where
     taken : writes_at w w.primary ≡ lead.writes
     taken = ap (λ o. option_map_or (λ (k : ShardCopy). k.writes) o []) sound.leads.1
 
-    apart : (b d : Bool) → (b || d) ≡ false → b ≡ false
-    apart true d is = is
-    apart false d is = refl
-
     by_place : (b : Bool) → ((c == w.primary) || is_primary_cut w) ≡ b
         → Sound (with_copy w c (if b then record y { is_cut = false } else record { writes = writes_at w w.primary; is_cut = false; is_in_sync = true }))
     by_place true is = rearranged c y (record y { is_cut = false }) there refl (λ sync. sync) (λ here sync. sync)
@@ -205,7 +180,7 @@ module _ (w n : GroupState) (a : Answer) (sound : Sound w) where
         recopied w.term w.primary w.requests w.copies sound c y (record { writes = writes_at w w.primary; is_cut = false; is_in_sync = true }) there
         (λ t write found. sound.own w.primary t lead write sound.leads.1 (ap (λ ws. lookup (◌==◌ t) ws) (sym taken) ∙ found))
         (λ here. refl)
-        (λ here. absurd (true≢false (sym (eq-eqb c w.primary here) ∙ apart (c == w.primary) (is_primary_cut w) is)))
+        (λ here. absurd (true≢false (sym (eq-eqb c w.primary here) ∙ (or_parts (c == w.primary) (is_primary_cut w) is).0)))
         (λ sync t x q found told. ap (λ ws. holds ws t) taken ∙ sound.acknowledged t w.primary x lead q found sound.leads.1 told sound.leads.2)
 
   drops : (c : ℕ) (y : ShardCopy) → slice_get w.copies c ≡ Some y
@@ -213,7 +188,7 @@ module _ (w n : GroupState) (a : Answer) (sound : Sound w) where
   drops c y there acts =
       where_may (y.is_in_sync && y.is_cut && not (c == w.primary) && not (is_primary_cut w)) (with_copy w c (record y { is_in_sync = false }))
       (λ may. rearranged c y (record y { is_in_sync = false }) there refl (λ sync. absurd (true≢false (sym sync)))
-      (λ here sync. absurd (true≢false (sym (eq-eqb c w.primary here) ∙ not_true (c == w.primary)
+      (λ here sync. absurd (true≢false (sym (eq-eqb c w.primary here) ∙ not-true (c == w.primary)
       (both (y.is_in_sync && y.is_cut) (not (c == w.primary)) (both (y.is_in_sync && y.is_cut && not (c == w.primary)) (not (is_primary_cut w)) may).0).1))))
       acts
 
@@ -224,7 +199,7 @@ module _ (w n : GroupState) (a : Answer) (sound : Sound w) where
       (λ may. (let flags = both (y.is_in_sync && not y.is_cut) (not (c == w.primary)) (both (y.is_in_sync && not y.is_cut && not (c == w.primary)) (nat_lt w.term greatest) may).0 in
       let first = both y.is_in_sync (not y.is_cut) flags.0 in
       subst (λ term. IsSound term c (promoted w c y).requests (promoted w c y).copies) (sym (ap (λ f. if is_same_term f then w.term else w.term + 1) honest))
-      (promoted_sound w.term w.primary w.requests w.copies sound c y there first.0 (not_true y.is_cut first.1))))
+      (promoted_sound w.term w.primary w.requests w.copies sound c y there first.0 (not-true y.is_cut first.1))))
       acts
 
 -- ---- any step
@@ -297,18 +272,13 @@ sound_after w n (step.Promote c) a honest sound takes =
 
 -- ---- from the start
 
-every_new : (count c : ℕ) (y : ShardCopy) → slice_get (replicate count new_copy) c ≡ Some y → y ≡ new_copy
-every_new zero c y there = nothing_found there
-every_new (suc count) zero y there = same_some _ _ (sym there)
-every_new (suc count) (suc c) y there = every_new count c y there
-
 start_sound : (count : ℕ) → 0 < count → IsSound 1 0 [] (replicate count new_copy)
 start_sound zero some = absurd (omega (arith, some))
 start_sound (suc count) some = record {
   leads = (new_copy, refl, refl);
   terms = λ t x q found given. nothing_found found;
   recent = λ t x q y found given now lead. nothing_found found;
-  own = λ c t y write there found. nothing_found (ap (λ (k : ShardCopy). lookup (◌==◌ t) k.writes) (sym (every_new (suc count) c y there)) ∙ found);
+  own = λ c t y write there found. nothing_found (ap (λ (k : ShardCopy). lookup (◌==◌ t) k.writes) (sym (from_replicate (suc count) new_copy c y there)) ∙ found);
   writes = λ t x q before found flies. nothing_found found;
   pairs = λ t u x y q found found' given given'. nothing_found found;
   acknowledged = λ t c x y q found there told sync. nothing_found found;

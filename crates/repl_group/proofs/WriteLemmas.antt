@@ -1,16 +1,13 @@
 -- What is noted beside the writes of a copy stays right where a write is added.
 use Rattle.std.proofs.Common.{ℕ, ◌≡◌, ◌≤◌, ◌+◌, ◌^◌, ◌<◌, List, [], ◌∷◌, ◌++◌, sym, ap, ◌∙◌, arith, true, false, max}
-use Rattle.std.specs.Prelude.{◌==◌, if◌then◌else◌, nat_eq, unwrap_or}
+use Rattle.std.specs.Prelude.{◌==◌, if◌then◌else◌, unwrap_or}
 use Rattle.std.specs.Map.{lookup}
 use Rattle.std.proofs.lemmas.List.Sums.{fold-append}
-use Rattle.indexmap.specs.IndexMap.{IndexMap, insert_entry}
-use Rattle.indexmap.proofs.CallerLemmas.{insert_entry-new}
 use Rattle.doc_register.specs.declared.state.DocState.{DocState}
 use Rattle.doc_register.specs.declared.state.DocState.TheVariants.{Never}
 use Rattle.repl_group.specs.declared.held_write.HeldWrite.{HeldWrite}
 use Rattle.repl_group.specs.Copies.{document_after, document_in, holds, next_seq, with_write}
 use Rattle.repl_group.specs.aids.Tracking.{AreNoted}
-use Rattle.version_pair.proofs.TruthLemmas.{none_from_is_some}
 
 pub with_write-absent : (writes : List (ℕ × HeldWrite)) (t : ℕ) (write : HeldWrite) → holds writes t ≡ false → with_write writes t write ≡ writes ++ (t, write) ∷ []
 with_write-absent writes t write absent = ap (λ b. if b then writes else writes ++ (t, write) ∷ []) absent

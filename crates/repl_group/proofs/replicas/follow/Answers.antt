@@ -4,7 +4,8 @@ use Rattle.std.specs.Prelude.{count_by, replicate}
 use Rattle.repl_group.specs.aids.Keeping.{taken_by}
 use Rattle.repl_group.specs.declared.replica.Replica.{Replica}
 use Rattle.repl_group.specs.aids.Following.{follows}
-use Rattle.repl_group.proofs.FollowLemmas.{count-set, led-follower, map-set, sets_are}
+use Rattle.repl_group.proofs.FollowLemmas.{led-follower, sets_are}
+use Rattle.repl_group.proofs.ListLemmas.{count-set, map-set_alike}
 use Rattle.repl_group.proofs.replicas.follow.Goals as goal
 
 pub returns-clause-ok : goal.returns-clause-ok
@@ -21,4 +22,4 @@ returns-clause-ok c y at is =
     c.index.result.now.held c.replace-own.result at is (c.follower_count.ensures ∙ ap (count_by follows) c.deref.ensures.value) c.saturating_sub-others.ensures
     (c.in_ok-reserve.ensures.items ∙ c.in_ok-sets.ensures) (ap (λ (z : Replica). z.held) seen) (c.replace-own.ensures.value ∙ ap (λ (z : Replica). z.held) was) c.push_reserved.ensures.items in
     c.hand_over.ensures y.held (sets ∙ ap (λ n. replicate n y.held) (sym (count-set follows c.args.replicas.now.items c.args.primary y emptied at follows_still)))
-    ∙ map-set (taken_by y.held) c.args.replicas.now.items c.args.primary y emptied at led
+    ∙ map-set_alike (taken_by y.held) c.args.replicas.now.items c.args.primary y emptied at led

@@ -1,8 +1,9 @@
 use Rattle.std.proofs.Common.{◌∙◌, ◌<◌, ◌++◌, ◌∷◌, [], ap, subst, sym, length}
 use Rattle.repl_group.specs.Copies.{holds}
 use Rattle.repl_group.specs.aids.Logging.{held_at}
-use Rattle.repl_group.proofs.KeepLemmas.{length_any, kept_added, kept_still, on_err, seen_added, seen_still, seen_there, there}
+use Rattle.repl_group.proofs.KeepLemmas.{length_any, kept_added, kept_still, seen_added, seen_still, seen_there, there}
 use Rattle.version_pair.proofs.ListLemmas.{same_some}
+use Rattle.repl_group.proofs.DueLemmas.{OnErr-always}
 use Rattle.repl_group.proofs.copies.Copies.add_write.Goals as goal
 
 pub holds-requires : goal.holds-requires
@@ -29,7 +30,7 @@ invariant_of-self-in_err-add c =
 pub returns-in_err-add-clause-err : goal.returns-in_err-add-clause-err
 returns-in_err-add-clause-err c =
     let at = there c.self.inside.log c.self.inside.list.items c.args.self.now c.args.copy c.index_mut.result.now c.self.view_is c.requires c.index_mut.ensures.value in
-    on_err c.from_residual-in_err-add.result
+    OnErr-always c.from_residual-in_err-add.result
     (seen_still c.self.inside.log c.self.inside.list.items c.args.self.now c.args.copy c.index_mut.result.now _ c.push.new.self c.add.new.self c.self.view_is c.self.invariant at c.in_ok-next.ensures.sets
     c.in_err-add.ensures.err)
 

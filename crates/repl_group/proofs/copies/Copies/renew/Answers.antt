@@ -1,7 +1,7 @@
 use Rattle.std.proofs.Common.{◌∙◌, ap, subst, sym, false, true}
 use Rattle.repl_group.specs.aids.Keeping.{IsKept}
 use Rattle.repl_group.specs.aids.Logging.{held_at}
-use Rattle.repl_group.proofs.KeepLemmas.{length_set, kept_set, seen_set, there, writes_seen}
+use Rattle.repl_group.proofs.KeepLemmas.{length_any, kept_set, seen_set, there, writes_seen}
 use Rattle.repl_group.proofs.copies.Copies.renew.Goals as goal
 
 pub invariant_of-self : goal.invariant_of-self
@@ -20,4 +20,4 @@ returns-clause-ok c =
     ∙ ap (λ w. record { writes = w; is_cut = false; is_in_sync = true }) (sym (writes_seen c.self.inside.log c.self.inside.list.items c.args.self.now c.args.primary c.index.result.now c.self.view_is at))))
 
 pub returns-clause-len : goal.returns-clause-len
-returns-clause-len c = rw c.renew.ensures (length_set c.self.inside.log c.self.inside.list.items c.args.self.now c.args.copy _ c.self.view_is)
+returns-clause-len c = rw c.renew.ensures (length_any c.self.inside.log c.self.inside.log c.self.inside.list.items c.args.self.now c.args.copy _ c.self.view_is)

@@ -1,6 +1,6 @@
 use Rattle.std.proofs.Common.{ap}
 use Rattle.repl_group.specs.Copies.{ShardCopy}
-use Rattle.repl_group.proofs.KeepLemmas.{length_set, kept_set, same_seen, seen_set, there}
+use Rattle.repl_group.proofs.KeepLemmas.{kept_set, length_any, same_seen, seen_set, there}
 use Rattle.repl_group.proofs.copies.Copies.set_cut.Goals as goal
 
 pub invariant_of-self : goal.invariant_of-self
@@ -16,4 +16,4 @@ returns-clause-set c y is =
     (ap (λ (x : ShardCopy). record x { is_cut = c.args.is_cut }) same)
 
 pub returns-clause-len : goal.returns-clause-len
-returns-clause-len c = length_set c.self.inside.log c.self.inside.list.items c.args.self.now c.args.copy _ c.self.view_is
+returns-clause-len c = length_any c.self.inside.log c.self.inside.log c.self.inside.list.items c.args.self.now c.args.copy _ c.self.view_is
