@@ -1,13 +1,14 @@
 -- What a recording answers, put together.
 use Rattle.std.proofs.Common.{ℕ, ◌≡◌, ◌<◌, ◌≤◌, List, [], ◌∷◌, ◌++◌, length, refl, sym, ap, subst, ◌∙◌, arith, Option, Some, None, Result, Ok, Err, Bool, true, false, All, Any, IfOk, OnErr, IfSome}
 use Rattle.std.specs.Prelude.{◌||◌, if◌then◌else◌, nat_lt}
-use Rattle.std.proofs.lemmas.Bool.{ltb-false, ltb-true}
+use Rattle.std.proofs.lemmas.Bool.{ltb-false, ltb-true, both_ways}
 use Rattle.history.specs.declared.event.Event.{Event}
 use Rattle.history.specs.Refusal.{most_events}
 use Rattle.recorder.specs.declared.fault.RecFault.{RecFault}
 use Rattle.recorder.specs.declared.fault.RecFault.TheVariants.{NotMine, Ended, Kind, Full, NoMemory, Rewound}
 use Rattle.recorder.specs.Pens.{IsUnused, PenState, Records, tells_full, told_by_list}
 use Rattle.recorder.specs.aids.Appending.{append_refusal, append_told, when_full}
+use Rattle.version_pair.proofs.ListLemmas.{none_is_not_some}
 
 -- a pen's numbers are below the answered one, where the last of them is
 answered_above : (list : List (ℕ × Event)) (locked : List Event) (last : Option ℕ) (answer : Result ℕ RecFault)
@@ -18,7 +19,7 @@ answered_above list locked last (Err e) told number above = tt
 answered_above list locked last (Ok n) told number above = above n (by_last last told) where
   by_test : (l : ℕ) (b : Bool) → nat_lt l (length locked) ≡ b → None ≡ (if b then when_full locked else Some (Rewound (length locked))) → l < n
   by_test l true is same = let less : l < length locked = ltb-true l (length locked) is in let is_n : n ≡ length locked = number.0 in omega arith
-  by_test l false is same = let impossible : None ≡ Some (Rewound (length locked)) = same in absurd (cc)
+  by_test l false is same = absurd (none_is_not_some (Rewound (length locked)) same)
 
   by_last : (o : Option ℕ) → None ≡ append_refusal locked o → IfSome o (λ l. l < n)
   by_last None same = tt
@@ -64,7 +65,7 @@ rewound_below locked last n told = by_last last told where
   Rewinds o = (l : ℕ) × (o ≡ Some l) × (n ≤ l)
 
   by_room : (o : Option ℕ) (b : Bool) → Some (Rewound n) ≡ (if b then None else Some Full) → Rewinds o
-  by_room o true same = let impossible : Some (Rewound n) ≡ None = same in absurd (cc)
+  by_room o true same = absurd (none_is_not_some (Rewound n) (sym same))
   by_room o false same = let impossible : Some (Rewound n) ≡ Some Full = same in absurd (cc)
 
   by_test : (l : ℕ) (b : Bool) → nat_lt l (length locked) ≡ b → Some (Rewound n) ≡ (if b then when_full locked else Some (Rewound (length locked))) → Rewinds (Some l)
@@ -94,16 +95,13 @@ recorded_after old new event answer locked last open_ told number above reached 
   below = below answer number;
   unused = unused;
   by_list = told_nothing locked last answer told;
-  full = λ _ was. absurd (both open_ was);
+  full = λ _ was. absurd (both_ways old.is_full open_ was);
   full_from_then = full;
   rewound = λ n is. rewound n (sym (ap append_told is) ∙ told);
 } where
   below : (a : Result ℕ RecFault) → IfOk a (λ n. (n ≡ length locked) × (n < most_events)) → IfOk a (λ n. n < most_events)
   below (Ok n) number = number.1
   below (Err e) number = tt
-
-  both : {b : Bool} → b ≡ false → b ≡ true → ⊥
-  both {b} is not = let impossible : true ≡ false = sym not ∙ is in cc
 
   rewound : (n : ℕ) → Some (Rewound n) ≡ append_refusal locked last → Any (λ entry. n ≤ entry.0) old.list
   rewound n is =

@@ -3,21 +3,22 @@ use Rattle.std.proofs.Common.{ℕ, zero, suc, ◌≡◌, ◌+◌, ◌%◌, ◌^�
 use Rattle.std.specs.Prelude.{◌||◌, nat_lt, not}
 use Rattle.std.specs.List.{flat_map, list_any}
 use Rattle.std.specs.List.Sorted.{IsPermutation}
-use Rattle.std.proofs.lemmas.Bool.{ltb-false, ltb-true}
-use Rattle.std.proofs.lemmas.List.{append-nil}
-use Rattle.std.proofs.lemmas.List.Elements.{All-cons, All-from_get_or, All-head, All-nil, All-push, All-set, All-tail}
-use Rattle.std.proofs.lemmas.List.Folds.{list_any-append}
-use Rattle.std.proofs.lemmas.List.FromFn.{get_or-range_with_len, length-range_with_len}
+use Rattle.std.proofs.lemmas.Bool.{ltb-false, ltb-true, le-ltb, lt-ltb}
+use Rattle.std.proofs.lemmas.List.{append-nil, append_assoc}
+use Rattle.std.proofs.lemmas.List.Elements.{All-head, All-nil, All-push, All-set, All-tail, All-weaker}
+use Rattle.std.proofs.lemmas.List.Folds.{list_any-append, list_any_none}
 use Rattle.std.proofs.lemmas.List.Sorted.{IsPermutation-append_comm, IsPermutation-append_left, IsPermutation-append_right, IsPermutation-cons, IsPermutation-middle, IsPermutation-refl, IsPermutation-sym, IsPermutation-to_front, IsPermutation-trans, All-permutation}
 use mathlib.Core.Option.{none, some, some-injective, some-ne-none}
 use lib.ListN.{get_elem?}
 use Rattle.atomic_table.specs.Table.{State, step, keeps, stepped, Allows, Splits, Joins, Seen, Final}
 use Rattle.history.specs.Refusal.{most_events}
-use Rattle.recorder.proofs.CountLemmas.{range_more}
+use Rattle.recorder.proofs.CountLemmas.{range_more, all_in_row}
 use Rattle.recorder.specs.declared.clock_view.ClockView.{ClockView}
 use Rattle.recorder.specs.declared.clock_view.ClockView.TheVariants.{Maker, Drew, Spent}
 use Rattle.recorder.specs.Clock.{most_pens, seat_with, numbers_in, numbers_below, is_past, is_spent, is_over, IsOfPen, one_if, how_many, nothing_drawn, Draws, split_once_more, with_joined, IsClock}
 use Rattle.version_pair.proofs.TruthLemmas.{or-true}
+use Rattle.std.proofs.lemmas.List.Concat.{flat_map-append}
+use Rattle.recorder.proofs.ListLemmas.{all_of_first, all_of_second}
 
 -- ---- one view of several
 
@@ -47,27 +48,11 @@ all_spent (Maker k j g ∷ vs) up = let rest = how_many_within is_spent vs in ab
 all_spent (Drew drawn ∷ vs) up = let rest = how_many_within is_spent vs in absurd (omega arith)
 all_spent (Spent ∷ vs) up = all_spent vs (omega arith)
 
-append_assoc : (xs ys zs : List ℕ) → (xs ++ ys) ++ zs ≡ xs ++ (ys ++ zs)
-append_assoc [] ys zs = refl
-append_assoc (x ∷ xs) ys zs = ap (λ rest. x ∷ rest) (append_assoc xs ys zs)
-
-numbers_append : (vs ws : List ClockView) → flat_map numbers_in (vs ++ ws) ≡ flat_map numbers_in vs ++ flat_map numbers_in ws
-numbers_append [] ws = refl
-numbers_append (v ∷ vs) ws = ap (λ rest. numbers_in v ++ rest) (numbers_append vs ws) ∙ sym (append_assoc (numbers_in v) (flat_map numbers_in vs) (flat_map numbers_in ws))
-
-first_part : (P : ℕ → Type 0) (xs ys : List ℕ) → All P (xs ++ ys) → All P xs
-first_part P [] ys all = All-nil P
-first_part P (x ∷ xs) ys all = All-cons P x xs (All-head P x (xs ++ ys) all) (first_part P xs ys (All-tail P x (xs ++ ys) all))
-
-last_part : (P : ℕ → Type 0) (xs ys : List ℕ) → All P (xs ++ ys) → All P ys
-last_part P [] ys all = all
-last_part P (x ∷ xs) ys all = last_part P xs ys (All-tail P x (xs ++ ys) all)
-
 -- the numbers of one view stand among those of all
 numbers_of_one : (P : ℕ → Type 0) (vs : List ClockView) (i : ℕ) (v : ClockView) → get_elem? vs i ≡ some v → All P (flat_map numbers_in vs) → All P (numbers_in v)
 numbers_of_one P [] i v at all = absurd (some-ne-none v (sym at))
-numbers_of_one P (x ∷ xs) zero v at all = subst (λ u. All P (numbers_in u)) (some-injective x v at) (first_part P (numbers_in x) (flat_map numbers_in xs) all)
-numbers_of_one P (x ∷ xs) (suc i) v at all = numbers_of_one P xs i v at (last_part P (numbers_in x) (flat_map numbers_in xs) all)
+numbers_of_one P (x ∷ xs) zero v at all = subst (λ u. All P (numbers_in u)) (some-injective x v at) (all_of_first P (numbers_in x) (flat_map numbers_in xs) all)
+numbers_of_one P (x ∷ xs) (suc i) v at all = numbers_of_one P xs i v at (all_of_second P (numbers_in x) (flat_map numbers_in xs) all)
 
 -- where one view draws a number, all views together have it beside what they had
 numbers_with_drawn : (vs : List ClockView) (i n : ℕ) (drawn : List ℕ) → get_elem? vs i ≡ some (Drew drawn)
@@ -115,29 +100,15 @@ one_number_more n f m same next =
     (IsPermutation-sym (numbers_below n ++ f ∷ []) (f ∷ numbers_below n) (IsPermutation-to_front (numbers_below n) f))
 
 all_below : (n : ℕ) → All (λ m. m < n) (numbers_below n)
-all_below n = All-from_get_or (λ m. m < n) (numbers_below n) 0 (λ i within.
-    let count : length (numbers_below n) ≡ n = length-range_with_len 0 n in
-    let less : i < n = omega arith in
-    let read : get_or (numbers_below n) i 0 ≡ 0 + i = get_or-range_with_len 0 n i 0 less in
-    omega arith)
+all_below n = all_in_row (λ m. m < n) 0 n (λ i less. omega arith)
 
 -- a list with a number that is no event's at its end
 past_at_last : (drawn : List ℕ) (n : ℕ) → most_events ≤ n → list_any is_past (drawn ++ n ∷ []) ≡ true
-past_at_last drawn n up = list_any-append is_past drawn (n ∷ []) ∙ (ap (λ b. list_any is_past drawn || (b || false)) (by_test (nat_lt n most_events) refl) ∙ or-true (list_any is_past drawn)) where
-  by_test : (b : Bool) → nat_lt n most_events ≡ b → not b ≡ true
-  by_test true is = let less : n < most_events = ltb-true n most_events is in absurd (omega arith)
-  by_test false is = refl
+past_at_last drawn n up = list_any-append is_past drawn (n ∷ []) ∙ (ap (λ b. list_any is_past drawn || (b || false)) (ap not (le-ltb n most_events up)) ∙ or-true (list_any is_past drawn))
 
 -- a list without such a number
 none_past : (drawn : List ℕ) → All (λ n. n < most_events) drawn → list_any is_past drawn ≡ false
-none_past [] below = refl
-none_past (n ∷ ns) below =
-    list_any-append is_past (n ∷ []) ns
-    ∙ (ap (λ b. (b || false) || list_any is_past ns) (by_test (nat_lt n most_events) refl)
-    ∙ none_past ns (All-tail (λ n. n < most_events) n ns below)) where
-      by_test : (b : Bool) → nat_lt n most_events ≡ b → not b ≡ false
-      by_test true is = refl
-      by_test false is = let up : most_events ≤ n = ltb-false n most_events is in let less : n < most_events = All-head (λ n. n < most_events) n ns below in absurd (omega arith)
+none_past drawn below = list_any_none is_past drawn (All-weaker (λ n. n < most_events) (λ n. is_past n ≡ false) (λ n less. ap not (lt-ltb n most_events less)) drawn below)
 
 -- ---- the rule
 
@@ -250,7 +221,7 @@ draw_keeps s r id f drawn found below at t words views =
           (let same : how_many is_spent others ≡ r.joined = omega arith in same) dense bounded,
       subst (λ m. All (λ n. n < m) drawn) (sym found)
           (numbers_of_one (λ n. n < r.word) r.others i (Drew drawn) here
-          (last_part (λ n. n < r.word) G F (All-permutation (λ n. n < r.word) (numbers_below r.word) (G ++ F) (IsPermutation-sym (G ++ F) (numbers_below r.word) (dense_parts s r)) (all_below r.word)))),
+          (all_of_second (λ n. n < r.word) G F (All-permutation (λ n. n < r.word) (numbers_below r.word) (G ++ F) (IsPermutation-sym (G ++ F) (numbers_below r.word) (dense_parts s r)) (all_below r.word)))),
     ) where
       by_test : (b : Bool) → nat_lt f most_events ≡ b → (others : List ClockView)
           → how_many is_over others + one_if (is_over (Drew drawn)) ≡ how_many is_over r.others + one_if (is_over (Drew (drawn ++ f ∷ [])))
@@ -288,7 +259,7 @@ splits id k less s r at =
     let spent = how_many_more is_spent r.others nothing_drawn in
     let were = r.spent in
     let up = r.bounded in
-    let same : flat_map numbers_in others ≡ flat_map numbers_in r.others = numbers_append r.others (nothing_drawn ∷ []) ∙ append-nil (flat_map numbers_in r.others) in
+    let same : flat_map numbers_in others ≡ flat_map numbers_in r.others = flat_map-append numbers_in r.others (nothing_drawn ∷ []) ∙ append-nil (flat_map numbers_in r.others) in
     clock_of t r.word (k + 1) 0 [] others r.words placed (All-push IsOfPen r.others nothing_drawn r.of_pens tt) (omega arith) (omega arith) (omega arith)
     (subst (λ ns. IsPermutation ns (numbers_below r.word)) (sym same)
     (subst (λ g. IsPermutation (g ++ flat_map numbers_in r.others) (numbers_below r.word)) gained (dense_parts s r)))

@@ -1,15 +1,15 @@
 -- Lists whose entries have together the numbers below how many they are: what of them is left while they are merged.
-use Rattle.std.proofs.Common.{ℕ, zero, suc, ◌≡◌, ◌≢◌, ◌⊎◌, inl, inr, ⊎_elim, ◌+◌, ◌-◌, ◌<◌, ◌≤◌, List, [], ◌∷◌, ◌++◌, length, refl, sym, ap, subst, ◌∙◌, arith, Some, None, slice_get, All, Bool, true, false, get_or}
-use Rattle.std.specs.Prelude.{◌||◌, cond, nat_lt, not}
+use Rattle.std.proofs.Common.{ℕ, zero, suc, ◌≡◌, ◌≢◌, ◌⊎◌, inl, inr, ⊎_elim, ◌+◌, ◌-◌, ◌<◌, ◌≤◌, List, [], ◌∷◌, ◌++◌, length, refl, sym, ap, ◌∙◌, arith, Some, slice_get, All, Bool, true, false, get_or}
+use Rattle.std.specs.Prelude.{cond, nat_lt, not}
 use Rattle.std.specs.List.{filter, list_any, range_with_len, sum_by}
 use Rattle.std.specs.List.Sorted.{IsPermutation}
 use Rattle.std.proofs.lemmas.Bool.{ltb-false, ltb-true}
-use Rattle.std.proofs.lemmas.List.{append-nil}
-use Rattle.std.proofs.lemmas.List.Elements.{All-from_get_or, filter-append}
-use Rattle.std.proofs.lemmas.List.FromFn.{get_or-range_with_len, length-range_with_len}
-use Rattle.std.proofs.lemmas.List.Sums.{sum_by-cons, sum_by-append, sum_by_push}
+use Rattle.std.proofs.lemmas.List.{append-nil, nil_from_length}
+use Rattle.std.proofs.lemmas.List.Elements.{filter-append}
+use Rattle.std.proofs.lemmas.List.FromFn.{length-range_with_len}
+use Rattle.std.proofs.lemmas.List.Sums.{sum_by-cons, sum_by-append, sum_by_push, get_or-le-sum_by}
 use Rattle.std.proofs.lemmas.List.Sorted.{IsPermutation-map, sum_by-IsPermutation}
-use Rattle.std.proofs.lemmas.Option.{get_or_from_slice_get, slice_get-get_or, slice_get_within}
+use Rattle.std.proofs.lemmas.Option.{get_or_from_slice_get, slice_get_within}
 use Rattle.history.specs.declared.event.Event.{Event}
 use Rattle.history.specs.Refusal.{most_events}
 use Rattle.recorder.specs.Clock.{is_past, numbers_below, one_if}
@@ -18,8 +18,11 @@ use Rattle.recorder.specs.Recordings.{entries_of}
 use Rattle.recorder.specs.aids.Drawing.{numbers_of_events}
 use Rattle.recorder.specs.aids.Merging.{AreDense, next_number}
 use Rattle.recorder.specs.aids.Notes.{numbers_of}
-use Rattle.recorder.proofs.CountLemmas.{below_there, has_one, is_the_one, none_past, once_at_most, one_for, one_for_itself, range_more, range_split, sum_map, sum_of_one, sum_ones}
+use Rattle.recorder.proofs.CountLemmas.{below_there, has_one, is_the_one, once_at_most, one_for, one_for_itself, range_more, range_split, sum_map, sum_of_one, sum_ones, none_elsewhere, all_in_row}
 use Rattle.recorder.proofs.DrawLemmas.{kept_under, none_under}
+use Rattle.std.proofs.lemmas.List.Folds.{Any-from_list_any}
+use Rattle.version_pair.proofs.ListLemmas.{none_is_not_some, same_some}
+use Rattle.recorder.proofs.ListLemmas.{all_at}
 
 -- ---- entries and their lists
 
@@ -38,7 +41,7 @@ at_append (z ∷ zs) ys zero x at = inl at
 at_append (z ∷ zs) ys (suc k) x at = at_append zs ys k x at
 
 pub stands_in : (lists : List (List (ℕ × Event))) (k : ℕ) (x : ℕ × Event) → slice_get (entries_of lists) k ≡ Some x → StandsIn lists x
-stands_in [] k x at = let impossible : None ≡ Some x = at in absurd (cc)
+stands_in [] k x at = absurd (none_is_not_some x at)
 stands_in (l ∷ ls) k x at =
     ⊎_elim
     (λ here. record { which = 0; list = l; of_which = refl; place = k; here = here })
@@ -50,10 +53,9 @@ stands_in (l ∷ ls) k x at =
 -- what is added up over one list is no more than over all
 pub sum_of_list : (f : ℕ × Event → ℕ) (lists : List (List (ℕ × Event))) (p : ℕ) (list : List (ℕ × Event)) → slice_get lists p ≡ Some list
     → sum_by f list ≤ sum_by f (entries_of lists)
-sum_of_list f [] p list at = let impossible : None ≡ Some list = at in absurd (cc)
+sum_of_list f [] p list at = absurd (none_is_not_some list at)
 sum_of_list f (l ∷ ls) zero list at =
-    let same : l ≡ list = (let both : Some l ≡ Some list = at in cc) in
-    let value : sum_by f l ≡ sum_by f list = ap (sum_by f) same in
+    let value : sum_by f l ≡ sum_by f list = ap (sum_by f) (same_some l list at) in
     let whole = sum_by-append f l (entries_of ls) in omega arith
 sum_of_list f (l ∷ ls) (suc p) list at = let rest = sum_of_list f ls p list at in let whole = sum_by-append f l (entries_of ls) in omega arith
 
@@ -61,9 +63,8 @@ sum_of_list f (l ∷ ls) (suc p) list at = let rest = sum_of_list f ls p list at
 first_less : (x : ℕ × Event) (xs : List (ℕ × Event)) (k : ℕ) (y : ℕ × Event) → IsRising (x ∷ xs) → slice_get xs k ≡ Some y → x.0 < y.0
 first_less x xs k y rising at =
     let within : k < length xs = slice_get_within xs k y at in
-    let read : get_or xs k y ≡ y = (let both : Some (get_or xs k y) ≡ Some y = sym (slice_get-get_or xs k y within) ∙ at in cc) in
     let less : x.0 < (get_or xs k y).0 = rising 0 (suc k) y (omega arith) (omega arith) in
-    let same : (get_or xs k y).0 ≡ y.0 = ap (λ (z : ℕ × Event). z.0) read in omega arith
+    let same : (get_or xs k y).0 ≡ y.0 = ap (λ (z : ℕ × Event). z.0) (get_or_from_slice_get xs k y y at) in omega arith
 
 -- ---- what is left
 
@@ -113,7 +114,7 @@ not_below lists n total p list x left which first less =
 pub next_there : (lists : List (List (ℕ × Event))) (n total : ℕ) → All IsRising lists → AreLeft lists n total → n < total → All (λ list. next_number list ≢ Some n) lists → ⊥
 next_there lists n total rising left less none =
     let all = left (one_for n) in
-    let before = none_past n 0 n (omega arith) in
+    let before = none_elsewhere n 0 n (λ i within same. omega arith) in
     let there = below_there n total less in
     let here = sum_map (one_for n) (λ (entry : ℕ × Event). entry.0) (entries_of lists) in
     let some : 0 < sum_by (λ (entry : ℕ × Event). one_for n entry.0) (entries_of lists) = omega arith in
@@ -121,21 +122,15 @@ next_there lists n total rising left less none =
     let stands = stands_in lists found.0 found.1 found.2 in
     by_place stands.list stands.place stands.which found.1 (is_the_one n (found.1).0 found.3) stands.of_which stands.here where
       rises : (p : ℕ) (list : List (ℕ × Event)) → slice_get lists p ≡ Some list → IsRising list
-      rises p list which =
-          let within : p < length lists = slice_get_within lists p list which in
-          let read : get_or lists p list ≡ list = (let both : Some (get_or lists p list) ≡ Some list = sym (slice_get-get_or lists p list within) ∙ which in cc) in
-          subst IsRising read (rising p list within)
+      rises p list which = all_at IsRising lists p list rising which
 
       not_next : (p : ℕ) (list : List (ℕ × Event)) → slice_get lists p ≡ Some list → next_number list ≢ Some n
-      not_next p list which =
-          let within : p < length lists = slice_get_within lists p list which in
-          let read : get_or lists p list ≡ list = (let both : Some (get_or lists p list) ≡ Some list = sym (slice_get-get_or lists p list within) ∙ which in cc) in
-          subst (λ l. next_number l ≢ Some n) read (none p list within)
+      not_next p list which = all_at (λ l. next_number l ≢ Some n) lists p list none which
 
       by_place : (list : List (ℕ × Event)) (k p : ℕ) (x : ℕ × Event) → x.0 ≡ n → slice_get lists p ≡ Some list → slice_get list k ≡ Some x → ⊥
-      by_place [] k p x same which at = let impossible : None ≡ Some x = at in absurd (cc)
+      by_place [] k p x same which at = absurd (none_is_not_some x at)
       by_place (y ∷ ys) zero p x same which at =
-          let first : y ≡ x = (let both : Some y ≡ Some x = at in cc) in
+          let first : y ≡ x = same_some y x at in
           absurd (not_next p (y ∷ ys) which (ap (λ (z : ℕ × Event). Some z.0) first ∙ ap (λ (m : ℕ). Some m) same))
       by_place (y ∷ ys) (suc k) p x same which at =
           let low : y.0 < x.0 = first_less y ys k x (rises p (y ∷ ys) which) at in
@@ -144,18 +139,10 @@ next_there lists n total rising left less none =
 -- ---- the lists of pens whose seats drew the numbers below the word
 
 range_below : (most a n : ℕ) → a + n ≤ most → All (λ m. m < most) (range_with_len a n)
-range_below most a n up = All-from_get_or (λ m. m < most) (range_with_len a n) 0 (λ i within.
-    let count : length (range_with_len a n) ≡ n = length-range_with_len a n in
-    let less : i < n = omega arith in
-    let read : get_or (range_with_len a n) i 0 ≡ a + i = get_or-range_with_len a n i 0 less in
-    omega arith)
+range_below most a n up = all_in_row (λ m. m < most) a n (λ i less. omega arith)
 
 range_from : (most a n : ℕ) → most ≤ a → All (λ m. most ≤ m) (range_with_len a n)
-range_from most a n up = All-from_get_or (λ m. most ≤ m) (range_with_len a n) 0 (λ i within.
-    let count : length (range_with_len a n) ≡ n = length-range_with_len a n in
-    let less : i < n = omega arith in
-    let read : get_or (range_with_len a n) i 0 ≡ a + i = get_or-range_with_len a n i 0 less in
-    omega arith)
+range_from most a n up = all_in_row (λ m. most ≤ m) a n (λ i less. omega arith)
 
 -- the numbers below the word that are below a bound: those below the word, or those below the bound
 cut_at : (most word : ℕ) → (n : ℕ) × (n ≤ most) × (filter (λ n. nat_lt n most) (numbers_below word) ≡ numbers_below n) × (most < word → n ≡ most)
@@ -223,12 +210,10 @@ dense_after lists gained word all same =
 
 -- a number that is no event's counts as one
 past_counted : (ns : List ℕ) → list_any is_past ns ≡ true → 0 < sum_by (λ n. one_if (is_past n)) ns
-past_counted [] some = let impossible : false ≡ true = some in absurd (cc)
-past_counted (n ∷ ns) some = by_test (is_past n) refl (sum_by-cons (λ n. one_if (is_past n)) n ns) (past_counted ns) some where
-  by_test : (b : Bool) → is_past n ≡ b → sum_by (λ n. one_if (is_past n)) (n ∷ ns) ≡ one_if (is_past n) + sum_by (λ n. one_if (is_past n)) ns
-      → (list_any is_past ns ≡ true → 0 < sum_by (λ n. one_if (is_past n)) ns) → (b || list_any is_past ns) ≡ true → 0 < sum_by (λ n. one_if (is_past n)) (n ∷ ns)
-  by_test true is cons later some = let one : one_if (is_past n) ≡ 1 = ap one_if is in omega arith
-  by_test false is cons later some = let rest = later some in omega arith
+past_counted ns some =
+    let found = Any-from_list_any is_past ns some in
+    let one : one_if (is_past (get_or ns found.0 found.1)) ≡ 1 = ap (λ n. one_if (is_past n)) found.3 ∙ ap one_if found.4 in
+    omega (arith, one, get_or-le-sum_by (λ n. one_if (is_past n)) ns found.0 found.1 found.2)
 
 -- where a number was gained that is no event's, the entries are the most that there may be
 pub full_after : (lists : List (List (ℕ × Event))) (gained : List ℕ) (word : ℕ) → IsPermutation gained (numbers_below word) → numbers_of_events gained ≡ numbers_of (entries_of lists)
@@ -246,23 +231,14 @@ full_after lists gained word all same past =
       by_test true is some = absurd (omega arith)
       by_test {n} false is some = ltb-false n most_events is
 
--- where no list has the next number first, nothing is left
-pub none_left : (lists : List (List (ℕ × Event))) (n total : ℕ) → All IsRising lists → AreLeft lists n total → All (λ list. next_number list ≢ Some n) lists → entries_of lists ≡ []
-none_left lists n total rising left none = by_test (nat_lt n total) refl where
-  empty : (entries : List (ℕ × Event)) → length entries ≤ 0 → entries ≡ []
-  empty [] size = refl
-  empty (x ∷ xs) size = absurd (omega arith)
-
-  by_test : (b : Bool) → nat_lt n total ≡ b → entries_of lists ≡ []
-  by_test true is = absurd (next_there lists n total rising left (ltb-true n total is) none)
-  by_test false is =
-      let up : total ≤ n = ltb-false n total is in
-      let count = how_many_left lists n total left in
-      empty (entries_of lists) (omega arith)
-
 -- where the most events were met, nothing is left
 pub none_past_most : (lists : List (List (ℕ × Event))) (n total : ℕ) → AreLeft lists n total → total ≤ n → entries_of lists ≡ []
-none_past_most lists n total left up = let count = how_many_left lists n total left in empty (entries_of lists) (omega arith) where
-  empty : (entries : List (ℕ × Event)) → length entries ≤ 0 → entries ≡ []
-  empty [] size = refl
-  empty (x ∷ xs) size = absurd (omega arith)
+none_past_most lists n total left up =
+    nil_from_length (entries_of lists) (let count = how_many_left lists n total left in let none : length (entries_of lists) ≡ 0 = omega arith in none)
+
+-- nor where no list has the next number first
+pub none_left : (lists : List (List (ℕ × Event))) (n total : ℕ) → All IsRising lists → AreLeft lists n total → All (λ list. next_number list ≢ Some n) lists → entries_of lists ≡ []
+none_left lists n total rising left none = by_test (nat_lt n total) refl where
+  by_test : (b : Bool) → nat_lt n total ≡ b → entries_of lists ≡ []
+  by_test true is = absurd (next_there lists n total rising left (ltb-true n total is) none)
+  by_test false is = none_past_most lists n total left (ltb-false n total is)

@@ -1,8 +1,8 @@
 -- What the seat of a pen drew, after a recording and at the end.
-use Rattle.std.proofs.Common.{ℕ, ◌≡◌, ◌≢◌, ◌<◌, ◌≤◌, List, [], ◌∷◌, ◌++◌, refl, sym, ap, subst, ◌∙◌, arith, None, Result, Ok, Err, Bool, true, false, All, IfOk, OnErr}
+use Rattle.std.proofs.Common.{ℕ, ◌≡◌, ◌≢◌, ◌<◌, ◌≤◌, List, [], ◌∷◌, ◌++◌, refl, sym, ap, subst, ◌∙◌, None, Result, Ok, Err, Bool, true, false, All, IfOk, OnErr}
 use Rattle.std.specs.Prelude.{cond, ◌||◌, if◌then◌else◌, nat_lt}
 use Rattle.std.specs.List.{filter, list_any}
-use Rattle.std.proofs.lemmas.Bool.{ltb-false, ltb-true}
+use Rattle.std.proofs.lemmas.Bool.{ltb-true, le-ltb, lt-ltb, both_ways}
 use Rattle.std.proofs.lemmas.List.{append-nil}
 use Rattle.std.proofs.lemmas.List.Elements.{All-cons, All-head, All-nil, All-tail, filter-append}
 use Rattle.std.proofs.lemmas.List.Folds.{list_any-append}
@@ -22,21 +22,15 @@ use Rattle.version_pair.proofs.TruthLemmas.{or-true}
 
 pub kept_under : (most : ℕ) (ns : List ℕ) → All (λ n. n < most) ns → filter (λ n. nat_lt n most) ns ≡ ns
 kept_under most [] below = refl
-kept_under most (n ∷ ns) below = by_test (nat_lt n most) refl (kept_under most ns (All-tail (λ n. n < most) n ns below)) where
-  by_test : (b : Bool) → nat_lt n most ≡ b → filter (λ n. nat_lt n most) ns ≡ ns → cond b (n ∷ filter (λ n. nat_lt n most) ns) (filter (λ n. nat_lt n most) ns) ≡ n ∷ ns
-  by_test true is later = ap (λ rest. n ∷ rest) later
-  by_test false is later = let up : most ≤ n = ltb-false n most is in let less : n < most = All-head (λ n. n < most) n ns below in absurd (omega arith)
+kept_under most (n ∷ ns) below =
+    ap (λ b. cond b (n ∷ filter (λ m. nat_lt m most) ns) (filter (λ m. nat_lt m most) ns)) (lt-ltb n most (All-head (λ m. m < most) n ns below))
+    ∙ ap (λ rest. n ∷ rest) (kept_under most ns (All-tail (λ m. m < most) n ns below))
 
 pub none_under : (most : ℕ) (ns : List ℕ) → All (λ n. most ≤ n) ns → filter (λ n. nat_lt n most) ns ≡ []
 none_under most [] up = refl
-none_under most (n ∷ ns) up = by_test (nat_lt n most) refl (none_under most ns (All-tail (λ n. most ≤ n) n ns up)) where
-  by_test : (b : Bool) → nat_lt n most ≡ b → filter (λ n. nat_lt n most) ns ≡ [] → cond b (n ∷ filter (λ n. nat_lt n most) ns) (filter (λ n. nat_lt n most) ns) ≡ []
-  by_test true is later = let less : n < most = ltb-true n most is in let no : most ≤ n = All-head (λ n. most ≤ n) n ns up in absurd (omega arith)
-  by_test false is later = later
-
-numbers_push : (list : List (ℕ × Event)) (x : ℕ × Event) → numbers_of (list ++ x ∷ []) ≡ numbers_of list ++ x.0 ∷ []
-numbers_push [] x = refl
-numbers_push (y ∷ ys) x = ap (λ rest. y.0 ∷ rest) (numbers_push ys x)
+none_under most (n ∷ ns) up =
+    ap (λ b. cond b (n ∷ filter (λ m. nat_lt m most) ns) (filter (λ m. nat_lt m most) ns)) (le-ltb n most (All-head (λ m. most ≤ m) n ns up))
+    ∙ none_under most ns (All-tail (λ m. most ≤ m) n ns up)
 
 -- ---- the seat
 
@@ -96,7 +90,7 @@ clock_recorded old new event seat n answer is drew open_ above ok err full unuse
   below = subst (λ a. IfOk a (λ n. n < most_events)) (sym is) (below_most (nat_lt n most_events) refl);
   unused = unused;
   by_list = ap told_by_list is ∙ no_reason (nat_lt n most_events);
-  full = λ _ was. absurd (let impossible : true ≡ false = sym was ∙ open_ in cc);
+  full = λ _ was. absurd (both_ways old.is_full open_ was);
   full_from_then = full;
   rewound = λ m told. absurd (never_rewound n answer is m told);
 } where

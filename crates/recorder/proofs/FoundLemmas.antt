@@ -11,8 +11,9 @@ use Rattle.recorder.specs.Recordings.{IsRecordingOf, entries_of}
 use Rattle.recorder.specs.Clock.{numbers_below}
 use Rattle.recorder.specs.aids.Notes.{numbers_of}
 use Rattle.recorder.proofs.CountLemmas.{sum_ones}
-use Rattle.recorder.proofs.DenseLemmas.{AreLeft, how_many_left, sum_of_list}
+use Rattle.recorder.proofs.DenseLemmas.{AreLeft, sum_of_list}
 use Rattle.recorder.proofs.RecordingLaws.{by_number}
+use Rattle.version_pair.proofs.ListLemmas.{same_some}
 
 -- the numbers of listed events are those from the first on
 pub numbered_from : (n : ℕ) (events : List Event) → numbers_of (enumerate_from n events) ≡ range_with_len n (length events)
@@ -28,12 +29,6 @@ left_of_recording lists events recording f =
     let all : sum_by f (numbers_of (enumerate_from 0 events)) ≡ sum_by f (numbers_below (length events)) = ap (sum_by f) (numbered_from 0 events) in
     let nothing : sum_by f (numbers_below 0) ≡ 0 = refl in omega arith
 
--- where all numbers were met, no entry is left
-pub none_left_past : (lists : List (List (ℕ × Event))) (total : ℕ) → AreLeft lists total total → entries_of lists ≡ []
-none_left_past lists total left =
-    let count = how_many_left lists total total left in
-    nil_from_length (entries_of lists) (let none : length (entries_of lists) ≡ 0 = omega arith in none)
-
 -- an entry that is left when those before were met has the event at its number
 pub own_event : (lists : List (List (ℕ × Event))) (met left rest : List (ℕ × Event)) (events : List Event) (i : ℕ) (own event : Event) → IsRecordingOf lists events
     → IsPermutation (entries_of lists) (met ++ left) → IsPermutation left ((i, own) ∷ rest) → slice_get events i ≡ Some event → own ≡ event
@@ -42,7 +37,7 @@ own_event lists met left rest events i own event recording all taken at =
     let of_left : Contains left (i, own) = Contains-permutation ((i, own) ∷ rest) left (i, own) (IsPermutation-sym left ((i, own) ∷ rest) taken) here in
     let of_all : Contains (entries_of lists) (i, own) = Contains-permutation (met ++ left) (entries_of lists) (i, own) (IsPermutation-sym (entries_of lists) (met ++ left) all)
     (Contains-append_right met left (i, own) of_left) in
-    let both : Some own ≡ Some event = sym ((by_number lists events recording).placed i own of_all) ∙ at in cc
+    same_some own event (sym ((by_number lists events recording).placed i own of_all) ∙ at)
 
 -- where the lists have no entry, none of them has one
 pub none_in_each : (lists : List (List (ℕ × Event))) (p : ℕ) (list : List (ℕ × Event)) → slice_get lists p ≡ Some list → entries_of lists ≡ [] → list ≡ []

@@ -2,7 +2,7 @@
 use Rattle.std.proofs.Common.{ℕ, ◌≡◌, ◌+◌, List, [], ◌∷◌, ◌++◌, length, refl, sym, ap, ◌∙◌, length-append, Bool, true, false}
 use Rattle.std.specs.Prelude.{◌||◌, nat_lt}
 use Rattle.std.specs.List.{list_any}
-use Rattle.std.proofs.lemmas.List.{append-nil}
+use Rattle.std.proofs.lemmas.List.{append-nil, map-append, map_push}
 use Rattle.std.proofs.lemmas.List.Elements.{filter-append}
 use Rattle.std.proofs.lemmas.List.Folds.{list_any-append}
 use Rattle.atomic_table.specs.Table.{Me}
@@ -16,22 +16,16 @@ use Rattle.recorder.specs.Recordings.{entries_of, lists_of}
 use Rattle.recorder.specs.aids.Drawing.{numbers_of_events}
 use Rattle.recorder.specs.aids.Notes.{numbers_of}
 use Rattle.version_pair.proofs.TruthLemmas.{or-true}
+use Rattle.std.proofs.lemmas.List.Concat.{flat_map-append}
+use Rattle.std.proofs.Math.Bool.{or-false}
+use Rattle.recorder.specs.Pens.{PenState}
 
 pub lists_push : (pens : List ClockPenState) (pen : ClockPenState) → lists_of (pens_of (pens ++ pen ∷ [])) ≡ lists_of (pens_of pens) ++ pen.pen.list ∷ []
 lists_push [] pen = refl
 lists_push (p ∷ ps) pen = ap (λ rest. p.pen.list ∷ rest) (lists_push ps pen)
 
-append_assoc : (xs ys zs : List (ℕ × Event)) → (xs ++ ys) ++ zs ≡ xs ++ (ys ++ zs)
-append_assoc [] ys zs = refl
-append_assoc (x ∷ xs) ys zs = ap (λ rest. x ∷ rest) (append_assoc xs ys zs)
-
 entries_push : (lists : List (List (ℕ × Event))) (list : List (ℕ × Event)) → entries_of (lists ++ list ∷ []) ≡ entries_of lists ++ list
-entries_push [] list = append-nil list
-entries_push (l ∷ ls) list = ap (λ rest. l ++ rest) (entries_push ls list) ∙ sym (append_assoc l (entries_of ls) list)
-
-numbers_append : (xs ys : List (ℕ × Event)) → numbers_of (xs ++ ys) ≡ numbers_of xs ++ numbers_of ys
-numbers_append [] ys = refl
-numbers_append (x ∷ xs) ys = ap (λ rest. x.0 ∷ rest) (numbers_append xs ys)
+entries_push lists list = flat_map-append (λ l. l) lists (list ∷ []) ∙ ap (λ rest. entries_of lists ++ rest) (append-nil list)
 
 -- the numbers of events that the maker has gained are those of the entries
 pub gained_more : (lists : List (List (ℕ × Event))) (list : List (ℕ × Event)) (gained drawn : List ℕ)
@@ -41,17 +35,12 @@ gained_more lists list gained drawn had has =
     filter-append (λ n. nat_lt n most_events) gained drawn
     ∙ (ap (λ ns. ns ++ numbers_of_events drawn) had
     ∙ (ap (λ ns. numbers_of (entries_of lists) ++ ns) has
-    ∙ (sym (numbers_append (entries_of lists) list) ∙ ap numbers_of (sym (entries_push lists list)))))
+    ∙ (sym (map-append (λ (entry : ℕ × Event). entry.0) (entries_of lists) list) ∙ ap numbers_of (sym (entries_push lists list)))))
 
 full_push : (pens : List ClockPenState) (pen : ClockPenState) → has_full (pens_of (pens ++ pen ∷ [])) ≡ (has_full (pens_of pens) || pen.pen.is_full)
-full_push [] pen = or_false pen.pen.is_full where
-  or_false : (b : Bool) → (b || false) ≡ b
-  or_false true = refl
-  or_false false = refl
-full_push (p ∷ ps) pen = ap (λ b. p.pen.is_full || b) (full_push ps pen) ∙ or_assoc p.pen.is_full (has_full (pens_of ps)) pen.pen.is_full where
-  or_assoc : (a b c : Bool) → (a || (b || c)) ≡ ((a || b) || c)
-  or_assoc true b c = refl
-  or_assoc false b c = refl
+full_push pens pen =
+    ap has_full (map_push (λ (p : ClockPenState). p.pen) pens pen)
+    ∙ (list_any-append (λ (p : PenState). p.is_full) (pens_of pens) (pen.pen ∷ []) ∙ ap (λ b. has_full (pens_of pens) || b) (or-false pen.pen.is_full))
 
 -- where a pen was answered that the recording is full, a number that is no event's was gained
 pub past_gained : (pens : List ClockPenState) (pen : ClockPenState) (gained drawn : List ℕ)

@@ -12,3 +12,4 @@ mod GatherLemmas
 mod RefusalLemmas
 pub mod PenLemmas
 pub mod SharedLemmas
+pub mod ListLemmas

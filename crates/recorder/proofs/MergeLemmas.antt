@@ -1,24 +1,27 @@
 -- Merging strands: the entries that were met are, in some order, the events with their places.
-use Rattle.std.proofs.Common.{ℕ, zero, suc, ◌≡◌, ◌+◌, List, [], ◌∷◌, ◌++◌, length, refl, sym, ap, subst, ◌∙◌, arith, add-zero, Some, None, slice_get, All, take, add-one, length-take, ◌<◌, Bool, true, false, get_or, ◌≤◌}
-use Rattle.std.specs.Prelude.{nat_lt, slice_set}
+use Rattle.std.proofs.Common.{ℕ, zero, suc, ◌≡◌, ◌+◌, List, [], ◌∷◌, ◌++◌, length, refl, sym, ap, subst, ◌∙◌, arith, add-zero, Some, slice_get, All, take, length-take, ◌<◌, get_or}
+use Rattle.std.specs.Prelude.{slice_set}
 use Rattle.std.specs.List.{enumerate_from}
 use Rattle.std.specs.List.Sorted.{IsPermutation}
 use Rattle.std.proofs.lemmas.List.{append-nil}
 use Rattle.std.proofs.lemmas.List.Elements.{All-head, All-set, All-tail}
-use Rattle.std.proofs.lemmas.Bool.{ltb-false, ltb-true}
-use Rattle.std.proofs.lemmas.Option.{slice_get-get_or, slice_get_within}
+use Rattle.std.proofs.lemmas.Option.{slice_get_within, get_or_from_slice_get}
 use Rattle.std.proofs.lemmas.List.Sorted.{IsPermutation-append_right, IsPermutation-middle, IsPermutation-pop_more, IsPermutation-refl, IsPermutation-trans}
 use Rattle.history.specs.declared.event.Event.{Event}
 use Rattle.history.specs.Events.{HasShard}
 use Rattle.recorder.specs.Pens.{IsRising}
 use Rattle.recorder.specs.Recordings.{IsRecordingOf, entries_of}
+use Rattle.version_pair.proofs.ListLemmas.{none_is_not_some, same_some}
+use borrow.Author.Count.{below_more}
+use Rattle.history.proofs.PlaceLemmas.{take_next}
+use Rattle.recorder.proofs.ListLemmas.{all_at}
 
 -- one strand's first entry is taken out of all
 pub entries_taken : (lists : List (List (ℕ × Event))) (i : ℕ) (x : ℕ × Event) (rest : List (ℕ × Event)) → slice_get lists i ≡ Some (x ∷ rest)
     → IsPermutation (entries_of lists) (x ∷ entries_of (slice_set lists i rest))
-entries_taken [] i x rest at = let impossible : None ≡ Some (x ∷ rest) = at in absurd (cc)
+entries_taken [] i x rest at = absurd (none_is_not_some (x ∷ rest) at)
 entries_taken (l ∷ ls) zero x rest at =
-    let first : l ≡ x ∷ rest = (let same : Some l ≡ Some (x ∷ rest) = at in cc) in
+    let first : l ≡ x ∷ rest = same_some l (x ∷ rest) at in
     let P : List (ℕ × Event) → Type 0 = λ m. IsPermutation (m ++ entries_of ls) (x ∷ (rest ++ entries_of ls)) in
     subst P (sym first) (IsPermutation-refl (x ∷ (rest ++ entries_of ls)))
 entries_taken (l ∷ ls) (suc i) x rest at =
@@ -33,9 +36,7 @@ rising_tail x xs rising = λ i j d less within. rising (suc i) (suc j) d (omega 
 pub rising_after_taken : (lists : List (List (ℕ × Event))) (i : ℕ) (x : ℕ × Event) (rest : List (ℕ × Event)) → slice_get lists i ≡ Some (x ∷ rest)
     → All IsRising lists → All IsRising (slice_set lists i rest)
 rising_after_taken lists i x rest at rising =
-    let within : i < length lists = slice_get_within lists i (x ∷ rest) at in
-    let read : get_or lists i (x ∷ rest) ≡ x ∷ rest = (let both : Some (get_or lists i (x ∷ rest)) ≡ Some (x ∷ rest) = sym (slice_get-get_or lists i (x ∷ rest) within) ∙ at in cc) in
-    All-set IsRising lists i rest (rising_tail x rest (subst IsRising read (rising i (x ∷ rest) within))) rising
+    All-set IsRising lists i rest (rising_tail x rest (all_at IsRising lists i (x ∷ rest) rising at)) rising
 
 -- strands of which each is empty have no entry
 pub entries_none : (lists : List (List (ℕ × Event))) → All (λ list. list ≡ []) lists → entries_of lists ≡ []
@@ -50,11 +51,6 @@ enumerate_more n (x ∷ xs) e =
     ap (λ rest. (n, x) ∷ rest)
     (enumerate_more (n + 1) xs e ∙ ap (λ k. enumerate_from (n + 1) xs ++ (k, e) ∷ []) (omega arith))
 
-taken_more : (events : List Event) (i : ℕ) (e : Event) → slice_get events i ≡ Some e → take (suc i) events ≡ take i events ++ e ∷ []
-taken_more [] i e at = let impossible : None ≡ Some e = at in absurd (cc)
-taken_more (x ∷ xs) zero e at = let same : x ≡ e = (let both : Some x ≡ Some e = at in cc) in ap (λ y. y ∷ []) same
-taken_more (x ∷ xs) (suc i) e at = ap (λ rest. x ∷ rest) (taken_more xs i e at)
-
 -- what was met grows by one event, and what is left shrinks by its entry
 pub met_one_more : (all left rest : List (ℕ × Event)) (events : List Event) (i : ℕ) (e : Event) → slice_get events i ≡ Some e
     → IsPermutation all (enumerate_from 0 (take i events) ++ left) → IsPermutation left ((i, e) ∷ rest)
@@ -62,9 +58,8 @@ pub met_one_more : (all left rest : List (ℕ × Event)) (events : List Event) (
 met_one_more all left rest events i e at met taken =
     let within : i < length events = slice_get_within events i e at in
     let place : 0 + length (take i events) ≡ i = simp length-take (omega arith) in
-    let next : take (i + 1) events ≡ take i events ++ e ∷ [] = ap (λ n. take n events) (add-one i) ∙ taken_more events i e at in
     let grown : enumerate_from 0 (take (i + 1) events) ≡ enumerate_from 0 (take i events) ++ (i, e) ∷ [] =
-    ap (enumerate_from 0) next ∙ (enumerate_more 0 (take i events) e ∙ ap (λ k. enumerate_from 0 (take i events) ++ (k, e) ∷ []) place) in
+    ap (enumerate_from 0) (take_next events i e at) ∙ (enumerate_more 0 (take i events) e ∙ ap (λ k. enumerate_from 0 (take i events) ++ (k, e) ∷ []) place) in
     let P : List (ℕ × Event) → Type 0 = λ m. IsPermutation all (m ++ rest) in
     subst P (sym grown) (IsPermutation-pop_more all (enumerate_from 0 (take i events)) left rest (i, e) met taken)
 
@@ -78,16 +73,8 @@ all_met lists left events met none =
 -- each event up to a place names a shard, and so does the one that stands there
 pub shards_more : (events : List Event) (i : ℕ) (e : Event) → slice_get events i ≡ Some e → HasShard e
     → ((k : ℕ) (d : Event) → k < i → HasShard (get_or events k d)) → (k : ℕ) (d : Event) → k < i + 1 → HasShard (get_or events k d)
-shards_more events i e at here before k d below = by_test (nat_lt k i) refl where
-  last : k ≡ i → HasShard (get_or events k d)
-  last same =
-      let within : i < length events = slice_get_within events i e at in
-      let read : get_or events i d ≡ e = (let both : Some (get_or events i d) ≡ Some e = sym (slice_get-get_or events i d within) ∙ at in cc) in
-      subst HasShard (sym (ap (λ n. get_or events n d) same ∙ read)) here
-
-  by_test : (b : Bool) → nat_lt k i ≡ b → HasShard (get_or events k d)
-  by_test true is = before k d (ltb-true k i is)
-  by_test false is = last (let up : i ≤ k = ltb-false k i is in omega arith)
+shards_more events i e at here before k d below =
+    below_more (λ j. HasShard (get_or events j d)) i (λ j less. before j d less) (subst HasShard (sym (get_or_from_slice_get events i e d at)) here) k below
 
 -- what was merged grows by one event, and what is left shrinks by its entry
 pub merged_one_more : (all left rest : List (ℕ × Event)) (events : List Event) (i : ℕ) (e : Event) → length events ≡ i

@@ -1,5 +1,5 @@
 -- What a pen notes stays right where an entry is added.
-use Rattle.std.proofs.Common.{ℕ, zero, suc, ◌⊎◌, inl, inr, ⊎_elim, take, ◌≡◌, ◌<◌, ◌≤◌, List, [], ◌∷◌, ◌++◌, refl, sym, ap, subst, ◌∙◌, arith, Option, Some, None, slice_get, All, Bool, true, false}
+use Rattle.std.proofs.Common.{ℕ, suc, inl, inr, take, ◌≡◌, ◌<◌, ◌≤◌, List, [], ◌∷◌, ◌++◌, refl, sym, ap, subst, ◌∙◌, arith, Option, Some, None, slice_get, All, Bool, true, false, length, ne_eqb}
 use Rattle.std.specs.Prelude.{◌==◌, ◌||◌, cond, if◌then◌else◌, option_and_then, option_map}
 use Rattle.std.specs.List.{list_any}
 use Rattle.std.specs.Map.{lookup}
@@ -22,6 +22,11 @@ use Rattle.recorder.specs.declared.unnumbered.Unnumbered.TheVariants as bare
 use Rattle.recorder.specs.Pens.{IsRising, IsUnused, events_in, is_ended, refusal_of}
 use Rattle.recorder.specs.aids.Notes.{AreNoted, IsPenList, IsEntryAt, IsNotedAt, NotesEvent, numbered, own_call_of}
 use Rattle.version_pair.proofs.TruthLemmas.{or-true}
+use Rattle.version_pair.proofs.ListLemmas.{get_snoc, none_is_not_some, same_some}
+use Rattle.std.proofs.lemmas.List.{map_push, take-append-le, take_at}
+use Rattle.std.proofs.lemmas.Option.{slice_get_within}
+use Rattle.std.proofs.Math.Bool.{or-false}
+use Rattle.recorder.proofs.ListLemmas.{all_at}
 
 -- ---- the operation of a call, entry by entry
 
@@ -34,55 +39,41 @@ first_of_two (Some op) o = Some op
 abbrev pub op_if : ℕ → Event → Option Op
 op_if n e = if is_call n e then op_named e else None
 
-op_of-cons : (e : Event) (es : List Event) (n : ℕ) → op_of (e ∷ es) n ≡ first_of_two (op_if n e) (op_of es n)
-op_of-cons (Call h m d op) es n = by_number (m == n) refl where
-  later : (o : Option ℕ) → option_and_then op_named (option_and_then (slice_get (Call h m d op ∷ es)) (option_map suc o))
-      ≡ option_and_then op_named (option_and_then (slice_get es) o)
-  later None = refl
-  later (Some i) = refl
+-- behind one event more, the same operation is named
+later : (e : Event) (es : List Event) (o : Option ℕ) → option_and_then op_named (option_and_then (slice_get (e ∷ es)) (option_map suc o)) ≡ option_and_then op_named (option_and_then (slice_get es) o)
+later e es None = refl
+later e es (Some i) = refl
 
-  by_number : (b : Bool) → (m == n) ≡ b
+op_of-cons : (e : Event) (es : List Event) (n : ℕ) → op_of (e ∷ es) n ≡ first_of_two (op_if n e) (op_of es n)
+op_of-cons (Call h m d op) es n = by_number (m == n) where
+  by_number : (b : Bool)
       → option_and_then op_named (option_and_then (slice_get (Call h m d op ∷ es)) (if b then Some 0 else option_map suc (place_of (is_call n) es)))
       ≡ first_of_two (if b then Some op else None) (op_of es n)
-  by_number true is = refl
-  by_number false is = later (place_of (is_call n) es)
-op_of-cons (Reply m r) es n = later (place_of (is_call n) es) where
-  later : (o : Option ℕ) → option_and_then op_named (option_and_then (slice_get (Reply m r ∷ es)) (option_map suc o))
-      ≡ option_and_then op_named (option_and_then (slice_get es) o)
-  later None = refl
-  later (Some i) = refl
-op_of-cons (Lost m) es n = later (place_of (is_call n) es) where
-  later : (o : Option ℕ) → option_and_then op_named (option_and_then (slice_get (Lost m ∷ es)) (option_map suc o))
-      ≡ option_and_then op_named (option_and_then (slice_get es) o)
-  later None = refl
-  later (Some i) = refl
+  by_number true = refl
+  by_number false = later (Call h m d op) es (place_of (is_call n) es)
+op_of-cons (Reply m r) es n = later (Reply m r) es (place_of (is_call n) es)
+op_of-cons (Lost m) es n = later (Lost m) es (place_of (is_call n) es)
+
+no_more : (o : Option Op) → first_of_two o None ≡ o
+no_more None = refl
+no_more (Some op) = refl
 
 first_assoc : (a b c : Option Op) → first_of_two a (first_of_two b c) ≡ first_of_two (first_of_two a b) c
 first_assoc None b c = refl
 first_assoc (Some op) b c = refl
 
 pub op_of-snoc : (list : List (ℕ × Event)) (x : ℕ × Event) (n : ℕ) → op_of (events_in (list ++ x ∷ [])) n ≡ first_of_two (op_of (events_in list) n) (op_if n x.1)
-op_of-snoc [] x n = op_of-cons x.1 [] n ∙ last (op_if n x.1) where
-  last : (o : Option Op) → first_of_two o None ≡ o
-  last None = refl
-  last (Some op) = refl
+op_of-snoc [] x n = op_of-cons x.1 [] n ∙ no_more (op_if n x.1)
 op_of-snoc (e ∷ es) x n =
     op_of-cons e.1 (events_in (es ++ x ∷ [])) n
     ∙ (ap (first_of_two (op_if n e.1)) (op_of-snoc es x n)
     ∙ (first_assoc (op_if n e.1) (op_of (events_in es) n) (op_if n x.1)
     ∙ ap (λ o. first_of_two o (op_if n x.1)) (sym (op_of-cons e.1 (events_in es) n))))
 
-events_in-snoc : (list : List (ℕ × Event)) (x : ℕ × Event) → events_in (list ++ x ∷ []) ≡ events_in list ++ x.1 ∷ []
-events_in-snoc [] x = refl
-events_in-snoc (e ∷ es) x = ap (λ es. e.1 ∷ es) (events_in-snoc es x)
-
 pub is_ended-snoc : (list : List (ℕ × Event)) (x : ℕ × Event) (n : ℕ) → is_ended (list ++ x ∷ []) n ≡ (is_ended list n || is_ending n x.1)
 is_ended-snoc list x n =
-    ap (list_any (is_ending n)) (events_in-snoc list x)
-    ∙ (list_any-append (is_ending n) (events_in list) (x.1 ∷ []) ∙ ap (λ b. is_ended list n || b) (or_false (is_ending n x.1))) where
-      or_false : (b : Bool) → (b || false) ≡ b
-      or_false true = refl
-      or_false false = refl
+    ap (list_any (is_ending n)) (map_push (λ (e : ℕ × Event). e.1) list x)
+    ∙ (list_any-append (is_ending n) (events_in list) (x.1 ∷ []) ∙ ap (λ b. is_ended list n || b) (or-false (is_ending n x.1)))
 
 -- ---- a number above all in the list is in no entry
 
@@ -93,10 +84,7 @@ abbrev AreBelow : List (ℕ × Event) → ℕ → Type 0
 AreBelow list k = All (λ entry. entry.0 < k) list
 
 other : (m n k : ℕ) → m ≤ n → n < k → (m == k) ≡ false
-other m n k up below = by_test (m == k) refl where
-  by_test : (b : Bool) → (m == k) ≡ b → b ≡ false
-  by_test true is = let same : m ≡ k = eqb-true m k is in absurd (omega arith)
-  by_test false is = refl
+other m n k up below = ne_eqb m k (λ same. absurd (omega arith))
 
 no_op : (n k : ℕ) (e : Event) → IsEntryAt n e → n < k → op_if k e ≡ None
 no_op n k (Call h m d op) formed below = ap (λ b. if b then Some op else None) (other m n k (let same : m ≡ n = formed.0 in omega arith) below)
@@ -127,27 +115,47 @@ unended (e ∷ es) k formed below =
 pub unused_above : (list : List (ℕ × Event)) (k : ℕ) → IsPenList list → AreBelow list k → IsUnused k list
 unused_above list k kept below = (uncalled list k kept.formed below, unended list k kept.formed below)
 
+-- where a call is in the list, in which entry
+pub record CalledIn (list : List (ℕ × Event)) (m : ℕ) (op : Op) : Type 0 where
+  pub place : ℕ
+  pub document : List ℕ
+  pub here : slice_get list place ≡ Some (m, Call 0 m document op)
+
+pub called_entry : (list : List (ℕ × Event)) (m : ℕ) (op : Op) → AreFormed list → op_of (events_in list) m ≡ Some op → CalledIn list m op
+called_entry [] m op formed called = absurd (none_is_not_some op called)
+called_entry (e ∷ es) m op formed called =
+    by_entry e (op_if m e.1) refl (All-head (λ entry. IsEntryAt entry.0 entry.1) e es formed)
+    (called_entry es m op (All-tail (λ entry. IsEntryAt entry.0 entry.1) e es formed))
+    (sym (op_of-cons e.1 (events_in es) m) ∙ called) where
+      later : (x : ℕ × Event) → CalledIn es m op → CalledIn (x ∷ es) m op
+      later x found = record { place = suc found.place; document = found.document; here = found.here }
+
+      first : (k n h : ℕ) (d : List ℕ) (o : Op) → n ≡ k → h ≡ 0 → n ≡ m → o ≡ op → CalledIn ((k, Call h n d o) ∷ es) m op
+      first k n h d o own shard number same = record {
+        place = 0;
+        document = d;
+        here = ap (λ (x : ℕ × Event). Some x)
+            (ap (λ q. (q, Call h n d o)) (sym own ∙ number) ∙ (ap (λ q. (m, Call h q d o)) number ∙ (ap (λ q. (m, Call q m d o)) shard ∙ ap (λ q. (m, Call 0 m d q)) same)));
+      }
+
+      by_call : (k n h : ℕ) (d : List ℕ) (o : Op) (b : Bool) → (n == m) ≡ b → n ≡ k → h ≡ 0 → (if b then Some o else None) ≡ Some op → CalledIn ((k, Call h n d o) ∷ es) m op
+      by_call k n h d o true is own shard some = first k n h d o own shard (eqb-true n m is) (same_some o op some)
+      by_call k n h d o false is own shard some = absurd (none_is_not_some op some)
+
+      by_event : (x : ℕ × Event) → IsEntryAt x.0 x.1 → op_if m x.1 ≡ Some op → CalledIn (x ∷ es) m op
+      by_event (k, Call h n d o) entry some = by_call k n h d o (n == m) refl entry.0 entry.1 some
+      by_event (k, Reply n r) entry some = absurd (none_is_not_some op some)
+      by_event (k, Lost n) entry some = absurd (none_is_not_some op some)
+
+      by_entry : (x : ℕ × Event) (o : Option Op) → op_if m x.1 ≡ o → IsEntryAt x.0 x.1 → (op_of (events_in es) m ≡ Some op → CalledIn es m op)
+          → first_of_two o (op_of (events_in es) m) ≡ Some op → CalledIn (x ∷ es) m op
+      by_entry x None is entry rest found = later x (rest found)
+      by_entry x (Some o) is entry rest found = by_event x entry (is ∙ found)
+
 -- a call in the list has a number below one that is above all
 called_below : (list : List (ℕ × Event)) (k m : ℕ) (op : Op) → AreFormed list → AreBelow list k → op_of (events_in list) m ≡ Some op → m < k
-called_below [] k m op formed below called = let impossible : None ≡ Some op = called in absurd (cc)
-called_below (e ∷ es) k m op formed below called =
-    by_entry e.1 (op_if m e.1) refl (All-head (λ entry. IsEntryAt entry.0 entry.1) e es formed)
-    (λ found. called_below es k m op (All-tail (λ entry. IsEntryAt entry.0 entry.1) e es formed) (All-tail (λ entry. entry.0 < k) e es below) found)
-    (sym (op_of-cons e.1 (events_in es) m) ∙ called) where
-      by_call : (n : ℕ) (o : Op) (b : Bool) → (n == m) ≡ b → n ≡ e.0 → (if b then Some o else None) ≡ Some op → m < k
-      by_call n o true is same some =
-          let number : n ≡ m = eqb-true n m is in
-          let first : e.0 < k = All-head (λ entry. entry.0 < k) e es below in omega arith
-      by_call n o false is same some = let impossible : None ≡ Some op = some in absurd (cc)
-
-      by_event : (x : Event) → IsEntryAt e.0 x → op_if m x ≡ Some op → m < k
-      by_event (Call h n d o) formed some = by_call n o (n == m) refl formed.0 some
-      by_event (Reply n r) formed some = let impossible : None ≡ Some op = some in absurd (cc)
-      by_event (Lost n) formed some = let impossible : None ≡ Some op = some in absurd (cc)
-
-      by_entry : (x : Event) (o : Option Op) → op_if m x ≡ o → IsEntryAt e.0 x → (op_of (events_in es) m ≡ Some op → m < k) → first_of_two o (op_of (events_in es) m) ≡ Some op → m < k
-      by_entry x None is entry later found = later found
-      by_entry x (Some o) is entry later found = by_event x entry (is ∙ found)
+called_below list k m op formed below called =
+    let found = called_entry list m op formed called in all_at (λ (entry : ℕ × Event). entry.0 < k) list found.place (m, Call 0 m found.document op) below found.here
 
 -- ---- what is noted
 
@@ -159,14 +167,6 @@ own-snoc : (list : List (ℕ × Event)) (x : ℕ × Event) (n : ℕ)
 own-snoc list x n =
     ap (λ o. own o (is_ended (list ++ x ∷ []) n)) (op_of-snoc list x n)
     ∙ ap (own (first_of_two (op_of (events_in list) n) (op_if n x.1))) (is_ended-snoc list x n)
-
-no_more : (o : Option Op) → first_of_two o None ≡ o
-no_more None = refl
-no_more (Some op) = refl
-
-never : (b : Bool) → (b || false) ≡ b
-never true = refl
-never false = refl
 
 found_after_call : (list : List (ℕ × Event)) (old new : List (ℕ × OwnCall)) (k : ℕ) (d : List ℕ) (op : Op)
     → AreNoted list old → AreBelow list k → IsNotedAt k (record { op = op; is_ended = false }) old new
@@ -182,7 +182,7 @@ found_after_call list old new k d op noted below at n =
           let open_ : is_ended list n ≡ false = subst (λ m. is_ended list m ≡ false) number (unended list k noted.list_kept.formed below) in
           sym (ap (λ o. own (first_of_two o (Some op)) (is_ended list n || false)) bare ∙ ap (λ b. own (Some op) (b || false)) open_)
       by_number false is =
-          noted.found n ∙ sym (ap (λ o. own o (is_ended list n || false)) (no_more (op_of (events_in list) n)) ∙ ap (own (op_of (events_in list) n)) (never (is_ended list n)))
+          noted.found n ∙ sym (ap (λ o. own o (is_ended list n || false)) (no_more (op_of (events_in list) n)) ∙ ap (own (op_of (events_in list) n)) (or-false (is_ended list n)))
 
 -- an ending of the call numbered m
 record Ends (m : ℕ) (e : Event) : Type 0 where
@@ -204,31 +204,21 @@ found_after_ending list old new k m e op noted ends called at n =
           let number : m ≡ n = eqb-true m n is in
           let here : op_of (events_in list) n ≡ Some op = subst (λ q. op_of (events_in list) q ≡ Some op) number called in
           sym (ap (λ o. own o (is_ended list n || true)) here ∙ ap (own (Some op)) (or-true (is_ended list n)))
-      by_number false is = noted.found n ∙ ap (own (op_of (events_in list) n)) (sym (never (is_ended list n)))
+      by_number false is = noted.found n ∙ ap (own (op_of (events_in list) n)) (sym (or-false (is_ended list n)))
 
 -- ---- all together
 
 rising_more : (list : List (ℕ × Event)) (k : ℕ) (e : Event) → IsRising list → AreBelow list k → IsRising (list ++ (k, e) ∷ [])
 rising_more list k e rising below = all_pairs_push (λ (x y : ℕ × Event). x.0 < y.0) list (k, e) rising below
 
--- what stands at a place of a list with one more at its end
-at_push : (xs : List (ℕ × Event)) (x : ℕ × Event) (i : ℕ) (y : ℕ × Event) → slice_get (xs ++ x ∷ []) i ≡ Some y
-    → ((slice_get xs i ≡ Some y) × (take i (xs ++ x ∷ []) ≡ take i xs)) ⊎ ((x ≡ y) × (take i (xs ++ x ∷ []) ≡ xs))
-at_push [] x zero y at = inr ((let both : Some x ≡ Some y = at in cc), refl)
-at_push [] x (suc i) y at = let impossible : None ≡ Some y = at in absurd (cc)
-at_push (z ∷ zs) x zero y at = inl (at, refl)
-at_push (z ∷ zs) x (suc i) y at =
-    ⊎_elim (λ (here : (slice_get zs i ≡ Some y) × (take i (zs ++ x ∷ []) ≡ take i zs)). inl (here.0, ap (λ rest. z ∷ rest) here.1))
-    (λ (last : (x ≡ y) × (take i (zs ++ x ∷ []) ≡ zs)). inr (last.0, ap (λ rest. z ∷ rest) last.1)) (at_push zs x i y at)
-
 pen_list_more : (list : List (ℕ × Event)) (k : ℕ) (e : Event) → IsPenList list → AreBelow list k → IsEntryAt k e → refusal_of list e ≡ None → IsPenList (list ++ (k, e) ∷ [])
 pen_list_more list k e kept below formed accepted = record {
   rising = rising_more list k e kept.rising below;
   formed = All-push (λ entry. IsEntryAt entry.0 entry.1) list (k, e) kept.formed formed;
-  accepted = λ i y at. ⊎_elim
-      (λ (here : (slice_get list i ≡ Some y) × (take i (list ++ (k, e) ∷ []) ≡ take i list)). ap (λ l. refusal_of l y.1) here.1 ∙ kept.accepted i y here.0)
-      (λ (last : ((k, e) ≡ y) × (take i (list ++ (k, e) ∷ []) ≡ list)). ap (λ l. refusal_of l y.1) last.1 ∙ (ap (λ (z : ℕ × Event). refusal_of list z.1) (sym last.0) ∙ accepted))
-      (at_push list (k, e) i y at);
+  accepted = λ i y at. elim (get_snoc list (k, e) y i at) [
+    | inl here ↦ ap (λ l. refusal_of l y.1) (take-append-le i list ((k, e) ∷ []) (let within : i < length list = slice_get_within list i y here in omega arith)) ∙ kept.accepted i y here
+    | inr last ↦ ap (λ l. refusal_of l y.1) (take_at list ((k, e) ∷ []) i (sym last.0)) ∙ (ap (λ (z : ℕ × Event). refusal_of list z.1) (sym last.1) ∙ accepted)
+  ];
 }
 
 after_ending : (list : List (ℕ × Event)) (old new : List (ℕ × OwnCall)) (k m : ℕ) (e : Event) (op : Op)
@@ -244,7 +234,7 @@ after_ending list old new k m e op noted below ends formed called accepted at =
 
 -- a call whose ending isn't refused is in the list
 called_reply : (o : Option Op) (b : Bool) (r : Op → Option RecFault) → option_map_or (λ op. if b then Some Ended else r op) o (Some NotMine) ≡ None → (op : Op) × (o ≡ Some op)
-called_reply None b r accepted = let impossible : Some NotMine ≡ None = accepted in absurd (cc)
+called_reply None b r accepted = absurd (none_is_not_some NotMine (sym accepted))
 called_reply (Some op) b r accepted = (op, refl)
 
 -- the notes are right after an event that the list doesn't refuse
@@ -261,40 +251,3 @@ noted_after list old new k (bare.Reply m r) noted below accepted at =
 noted_after list old new k (bare.Lost m) noted below accepted at =
     let call = called_reply (op_of (events_in list) m) (is_ended list m) (λ op. None) accepted in
     after_ending list old new k m (Lost m) call.0 noted below (record { no_call = λ n. refl; ending = λ n. refl }) (λ less. less) call.1 accepted at
-
--- where a call is in the list, in which entry
-pub record CalledIn (list : List (ℕ × Event)) (m : ℕ) (op : Op) : Type 0 where
-  pub place : ℕ
-  pub document : List ℕ
-  pub here : slice_get list place ≡ Some (m, Call 0 m document op)
-
-pub called_entry : (list : List (ℕ × Event)) (m : ℕ) (op : Op) → AreFormed list → op_of (events_in list) m ≡ Some op → CalledIn list m op
-called_entry [] m op formed called = let impossible : None ≡ Some op = called in absurd (cc)
-called_entry (e ∷ es) m op formed called =
-    by_entry e (op_if m e.1) refl (All-head (λ entry. IsEntryAt entry.0 entry.1) e es formed)
-    (called_entry es m op (All-tail (λ entry. IsEntryAt entry.0 entry.1) e es formed))
-    (sym (op_of-cons e.1 (events_in es) m) ∙ called) where
-      later : (x : ℕ × Event) → CalledIn es m op → CalledIn (x ∷ es) m op
-      later x found = record { place = suc found.place; document = found.document; here = found.here }
-
-      first : (k n h : ℕ) (d : List ℕ) (o : Op) → n ≡ k → h ≡ 0 → n ≡ m → o ≡ op → CalledIn ((k, Call h n d o) ∷ es) m op
-      first k n h d o own shard number same = record {
-        place = 0;
-        document = d;
-        here = ap (λ (x : ℕ × Event). Some x)
-            (ap (λ q. (q, Call h n d o)) (sym own ∙ number) ∙ (ap (λ q. (m, Call h q d o)) number ∙ (ap (λ q. (m, Call q m d o)) shard ∙ ap (λ q. (m, Call 0 m d q)) same)));
-      }
-
-      by_call : (k n h : ℕ) (d : List ℕ) (o : Op) (b : Bool) → (n == m) ≡ b → n ≡ k → h ≡ 0 → (if b then Some o else None) ≡ Some op → CalledIn ((k, Call h n d o) ∷ es) m op
-      by_call k n h d o true is own shard some = first k n h d o own shard (eqb-true n m is) (let both : Some o ≡ Some op = some in cc)
-      by_call k n h d o false is own shard some = let impossible : None ≡ Some op = some in absurd (cc)
-
-      by_event : (x : ℕ × Event) → IsEntryAt x.0 x.1 → op_if m x.1 ≡ Some op → CalledIn (x ∷ es) m op
-      by_event (k, Call h n d o) entry some = by_call k n h d o (n == m) refl entry.0 entry.1 some
-      by_event (k, Reply n r) entry some = let impossible : None ≡ Some op = some in absurd (cc)
-      by_event (k, Lost n) entry some = let impossible : None ≡ Some op = some in absurd (cc)
-
-      by_entry : (x : ℕ × Event) (o : Option Op) → op_if m x.1 ≡ o → IsEntryAt x.0 x.1 → (op_of (events_in es) m ≡ Some op → CalledIn es m op)
-          → first_of_two o (op_of (events_in es) m) ≡ Some op → CalledIn (x ∷ es) m op
-      by_entry x None is entry rest found = later x (rest found)
-      by_entry x (Some o) is entry rest found = by_event x entry (is ∙ found)

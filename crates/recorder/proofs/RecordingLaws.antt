@@ -1,19 +1,20 @@
 -- A recording of pens is by number, and there is one at most.
-use Rattle.std.proofs.Common.{ℕ, suc, ◌≡◌, ◌+◌, ◌<◌, List, [], ◌∷◌, length, refl, sym, ap, subst, ◌∙◌, arith, Some, slice_get, get_or}
+use Rattle.std.proofs.Common.{ℕ, ◌≡◌, ◌+◌, ◌<◌, List, length, sym, ap, subst, ◌∙◌, arith, Some, slice_get, get_or}
 use Rattle.std.specs.Prelude.{Contains}
 use Rattle.std.specs.List.{enumerate_from}
 use Rattle.std.proofs.lemmas.List.FromFn.{get_or-enumerate_from, length-enumerate_from}
 use Rattle.std.proofs.lemmas.List.Sorted.{Contains-permutation, IsPermutation-sym, length_permutation}
-use Rattle.std.proofs.lemmas.Option.{slice_get-get_or, slice_get_within}
+use Rattle.std.proofs.lemmas.Option.{slice_get-get_or, slice_get_within, get_or_from_slice_get}
 use Rattle.history.specs.declared.event.Event.{Event}
 use Rattle.recorder.specs.Recordings.{IsRecordingOf, entries_of}
 use Rattle.recorder.specs.Laws.{IsByNumber, RecordingsAreByNumber}
+use Rattle.std.proofs.lemmas.List.{same_lists}
 
 -- what stands at a place is listed with the place
 listed : (events : List Event) (n : ℕ) (e : Event) → slice_get events n ≡ Some e → Contains (enumerate_from 0 events) (n, e)
 listed events n e at =
     let within : n < length events = slice_get_within events n e at in
-    let here : get_or events n e ≡ e = (let both : Some (get_or events n e) ≡ Some e = sym (slice_get-get_or events n e within) ∙ at in cc) in
+    let here : get_or events n e ≡ e = get_or_from_slice_get events n e e at in
     let first : 0 + n ≡ n = omega arith in (
       n,
       (let size : length (enumerate_from 0 events) ≡ length events = length-enumerate_from 0 events in omega arith),
@@ -40,13 +41,8 @@ by_number lists events recording = record {
 
 -- lists that have the same at each place are the same
 same_by_place : (xs ys : List Event) → ((n : ℕ) (e : Event) → slice_get xs n ≡ Some e → slice_get ys n ≡ Some e) → length xs ≡ length ys → xs ≡ ys
-same_by_place [] [] same size = refl
-same_by_place [] (y ∷ ys) same size = absurd (omega arith)
-same_by_place (x ∷ xs) [] same size = absurd (omega arith)
-same_by_place (x ∷ xs) (y ∷ ys) same size =
-    let first : y ≡ x = (let both : Some y ≡ Some x = same 0 x refl in cc) in
-    let rest : xs ≡ ys = same_by_place xs ys (λ n e at. same (suc n) e at) (let less : length xs ≡ length ys = omega arith in less) in
-    ap (λ (e : Event). e ∷ xs) (sym first) ∙ ap (λ es. y ∷ es) rest
+same_by_place xs ys same size =
+    same_lists xs ys size (λ k d within. sym (get_or_from_slice_get ys k (get_or xs k d) d (same k (get_or xs k d) (slice_get-get_or xs k d within))))
 
 pub recordings_are_by_number : RecordingsAreByNumber
 recordings_are_by_number = record {

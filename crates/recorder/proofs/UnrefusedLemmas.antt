@@ -1,13 +1,13 @@
 -- No event of a recording of pens' lists is refused by the history of those before it.
-use Rattle.std.proofs.Common.{ℕ, zero, suc, ◌≡◌, ◌≢◌, ◌+◌, ◌<◌, ◌≤◌, List, [], ◌∷◌, length, refl, sym, ap, subst, ◌∙◌, arith, Option, Some, None, slice_get, All, Bool, true, false, get_or, take, eq-eqb}
-use Rattle.std.specs.Prelude.{◌==◌, ◌||◌, Contains, if◌then◌else◌, is_some, nat_lt, not, option_and_then, option_map}
-use Rattle.std.specs.List.{enumerate_from, list_any, sum_by}
+use Rattle.std.proofs.Common.{ℕ, zero, suc, ◌≡◌, ◌≢◌, ◌+◌, ◌<◌, ◌≤◌, List, [], ◌∷◌, length, refl, sym, ap, subst, ◌∙◌, arith, Option, Some, None, slice_get, All, Bool, true, false, get_or, take, eq-eqb, le_of_lt, inl, inr}
+use Rattle.std.specs.Prelude.{◌==◌, Contains, if◌then◌else◌, is_some, not, option_and_then, option_map}
+use Rattle.std.specs.List.{enumerate_from, sum_by}
 use Rattle.std.specs.Option.{option_map_or}
-use Rattle.std.proofs.lemmas.Bool.{eqb-true, false_from_ne_true, ltb-false, ltb-true}
+use Rattle.std.proofs.lemmas.Bool.{eqb-true, false_from_ne_true, cases_order, lt-ltb}
 use Rattle.std.proofs.lemmas.List.Elements.{All-take, Contains-append_left, Contains-append_right}
 use Rattle.std.proofs.lemmas.List.Sums.{sum_by-append}
 use Rattle.std.proofs.lemmas.List.Sorted.{sum_by-IsPermutation}
-use Rattle.std.proofs.lemmas.Option.{slice_get-get_or, slice_get_within}
+use Rattle.std.proofs.lemmas.Option.{slice_get-get_or, slice_get_within, get_or_from_slice_get, slice_get-map}
 use Rattle.doc_register.specs.declared.op.Op.{Op}
 use Rattle.doc_register.specs.declared.reply.Reply.{Reply as Answer}
 use Rattle.doc_register.specs.Register.{fits}
@@ -28,17 +28,19 @@ use Rattle.recorder.proofs.CountLemmas.{once_at_most, one_for, one_for_itself, s
 use Rattle.recorder.proofs.DenseLemmas.{StandsIn, stands_in, sum_of_list}
 use Rattle.recorder.proofs.NoteLemmas.{called_entry}
 use Rattle.recorder.proofs.RecordingLaws.{recordings_are_by_number}
-use Rattle.version_pair.proofs.TruthLemmas.{or-true}
 use Rattle.recorder.proofs.FoundLemmas.{numbered_from}
+use Rattle.std.proofs.lemmas.List.{length-take-le}
+use Rattle.std.proofs.lemmas.List.Folds.{list_any_at}
+use Rattle.version_pair.proofs.ListLemmas.{get_take, none_is_not_some, same_some, take_get}
+use Rattle.recorder.proofs.ListLemmas.{all_at}
 
 -- ---- the first place at which a test passes
 
 first_passing : (test : Event → Bool) (es : List Event) (k : ℕ) (e : Event) → slice_get es k ≡ Some e → test e ≡ true
     → ((q : ℕ) (x : Event) → q < k → slice_get es q ≡ Some x → test x ≡ false) → place_of test es ≡ Some k
-first_passing test [] k e at passes before = let impossible : None ≡ Some e = at in absurd (cc)
+first_passing test [] k e at passes before = absurd (none_is_not_some e at)
 first_passing test (x ∷ xs) zero e at passes before =
-    let same : x ≡ e = (let both : Some x ≡ Some e = at in cc) in
-    ap (λ b. if b then Some 0 else option_map suc (place_of test xs)) (ap test same ∙ passes)
+    ap (λ b. if b then Some 0 else option_map suc (place_of test xs)) (ap test (same_some x e at) ∙ passes)
 first_passing test (x ∷ xs) (suc k) e at passes before =
     ap (λ b. if b then Some 0 else option_map suc (place_of test xs)) (before 0 x (omega arith) refl)
     ∙ ap (option_map suc) (first_passing test xs k e at passes (λ q y less there. before (suc q) y (omega arith) there))
@@ -56,54 +58,18 @@ record PassesThere (test : Event → Bool) (es : List Event) (k : ℕ) : Type 0 
   pub passes : test event ≡ true
 
 passing : (test : Event → Bool) (es : List Event) (k : ℕ) → place_of test es ≡ Some k → PassesThere test es k
-passing test [] k at = let impossible : None ≡ Some k = at in absurd (cc)
+passing test [] k at = absurd (none_is_not_some k at)
 passing test (x ∷ xs) k at = by_test (test x) refl k at (passing test xs) where
   by_rest : (o : Option ℕ) → place_of test xs ≡ o → (k : ℕ) → option_map suc o ≡ Some k → ((j : ℕ) → place_of test xs ≡ Some j → PassesThere test xs j) → PassesThere test (x ∷ xs) k
-  by_rest None is k at later = let impossible : None ≡ Some k = at in absurd (cc)
+  by_rest None is k at later = absurd (none_is_not_some k at)
   by_rest (Some j) is k at later =
-      let next : suc j ≡ k = (let both : Some (suc j) ≡ Some k = at in cc) in
       let found = later j is in
-      subst (PassesThere test (x ∷ xs)) next (record { event = found.event; there = found.there; passes = found.passes })
+      subst (PassesThere test (x ∷ xs)) (same_some (suc j) k at) (record { event = found.event; there = found.there; passes = found.passes })
 
   by_test : (b : Bool) → test x ≡ b → (k : ℕ) → (if b then Some 0 else option_map suc (place_of test xs)) ≡ Some k
       → ((j : ℕ) → place_of test xs ≡ Some j → PassesThere test xs j) → PassesThere test (x ∷ xs) k
-  by_test true is k at later =
-      let first : 0 ≡ k = (let both : Some 0 ≡ Some k = at in cc) in
-      subst (PassesThere test (x ∷ xs)) first (record { event = x; there = refl; passes = is })
+  by_test true is k at later = subst (PassesThere test (x ∷ xs)) (same_some 0 k at) (record { event = x; there = refl; passes = is })
   by_test false is k at later = by_rest (place_of test xs) refl k at later
-
--- ---- the first events
-
-from_take : (es : List Event) (i q : ℕ) (x : Event) → slice_get (take i es) q ≡ Some x → (q < i) × (slice_get es q ≡ Some x)
-from_take [] zero q x at = let impossible : None ≡ Some x = at in absurd (cc)
-from_take [] (suc i) q x at = let impossible : None ≡ Some x = at in absurd (cc)
-from_take (y ∷ ys) zero q x at = let impossible : None ≡ Some x = at in absurd (cc)
-from_take (y ∷ ys) (suc i) zero x at = (omega arith, at)
-from_take (y ∷ ys) (suc i) (suc q) x at = let rest = from_take ys i q x at in let less = rest.0 in (omega arith, rest.1)
-
-to_take : (es : List Event) (i q : ℕ) (x : Event) → q < i → slice_get es q ≡ Some x → slice_get (take i es) q ≡ Some x
-to_take [] i q x less at = let impossible : None ≡ Some x = at in absurd (cc)
-to_take (y ∷ ys) zero q x less at = absurd (omega arith)
-to_take (y ∷ ys) (suc i) zero x less at = at
-to_take (y ∷ ys) (suc i) (suc q) x less at = to_take ys i q x (omega arith) at
-
-entries_from_take : (es : List (ℕ × Event)) (i q : ℕ) (x : ℕ × Event) → slice_get (take i es) q ≡ Some x → (q < i) × (slice_get es q ≡ Some x)
-entries_from_take [] zero q x at = let impossible : None ≡ Some x = at in absurd (cc)
-entries_from_take [] (suc i) q x at = let impossible : None ≡ Some x = at in absurd (cc)
-entries_from_take (y ∷ ys) zero q x at = let impossible : None ≡ Some x = at in absurd (cc)
-entries_from_take (y ∷ ys) (suc i) zero x at = (omega arith, at)
-entries_from_take (y ∷ ys) (suc i) (suc q) x at = let rest = entries_from_take ys i q x at in let less = rest.0 in (omega arith, rest.1)
-
-entries_to_take : (es : List (ℕ × Event)) (i q : ℕ) (x : ℕ × Event) → q < i → slice_get es q ≡ Some x → slice_get (take i es) q ≡ Some x
-entries_to_take [] i q x less at = let impossible : None ≡ Some x = at in absurd (cc)
-entries_to_take (y ∷ ys) zero q x less at = absurd (omega arith)
-entries_to_take (y ∷ ys) (suc i) zero x less at = at
-entries_to_take (y ∷ ys) (suc i) (suc q) x less at = entries_to_take ys i q x (omega arith) at
-
-length_take_below : (es : List Event) (i : ℕ) → i < length es → length (take i es) ≡ i
-length_take_below [] i less = absurd (omega arith)
-length_take_below (x ∷ xs) zero less = refl
-length_take_below (x ∷ xs) (suc i) less = let rest = length_take_below xs i (omega arith) in omega arith
 
 -- ---- what a pen's list says of an ending that it does not refuse
 
@@ -146,51 +112,36 @@ open_ending list m (Lost n) ends accepted = subst (Open list) (eqb-true n m ends
 
 -- an ending that is in the list
 ended_by : (list : List (ℕ × Event)) (m q : ℕ) (x : ℕ × Event) → slice_get list q ≡ Some x → is_ending m x.1 ≡ true → pens.is_ended list m ≡ true
-ended_by [] m q x at ends = let impossible : None ≡ Some x = at in absurd (cc)
-ended_by (y ∷ ys) m zero x at ends =
-    let same : y ≡ x = (let both : Some y ≡ Some x = at in cc) in
-    ap (λ b. b || list_any (is_ending m) (pens.events_in ys)) (ap (λ (z : ℕ × Event). is_ending m z.1) same ∙ ends)
-ended_by (y ∷ ys) m (suc q) x at ends = ap (λ b. is_ending m y.1 || b) (ended_by ys m q x at ends) ∙ or-true (is_ending m y.1)
+ended_by list m q x at ends =
+    let there : slice_get (pens.events_in list) q ≡ Some x.1 = slice_get-map (λ (entry : ℕ × Event). entry.1) list q ∙ ap (option_map (λ (entry : ℕ × Event). entry.1)) at in
+    list_any_at (is_ending m) (pens.events_in list) q x.1 (slice_get_within (pens.events_in list) q x.1 there)
+    (ap (is_ending m) (get_or_from_slice_get (pens.events_in list) q x.1 x.1 there) ∙ ends)
 
 -- in a rising list an entry with a lower number stands before one with a higher
 stands_before : (list : List (ℕ × Event)) (j k : ℕ) (x y : ℕ × Event) → IsRising list → slice_get list j ≡ Some x → slice_get list k ≡ Some y → x.0 < y.0 → j < k
-stands_before list j k x y rising at_j at_k less = by_test (nat_lt j k) refl where
-  read : (q : ℕ) (z d : ℕ × Event) → slice_get list q ≡ Some z → get_or list q d ≡ z
-  read q z d at = let within : q < length list = slice_get_within list q z at in
-      (let both : Some (get_or list q d) ≡ Some z = sym (slice_get-get_or list q d within) ∙ at in cc)
-
-  by_equal : (b : Bool) → (j == k) ≡ b → k ≤ j → ⊥
-  by_equal true is up =
-      let same : j ≡ k = eqb-true j k is in
-      let both : Some x ≡ Some y = sym at_j ∙ (ap (slice_get list) same ∙ at_k) in
-      let one : x ≡ y = cc in
-      let number : x.0 ≡ y.0 = ap (λ (z : ℕ × Event). z.0) one in absurd (omega arith)
-  by_equal false is up =
-      let apart : k < j = (let not_same : j ≢ k = (λ same. let impossible : true ≡ false = sym (eq-eqb j k same) ∙ is in cc) in omega (arith, not_same)) in
-      let within : j < length list = slice_get_within list j x at_j in
-      let rise : (get_or list k x).0 < (get_or list j x).0 = rising k j x apart within in
-      let low : (get_or list k x).0 ≡ y.0 = ap (λ (z : ℕ × Event). z.0) (read k y x at_k) in
-      let high : (get_or list j x).0 ≡ x.0 = ap (λ (z : ℕ × Event). z.0) (read j x x at_j) in
+stands_before list j k x y rising at_j at_k less = elim (cases_order j k) as (λ _. j < k) [
+  | inl same ↦ (let number : x.0 ≡ y.0 = ap (λ (z : ℕ × Event). z.0) (same_some x y (sym at_j ∙ (ap (slice_get list) same ∙ at_k))) in absurd (omega arith))
+  | inr (inl before) ↦ before
+  | inr (inr behind) ↦ (
+      let rise : (get_or list k x).0 < (get_or list j x).0 = rising k j x behind (slice_get_within list j x at_j) in
+      let low : (get_or list k x).0 ≡ y.0 = ap (λ (z : ℕ × Event). z.0) (get_or_from_slice_get list k y x at_k) in
+      let high : (get_or list j x).0 ≡ x.0 = ap (λ (z : ℕ × Event). z.0) (get_or_from_slice_get list j x x at_j) in
       absurd (omega arith)
-
-  by_test : (b : Bool) → nat_lt j k ≡ b → j < k
-  by_test true is = ltb-true j k is
-  by_test false is = absurd (by_equal (j == k) refl (ltb-false j k is))
+      )
+]
 
 -- ---- two lists
 
 two_lists : (f : ℕ × Event → ℕ) (lists : List (List (ℕ × Event))) (p q : ℕ) (one other : List (ℕ × Event)) → p ≢ q → slice_get lists p ≡ Some one → slice_get lists q ≡ Some other
     → sum_by f one + sum_by f other ≤ sum_by f (entries_of lists)
-two_lists f [] p q one other apart at_p at_q = let impossible : None ≡ Some one = at_p in absurd (cc)
+two_lists f [] p q one other apart at_p at_q = absurd (none_is_not_some one at_p)
 two_lists f (l ∷ ls) zero zero one other apart at_p at_q = absurd (apart refl)
 two_lists f (l ∷ ls) zero (suc q) one other apart at_p at_q =
-    let same : l ≡ one = (let both : Some l ≡ Some one = at_p in cc) in
-    let value : sum_by f l ≡ sum_by f one = ap (sum_by f) same in
+    let value : sum_by f l ≡ sum_by f one = ap (sum_by f) (same_some l one at_p) in
     let rest = sum_of_list f ls q other at_q in
     let whole = sum_by-append f l (entries_of ls) in omega arith
 two_lists f (l ∷ ls) (suc p) zero one other apart at_p at_q =
-    let same : l ≡ other = (let both : Some l ≡ Some other = at_q in cc) in
-    let value : sum_by f l ≡ sum_by f other = ap (sum_by f) same in
+    let value : sum_by f l ≡ sum_by f other = ap (sum_by f) (same_some l other at_q) in
     let rest = sum_of_list f ls p one at_p in
     let whole = sum_by-append f l (entries_of ls) in omega arith
 two_lists f (l ∷ ls) (suc p) (suc q) one other apart at_p at_q =
@@ -198,21 +149,16 @@ two_lists f (l ∷ ls) (suc p) (suc q) one other apart at_p at_q =
     let whole = sum_by-append f l (entries_of ls) in omega arith
 
 contained : (lists : List (List (ℕ × Event))) (p : ℕ) (list : List (ℕ × Event)) (q : ℕ) (x : ℕ × Event) → slice_get lists p ≡ Some list → slice_get list q ≡ Some x → Contains (entries_of lists) x
-contained [] p list q x which here = let impossible : None ≡ Some list = which in absurd (cc)
+contained [] p list q x which here = absurd (none_is_not_some list which)
 contained (l ∷ ls) zero list q x which here =
-    let same : list ≡ l = (let both : Some l ≡ Some list = which in cc) in
-    let at : slice_get l q ≡ Some x = ap (λ m. slice_get m q) (sym same) ∙ here in
-    let within : q < length l = slice_get_within l q x at in
-    Contains-append_left l (entries_of ls) x (q, within, (let both : Some (get_or l q x) ≡ Some x = sym (slice_get-get_or l q x within) ∙ at in cc))
+    let at : slice_get l q ≡ Some x = ap (λ m. slice_get m q) (same_some l list which) ∙ here in
+    Contains-append_left l (entries_of ls) x (q, slice_get_within l q x at, get_or_from_slice_get l q x x at)
 contained (l ∷ ls) (suc p) list q x which here = Contains-append_right l (entries_of ls) x (contained ls p list q x which here)
 
 -- ---- the history of those before
 
 not_full : (es : List Event) → length es < most_events → when_full es ≡ None
-not_full es less = by_test (nat_lt (length es) most_events) refl where
-  by_test : (b : Bool) → nat_lt (length es) most_events ≡ b → (if b then None else Some refused.Full) ≡ None
-  by_test true is = refl
-  by_test false is = let up : most_events ≤ length es = ltb-false (length es) most_events is in absurd (omega arith)
+not_full es less = ap (λ b. if b then None else Some refused.Full) (lt-ltb (length es) most_events less)
 
 unmoved : (es : List Event) (d : List ℕ) (h : ℕ) → h ≡ 0 → ((k : ℕ) (x : Event) → slice_get es k ≡ Some x → is_call_of d x ≡ true → shard_named x ≡ Some 0) → is_moved es d h ≡ false
 unmoved es d h zeroth named = by_place (place_of (is_call_of d) es) refl where
@@ -254,10 +200,7 @@ module _ (lists : List (List (ℕ × Event))) (events : List Event) (recording_i
       stands_in lists there.0 (i, e) (slice_get-get_or (entries_of lists) there.0 (i, e) there.1 ∙ ap (λ (x : ℕ × Event). Some x) there.2)
 
   kept_at : (p : ℕ) (list : List (ℕ × Event)) → slice_get lists p ≡ Some list → IsPenList list
-  kept_at p list which =
-      let within : p < length lists = slice_get_within lists p list which in
-      let read : get_or lists p list ≡ list = (let both : Some (get_or lists p list) ≡ Some list = sym (slice_get-get_or lists p list within) ∙ which in cc) in
-      subst IsPenList read (kept p list within)
+  kept_at p list which = all_at IsPenList lists p list kept which
 
   back : (p : ℕ) (list : List (ℕ × Event)) (q n : ℕ) (e : Event) → slice_get lists p ≡ Some list → slice_get list q ≡ Some (n, e) → slice_get events n ≡ Some e
   back p list q n e which here = numbered_so.placed n e (contained lists p list q (n, e) which here)
@@ -265,10 +208,7 @@ module _ (lists : List (List (ℕ × Event))) (events : List Event) (recording_i
   formed_at : (i : ℕ) (e : Event) → slice_get events i ≡ Some e → IsEntryAt i e
   formed_at i e at =
       let stands = own i e at in
-      let within : stands.place < length stands.list = slice_get_within stands.list stands.place (i, e) stands.here in
-      let read : get_or stands.list stands.place (i, e) ≡ (i, e) =
-      (let both : Some (get_or stands.list stands.place (i, e)) ≡ Some (i, e) = sym (slice_get-get_or stands.list stands.place (i, e) within) ∙ stands.here in cc) in
-      subst (λ (x : ℕ × Event). IsEntryAt x.0 x.1) read ((kept_at stands.which stands.list stands.of_which).formed stands.place (i, e) within)
+      all_at (λ (x : ℕ × Event). IsEntryAt x.0 x.1) stands.list stands.place (i, e) (kept_at stands.which stands.list stands.of_which).formed stands.here
 
   same_list : (p q : ℕ) (one other : List (ℕ × Event)) (j k : ℕ) (x y : ℕ × Event) → slice_get lists p ≡ Some one → slice_get lists q ≡ Some other
       → slice_get one j ≡ Some x → slice_get other k ≡ Some y → x.0 ≡ y.0 → one ≡ other
@@ -297,48 +237,48 @@ module _ (lists : List (List (ℕ × Event))) (events : List Event) (recording_i
   no_ending_before i m e stands o = none_passing (is_ending m) (take i events) (λ q x at. false_from_ne_true (is_ending m x) (λ ends.
       let mine = kept_at stands.which stands.list stands.of_which in
       let called = called_entry (take stands.place stands.list) m o.op (All-take (λ entry. IsEntryAt entry.0 entry.1) stands.place stands.list mine.formed) o.called in
-      let call_here = (entries_from_take stands.list stands.place called.place (m, Call 0 m called.document o.op) called.here).1 in
-      let before = from_take events i q x at in
-      let theirs = own q x before.1 in
+      let call_here = (get_take stands.list stands.place called.place (m, Call 0 m called.document o.op) called.here).0 in
+      let before = get_take events i q x at in
+      let theirs = own q x before.0 in
       let their_list = kept_at theirs.which theirs.list theirs.of_which in
       let their_open = open_ending (take theirs.place theirs.list) m x ends (their_list.accepted theirs.place (q, x) theirs.here) in
       let their_call = called_entry (take theirs.place theirs.list) m their_open.op (All-take (λ entry. IsEntryAt entry.0 entry.1) theirs.place theirs.list their_list.formed) their_open.called in
-      let call_there = (entries_from_take theirs.list theirs.place their_call.place (m, Call 0 m their_call.document their_open.op) their_call.here).1 in
+      let call_there = (get_take theirs.list theirs.place their_call.place (m, Call 0 m their_call.document their_open.op) their_call.here).0 in
       let one = same_list stands.which theirs.which stands.list theirs.list called.place their_call.place _ _ stands.of_which theirs.of_which call_here call_there refl in
       let ending_here : slice_get stands.list theirs.place ≡ Some (q, x) = ap (λ l. slice_get l theirs.place) one ∙ theirs.here in
-      let sooner : theirs.place < stands.place = stands_before stands.list theirs.place stands.place (q, x) (i, e) mine.rising ending_here stands.here before.0 in
-      let ended = ended_by (take stands.place stands.list) m theirs.place (q, x) (entries_to_take stands.list stands.place theirs.place (q, x) sooner ending_here) ends in
+      let sooner : theirs.place < stands.place = stands_before stands.list theirs.place stands.place (q, x) (i, e) mine.rising ending_here stands.here before.1 in
+      let ended = ended_by (take stands.place stands.list) m theirs.place (q, x) (take_get stands.list stands.place theirs.place (q, x) sooner ending_here) ends in
       let impossible : true ≡ false = sym ended ∙ o.unended in cc))
 
   call_before : (i m : ℕ) (e : Event) → m < i → (stands : StandsIn lists (i, e)) → (o : Open (take stands.place stands.list) m) → op_of (take i events) m ≡ Some o.op
   call_before i m e less stands o =
       let mine = kept_at stands.which stands.list stands.of_which in
       let called = called_entry (take stands.place stands.list) m o.op (All-take (λ entry. IsEntryAt entry.0 entry.1) stands.place stands.list mine.formed) o.called in
-      let call_here = (entries_from_take stands.list stands.place called.place (m, Call 0 m called.document o.op) called.here).1 in
-      let at = to_take events i m (Call 0 m called.document o.op) less (back stands.which stands.list called.place m (Call 0 m called.document o.op) stands.of_which call_here) in
+      let call_here = (get_take stands.list stands.place called.place (m, Call 0 m called.document o.op) called.here).0 in
+      let at = take_get events i m (Call 0 m called.document o.op) less (back stands.which stands.list called.place m (Call 0 m called.document o.op) stands.of_which call_here) in
       called_there (take i events) m called.document o.op at
       (first_passing (is_call m) (take i events) m (Call 0 m called.document o.op) at (eq-eqb m m refl) (λ q x low there. false_from_ne_true (is_call m x) (λ calls.
-      let before = from_take events i q x there in
-      let number : m ≡ q = call_number q m x (formed_at q x before.1) calls in omega arith)))
+      let before = get_take events i q x there in
+      let number : m ≡ q = call_number q m x (formed_at q x before.0) calls in omega arith)))
 
   unrefused : length events ≤ most_events → AreAccepted events
   unrefused few i e at = by_event e at where
     few_before : when_full (take i events) ≡ None
     few_before =
         let within : i < length events = slice_get_within events i e at in
-        let size = length_take_below events i within in
+        let size = length-take-le i events (le_of_lt within) in
         not_full (take i events) (omega arith)
 
     by_event : (e : Event) → slice_get events i ≡ Some e → refusal_of (take i events) e ≡ None
     by_event (Call h n d op) at =
         let formed = formed_at i (Call h n d op) at in
         let first : place_of (is_call n) (take i events) ≡ None = none_passing (is_call n) (take i events) (λ q x there. false_from_ne_true (is_call n x) (λ calls.
-        let before = from_take events i q x there in
-        let number : n ≡ q = call_number q n x (formed_at q x before.1) calls in
+        let before = get_take events i q x there in
+        let number : n ≡ q = call_number q n x (formed_at q x before.0) calls in
         let mine : n ≡ i = formed.0 in
-        let less = before.0 in omega arith)) in
+        let less = before.1 in omega arith)) in
         let stays : is_moved (take i events) d h ≡ false = unmoved (take i events) d h formed.1 (λ k x there calls.
-        let before = from_take events i k x there in shard_zero k d x (formed_at k x before.1) calls) in
+        let before = get_take events i k x there in shard_zero k d x (formed_at k x before.0) calls) in
         ap (λ o. if is_some o then Some refused.SecondCall else (if is_moved (take i events) d h then Some refused.ShardMoved else when_full (take i events))) first
         ∙ (ap (λ b. if b then Some refused.ShardMoved else when_full (take i events)) stays ∙ few_before)
     by_event (Reply m r) at =

@@ -1,12 +1,12 @@
-use Rattle.std.proofs.Common.{rules, ◌≡◌, ◌<◌, ◌∷◌, Some, length, refl, slice_get, subst, take}
+use Rattle.std.proofs.Common.{rules, ◌≡◌, ◌<◌, ◌∷◌, Some, length, refl, slice_get, subst, take, arith}
 use Rattle.std.specs.List.{enumerate_from}
 use Rattle.std.specs.List.Sorted.{IsPermutation}
 use Rattle.std.proofs.lemmas.Option.{slice_get_read}
 use Rattle.history.specs.declared.event.Event.{Event}
 use Rattle.history.specs.Events.{HasShard}
 use Rattle.recorder.specs.Recordings.{entries_of}
-use Rattle.recorder.proofs.DenseLemmas.{AreLeft, left_after_one, next_there}
-use Rattle.recorder.proofs.FoundLemmas.{left_of_recording, none_left_past, own_event}
+use Rattle.recorder.proofs.DenseLemmas.{AreLeft, left_after_one, next_there, none_past_most}
+use Rattle.recorder.proofs.FoundLemmas.{left_of_recording, own_event}
 use Rattle.recorder.proofs.MergeLemmas.{met_one_more, shards_more}
 use Rattle.recorder.proofs.closing.is_recording.Goals as goal
 
@@ -51,5 +51,5 @@ returns-clause-found c = λ rising recording.
     let total = length c.args.events.now in
     let end : l.place ≡ total = search rules in
     let left : AreLeft l.strands.items l.place total = l.invariant.left (left_of_recording c.args.strands.now.items c.args.events.now recording) in
-    let none = none_left_past l.strands.items total (subst (λ n. AreLeft l.strands.items n total) end left) in
+    let none = none_past_most l.strands.items l.place total left (omega (arith, end)) in
     search rules
