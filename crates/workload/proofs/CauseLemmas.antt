@@ -1,5 +1,5 @@
 -- What the faults of a run come of.
-use Rattle.std.proofs.Common.{ℕ, ◌≡◌, ◌∙◌, List, Option, Some, ap, subst, sym}
+use Rattle.std.proofs.Common.{ℕ, ◌≡◌, ◌∙◌, List, Option, ap, subst, sym}
 use Rattle.doc_register.specs.declared.op.Op.{Op}
 use Rattle.doc_register.specs.declared.reply.Reply.{Reply as Answer}
 use Rattle.doc_register.specs.Register.{fits}
@@ -14,12 +14,13 @@ use Rattle.workload.specs.declared.run_fault.RunFault.TheVariants as run
 use Rattle.workload.specs.declared.target.Progress.{Progress}
 use Rattle.workload.specs.declared.target.TargetFault.TheVariants as target
 use Rattle.workload.specs.declared.target.Ticket.{Ticket}
+use Rattle.version_pair.proofs.ListLemmas.{same_some}
 
 -- what was misheard of an open call misfits
 pub misheard_misfits : (issued : Ticket → List ℕ → Op → Type 0) (gave : Ticket → Progress → Type 0) (polls : ℕ) (list : List (ℕ × Event)) (call : OpenCall)
     (heard : Option Answer) → IsOpenIn issued list call → IsHeard issued gave polls call.ticket heard → IsMisheard list call.no heard → IsMisfit issued gave
 misheard_misfits issued gave polls list call heard opened told misheard =
-    let same : opened.op ≡ misheard.op = (let both : Some opened.op ≡ Some misheard.op = sym opened.called ∙ misheard.called in cc) in
+    let same : opened.op ≡ misheard.op = same_some opened.op misheard.op (sym opened.called ∙ misheard.called) in
     record {
       ticket = call.ticket;
       document = opened.document;

@@ -1,6 +1,6 @@
 -- Runs of a client, turn by turn.
 use Rattle.std.proofs.Common.{◌≡◌, ℕ, ◌+◌, ◌<◌, ◌∙◌, suc, All, List, None, Option, Some, [], ◌∷◌, ◌++◌, add-zero, ap, append_assoc, append-nil, arith, drop, refl, subst, sym}
-use Rattle.std.proofs.lemmas.List.Elements.{All-head, All-push, All-tail, All-weaker}
+use Rattle.std.proofs.lemmas.List.Elements.{All-head, All-push, All-weaker}
 use Rattle.std.proofs.lemmas.List.Quantifiers.{all_pairs_push}
 use Rattle.doc_register.specs.declared.op.Op.{Op}
 use Rattle.doc_register.specs.declared.reply.Reply.{Reply as Answer}
@@ -13,11 +13,7 @@ use Rattle.workload.specs.declared.open_call.OpenCall.{OpenCall}
 use Rattle.workload.specs.declared.target.Progress.{Progress}
 use Rattle.workload.specs.declared.target.Ticket.{Ticket}
 use Rattle.workload.specs.declared.turn.Turn.{Turn}
-
--- what holds of each entry of two lists together holds of each of the second
-all_of_second : (P : ℕ × Event → Type 0) (xs ys : List (ℕ × Event)) → All P (xs ++ ys) → All P ys
-all_of_second P [] ys all = all
-all_of_second P (x ∷ xs) ys all = all_of_second P xs ys (All-tail P x (xs ++ ys) all)
+use Rattle.recorder.proofs.ListLemmas.{all_of_second}
 
 none_rising : IsRising []
 none_rising i j d less within = absurd (omega arith)

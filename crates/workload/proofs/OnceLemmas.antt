@@ -1,12 +1,11 @@
 -- That a round visits each client once.
 use Rattle.std.proofs.Common.{◌≡◌, ◌∙◌, ◌≤◌, ℕ, ◌+◌, ◌<◌, List, Some, ap, arith, get_or, inl, inr, length, refl, slice_get, subst, sym}
 use Rattle.std.proofs.Math.ListN.{set}
-use Rattle.std.proofs.lemmas.List.{get_or-set_same, length-set}
-use Rattle.std.proofs.lemmas.Bool.{cases_eq}
+use Rattle.std.proofs.lemmas.List.{length-set}
 use Rattle.std.proofs.lemmas.Option.{slice_get-get_or, slice_get_within}
 use Rattle.workload.specs.aids.Seats.{AreVisitedOnce, IsVisitedOnce}
 use Rattle.workload.specs.declared.seat.Seat.{Seat}
-use Rattle.workload.proofs.RoundLemmas.{from_set}
+use Rattle.version_pair.proofs.ListLemmas.{from_set, same_some}
 
 module _ {P : Type 0} (polls : ℕ) where
   -- The first i clients were visited once, and the others not yet.
@@ -19,7 +18,7 @@ module _ {P : Type 0} (polls : ℕ) where
   visited_at_start old = record {
     count = refl;
     front = λ k before after none. absurd (omega arith);
-    rest = λ k before after _ at_old at_now. let same : Some after ≡ Some before = sym at_now ∙ at_old in cc;
+    rest = λ k before after _ at_old at_now. same_some after before (sym at_now ∙ at_old);
   }
 
   -- the visit of the next client
@@ -33,23 +32,12 @@ module _ {P : Type 0} (polls : ℕ) where
               let at_k : slice_get now k ≡ Some (get_or now i d) = ap (slice_get now) here.0 ∙ slice_get-get_or now i d within in
               let as_before = so_far.rest k before (get_or now i d) (omega (arith, here.0)) at_old at_k in
               rw here.1 (subst (λ seat. IsVisitedOnce polls seat new) as_before once)
-          | inr there ↦
-              elim (cases_eq k i) [
-                | inl here ↦
-                    let stands : slice_get (set now i new) i ≡ Some new =
-                    slice_get-get_or (set now i new) i new (omega (arith, length-set now i new)) ∙ ap Some (get_or-set_same now i new new within) in
-                    let is_new : Some after ≡ Some new = sym at_now ∙ ap (slice_get (set now i new)) here ∙ stands in
-                    let at_k : slice_get now k ≡ Some (get_or now i d) = ap (slice_get now) here ∙ slice_get-get_or now i d within in
-                    let as_before = so_far.rest k before (get_or now i d) (omega (arith, here)) at_old at_k in
-                    let same : after ≡ new = cc in
-                    rw same (subst (λ seat. IsVisitedOnce polls seat new) as_before once)
-                | inr other ↦ so_far.front k before after (omega arith) at_old there
-              ]
+          | inr there ↦ so_far.front k before after (omega (arith, there.0)) at_old there.1
         ];
     rest = λ k before after above at_old at_now.
         elim (from_set now i k new after at_now) [
           | inl here ↦ absurd (omega (arith, here.0))
-          | inr there ↦ so_far.rest k before after (omega arith) at_old there
+          | inr there ↦ so_far.rest k before after (omega arith) at_old there.1
         ];
   }
 

@@ -1,12 +1,11 @@
 -- Which turns are a plan.
 use Rattle.std.proofs.Common.{ℕ, All, ◌≤◌, ◌<◌, ◌^◌, ◌∙◌, Some, arith, get_or, slice_get, sym, take, true, ◌≡◌, ◌+◌, ◌||◌, ◌==◌, Bool, Global, Vec, false, List, [], ◌∷◌, None, ap, length, map, refl}
 use Rattle.std.specs.Prelude.{if◌then◌else◌, nat_lt, sum_by}
-use Rattle.std.proofs.lemmas.Bool.{false_from_ne_true, leb-false, ltb-false}
+use Rattle.std.proofs.lemmas.Bool.{false_from_ne_true, leb-false, ltb-false, or_parts}
 use Rattle.std.proofs.lemmas.List.{length-map, take-map}
 use Rattle.std.proofs.lemmas.List.Folds.{fold-map, list_any_at}
 use Rattle.std.proofs.lemmas.List.Sums.{sum_by_more_le}
 use Rattle.std.proofs.lemmas.Option.{get_or_from_slice_get, slice_get_within}
-use Rattle.std.proofs.Math.Bool.{or-true}
 use Rattle.std.specs.List.{list_any}
 use Rattle.workload.specs.Plans.{is_far, is_idle, is_too_large, lacks_turns, most_clients, most_docs, most_turns, refusal_of, turn_count}
 use Rattle.workload.specs.declared.plan_fault.PlanFault.TheVariants.{Zero, TooMany}
@@ -51,15 +50,6 @@ none_later true b none = cc
 none_later false true none = cc
 none_later false false none = refl
 
-second_false : (a b c : Bool) → (a || b || c) ≡ false → b ≡ false
-second_false true b c none = cc
-second_false false true c none = cc
-second_false false false c none = refl
-
-third_false : (a b c : Bool) → (a || b || c) ≡ false → c ≡ false
-third_false a b true none = let e = or-true (a || b) in cc
-third_false a b false none = refl
-
 is_small : (clients : List (List Turn)) → refusal_of clients ≡ None → is_too_large clients ≡ false
 is_small clients plan = none_later (lacks_turns clients) (is_too_large clients) plan
 
@@ -67,8 +57,8 @@ is_small clients plan = none_later (lacks_turns clients) (is_too_large clients) 
 few_turns : (clients : List (List Turn)) → refusal_of clients ≡ None → turn_count clients ≤ most_turns
 few_turns clients plan =
     ltb-false most_turns (turn_count clients)
-    (second_false (nat_lt most_clients (length clients)) (nat_lt most_turns (turn_count clients)) (list_any (list_any is_far) clients)
-    (is_small clients plan))
+    (or_parts (nat_lt most_clients (length clients)) (nat_lt most_turns (turn_count clients))
+    (or_parts (nat_lt most_clients (length clients) || nat_lt most_turns (turn_count clients)) (list_any (list_any is_far) clients) (is_small clients plan)).0).1
 
 fails_at : {X : Type 0} (p : X → Bool) (xs : List X) (i : ℕ) (d : X) → i < length xs → list_any p xs ≡ false → p (get_or xs i d) ≡ false
 fails_at p xs i d within none = false_from_ne_true (p (get_or xs i d)) (λ yes. let any = list_any_at p xs i d within yes in cc)
@@ -79,7 +69,7 @@ pub near_turns : (clients : List (Vec Turn Global)) (turns : List Turn) (i : ℕ
     → All (λ turn. turn.doc < most_docs) turns
 near_turns clients turns i d plan within is k e here =
     let near : list_any (list_any is_far) (map (λ (v : Vec Turn Global). v.items) clients) ≡ false =
-    third_false (nat_lt most_clients (length (lists_in clients))) (nat_lt most_turns (turn_count (lists_in clients))) _ (is_small (lists_in clients) plan) in
+    (or_parts (nat_lt most_clients (length (lists_in clients)) || nat_lt most_turns (turn_count (lists_in clients))) _ (is_small (lists_in clients) plan)).1 in
     let each : list_any is_far (get_or clients i d).items ≡ false =
     fails_at (λ (v : Vec Turn Global). list_any is_far v.items) clients i d within (sym (list_any-map (list_any is_far) (λ (v : Vec Turn Global). v.items) clients) ∙ near) in
     leb-false most_docs (get_or turns k e).doc (fails_at is_far turns k e here (ap (list_any is_far) is ∙ each))
@@ -97,10 +87,6 @@ room_for clients client turns plan at =
     let part = sum_by_more_le length clients client turns (slice_get_within clients client turns at) in
     omega (arith, ap length (get_or_from_slice_get clients client turns turns at))
 
-first_false : (a b : Bool) → (a || b) ≡ false → a ≡ false
-first_false true b none = cc
-first_false false b none = refl
-
 -- a plan has some clients, and no more than there may be
 pub some_clients : (clients : List (List Turn)) → refusal_of clients ≡ None → 1 ≤ length clients
 some_clients [] plan = absurd (cc)
@@ -109,4 +95,4 @@ some_clients (turns ∷ clients) plan = omega arith
 pub few_clients : (clients : List (List Turn)) → refusal_of clients ≡ None → length clients ≤ most_clients
 few_clients clients plan =
     ltb-false most_clients (length clients)
-    (first_false (nat_lt most_clients (length clients)) _ (first_false (nat_lt most_clients (length clients) || nat_lt most_turns (turn_count clients)) (list_any (list_any is_far) clients) (is_small clients plan)))
+    (or_parts (nat_lt most_clients (length clients)) _ (or_parts (nat_lt most_clients (length clients) || nat_lt most_turns (turn_count clients)) (list_any (list_any is_far) clients) (is_small clients plan)).0).0

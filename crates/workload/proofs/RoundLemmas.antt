@@ -1,11 +1,11 @@
 -- Rounds over all clients.
-use Rattle.std.proofs.Common.{◌≡◌, ◌∙◌, ◌⊎◌, ◌≤◌, ℕ, ◌+◌, ◌-◌, ◌<◌, ◌++◌, ◌∷◌, [], All, Bool, List, None, Some, ap, arith, drop, false, get_or, inl, inr, length, map, refl, slice_get, subst, suc, sym, take, true, zero}
+use Rattle.std.proofs.Common.{◌≡◌, ◌∙◌, ◌⊎◌, ◌≤◌, ℕ, ◌+◌, ◌-◌, ◌<◌, ◌++◌, ◌∷◌, [], All, Bool, List, None, Some, ap, arith, drop, false, get_or, inl, inr, length, map, refl, slice_get, subst, suc, sym, take, true}
 use Rattle.std.specs.Prelude.{option_and_then, sum_by}
 use Rattle.std.proofs.Math.ListN.{set}
-use Rattle.std.proofs.lemmas.Bool.{cases_eq}
+use Rattle.std.proofs.lemmas.Bool.{cases_eq, both_ways}
 use Rattle.std.proofs.lemmas.List.{drop_all, drop_more, length-drop, length-map, length-set, length_push, set-get_or, take_at}
 use Rattle.std.proofs.lemmas.List.Sums.{sum_by-set}
-use Rattle.std.proofs.lemmas.Option.{get_or_from_slice_get, slice_get-get_or, slice_get_cases, slice_get_within}
+use Rattle.std.proofs.lemmas.Option.{slice_get-get_or, slice_get_cases, slice_get_within}
 use Rattle.doc_register.specs.declared.op.Op.{Op}
 use Rattle.history.specs.declared.event.Event.{Event}
 use Rattle.recorder.specs.Pens.{PenState}
@@ -19,29 +19,13 @@ use Rattle.workload.specs.declared.target.Ticket.{Ticket}
 use Rattle.workload.specs.declared.turn.Turn.{Turn}
 use Rattle.workload.proofs.ClientLemmas.{longer_at_start, run_at_end}
 use Rattle.workload.proofs.RunningLemmas.{longer_by_each}
-use Rattle.version_pair.proofs.ListLemmas.{mapped_from}
+use Rattle.version_pair.proofs.ListLemmas.{mapped_from, from_set, get_snoc, none_is_not_some}
+use Rattle.recorder.proofs.ListLemmas.{all_at}
 
 module _ {X : Type 0} where
-  -- an element after one was set is the one that was set, or as before
-  pub from_set : (xs : List X) (i j : ℕ) (y z : X) → slice_get (set xs i y) j ≡ Some z → ((j ≡ i) × (z ≡ y)) ⊎ (slice_get xs j ≡ Some z)
-  from_set [] i j y z at = inr at
-  from_set (x ∷ xs) zero zero y z at = inl (refl, cc)
-  from_set (x ∷ xs) zero (suc j) y z at = inr at
-  from_set (x ∷ xs) (suc i) zero y z at = inr at
-  from_set (x ∷ xs) (suc i) (suc j) y z at =
-      elim (from_set xs i j y z at) [ inl here ↦ inl (ap suc here.0, here.1) | inr there ↦ inr there ]
-
-  -- an element after one was added is the one that was added, or as before
-  from_append : (xs : List X) (i : ℕ) (y z : X) → slice_get (xs ++ y ∷ []) i ≡ Some z → ((i ≡ length xs) × (z ≡ y)) ⊎ (slice_get xs i ≡ Some z)
-  from_append [] zero y z at = inl (refl, cc)
-  from_append [] (suc i) y z at = inr at
-  from_append (x ∷ xs) zero y z at = inr at
-  from_append (x ∷ xs) (suc i) y z at =
-      elim (from_append xs i y z at) [ inl here ↦ inl (ap suc here.0, here.1) | inr there ↦ inr there ]
-
   none_past : (xs : List X) (i : ℕ) → slice_get xs i ≡ None → drop i xs ≡ []
   none_past xs i none =
-      elim (slice_get_cases xs i).1 [ inl found ↦ absurd (let impossible : None ≡ Some found.0 = sym none ∙ found.2 in cc) | inr past ↦ drop_all i xs past.0 ]
+      elim (slice_get_cases xs i).1 [ inl found ↦ absurd (none_is_not_some found.0 (sym none ∙ found.2)) | inr past ↦ drop_all i xs past.0 ]
 
   -- a list of which a part was lent whole
   pub lent_back : (now old : List X) (count : ℕ) → length now ≡ count → take count (now ++ drop (length now) old) ≡ now
@@ -67,13 +51,13 @@ module _ {P : Type 0} where
         left = ap (λ n. drop n pens) longer ∙ (cc);
         within = omega arith;
         each = λ i p s at_pen at_seat.
-            elim (from_append seats i seat s at_seat) [
-              | inl here ↦
+            elim (get_snoc seats seat s i at_seat) [
+              | inr here ↦
                   let same : Some p ≡ Some pen =
                   sym at_pen ∙ ap (slice_get pens) here.0 ∙ slice_get-get_or pens (length seats) pen more ∙ (let first : get_or pens (length seats) pen ≡ pen = cc in ap Some first) in
                   let is_pen : pen ≡ p = cc in
-                  rw here.1 (subst (λ n. IsNew n p seat) (sym here.0) (subst (λ q. IsNew (length seats) q seat) is_pen new))
-              | inr there ↦ front.each i p s at_pen there
+                  rw (← here.1) (subst (λ n. IsNew n p seat) (sym here.0) (subst (λ q. IsNew (length seats) q seat) is_pen new))
+              | inl there ↦ front.each i p s at_pen there
             ];
       }
 
@@ -83,26 +67,22 @@ module _ {P : Type 0} where
       let within = front.within in
       record { count = omega arith; each = front.each }
 
+  fresh_at : (pens : List P) (seats : List (Seat P)) → AreNew pens seats → (i : ℕ) (d : Seat P) → i < length seats → IsNew i (get_or pens i d.pen) (get_or seats i d)
+  fresh_at pens seats new i d within =
+      new.each i (get_or pens i d.pen) (get_or seats i d) (slice_get-get_or pens i d.pen (omega (arith, new.count))) (slice_get-get_or seats i d within)
+
   pub new_clients : (pens : List P) (seats : List (Seat P)) (count : ℕ) → AreNew pens seats → length pens ≡ count
       → All (λ seat. seat.client < count) seats
-  new_clients pens seats count new same i d within =
-      let here : i < length pens = omega (arith, new.count) in
-      let fresh = new.each i (get_or pens i d.pen) (get_or seats i d) (slice_get-get_or pens i d.pen here) (slice_get-get_or seats i d within) in
-      omega (arith, fresh.client_is)
+  new_clients pens seats count new same i d within = omega (arith, new.count, (fresh_at pens seats new i d within).client_is)
 
   pub new_idle : (issued : Ticket → List ℕ → Op → Type 0) (state : P → PenState) (pens : List P) (seats : List (Seat P)) → AreNew pens seats
       → All (λ seat. IsOpenIfAny issued (state seat.pen).list seat.open_call) seats
   new_idle issued state pens seats new i d within =
-      let here : i < length pens = omega (arith, new.count) in
-      let fresh = new.each i (get_or pens i d.pen) (get_or seats i d) (slice_get-get_or pens i d.pen here) (slice_get-get_or seats i d within) in
-      subst (IsOpenIfAny issued (state (get_or seats i d).pen).list) (sym fresh.is_idle) tt
+      subst (IsOpenIfAny issued (state (get_or seats i d).pen).list) (sym (fresh_at pens seats new i d within).is_idle) tt
 
   pub new_pens : (is_ours : P → Type 0) (pens : List P) (seats : List (Seat P)) → AreNew pens seats → All is_ours pens
       → All (λ seat. is_ours seat.pen) seats
-  new_pens is_ours pens seats new all i d within =
-      let here : i < length pens = omega (arith, new.count) in
-      let fresh = new.each i (get_or pens i d.pen) (get_or seats i d) (slice_get-get_or pens i d.pen here) (slice_get-get_or seats i d within) in
-      subst is_ours (sym fresh.pen_is) (all i d.pen here)
+  new_pens is_ours pens seats new all i d within = subst is_ours (sym (fresh_at pens seats new i d within).pen_is) (all i d.pen (omega (arith, new.count)))
 
 module _ (issued : Ticket → List ℕ → Op → Type 0) (gave : Ticket → Progress → Type 0) (polls : ℕ) {P : Type 0} (state : P → PenState) (clients : List (List Turn)) where
   -- A round so far, in which the first i seats were visited.
@@ -131,7 +111,7 @@ module _ (issued : Ticket → List ℕ → Op → Type 0) (gave : Ticket → Pro
         elim (from_set now i j new later at_later) [
           | inl here ↦
               rw here.1 (visits.keeps j (state pen).list (seated.each j pen seat at_pen (ap (slice_get now) here.0 ∙ at)))
-          | inr there ↦ seated.each j pen later at_pen there
+          | inr there ↦ seated.each j pen later at_pen there.1
         ];
   }
 
@@ -144,8 +124,8 @@ module _ (issued : Ticket → List ℕ → Op → Type 0) (gave : Ticket → Pro
     count = length-set now i new ∙ round.count;
     keeps = λ pens seated. seated_after pens now i (get_or now i d) new told (slice_get-get_or now i d within) visits (round.keeps pens seated);
     fewer = λ _. fewer_still acted refl (sum_by-set (visits_left clients polls) now i new d within) (visits.fewer busy.0);
-    same = λ is_false. absurd (let impossible : true ≡ false = sym busy.1 ∙ is_false in cc);
-    done = λ is_false. absurd (let impossible : true ≡ false = sym busy.1 ∙ is_false in cc);
+    same = λ is_false. absurd (both_ways next is_false busy.1);
+    done = λ is_false. absurd (both_ways next is_false busy.1);
   }
     where
       fewer_still : (b : Bool) → acted ≡ b
@@ -223,8 +203,7 @@ module _ (issued : Ticket → List ℕ → Op → Type 0) (gave : Ticket → Pro
       let count : length done ≡ length pens = ap length are ∙ length-map seats (λ (seat : Seat P). seat.pen) ∙ seated.count in
       longer_by_each issued gave polls state clients pens done count (λ i pen p at_pen at_done.
       let found = mapped_from (λ (seat : Seat P). seat.pen) seats i p (ap (λ ps. slice_get ps i) (sym are) ∙ at_done) in
-      let rested : IsDone clients found.0 =
-      subst (IsDone clients) (get_or_from_slice_get seats i found.0 found.0 found.1) (all i found.0 (slice_get_within seats i found.0 found.1)) in
+      let rested : IsDone clients found.0 = all_at (IsDone clients) seats i found.0 all found.1 in
       subst (λ q. IsLongerByClient issued gave polls clients i (state pen).list (state q).list) found.2
       (done_has_run i (state pen).list found.0 (seated.each i pen found.0 at_pen found.1) rested))
 
@@ -233,5 +212,4 @@ module _ (issued : Ticket → List ℕ → Op → Type 0) (gave : Ticket → Pro
       → done ≡ map (λ seat. seat.pen) seats → All is_ours done
   pens_ours is_ours done seats all are i d within =
       let found = mapped_from (λ (seat : Seat P). seat.pen) seats i (get_or done i d) (ap (λ ps. slice_get ps i) (sym are) ∙ slice_get-get_or done i d within) in
-      let ours : is_ours (get_or seats i found.0).pen = all i found.0 (slice_get_within seats i found.0 found.1) in
-      subst is_ours found.2 (subst (λ (seat : Seat P). is_ours seat.pen) (get_or_from_slice_get seats i found.0 found.0 found.1) ours)
+      subst is_ours found.2 (all_at (λ (seat : Seat P). is_ours seat.pen) seats i found.0 all found.1)

@@ -19,28 +19,27 @@ pub visit-requires-clause-opened : goal.visit-requires-clause-opened
 visit-requires-clause-opened g c = c.loop-seat.invariant.calls c.loop-seat.seat-index c.seat-item.result (within g c)
 
 pub loop-seat-preserved : goal.loop-seat-preserved
-loop-seat-preserved g c = record {
-  round =
-      let here : c.loop-seat.seat-index < length c.loop-seat.seat-items = omega (arith, c.loop-seat-test.true, c.loop-seat.auto.seat-items) in
-      round_after g.T.Target.issued g.T.Target.gave c.args.polls g.X.Recording.pen_state c.args.plan.now _ c.loop-seat.seat-items c.loop-seat.seat-index
-      c.loop-seat.acted c.in_ok-visit.field-0 c.if-branch.acted c.seat-item.result c.visit.new.seat here
-      (elim c.if-branch.branch [ then-branch w ↦ inl (w.if-branch.true, w.acted-is) | else-branch w ↦ inr (w.if-branch.false, w.acted-is) ])
-      c.in_ok-visit.ensures.visits c.loop-seat.invariant.round;
-  once =
-      let here : c.loop-seat.seat-index < length c.loop-seat.seat-items = omega (arith, c.loop-seat-test.true, c.loop-seat.auto.seat-items) in
-      visited_after c.args.polls _ c.loop-seat.seat-items c.loop-seat.seat-index c.seat-item.result c.visit.new.seat here
-      c.in_ok-visit.ensures.once c.loop-seat.invariant.once;
-  clients =
-      let here : c.loop-seat.seat-index < length c.loop-seat.seat-items = omega (arith, c.loop-seat-test.true, c.loop-seat.auto.seat-items) in
-      All-set (λ seat. seat.client < length c.args.plan.now) c.loop-seat.seat-items c.loop-seat.seat-index c.visit.new.seat
-      (omega (arith, c.in_ok-visit.ensures.visits.same_client, c.loop-seat.invariant.clients c.loop-seat.seat-index c.seat-item.result here)) c.loop-seat.invariant.clients;
-  pens =
-      All-set (λ seat. g.X.Recording.has_pen c.args.recorder.now seat.pen) c.loop-seat.seat-items c.loop-seat.seat-index c.visit.new.seat
-      c.in_ok-visit.ensures.keeps c.loop-seat.invariant.pens;
-  calls =
-      All-set (λ seat. IsOpenIfAny g.T.Target.issued (g.X.Recording.pen_state seat.pen).list seat.open_call) c.loop-seat.seat-items c.loop-seat.seat-index
-      c.visit.new.seat c.in_ok-visit.ensures.opens c.loop-seat.invariant.calls;
-}
+loop-seat-preserved g c =
+    let here : c.loop-seat.seat-index < length c.loop-seat.seat-items = omega (arith, c.loop-seat-test.true, c.loop-seat.auto.seat-items) in
+    record {
+      round =
+          round_after g.T.Target.issued g.T.Target.gave c.args.polls g.X.Recording.pen_state c.args.plan.now _ c.loop-seat.seat-items c.loop-seat.seat-index
+          c.loop-seat.acted c.in_ok-visit.field-0 c.if-branch.acted c.seat-item.result c.visit.new.seat here
+          (elim c.if-branch.branch [ then-branch w ↦ inl (w.if-branch.true, w.acted-is) | else-branch w ↦ inr (w.if-branch.false, w.acted-is) ])
+          c.in_ok-visit.ensures.visits c.loop-seat.invariant.round;
+      once =
+          visited_after c.args.polls _ c.loop-seat.seat-items c.loop-seat.seat-index c.seat-item.result c.visit.new.seat here
+          c.in_ok-visit.ensures.once c.loop-seat.invariant.once;
+      clients =
+          All-set (λ seat. seat.client < length c.args.plan.now) c.loop-seat.seat-items c.loop-seat.seat-index c.visit.new.seat
+          (omega (arith, c.in_ok-visit.ensures.visits.same_client, c.loop-seat.invariant.clients c.loop-seat.seat-index c.seat-item.result here)) c.loop-seat.invariant.clients;
+      pens =
+          All-set (λ seat. g.X.Recording.has_pen c.args.recorder.now seat.pen) c.loop-seat.seat-items c.loop-seat.seat-index c.visit.new.seat
+          c.in_ok-visit.ensures.keeps c.loop-seat.invariant.pens;
+      calls =
+          All-set (λ seat. IsOpenIfAny g.T.Target.issued (g.X.Recording.pen_state seat.pen).list seat.open_call) c.loop-seat.seat-items c.loop-seat.seat-index
+          c.visit.new.seat c.in_ok-visit.ensures.opens c.loop-seat.invariant.calls;
+    }
 
 pub returns : goal.returns
 returns g c =
