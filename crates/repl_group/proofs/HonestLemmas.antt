@@ -17,6 +17,7 @@ use Rattle.repl_group.specs.Requests.{flight_of, is_queued, lost_from, lost_requ
 use Rattle.repl_group.specs.aids.Sound.{IsOwn, IsSound}
 use Rattle.std.proofs.lemmas.Option.{slice_get-map, slice_get_within}
 use Rattle.version_pair.proofs.ListLemmas.{from_set, get_front, get_snoc, mapped_from, none_is_not_some, same_some, slice_get-set_other, slice_get-set_same}
+use Rattle.repl_group.proofs.RequestLemmas.{still_queued}
 
 abbrev Held : Type 0
 Held = List (ℕ × HeldWrite)
@@ -182,20 +183,14 @@ module _ (term primary : ℕ) (requests : List Request) (copies : List ShardCopy
     by_places : {P : Type 0} (u : ℕ) (z : Request) → slice_get (requests ++ x ∷ []) u ≡ Some z → (z ≡ x → P) → (slice_get requests u ≡ Some z → P) → P
     by_places u z found here there = elim (get_snoc requests x z u found) [ inl is ↦ there is | inr is ↦ here (sym is.1) ]
 
-    at_queued : {P : Type 0} (r : Stage) → is_queued r ≡ true → (r ≡ Queued → P) → P
-    at_queued Queued is then_ = then_ refl
-    at_queued (InFlight q before) is then_ = absurd (true≢false (sym is))
-    at_queued (Answered r) is then_ = absurd (true≢false (sym is))
-    at_queued (Lost q) is then_ = absurd (true≢false (sym is))
-
     not_given : {P : Type 0} (y : Request) (q : Pair) → is_queued y.stage ≡ true → pair_given y.stage ≡ Some q → P
-    not_given y q is given = at_queued y.stage is (λ same. nothing_found (sym (ap pair_given same) ∙ given))
+    not_given y q is given = nothing_found (sym (ap pair_given (still_queued y.stage is)) ∙ given)
 
     not_flying : {P : Type 0} (y : Request) (f : Pair × DocState) → is_queued y.stage ≡ true → flight_of y.stage ≡ Some f → P
-    not_flying y f is flies = at_queued y.stage is (λ same. nothing_found (sym (ap flight_of same) ∙ flies))
+    not_flying y f is flies = nothing_found (sym (ap flight_of (still_queued y.stage is)) ∙ flies)
 
     not_acknowledged : {P : Type 0} (y : Request) (q : Pair) → is_queued y.stage ≡ true → pair_acknowledged y.stage ≡ Some q → P
-    not_acknowledged y q is told = at_queued y.stage is (λ same. nothing_found (sym (ap pair_acknowledged same) ∙ told))
+    not_acknowledged y q is told = nothing_found (sym (ap pair_acknowledged (still_queued y.stage is)) ∙ told)
 
   -- ---- a copy is changed
 
@@ -282,14 +277,8 @@ module _ (term primary : ℕ) (requests : List Request) (copies : List ShardCopy
     new_pair : (r : Request) (p : Pair) → r ≡ record x { stage = InFlight q before } → pair_given r.stage ≡ Some p → q ≡ p
     new_pair r p is given = same_some _ _ (ap (λ (k : Request). pair_given k.stage) (sym is) ∙ given)
 
-    not_given : {P : Type 0} (s : Stage) (p : Pair) → is_queued s ≡ true → pair_given s ≡ Some p → P
-    not_given Queued p is given = nothing_found given
-    not_given (InFlight p' b) p is given = absurd (true≢false (sym is))
-    not_given (Answered r) p is given = absurd (true≢false (sym is))
-    not_given (Lost p') p is given = absurd (true≢false (sym is))
-
     kept : (u : ℕ) (write : HeldWrite) → IsOwn requests u write → IsOwn (with_stage requests t x (InFlight q before)) u write
-    kept u write own = own_kept requests t x (InFlight q before) u write at (λ p given. not_given x.stage p queued given) own
+    kept u write own = own_kept requests t x (InFlight q before) u write at (λ p given. nothing_found (sym (ap pair_given (still_queued x.stage queued)) ∙ given)) own
 
     by_writes : (u : ℕ) (write : HeldWrite) → ((lookup (◌==◌ u) y.writes ≡ Some write) ⊎ ((u ≡ t) × (write ≡ write_of x q)))
         → IsOwn (with_stage requests t x (InFlight q before)) u write

@@ -2,7 +2,7 @@
 use Rattle.std.proofs.Common.{ℕ, zero, suc, ◌≡◌, ◌≢◌, ◌≤◌, ◌+◌, ◌-◌, ◌<◌, List, [], ◌∷◌, ◌++◌, get_or, length, refl, sym, ap, ◌∙◌, add-zero, one-add, arith, Option, Some, None, Bool, true, false, inl, inr}
 use Rattle.std.specs.Prelude.{◌==◌, ◌||◌, if◌then◌else◌, is_some, slice_get, unwrap_or}
 use Rattle.std.specs.Map.{lookup}
-use Rattle.std.proofs.lemmas.Bool.{eqb-true, eq-eqb, ne_eqb}
+use Rattle.std.proofs.lemmas.Bool.{eq-eqb, ne_eqb}
 use Rattle.std.proofs.lemmas.List.{get_or_append_left, length_push}
 use Rattle.std.proofs.lemmas.Option.{slice_get_read, unwrap_or-slice_get}
 use Rattle.std.proofs.Math.Bool.{or-false}
@@ -108,18 +108,10 @@ none_before es first t f log none (suc bound) (suc p) below early within =
 pub unheld_at : (es : List Logged) (first : List (ℕ × ℕ)) (t p : ℕ) (o : Option ℕ) → IsLog es first → lookup (◌==◌ t) first ≡ o → p ≤ length es
     → ((f : ℕ) → o ≡ Some f → p ≤ f) → holds (held_at (held_sets es) p) t ≡ false
 unheld_at es first t p o log is within early = none_before es first t p log none p p (omega arith) (omega arith) within where
-  same_ticket : (e : Logged) (i : ℕ) → t ≡ e.ticket → (f : ℕ) × (lookup (◌==◌ e.ticket) first ≡ Some f) × (f ≤ i) → i < p → true ≡ false
-  same_ticket e i same (f, at, below) less =
-      let here : lookup (◌==◌ t) first ≡ Some f = ap (λ u. lookup (◌==◌ u) first) same ∙ at in
-      let low : p ≤ f = early f (sym is ∙ here) in
-      absurd (omega (arith, low, below, less))
-
-  by_test : (e : Logged) (i : ℕ) (b : Bool) → (t == e.ticket) ≡ b → (f : ℕ) × (lookup (◌==◌ e.ticket) first ≡ Some f) × (f ≤ i) → i < p → b ≡ false
-  by_test e i true same there less = same_ticket e i (eqb-true t e.ticket same) there less
-  by_test e i false same there less = refl
-
   none : (i : ℕ) (e : Logged) → slice_get es i ≡ Some e → i < p → (t == e.ticket) ≡ false
-  none i e at less = by_test e i (t == e.ticket) refl (log.found i e at) less
+  none i e at less = ne_eqb t e.ticket (λ same.
+      let noted = log.found i e at in
+      let low : p ≤ noted.0 = early noted.0 (sym is ∙ (ap (λ u. lookup (◌==◌ u) first) same ∙ noted.1)) in absurd (omega (arith, low, noted.2, less)))
 
 -- a place of the log is at most the number of its writes
 pub place_within : (es : List Logged) (sets : List Writes) (p : ℕ) → held_sets es ≡ sets → p < length sets → p ≤ length es
@@ -170,48 +162,38 @@ log_after es first next e log before noted = record {
   ];
   within = λ t f at. bounded t f (lookup (◌==◌ e.ticket) first) refl (t == e.ticket) refl at;
 } where
+  -- what is noted where there was a write of the ticket, and where there was none
+  still : (t g : ℕ) → lookup (◌==◌ e.ticket) first ≡ Some g → lookup (◌==◌ t) next ≡ lookup (◌==◌ t) first
+  still t g is = noted t ∙ ap (λ o. if is_some o then lookup (◌==◌ t) first else (if t == e.ticket then Some (length es) else lookup (◌==◌ t) first)) is
+
+  fresh : (t : ℕ) (b : Bool) → lookup (◌==◌ e.ticket) first ≡ None → (t == e.ticket) ≡ b → lookup (◌==◌ t) next ≡ (if b then Some (length es) else lookup (◌==◌ t) first)
+  fresh t b is same =
+      noted t ∙ (ap (λ o. if is_some o then lookup (◌==◌ t) first else (if t == e.ticket then Some (length es) else lookup (◌==◌ t) first)) is
+      ∙ ap (λ c. if c then Some (length es) else lookup (◌==◌ t) first) same)
+
   -- the ticket of the write itself
   own : (i : ℕ) (x : Logged) → i ≡ length es → x ≡ e → (o : Option ℕ) → lookup (◌==◌ e.ticket) first ≡ o → (f : ℕ) × (lookup (◌==◌ x.ticket) next ≡ Some f) × (f ≤ i)
   own i x place same (Some g) is =
       let less : g < length es = log.within e.ticket g is in
-      (g, ap (λ (y : Logged). lookup (◌==◌ y.ticket) next) same ∙ (noted e.ticket ∙ (ap (λ o. if is_some o then lookup (◌==◌ e.ticket) first else (if e.ticket == e.ticket then Some (length es) else lookup (◌==◌ e.ticket) first)) is ∙ is)), omega (arith, less, place))
-  own i x place same None is = (
-    length es,
-    ap (λ (y : Logged). lookup (◌==◌ y.ticket) next) same ∙ (noted e.ticket ∙ (ap (λ o. if is_some o then lookup (◌==◌ e.ticket) first else (if e.ticket == e.ticket then Some (length es) else lookup (◌==◌ e.ticket) first)) is
-        ∙ ap (λ b. if b then Some (length es) else lookup (◌==◌ e.ticket) first) (eq-eqb e.ticket e.ticket refl))),
-    omega (arith, place),
-  )
+      (g, ap (λ (y : Logged). lookup (◌==◌ y.ticket) next) same ∙ (still e.ticket g is ∙ is), omega (arith, less, place))
+  own i x place same None is =
+      (length es, ap (λ (y : Logged). lookup (◌==◌ y.ticket) next) same ∙ fresh e.ticket true is (eq-eqb e.ticket e.ticket refl), omega (arith, place))
 
   -- what was noted stays
-  kept : (t f : ℕ) → lookup (◌==◌ t) first ≡ Some f → (o : Option ℕ) → lookup (◌==◌ e.ticket) first ≡ o → (b : Bool) → (t == e.ticket) ≡ b → lookup (◌==◌ t) next ≡ Some f
-  kept t f at (Some g) is b same = noted t ∙ (ap (λ o. if is_some o then lookup (◌==◌ t) first else (if t == e.ticket then Some (length es) else lookup (◌==◌ t) first)) is ∙ at)
-  kept t f at None is true same =
-      let here : lookup (◌==◌ t) first ≡ None = ap (λ u. lookup (◌==◌ u) first) (eqb-true t e.ticket same) ∙ is in
-      absurd (none_is_not_some f (sym here ∙ at))
-  kept t f at None is false same =
-      noted t ∙ (ap (λ o. if is_some o then lookup (◌==◌ t) first else (if t == e.ticket then Some (length es) else lookup (◌==◌ t) first)) is
-      ∙ (ap (λ b. if b then Some (length es) else lookup (◌==◌ t) first) same ∙ at))
+  kept : (t f : ℕ) → lookup (◌==◌ t) first ≡ Some f → (o : Option ℕ) → lookup (◌==◌ e.ticket) first ≡ o → lookup (◌==◌ t) next ≡ Some f
+  kept t f at (Some g) is = still t g is ∙ at
+  kept t f at None is = fresh t false is (ne_eqb t e.ticket (λ same. none_is_not_some f (sym (ap (λ u. lookup (◌==◌ u) first) same ∙ is) ∙ at))) ∙ at
 
   earlier : (i : ℕ) (x : Logged) → slice_get es i ≡ Some x → (f : ℕ) × (lookup (◌==◌ x.ticket) first ≡ Some f) × (f ≤ i) → (f : ℕ) × (lookup (◌==◌ x.ticket) next ≡ Some f) × (f ≤ i)
-  earlier i x old (f, at, below) = (f, kept x.ticket f at (lookup (◌==◌ e.ticket) first) refl (x.ticket == e.ticket) refl, below)
+  earlier i x old (f, at, below) = (f, kept x.ticket f at (lookup (◌==◌ e.ticket) first) refl, below)
 
   longer : length (es ++ e ∷ []) ≡ length es + 1
   longer = length_push es e
 
   bounded : (t f : ℕ) → (o : Option ℕ) → lookup (◌==◌ e.ticket) first ≡ o → (b : Bool) → (t == e.ticket) ≡ b → lookup (◌==◌ t) next ≡ Some f → f < length (es ++ e ∷ [])
-  bounded t f (Some g) is b same at =
-      let here : lookup (◌==◌ t) first ≡ Some f = sym (ap (λ o. if is_some o then lookup (◌==◌ t) first else (if t == e.ticket then Some (length es) else lookup (◌==◌ t) first)) is) ∙ (sym (noted t) ∙ at) in
-      let less : f < length es = log.within t f here in let more = longer in omega (arith, less)
-  bounded t f None is true same at =
-      let here : Some (length es) ≡ Some f =
-      sym (ap (λ o. if is_some o then lookup (◌==◌ t) first else (if t == e.ticket then Some (length es) else lookup (◌==◌ t) first)) is
-      ∙ ap (λ b. if b then Some (length es) else lookup (◌==◌ t) first) same) ∙ (sym (noted t) ∙ at) in
-      let number : length es ≡ f = same_some _ _ here in let more = longer in omega arith
-  bounded t f None is false same at =
-      let here : lookup (◌==◌ t) first ≡ Some f =
-      sym (ap (λ o. if is_some o then lookup (◌==◌ t) first else (if t == e.ticket then Some (length es) else lookup (◌==◌ t) first)) is
-      ∙ ap (λ b. if b then Some (length es) else lookup (◌==◌ t) first) same) ∙ (sym (noted t) ∙ at) in
-      let less : f < length es = log.within t f here in let more = longer in omega (arith, less)
+  bounded t f (Some g) is b same at = omega (arith, log.within t f (sym (still t g is) ∙ at), longer)
+  bounded t f None is true same at = let number : length es ≡ f = same_some _ _ (sym (fresh t true is same) ∙ at) in omega (arith, longer)
+  bounded t f None is false same at = omega (arith, log.within t f (sym (fresh t false is same) ∙ at), longer)
 
 -- the places after it
 pub sets_after : (es : List Logged) (sets : List Writes) (e : Logged) → held_sets es ≡ sets → held_sets (es ++ e ∷ []) ≡ sets ++ (held_at sets e.before ++ (e.ticket, e.write) ∷ []) ∷ []

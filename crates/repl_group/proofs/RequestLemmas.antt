@@ -194,11 +194,14 @@ apart-set xs t x s apart alone i j a b at_i at_j fly_i fly_j same =
           alone (set_flies b second.1 fly_j) i a first.1 fly_i (same ∙ ap (λ (q : Request). q.doc) second.1) ∙ sym second.0
       by_places (inr first) (inr second) = apart i j a b first.1 second.1 fly_i fly_j same
 
+pub still_queued : (s : Stage) → is_queued s ≡ true → s ≡ Queued
+still_queued Queued is = refl
+still_queued (InFlight q before) is = absurd (true≢false (sym is))
+still_queued (Answered r) is = absurd (true≢false (sym is))
+still_queued (Lost q) is = absurd (true≢false (sym is))
+
 grounded : (s : Stage) → is_queued s ≡ true → is_in_flight s ≡ false
-grounded Queued is = refl
-grounded (InFlight q before) is = absurd (true≢false (sym is))
-grounded (Answered r) is = refl
-grounded (Lost q) is = refl
+grounded s is = ap is_in_flight (still_queued s is)
 
 pub never_flies : {P : Type 0} → false ≡ true → P
 never_flies impossible = absurd (false≢true impossible)

@@ -34,6 +34,7 @@ use Rattle.version_pair.proofs.ListLemmas.{same_some}
 use Rattle.repl_group.proofs.ListLemmas.{all_pass, from_replicate}
 use Rattle.doc_register.proofs.RunLemmas.{shown_takes_none}
 use Rattle.version_pair.proofs.TruthLemmas.{both}
+use Rattle.repl_group.proofs.RequestLemmas.{still_queued}
 
 -- ---- which of two
 
@@ -55,10 +56,7 @@ abbrev Sound : GroupState → Type 0
 Sound w = IsSound w.term w.primary w.requests w.copies
 
 unanswered : (s : Stage) (r : Reply) → is_queued s ≡ true → pair_taken r None ≡ None → pair_given (Answered r) ≡ pair_given s
-unanswered Queued r is none = none
-unanswered (InFlight q b) r is none = absurd (true≢false (sym is))
-unanswered (Answered r') r is none = absurd (true≢false (sym is))
-unanswered (Lost q) r is none = absurd (true≢false (sym is))
+unanswered s r is none = none ∙ sym (ap pair_given (still_queued s is))
 
 -- the pair of a flight
 flight_given : (s : Stage) (f : Pair × DocState) → flight_of s ≡ Some f → pair_given s ≡ Some f.0
