@@ -18,20 +18,22 @@ use std::test::Fail;
 use std::thread::Threads;
 use version_pair::{DocId, Pair};
 
-/// A plan of so many clients, each with so many gets of document 0.
-pub fn gets(alloc: Global, clients: usize, count: usize) -> Result<Plan, Fail> {
+/// A plan of so many clients, each with so many turns of this kind on document 0.
+pub fn alike(alloc: Global, clients: usize, count: usize, kind: Kind) -> Result<Plan, Fail> {
     let mut lists = Vec::new(alloc);
     for _ in 0..clients {
         let mut turns = Vec::new(alloc);
         for _ in 0..count {
-            turns.push(Turn {
-                doc: 0,
-                kind: Kind::Get,
-            })?;
+            turns.push(Turn { doc: 0, kind })?;
         }
         lists.push(turns)?;
     }
     Ok(Plan::of(lists)?)
+}
+
+/// A plan of so many clients, each with so many gets of document 0.
+pub fn gets(alloc: Global, clients: usize, count: usize) -> Result<Plan, Fail> {
+    alike(alloc, clients, count, Kind::Get)
 }
 
 /// How the clients of a plan are run.

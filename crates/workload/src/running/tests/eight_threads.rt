@@ -1,55 +1,19 @@
 ghost use Rattle.std.specs.Prelude.{◌<◌, length};
 
-use crate::plan::Plan;
 use crate::running::run_clients;
-use crate::target::{Progress, Target, TargetFault, Ticket};
-use crate::turn::{Kind, Turn};
+use crate::target::Progress;
+use crate::testing::{Slow, alike};
+use crate::turn::Kind;
 use doc_register::Op;
 use history::{Event, History};
 use recorder::{ClockRecorder, CloseFault};
-use std::alloc::Global;
-use std::sync::Wait;
+use std::sync::atomic::AtomicU64;
 use std::test::Fail;
-use version_pair::DocId;
 
 // How many clients there are, and how many writes each asks for: with their endings each records 100,000 events.
 const CLIENTS: usize = 8;
 
 const WRITES: usize = 50_000;
-
-// A plan of the clients, each with its writes of one document.
-fn writes(alloc: Global) -> Result<Plan, Fail> {
-    let mut lists = Vec::new(alloc);
-    for _ in 0..CLIENTS {
-        let mut turns = Vec::new(alloc);
-        for _ in 0..WRITES {
-            turns.push(Turn {
-                doc: 0,
-                kind: Kind::Put,
-            })?;
-        }
-        lists.push(turns)?;
-    }
-    Ok(Plan::of(lists)?)
-}
-
-// A target that tells of nothing what becomes of it.
-#[derive(Drop)]
-struct Silent;
-
-impl Target for Silent {
-    ghost issued = { λ _ _ _. Unit {0} };
-
-    ghost gave = { λ _ _. Unit {0} };
-
-    fn submit<R: Wait>(&self, _rt: &R, _id: &DocId, _op: &Op) -> Result<Ticket, TargetFault> {
-        Ok(Ticket(0))
-    }
-
-    fn poll<R: Wait>(&self, _rt: &R, _ticket: Ticket) -> Result<Progress, TargetFault> {
-        Ok(Progress::Unknown)
-    }
-}
 
 // What a walk over the events knows of a client: how many writes it asked for, and the call of it that is open.
 #[derive(Clone, Copy, Debug, Drop)]
@@ -108,10 +72,14 @@ fn is_next(seen: &mut [Seen; CLIENTS], history: &History, place: usize) -> bool
 #[test]
 fn eight_threads(rt: HostRuntime) -> Result<(), Fail> {
     let alloc = rt.alloc();
-    let plan = writes(alloc)?;
+    let plan = alike(alloc, CLIENTS, WRITES, Kind::Put)?;
+    let silent = Slow {
+        waits: AtomicU64::new(0),
+        end: Progress::Unknown,
+    };
     let (recorder, pens) = ClockRecorder::start(alloc, CLIENTS)?;
     assert_eq!(rt; plan.clients(), pens.len());
-    let pens = run_clients(&rt, alloc, &plan, &Silent, &recorder, pens, 1)?;
+    let pens = run_clients(&rt, alloc, &plan, &silent, &recorder, pens, 1)?;
     let Ok(history) = recorder.close(pens) else {
         return Err("a history".into());
     };
