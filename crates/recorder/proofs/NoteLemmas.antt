@@ -1,12 +1,12 @@
 -- What a pen notes stays right where an entry is added.
-use Rattle.std.proofs.Common.{ℕ, suc, inl, inr, take, ◌≡◌, ◌<◌, ◌≤◌, List, [], ◌∷◌, ◌++◌, refl, sym, ap, subst, ◌∙◌, arith, Option, Some, None, slice_get, All, Bool, true, false, length, ne_eqb}
+use Rattle.std.proofs.Common.{ℕ, suc, inl, inr, take, ◌≡◌, ◌<◌, ◌≤◌, List, [], ◌∷◌, ◌++◌, refl, sym, ap, subst, ◌∙◌, arith, Option, Some, None, slice_get, All, Bool, true, false, length, ne_eqb, get_or}
 use Rattle.std.specs.Prelude.{◌==◌, ◌||◌, cond, if◌then◌else◌, option_and_then, option_map}
 use Rattle.std.specs.List.{list_any}
 use Rattle.std.specs.Map.{lookup}
-use Rattle.std.specs.Option.{option_map_or}
+use Rattle.std.specs.Option.{option_map_or, option_or}
 use Rattle.std.proofs.lemmas.Bool.{eqb-true}
-use Rattle.std.proofs.lemmas.List.Elements.{All-head, All-tail, All-push}
-use Rattle.std.proofs.lemmas.List.Folds.{list_any-append}
+use Rattle.std.proofs.lemmas.List.Elements.{All-head, All-tail, All-push, All-map}
+use Rattle.std.proofs.lemmas.List.Folds.{list_any-append, list_any_none}
 use Rattle.std.proofs.lemmas.List.Quantifiers.{all_pairs_push}
 use Rattle.doc_register.specs.declared.op.Op.{Op}
 use Rattle.doc_register.specs.Register.{fits}
@@ -30,11 +30,6 @@ use Rattle.recorder.proofs.ListLemmas.{all_at}
 
 -- ---- the operation of a call, entry by entry
 
--- the first of two values that is there
-abbrev pub first_of_two : Option Op → Option Op → Option Op
-first_of_two None o = o
-first_of_two (Some op) o = Some op
-
 -- the operation of the call numbered n, where the event is that call
 abbrev pub op_if : ℕ → Event → Option Op
 op_if n e = if is_call n e then op_named e else None
@@ -44,38 +39,38 @@ later : (e : Event) (es : List Event) (o : Option ℕ) → option_and_then op_na
 later e es None = refl
 later e es (Some i) = refl
 
-op_of-cons : (e : Event) (es : List Event) (n : ℕ) → op_of (e ∷ es) n ≡ first_of_two (op_if n e) (op_of es n)
+op_of-cons : (e : Event) (es : List Event) (n : ℕ) → op_of (e ∷ es) n ≡ option_or (op_if n e) (op_of es n)
 op_of-cons (Call h m d op) es n = by_number (m == n) where
   by_number : (b : Bool)
       → option_and_then op_named (option_and_then (slice_get (Call h m d op ∷ es)) (if b then Some 0 else option_map suc (place_of (is_call n) es)))
-      ≡ first_of_two (if b then Some op else None) (op_of es n)
+      ≡ option_or (if b then Some op else None) (op_of es n)
   by_number true = refl
   by_number false = later (Call h m d op) es (place_of (is_call n) es)
 op_of-cons (Reply m r) es n = later (Reply m r) es (place_of (is_call n) es)
 op_of-cons (Lost m) es n = later (Lost m) es (place_of (is_call n) es)
 
-no_more : (o : Option Op) → first_of_two o None ≡ o
-no_more None = refl
-no_more (Some op) = refl
+option_or-none : (o : Option Op) → option_or o None ≡ o
+option_or-none None = refl
+option_or-none (Some op) = refl
 
-first_assoc : (a b c : Option Op) → first_of_two a (first_of_two b c) ≡ first_of_two (first_of_two a b) c
-first_assoc None b c = refl
-first_assoc (Some op) b c = refl
+option_or_assoc : (a b c : Option Op) → option_or a (option_or b c) ≡ option_or (option_or a b) c
+option_or_assoc None b c = refl
+option_or_assoc (Some op) b c = refl
 
-pub op_of-snoc : (list : List (ℕ × Event)) (x : ℕ × Event) (n : ℕ) → op_of (events_in (list ++ x ∷ [])) n ≡ first_of_two (op_of (events_in list) n) (op_if n x.1)
-op_of-snoc [] x n = op_of-cons x.1 [] n ∙ no_more (op_if n x.1)
+pub op_of-snoc : (list : List (ℕ × Event)) (x : ℕ × Event) (n : ℕ) → op_of (events_in (list ++ x ∷ [])) n ≡ option_or (op_of (events_in list) n) (op_if n x.1)
+op_of-snoc [] x n = op_of-cons x.1 [] n ∙ option_or-none (op_if n x.1)
 op_of-snoc (e ∷ es) x n =
     op_of-cons e.1 (events_in (es ++ x ∷ [])) n
-    ∙ (ap (first_of_two (op_if n e.1)) (op_of-snoc es x n)
-    ∙ (first_assoc (op_if n e.1) (op_of (events_in es) n) (op_if n x.1)
-    ∙ ap (λ o. first_of_two o (op_if n x.1)) (sym (op_of-cons e.1 (events_in es) n))))
+    ∙ (ap (option_or (op_if n e.1)) (op_of-snoc es x n)
+    ∙ (option_or_assoc (op_if n e.1) (op_of (events_in es) n) (op_if n x.1)
+    ∙ ap (λ o. option_or o (op_if n x.1)) (sym (op_of-cons e.1 (events_in es) n))))
 
 pub is_ended-snoc : (list : List (ℕ × Event)) (x : ℕ × Event) (n : ℕ) → is_ended (list ++ x ∷ []) n ≡ (is_ended list n || is_ending n x.1)
 is_ended-snoc list x n =
     ap (list_any (is_ending n)) (map_push (λ (e : ℕ × Event). e.1) list x)
     ∙ (list_any-append (is_ending n) (events_in list) (x.1 ∷ []) ∙ ap (λ b. is_ended list n || b) (or-false (is_ending n x.1)))
 
--- ---- a number above all in the list is in no entry
+-- ---- which numbers are in the list
 
 abbrev AreFormed : List (ℕ × Event) → Type 0
 AreFormed list = All (λ entry. IsEntryAt entry.0 entry.1) list
@@ -86,34 +81,10 @@ AreBelow list k = All (λ entry. entry.0 < k) list
 other : (m n k : ℕ) → m ≤ n → n < k → (m == k) ≡ false
 other m n k up below = ne_eqb m k (λ same. absurd (omega arith))
 
-no_op : (n k : ℕ) (e : Event) → IsEntryAt n e → n < k → op_if k e ≡ None
-no_op n k (Call h m d op) formed below = ap (λ b. if b then Some op else None) (other m n k (let same : m ≡ n = formed.0 in omega arith) below)
-no_op n k (Reply m r) formed below = refl
-no_op n k (Lost m) formed below = refl
-
 no_ending : (n k : ℕ) (e : Event) → IsEntryAt n e → n < k → is_ending k e ≡ false
 no_ending n k (Call h m d op) formed below = refl
 no_ending n k (Reply m r) formed below = other m n k (omega arith) below
 no_ending n k (Lost m) formed below = other m n k (omega arith) below
-
-uncalled : (list : List (ℕ × Event)) (k : ℕ) → AreFormed list → AreBelow list k → op_of (events_in list) k ≡ None
-uncalled [] k formed below = refl
-uncalled (e ∷ es) k formed below =
-    let here : op_if k e.1 ≡ None = no_op e.0 k e.1 (All-head (λ entry. IsEntryAt entry.0 entry.1) e es formed) (All-head (λ entry. entry.0 < k) e es below) in
-    op_of-cons e.1 (events_in es) k
-    ∙ (ap (λ o. first_of_two o (op_of (events_in es) k)) here
-    ∙ uncalled es k (All-tail (λ entry. IsEntryAt entry.0 entry.1) e es formed) (All-tail (λ entry. entry.0 < k) e es below))
-
-unended : (list : List (ℕ × Event)) (k : ℕ) → AreFormed list → AreBelow list k → is_ended list k ≡ false
-unended [] k formed below = refl
-unended (e ∷ es) k formed below =
-    let here : is_ending k e.1 ≡ false = no_ending e.0 k e.1 (All-head (λ entry. IsEntryAt entry.0 entry.1) e es formed) (All-head (λ entry. entry.0 < k) e es below) in
-    ap (λ b. b || is_ended es k) here
-    ∙ unended es k (All-tail (λ entry. IsEntryAt entry.0 entry.1) e es formed) (All-tail (λ entry. entry.0 < k) e es below)
-
--- a number above all in a pen's list is that of no call in it
-pub unused_above : (list : List (ℕ × Event)) (k : ℕ) → IsPenList list → AreBelow list k → IsUnused k list
-unused_above list k kept below = (uncalled list k kept.formed below, unended list k kept.formed below)
 
 -- where a call is in the list, in which entry
 pub record CalledIn (list : List (ℕ × Event)) (m : ℕ) (op : Op) : Type 0 where
@@ -121,41 +92,52 @@ pub record CalledIn (list : List (ℕ × Event)) (m : ℕ) (op : Op) : Type 0 wh
   pub document : List ℕ
   pub here : slice_get list place ≡ Some (m, Call 0 m document op)
 
+further : (x : ℕ × Event) (es : List (ℕ × Event)) (m : ℕ) (op : Op) → CalledIn es m op → CalledIn (x ∷ es) m op
+further x es m op found = record { place = suc found.place; document = found.document; here = found.here }
+
 pub called_entry : (list : List (ℕ × Event)) (m : ℕ) (op : Op) → AreFormed list → op_of (events_in list) m ≡ Some op → CalledIn list m op
 called_entry [] m op formed called = absurd (none_is_not_some op called)
-called_entry (e ∷ es) m op formed called =
-    by_entry e (op_if m e.1) refl (All-head (λ entry. IsEntryAt entry.0 entry.1) e es formed)
-    (called_entry es m op (All-tail (λ entry. IsEntryAt entry.0 entry.1) e es formed))
-    (sym (op_of-cons e.1 (events_in es) m) ∙ called) where
-      later : (x : ℕ × Event) → CalledIn es m op → CalledIn (x ∷ es) m op
-      later x found = record { place = suc found.place; document = found.document; here = found.here }
+called_entry ((k, Call h n d o) ∷ es) m op formed called =
+    by_number (n == m) refl (called_entry es m op (All-tail (λ entry. IsEntryAt entry.0 entry.1) (k, Call h n d o) es formed)) (sym (op_of-cons (Call h n d o) (events_in es) m) ∙ called) where
+      entry : IsEntryAt k (Call h n d o)
+      entry = All-head (λ entry. IsEntryAt entry.0 entry.1) (k, Call h n d o) es formed
 
-      first : (k n h : ℕ) (d : List ℕ) (o : Op) → n ≡ k → h ≡ 0 → n ≡ m → o ≡ op → CalledIn ((k, Call h n d o) ∷ es) m op
-      first k n h d o own shard number same = record {
-        place = 0;
-        document = d;
-        here = ap (λ (x : ℕ × Event). Some x)
-            (ap (λ q. (q, Call h n d o)) (sym own ∙ number) ∙ (ap (λ q. (m, Call h q d o)) number ∙ (ap (λ q. (m, Call q m d o)) shard ∙ ap (λ q. (m, Call 0 m d q)) same)));
-      }
-
-      by_call : (k n h : ℕ) (d : List ℕ) (o : Op) (b : Bool) → (n == m) ≡ b → n ≡ k → h ≡ 0 → (if b then Some o else None) ≡ Some op → CalledIn ((k, Call h n d o) ∷ es) m op
-      by_call k n h d o true is own shard some = first k n h d o own shard (eqb-true n m is) (same_some o op some)
-      by_call k n h d o false is own shard some = absurd (none_is_not_some op some)
-
-      by_event : (x : ℕ × Event) → IsEntryAt x.0 x.1 → op_if m x.1 ≡ Some op → CalledIn (x ∷ es) m op
-      by_event (k, Call h n d o) entry some = by_call k n h d o (n == m) refl entry.0 entry.1 some
-      by_event (k, Reply n r) entry some = absurd (none_is_not_some op some)
-      by_event (k, Lost n) entry some = absurd (none_is_not_some op some)
-
-      by_entry : (x : ℕ × Event) (o : Option Op) → op_if m x.1 ≡ o → IsEntryAt x.0 x.1 → (op_of (events_in es) m ≡ Some op → CalledIn es m op)
-          → first_of_two o (op_of (events_in es) m) ≡ Some op → CalledIn (x ∷ es) m op
-      by_entry x None is entry rest found = later x (rest found)
-      by_entry x (Some o) is entry rest found = by_event x entry (is ∙ found)
+      by_number : (b : Bool) → (n == m) ≡ b → (op_of (events_in es) m ≡ Some op → CalledIn es m op) → option_or (if b then Some o else None) (op_of (events_in es) m) ≡ Some op → CalledIn ((k, Call h n d o) ∷ es) m op
+      by_number true is rest found =
+          let number : n ≡ m = eqb-true n m is in
+          record {
+            place = 0;
+            document = d;
+            here = ap (λ (x : ℕ × Event). Some x)
+                (ap (λ q. (q, Call h n d o)) (sym entry.0 ∙ number) ∙ (ap (λ q. (m, Call h q d o)) number ∙ (ap (λ q. (m, Call q m d o)) entry.1 ∙ ap (λ q. (m, Call 0 m d q)) (same_some o op found))));
+          }
+      by_number false is rest found = further (k, Call h n d o) es m op (rest found)
+called_entry ((k, Reply n r) ∷ es) m op formed called =
+    further (k, Reply n r) es m op
+    (called_entry es m op (All-tail (λ entry. IsEntryAt entry.0 entry.1) (k, Reply n r) es formed) (sym (op_of-cons (Reply n r) (events_in es) m) ∙ called))
+called_entry ((k, Lost n) ∷ es) m op formed called =
+    further (k, Lost n) es m op
+    (called_entry es m op (All-tail (λ entry. IsEntryAt entry.0 entry.1) (k, Lost n) es formed) (sym (op_of-cons (Lost n) (events_in es) m) ∙ called))
 
 -- a call in the list has a number below one that is above all
 called_below : (list : List (ℕ × Event)) (k m : ℕ) (op : Op) → AreFormed list → AreBelow list k → op_of (events_in list) m ≡ Some op → m < k
 called_below list k m op formed below called =
     let found = called_entry list m op formed called in all_at (λ (entry : ℕ × Event). entry.0 < k) list found.place (m, Call 0 m found.document op) below found.here
+
+-- so one above all is that of no call in it
+uncalled : (list : List (ℕ × Event)) (k : ℕ) → AreFormed list → AreBelow list k → op_of (events_in list) k ≡ None
+uncalled list k formed below = by_op (op_of (events_in list) k) refl where
+  by_op : (o : Option Op) → op_of (events_in list) k ≡ o → o ≡ None
+  by_op None is = refl
+  by_op (Some op) is = let less : k < k = called_below list k k op formed below is in absurd (omega arith)
+
+unended : (list : List (ℕ × Event)) (k : ℕ) → AreFormed list → AreBelow list k → is_ended list k ≡ false
+unended list k formed below =
+    list_any_none (is_ending k) (events_in list)
+    (All-map (λ e. is_ending k e ≡ false) (λ (entry : ℕ × Event). entry.1) list (λ i d within. no_ending (get_or list i d).0 k (get_or list i d).1 (formed i d within) (below i d within)))
+
+pub unused_above : (list : List (ℕ × Event)) (k : ℕ) → IsPenList list → AreBelow list k → IsUnused k list
+unused_above list k kept below = (uncalled list k kept.formed below, unended list k kept.formed below)
 
 -- ---- what is noted
 
@@ -163,10 +145,10 @@ abbrev own : Option Op → Bool → Option OwnCall
 own o b = option_map (λ op. record { op = op; is_ended = b }) o
 
 own-snoc : (list : List (ℕ × Event)) (x : ℕ × Event) (n : ℕ)
-    → own_call_of (list ++ x ∷ []) n ≡ own (first_of_two (op_of (events_in list) n) (op_if n x.1)) (is_ended list n || is_ending n x.1)
+    → own_call_of (list ++ x ∷ []) n ≡ own (option_or (op_of (events_in list) n) (op_if n x.1)) (is_ended list n || is_ending n x.1)
 own-snoc list x n =
     ap (λ o. own o (is_ended (list ++ x ∷ []) n)) (op_of-snoc list x n)
-    ∙ ap (own (first_of_two (op_of (events_in list) n) (op_if n x.1))) (is_ended-snoc list x n)
+    ∙ ap (own (option_or (op_of (events_in list) n) (op_if n x.1))) (is_ended-snoc list x n)
 
 found_after_call : (list : List (ℕ × Event)) (old new : List (ℕ × OwnCall)) (k : ℕ) (d : List ℕ) (op : Op)
     → AreNoted list old → AreBelow list k → IsNotedAt k (record { op = op; is_ended = false }) old new
@@ -175,14 +157,14 @@ found_after_call list old new k d op noted below at n =
     at n ∙ (by_number (k == n) refl ∙ sym (own-snoc list (k, Call 0 k d op) n)) where
       by_number : (b : Bool) → (k == n) ≡ b
           → cond b (Some (record { op = op; is_ended = false })) (lookup (◌==◌ n) old)
-          ≡ own (first_of_two (op_of (events_in list) n) (if b then Some op else None)) (is_ended list n || false)
+          ≡ own (option_or (op_of (events_in list) n) (if b then Some op else None)) (is_ended list n || false)
       by_number true is =
           let number : k ≡ n = eqb-true k n is in
           let bare : op_of (events_in list) n ≡ None = subst (λ m. op_of (events_in list) m ≡ None) number (uncalled list k noted.list_kept.formed below) in
           let open_ : is_ended list n ≡ false = subst (λ m. is_ended list m ≡ false) number (unended list k noted.list_kept.formed below) in
-          sym (ap (λ o. own (first_of_two o (Some op)) (is_ended list n || false)) bare ∙ ap (λ b. own (Some op) (b || false)) open_)
+          sym (ap (λ o. own (option_or o (Some op)) (is_ended list n || false)) bare ∙ ap (λ b. own (Some op) (b || false)) open_)
       by_number false is =
-          noted.found n ∙ sym (ap (λ o. own o (is_ended list n || false)) (no_more (op_of (events_in list) n)) ∙ ap (own (op_of (events_in list) n)) (or-false (is_ended list n)))
+          noted.found n ∙ sym (ap (λ o. own o (is_ended list n || false)) (option_or-none (op_of (events_in list) n)) ∙ ap (own (op_of (events_in list) n)) (or-false (is_ended list n)))
 
 -- an ending of the call numbered m
 record Ends (m : ℕ) (e : Event) : Type 0 where
@@ -194,9 +176,9 @@ found_after_ending : (list : List (ℕ × Event)) (old new : List (ℕ × OwnCal
     → (n : ℕ) → lookup (◌==◌ n) new ≡ own_call_of (list ++ (k, e) ∷ []) n
 found_after_ending list old new k m e op noted ends called at n =
     at n ∙ (by_number (m == n) refl ∙ (sym (tidy ∙ ap (λ b. own (op_of (events_in list) n) (is_ended list n || b)) (ends.ending n)) ∙ sym (own-snoc list (k, e) n))) where
-      tidy : own (first_of_two (op_of (events_in list) n) (op_if n e)) (is_ended list n || is_ending n e) ≡ own (op_of (events_in list) n) (is_ended list n || is_ending n e)
-      tidy = ap (λ o. own (first_of_two (op_of (events_in list) n) o) (is_ended list n || is_ending n e)) (ends.no_call n)
-          ∙ ap (λ o. own o (is_ended list n || is_ending n e)) (no_more (op_of (events_in list) n))
+      tidy : own (option_or (op_of (events_in list) n) (op_if n e)) (is_ended list n || is_ending n e) ≡ own (op_of (events_in list) n) (is_ended list n || is_ending n e)
+      tidy = ap (λ o. own (option_or (op_of (events_in list) n) o) (is_ended list n || is_ending n e)) (ends.no_call n)
+          ∙ ap (λ o. own o (is_ended list n || is_ending n e)) (option_or-none (op_of (events_in list) n))
 
       by_number : (b : Bool) → (m == n) ≡ b
           → cond b (Some (record { op = op; is_ended = true })) (lookup (◌==◌ n) old) ≡ own (op_of (events_in list) n) (is_ended list n || b)
