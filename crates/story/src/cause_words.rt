@@ -1,5 +1,5 @@
 use crate::event_lines::EventLines;
-use crate::link_words::{reached_words, reply_line};
+use crate::link_words::reached_words;
 use crate::reason::Reason;
 use crate::told_line::ToldLine;
 use crate::words::pair_words;
@@ -13,7 +13,7 @@ fn shower_words(alloc: Global, reason: &Reason, lines: &EventLines) -> Result<St
     match &reason.shower {
         Some(shower) => {
             let no = shower.no;
-            let line = reply_line(shower, lines);
+            let line = lines.reply(shower);
             format!(in alloc; " (call {no}, line {line})")
         }
         None => String::from_str(alloc, ""),
@@ -167,7 +167,7 @@ fn unwritten(
 
 /// What follows from the reply to the call that has no place, and why it can't be, in sentences.
 pub fn cause_words(alloc: Global, reason: &Reason, lines: &EventLines) -> Result<String, NoMemory> {
-    let line = reply_line(&reason.stop, lines);
+    let line = lines.reply(&reason.stop);
     match reason.cause {
         Cause::NeverRefused => String::from_str(
             alloc,

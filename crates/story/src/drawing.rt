@@ -95,10 +95,8 @@ fn places_of(alloc: Global, calls: &[Call<'_>]) -> Result<Vec<usize>, NoMemory> 
 fn x_of(places: &[usize], place: usize) -> u64 {
     let rank = places.partition_point(|other| *other < place) as u64;
     let count = (places.len() as u64).saturating_add(1);
-    let step = match RIGHT.saturating_sub(LEFT).checked_div(count) {
-        Some(step) => step.min(WIDEST_STEP),
-        None => WIDEST_STEP,
-    };
+    let step = RIGHT.saturating_sub(LEFT).checked_div(count);
+    let step = step.map_or(WIDEST_STEP, |step| step.min(WIDEST_STEP));
     LEFT.saturating_add(rank.saturating_mul(step)).min(RIGHT)
 }
 

@@ -1,5 +1,6 @@
 use crate::told_line::{ToldLine, time_of};
 use api_lines::lines::is_blank;
+use history::Rec;
 use jiff::Timestamp;
 use std::alloc::Global;
 use version_pair::NoMemory;
@@ -59,5 +60,10 @@ impl EventLines {
             number: self.number(place),
             time,
         }
+    }
+
+    /// The line of the reply to the call; of the call where there is none.
+    pub fn reply(&self, record: &Rec) -> ToldLine {
+        self.line(record.heard.map_or(record.call_at, |heard| heard.0))
     }
 }

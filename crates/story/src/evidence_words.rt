@@ -1,17 +1,11 @@
 use crate::calls::{Call, call_of, id_words};
 use crate::event_lines::EventLines;
-use crate::told_line::ToldLine;
-use crate::words::{op_words, pair_words};
+use crate::words::{op_words, pair_words, untold_kind};
 use doc_register::Conflicts;
 use evidence::Refuted;
 use history::History;
 use std::alloc::Global;
 use version_pair::{NoMemory, Pair};
-
-// The line of the reply to a call; of the call where there is none.
-fn reply_line(call: &Call<'_>, lines: &EventLines) -> ToldLine {
-    lines.line(call.reply_place().unwrap_or(call.record.call_at))
-}
 
 // Two writes with one version.
 fn pair_twice(
@@ -25,8 +19,8 @@ fn pair_twice(
     let shard = first.shard;
     let one = first.record.no;
     let two = second.record.no;
-    let line = reply_line(first, lines);
-    let other = reply_line(second, lines);
+    let line = lines.reply(&first.record);
+    let other = lines.reply(&second.record);
     let id = id_words(alloc, first.id)?;
     let other_id = id_words(alloc, second.id)?;
     format!(in alloc;
@@ -44,12 +38,9 @@ fn no_writer(
 ) -> Result<String, NoMemory> {
     let pair = pair_words(alloc, pair)?;
     let no = get.record.no;
-    let line = reply_line(get, lines);
+    let line = lines.reply(&get.record);
     let id = id_words(alloc, get.id)?;
-    let hidden = match conflicts {
-        Conflicts::Plain => "without a reply",
-        Conflicts::Maybe => "without a reply or answered with a conflict",
-    };
+    let hidden = untold_kind(conflicts);
     format!(in alloc;
         "Call {no}, a get, was answered with k={k} at the version {pair} (line {line}). No write that was called before that reply can have given {id} the number {k} at {pair}: no reply shows both, and no write with k={k} was {hidden}. So no order explains what the get found."
     )
@@ -70,8 +61,8 @@ fn stale_get(
     let no = get.record.no;
     let other = write.record.no;
     let called = lines.line(get.record.call_at);
-    let line = reply_line(get, lines);
-    let before = reply_line(write, lines);
+    let line = lines.reply(&get.record);
+    let before = lines.reply(&write.record);
     format!(in alloc;
         "Call {other} ({asked}) was answered with the version {newer} (line {before}) before call {no}, a get, was made (line {called}). So each order has the write before the get. But the get was answered with {older} (line {line}), which is older than {newer}, and a document never goes back to an older version. So no order can have both replies."
     )
@@ -87,7 +78,7 @@ fn first_because(
     let one = first.record.no;
     let two = second.record.no;
     let called = lines.line(second.record.call_at);
-    if reply_line(first, lines).number < called.number {
+    if lines.reply(&first.record).number < called.number {
         format!(in alloc; "call {one} was answered before call {two} was made (line {called})")
     } else {
         format!(in alloc;
@@ -110,8 +101,8 @@ fn stale_swap(
     let older = pair_words(alloc, asked)?;
     let one = first.record.no;
     let two = second.record.no;
-    let line = reply_line(first, lines);
-    let other = reply_line(second, lines);
+    let line = lines.reply(&first.record);
+    let other = lines.reply(&second.record);
     format!(in alloc;
         "Call {two} was to be performed only where the document is still at the version {older}, and it was performed (line {other}). But call {one} had given the document the newer version {newer} (line {line}), and it stands first: {because}. So the document was past {older} by then, and no order can have both replies: the condition was not kept, and what call {one} wrote was overwritten unseen."
     )

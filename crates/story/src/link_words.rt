@@ -8,11 +8,6 @@ use ruled_out::Stage;
 use std::alloc::Global;
 use version_pair::NoMemory;
 
-/// The line of the reply to the call; of the call where there is none.
-pub fn reply_line(record: &Rec, lines: &EventLines) -> ToldLine {
-    lines.line(record.heard.map_or(record.call_at, |heard| heard.0))
-}
-
 /// How far a document has come, in words that follow `it had`.
 pub fn reached_words(alloc: Global, stage: Stage) -> Result<String, NoMemory> {
     match stage {
@@ -60,7 +55,7 @@ fn unshown_link(
     let no = link.record.no;
     let called = lines.line(link.record.call_at);
     let asked = op_words(alloc, link.record.op)?;
-    let said = said_words(alloc, &link.record, reply_line(&link.record, lines))?;
+    let said = said_words(alloc, &link.record, lines.reply(&link.record))?;
     let reached = reached_words(alloc, link.to)?;
     let after = if is_first { "" } else { " after that" };
     format!(in alloc;
@@ -76,7 +71,7 @@ pub fn link_words(
     lines: &EventLines,
 ) -> Result<String, NoMemory> {
     let no = link.record.no;
-    let line = reply_line(&link.record, lines);
+    let line = lines.reply(&link.record);
     let asked = op_words(alloc, link.record.op)?;
     match link.record.heard.map(|heard| heard.1) {
         Some(Reply::Indexed { pair, .. } | Reply::Deleted { pair, .. }) => {

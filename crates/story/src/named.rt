@@ -142,10 +142,7 @@ impl Named {
             }
         }
         for call in calls.iter().rev() {
-            if chosen.len() >= most {
-                break;
-            }
-            if !self.matters(call) {
+            if chosen.len() < most && !self.matters(call) {
                 chosen.push(*call)?;
             }
         }
@@ -163,10 +160,7 @@ pub fn rest_of<'h>(
 ) -> Result<Vec<Call<'h>>, NoMemory> {
     let mut rest = Vec::new(alloc);
     for call in calls.iter().rev() {
-        if rest.len() >= most {
-            break;
-        }
-        if !first.iter().any(|other| other.record.no == call.record.no) {
+        if rest.len() < most && !first.iter().any(|other| other.record.no == call.record.no) {
             rest.push(*call)?;
         }
     }

@@ -6,7 +6,7 @@ use doc_check::{DocAnswer, answer};
 use doc_register::{DocState, state_after};
 use history::Rec;
 use std::alloc::Global;
-use version_pair::{DocId, NoMemory, Pair};
+use version_pair::{DocId, NoMemory};
 use witness::{DocWitness, Place};
 
 /// A place of an order: its call, and what the document is after it.
@@ -28,24 +28,13 @@ pub struct OrderBefore {
     pub steps: Vec<Step>,
 }
 
-// The pair with which the call at a place was performed.
-fn pair_at(place: Place, record: Rec) -> Option<Pair> {
-    place.pair.or(record.pair_taken())
-}
-
 // The step at a place, from this state.
 fn step_from(state: DocState, place: Place, record: Rec) -> Step {
-    match pair_at(place, record) {
-        Some(pair) => Step {
-            record,
-            state: state_after(state, &record.op, pair),
-            is_change: true,
-        },
-        None => Step {
-            record,
-            state,
-            is_change: false,
-        },
+    let taken = place.pair.or(record.pair_taken());
+    Step {
+        record,
+        state: taken.map_or(state, |pair| state_after(state, &record.op, pair)),
+        is_change: taken.is_some(),
     }
 }
 

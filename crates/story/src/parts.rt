@@ -1,5 +1,7 @@
 use crate::drawing::Drawing;
 use crate::told_line::ToldLine;
+use std::alloc::Global;
+use version_pair::NoMemory;
 
 /// How a call stands out among the others.
 #[derive(Clone, Copy, Debug, PartialEq, Eq)]
@@ -51,6 +53,21 @@ pub enum Part {
     /// What follows, up to `FoldEnd`, is less important; it is called so.
     FoldStart(&'static str),
     FoldEnd,
+}
+
+/// Adds the first of so many items, and how many more there are.
+pub fn add_items(
+    alloc: Global,
+    items: Vec<String>,
+    count: usize,
+    parts: &mut Vec<Part>,
+) -> Result<(), NoMemory> {
+    let more = count.saturating_sub(items.len());
+    parts.push(Part::Items(items))?;
+    if more > 0 {
+        parts.push(Part::Paragraph(format!(in alloc; "And {more} more.")?))?;
+    }
+    Ok(())
 }
 
 /// What is told of an answer.

@@ -1,6 +1,6 @@
 use crate::event_lines::EventLines;
 use crate::link_words::{link_words, reached_words};
-use crate::parts::Part;
+use crate::parts::{Part, add_items};
 use crate::reason::Reason;
 use crate::stop_words::stop_words;
 use crate::untold_words::{untold_items, untold_words};
@@ -41,12 +41,7 @@ pub fn add_untold(
         return Ok(());
     }
     let items = untold_items(alloc, reason, lines)?;
-    let more = reason.untold_count.saturating_sub(items.len());
-    parts.push(Part::Items(items))?;
-    if more > 0 {
-        parts.push(Part::Paragraph(format!(in alloc; "And {more} more.")?))?;
-    }
-    Ok(())
+    add_items(alloc, items, reason.untold_count, parts)
 }
 
 /// Adds the chain of reasons why no order explains a document.

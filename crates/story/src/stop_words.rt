@@ -1,6 +1,5 @@
 use crate::cause_words::cause_words;
 use crate::event_lines::EventLines;
-use crate::link_words::reply_line;
 use crate::reason::Reason;
 use crate::words::{heard_words, op_words, pair_words};
 use doc_register::Reply;
@@ -27,7 +26,7 @@ fn reply_told(alloc: Global, reason: &Reason) -> Result<String, NoMemory> {
 fn answered_words(alloc: Global, reason: &Reason, lines: &EventLines) -> Result<String, NoMemory> {
     let no = reason.stop.no;
     let called = lines.line(reason.stop.call_at);
-    let line = reply_line(&reason.stop, lines);
+    let line = lines.reply(&reason.stop);
     let asked = op_words(alloc, reason.stop.op)?;
     let heard = reply_told(alloc, reason)?;
     if reason.links.is_empty() {

@@ -1,6 +1,6 @@
 use crate::calls::id_words;
 use crate::event_lines::EventLines;
-use crate::parts::{Part, Story};
+use crate::parts::{Part, Story, add_items};
 use crate::refused::{cause_words, line_shown};
 use crate::subject::Explained;
 use crate::words::{NOTATION, heard_words, op_words, pair_words};
@@ -35,8 +35,8 @@ fn completed_calls(
     alloc: Global,
     witnesses: &[DocWitness],
     lines: &EventLines,
-) -> Result<(u64, Vec<String>), NoMemory> {
-    let mut count = 0u64;
+) -> Result<(usize, Vec<String>), NoMemory> {
+    let mut count = 0usize;
     let mut told = Vec::new(alloc);
     for witness in witnesses.iter() {
         for place in witness.places() {
@@ -66,11 +66,7 @@ pub fn explained_story(
     if count > 0 {
         parts.push(Part::Heading("Calls of unknown outcome that took effect"))?;
         parts.push(Part::Paragraph(String::from_str(alloc, NOTATION)?))?;
-        let more = count.saturating_sub(told.len() as u64);
-        parts.push(Part::Items(told))?;
-        if more > 0 {
-            parts.push(Part::Paragraph(format!(in alloc; "And {more} more.")?))?;
-        }
+        add_items(alloc, told, count, &mut parts)?;
     }
     Ok(Story {
         title: String::from_str(alloc, "One order of the calls explains every reply.")?,

@@ -1,7 +1,6 @@
 use crate::event_lines::EventLines;
-use crate::link_words::reply_line;
 use crate::reason::Reason;
-use crate::words::{heard_words, op_words, pair_words};
+use crate::words::{heard_words, op_words, pair_words, untold_kind};
 use doc_register::Conflicts;
 use history::Rec;
 use ruled_out::Unhelpful;
@@ -41,7 +40,7 @@ fn unhelpful_words(
     why: Unhelpful,
 ) -> Result<String, NoMemory> {
     let no = reason.stop.no;
-    let line = reply_line(&reason.stop, lines);
+    let line = lines.reply(&reason.stop);
     match why {
         Unhelpful::Late => format!(in alloc;
             "it was called only after the reply to call {no} (line {line})"
@@ -65,14 +64,6 @@ fn unhelpful_words(
             alloc,
             "it was called only after the document had passed that version",
         ),
-    }
-}
-
-// What the writes are of which no reply tells whether they were performed.
-fn untold_kind(conflicts: Conflicts) -> &'static str {
-    match conflicts {
-        Conflicts::Plain => "without a reply",
-        Conflicts::Maybe => "without a reply or answered with a conflict",
     }
 }
 

@@ -1,4 +1,4 @@
-use doc_register::{DocState, Op, Reply};
+use doc_register::{Conflicts, DocState, Op, Reply};
 use std::alloc::Global;
 use version_pair::{NoMemory, Pair};
 
@@ -85,6 +85,14 @@ pub fn state_words(alloc: Global, state: DocState) -> Result<String, NoMemory> {
             let pair = pair_words(alloc, pair)?;
             format!(in alloc; "{pair} k={k}")
         }
+    }
+}
+
+/// What the writes are of which no reply tells whether they were performed.
+pub fn untold_kind(conflicts: Conflicts) -> &'static str {
+    match conflicts {
+        Conflicts::Plain => "without a reply",
+        Conflicts::Maybe => "without a reply or answered with a conflict",
     }
 }
 
