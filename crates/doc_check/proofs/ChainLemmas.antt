@@ -9,7 +9,7 @@ use Rattle.history.specs.declared.record.Rec.{Rec}
 use Rattle.std.specs.declared.cmp.Ordering.TheVariants.{Less, Equal, Greater}
 use Rattle.std.proofs.lemmas.Bool.{true≢false}
 use Rattle.std.proofs.lemmas.Option.{slice_get_within}
-use Rattle.version_pair.proofs.ListLemmas.{compare, none_is_not_some, same_some}
+use Rattle.version_pair.proofs.ListLemmas.{compare, get_within, none_is_not_some, same_some}
 use Rattle.write_chain.specs.Chain.{IsChain, Rises, by_pair, link_at, pair_cmp, performed_records}
 use Rattle.history.specs.Heard.{pair_of}
 use Rattle.doc_check.proofs.Lists.{Has, KeyOnce, KeyRises, not_below_then, once_moved, same_rising, sorted_at}
@@ -91,11 +91,6 @@ by_pair_total =
     then_total (then_total (on_total (λ (c : Pair × ℕ). c.0.term) nat_cmp_total) (on_total (λ (c : Pair × ℕ). c.0.seq) nat_cmp_total))
     (on_total (λ (c : Pair × ℕ). c.1) nat_cmp_total)
 
-pub link_there : (chain : List (Pair × ℕ)) (i : ℕ) → i < length chain → (c : Pair × ℕ) × (slice_get chain i ≡ Some c)
-link_there [] i within = absurd (omega arith)
-link_there (c ∷ cs) zero within = (c, refl)
-link_there (c ∷ cs) (suc i) within = link_there cs i (omega arith)
-
 split_pairs : (p q : Pair) (o : Ordering) → is_lt (ordering_then (pair_cmp p q) o) ≡ false → IsBelow q p ⊎ ((q.term ≡ p.term) × (q.seq ≡ p.seq))
 split_pairs p q o unless = by_term (nat_cmp p.term q.term) refl unless where
   by_term : (t : Ordering) → t ≡ nat_cmp p.term q.term → is_lt (ordering_then (ordering_then t (nat_cmp p.seq q.seq)) o) ≡ false → IsBelow q p ⊎ ((q.term ≡ p.term) × (q.seq ≡ p.seq))
@@ -135,7 +130,7 @@ rising_climbs chain rises i j a b less at bt = from (j - suc i) i j a b (let e :
   from : (n i j : ℕ) (a b : Pair × ℕ) → j ≡ suc i + n → slice_get chain i ≡ Some a → slice_get chain j ≡ Some b → IsBelow a.0 b.0
   from zero i j a b is at bt = rises i a b at (subst (λ k. slice_get chain k ≡ Some b) (let e : j ≡ suc i = omega arith in e) bt)
   from (suc n) i j a b is at bt =
-      let next = link_there chain (suc i) (let w : j < length chain = slice_get_within chain j b bt in omega arith) in
+      let next = get_within chain (suc i) (let w : j < length chain = slice_get_within chain j b bt in omega arith) in
       below_trans a.0 next.0.0 b.0 (rises i a next.0 at next.1) (from n (suc i) j next.0 b (omega arith) next.1 bt)
 
 pub climbing_rises : (chain : List (Pair × ℕ)) → Climbs chain → Rises chain

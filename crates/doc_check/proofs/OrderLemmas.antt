@@ -14,7 +14,7 @@ use Rattle.doc_register.specs.declared.state.Conflicts.{Conflicts}
 use Rattle.doc_register.specs.declared.state.DocState.{DocState}
 use Rattle.doc_register.specs.declared.state.DocState.TheVariants.{Never}
 use Rattle.history.specs.declared.record.Rec.{Rec}
-use Rattle.version_pair.proofs.ListLemmas.{none_is_not_some, same_some}
+use Rattle.version_pair.proofs.ListLemmas.{get_within, none_is_not_some, same_some}
 use Rattle.witness.specs.declared.place.Place.{Place}
 use Rattle.witness.specs.Places.{AreRight, AreValid, GivesAsMay, IsHeardBefore, IsPlaceOf, IsPlaceRun, StepsAt}
 use Rattle.doc_check.specs.NoOrders.{AreUnpaired}
@@ -24,7 +24,7 @@ use Rattle.doc_check.specs.aids.Order.{IsStretchOrder, Standing, by_standing, pl
 use Rattle.doc_check.specs.aids.Stretches.{FitsAs, ReadFits, WriteFits, cap, state_in, states_of}
 use Rattle.doc_check.specs.aids.Sweep.{AreGiven, AreSpread, IsGiven}
 use Rattle.doc_check.proofs.Lists.{Has, KeyOnce, KeyRises, has_back, has_moved, not_below, not_below_then, once_moved, sorted_at}
-use Rattle.doc_check.proofs.ChainLemmas.{link_record, link_there}
+use Rattle.doc_check.proofs.ChainLemmas.{link_record}
 use Rattle.doc_check.proofs.StretchLemmas.{one_place}
 
 -- ---- which standings there are
@@ -306,12 +306,10 @@ not_past records chain given places sorted g (suc i) b sb at =
             let va : a.0 ≡ suc v.link = v.stretch in
             let wb : b.0 ≡ suc w.link = w.stretch in
             let link : v.link ≡ w.link = omega arith in
-            let same : (v.pair, a.3) ≡ (w.pair, b.3) = same_link (v.pair, a.3) (w.pair, b.3) (sym v.there ∙ (ap (slice_get chain) link ∙ w.there)) in
+            let same = same_some {X = Pair × ℕ} (v.pair, a.3) (w.pair, b.3) (sym v.there ∙ (ap (slice_get chain) link ∙ w.there)) in
             let place : i ≡ suc i = once records chain given places sorted g i (suc i) a b ata at (ap (λ (c : Pair × ℕ). c.1) same) in
             absurd (omega arith)
-      ] where
-        same_link : (c d : Pair × ℕ) → Some c ≡ Some d → c ≡ d
-        same_link c d e = same_some c d e
+      ]
 
 -- the record of a write of the chain
 record Performed (records : List Rec) (k : ℕ) (c : Pair × ℕ) : Type 0 where
@@ -375,7 +373,7 @@ reached records chain given places sorted g i b sb at = by_target (cap (pair_of 
   by_target (suc k) is kd =
       let few = g.are_given.within b.3 b.0 sb.is in
       let low = below k kd is in
-      let link = link_there chain k (omega arith) in
+      let link = get_within chain k (omega arith) in
       let p = performed records chain k link.0 g.is_chain link.1 in
       let own = given_own records chain given places sorted g k link.0 link.1 p in
       let has = stands records chain given places sorted g link.0.1 (suc k) p.record_of p.heard_of p.names p.heard own in

@@ -23,11 +23,11 @@ use Rattle.doc_register.specs.declared.state.DocState.TheVariants.{Never, Gone, 
 use Rattle.doc_register.specs.Register.{HasPair, is_here, shown, performed_state}
 use Rattle.doc_register.proofs.RunLemmas.{not_below_itself}
 use Rattle.history.specs.declared.record.Rec.{Rec}
-use Rattle.version_pair.proofs.ListLemmas.{compare, get_front, get_last, none_is_not_some, same_some}
+use Rattle.version_pair.proofs.ListLemmas.{compare, get_front, get_last, get_within, none_is_not_some, same_some}
 use Rattle.write_chain.specs.Chain.{Rises, after_link, pair_cmp, written}
 use Rattle.doc_check.specs.aids.Stretches.{AreLaidOut, HoldsNowhere, IsGuess, IsLatest, IsReadIn, IsTable, WriteFits, is_as_asked, is_so, latest_below, state_in, states_of}
 use Rattle.doc_check.specs.declared.stretches.Stretches.{Stretches}
-use Rattle.doc_check.proofs.ChainLemmas.{link_there, rising_climbs}
+use Rattle.doc_check.proofs.ChainLemmas.{rising_climbs}
 
 -- ---- the latest number that passes
 
@@ -101,20 +101,26 @@ table_more states live n table news before latest is before_is latest_is news_is
     )
 
 -- the entry of a table, where a property is just that the stretch is so
+-- a bound within the states has an entry
+entry_at : (states : List DocState) (live : Bool) (table : List (Option ℕ)) (bound : ℕ) (o : Option ℕ) → IsTable states live (length states) table → bound < length states → o ≡ get_or table bound o → slice_get table bound ≡ Some o
+entry_at states live table bound o is within read = slice_get_read table (length table) bound o refl (let size : length table ≡ length states = is.0 in omega arith) read
+
 pub entry_some : (states : List DocState) (live : Bool) (table : List (Option ℕ)) (bound : ℕ) (o : Option ℕ) (P : ℕ → Type 0) → IsTable states live (length states) table
-    → bound < length states → slice_get table bound ≡ Some o → ((l : ℕ) → P l → is_so states live l ≡ true) → ((l m : ℕ) → P l → is_so states live m ≡ true → P m)
+    → bound < length states → o ≡ get_or table bound o → ((l : ℕ) → P l → is_so states live l ≡ true) → ((l m : ℕ) → P l → is_so states live m ≡ true → P m)
     → IfSome o (IsGuess P bound)
-entry_some states live table bound None P is within at to back = tt
-entry_some states live table bound (Some j) P is within at to back =
+entry_some states live table bound None P is within read to back = tt
+entry_some states live table bound (Some j) P is within read to back =
+    let at = entry_at states live table bound (Some j) is within read in
     let found = latest_some (is_so states live) (suc bound) j (sym (same_some (Some j) _ (sym at ∙ is.1 bound within))) in
     let below : j < suc bound = found.0 in
     record { within = (omega arith); best = λ l less p. (found.2 l (omega arith) (to l p), back l j p found.1) }
 
 pub entry_none : (states : List DocState) (live : Bool) (table : List (Option ℕ)) (bound : ℕ) (o : Option ℕ) (P : ℕ → Type 0) → IsTable states live (length states) table
-    → bound < length states → slice_get table bound ≡ Some o → ((l : ℕ) → P l → is_so states live l ≡ true) → IfNone o (HoldsNowhere P bound)
-entry_none states live table bound None P is within at to =
+    → bound < length states → o ≡ get_or table bound o → ((l : ℕ) → P l → is_so states live l ≡ true) → IfNone o (HoldsNowhere P bound)
+entry_none states live table bound None P is within read to =
+    let at = entry_at states live table bound None is within read in
     λ l less p. latest_none (is_so states live) (suc bound) (sym (same_some None _ (sym at ∙ is.1 bound within))) l (omega arith) (to l p)
-entry_none states live table bound (Some j) P is within at to = tt
+entry_none states live table bound (Some j) P is within read to = tt
 
 -- a create that conflicts asks for the document, a get that misses for its absence
 pub create_to : (states : List DocState) (k l : ℕ) → IsReadIn states (Create k) Conflict l → is_so states true l ≡ true
@@ -192,8 +198,8 @@ pair_there chain pairs k c is at = ap (λ ps. slice_get ps k) is ∙ (slice_get-
 pairs_sorted : (chain : List (Pair × ℕ)) (pairs : List Pair) → Rises chain → pairs ≡ map (λ l. l.0) chain → IsSorted pair_cmp pairs
 pairs_sorted chain pairs rises is k d low within =
     let size : length pairs ≡ length chain = ap length is ∙ length-map chain (λ (l : Pair × ℕ). l.0) in
-    let a = link_there chain k (omega arith) in
-    let b = link_there chain (k + 1) (omega arith) in
+    let a = get_within chain k (omega arith) in
+    let b = get_within chain (k + 1) (omega arith) in
     let first : get_or pairs k d ≡ a.0.0 = get_or_from_slice_get pairs k a.0.0 d (pair_there chain pairs k a.0 is a.1) in
     let second : get_or pairs (k + 1) d ≡ b.0.0 = get_or_from_slice_get pairs (k + 1) b.0.0 d (pair_there chain pairs (k + 1) b.0 is b.1) in
     let below : IsBelow a.0.0 b.0.0 = rises k a.0 b.0 a.1 (ap (slice_get chain) (sym (add-one k)) ∙ b.1) in
@@ -208,7 +214,7 @@ pub search_found : (chain : List (Pair × ℕ)) (pairs : List Pair) (q : Pair) (
     → HoldsAt (λ y. pair_cmp y q ≡ Equal) pairs i → (c : Pair × ℕ) × (slice_get chain i ≡ Some c) × (c.0 ≡ q)
 search_found chain pairs q i is within holds =
     let size : length pairs ≡ length chain = ap length is ∙ length-map chain (λ (l : Pair × ℕ). l.0) in
-    let c = link_there chain i (omega arith) in
+    let c = get_within chain i (omega arith) in
     let here : get_or pairs i q ≡ c.0.0 = get_or_from_slice_get pairs i c.0.0 q (pair_there chain pairs i c.0 is c.1) in
     (c.0, c.1, sym here ∙ pairs_equal (get_or pairs i q) q (holds q))
 
@@ -250,7 +256,7 @@ pair_stretch : (records : List Rec) (chain : List (Pair × ℕ)) (l : ℕ) (p : 
 pair_stretch records chain zero p has = absurd has
 pair_stretch records chain (suc k) p has = elim (cases_lt k (length chain)) as (λ _. (j : ℕ) × (c : Pair × ℕ) × (suc k ≡ suc j) × (slice_get chain j ≡ Some c) × (c.0 ≡ p)) [
   | inl within ↦
-      let c = link_there chain k within in
+      let c = get_within chain k within in
       let state : get_or (map (after_link records) chain) k Never ≡ after_link records c.0 =
       get_or_from_slice_get (map (after_link records) chain) k (after_link records c.0) Never
       (slice_get-map (after_link records) chain k ∙ ap (option_map (after_link records)) c.1) in
