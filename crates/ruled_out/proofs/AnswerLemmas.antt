@@ -121,7 +121,7 @@ inside_same [] j a b inside = absurd (omega arith)
 inside_same (x ∷ xs) zero a b inside = refl
 inside_same (x ∷ xs) (suc j) a b inside = inside_same xs j a b (omega arith)
 
-past_is : (xs : List ℕ) (j a : ℕ) → length xs ≤ j → slice_index_or xs j a ≡ a
+pub past_is : (xs : List ℕ) (j a : ℕ) → length xs ≤ j → slice_index_or xs j a ≡ a
 past_is [] j a past = refl
 past_is (x ∷ xs) zero a past = absurd (omega arith)
 past_is (x ∷ xs) (suc j) a past = past_is xs j a (omega arith)

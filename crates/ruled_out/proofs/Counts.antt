@@ -1,5 +1,5 @@
 -- How many of some pairs are below a pair; and known pairs, as a list and by the replies that show them.
-use Rattle.std.proofs.Common.{ℕ, zero, suc, ◌≡◌, ◌<◌, ◌≤◌, ◌*◌, ◌⊎◌, ◌++◌, ◌==◌, ◌&&◌, inl, inr, List, [], ◌∷◌, refl, sym, ap, subst, arith, Bool, true, false, cond, nat_lt, true≢false, Option, Some, None, slice_get}
+use Rattle.std.proofs.Common.{ℕ, zero, suc, ◌≡◌, ◌<◌, ◌≤◌, ◌*◌, ◌⊎◌, ◌++◌, ◌==◌, ◌&&◌, inl, inr, List, [], ◌∷◌, refl, sym, ap, subst, arith, Bool, true, false, cond, nat_lt, true≢false, Option, Some, None, slice_get, length}
 use Rattle.std.specs.Option.{option_to_list}
 use Rattle.std.proofs.lemmas.Bool.{or_left, or_right, and_from, and_parts, cases_lt, lt-ltb, ltb-true, eq-eqb, eqb-true, or_cases, false_from_ne_true}
 use Rattle.version_pair.specs.declared.pair.Pair.{Pair}
@@ -45,13 +45,13 @@ counted true false m n only within = absurd (true≢false (sym (only refl)))
 counted false true m n only within = omega arith
 counted false false m n only within = within
 
-counted_less : (a b : Bool) (m n : ℕ) → (a ≡ true → b ≡ true) → m < n → cond a (suc m) m < cond b (suc n) n
+pub counted_less : (a b : Bool) (m n : ℕ) → (a ≡ true → b ≡ true) → m < n → cond a (suc m) m < cond b (suc n) n
 counted_less true true m n only less = omega arith
 counted_less true false m n only less = absurd (true≢false (sym (only refl)))
 counted_less false true m n only less = omega arith
 counted_less false false m n only less = less
 
-counted_here : (a b : Bool) (m n : ℕ) → a ≡ false → b ≡ true → m ≤ n → cond a (suc m) m < cond b (suc n) n
+pub counted_here : (a b : Bool) (m n : ℕ) → a ≡ false → b ≡ true → m ≤ n → cond a (suc m) m < cond b (suc n) n
 counted_here true b m n isnt is within = absurd (true≢false isnt)
 counted_here false true m n isnt is within = omega arith
 counted_here false false m n isnt is within = absurd (true≢false (sym is))
@@ -59,6 +59,11 @@ counted_here false false m n isnt is within = absurd (true≢false (sym is))
 -- what is below the lesser pair is below the greater one
 only_more : (v p q : Pair) → IsBelow p q → is_below v p ≡ true → is_below v q ≡ true
 only_more v p q below is = below_tested v q (below_trans v p q (tested_below v p is) below)
+
+-- no more pairs are below a pair than there are
+pub count_at_most : (vs : List Pair) (p : Pair) → count_below vs p ≤ length vs
+count_at_most [] p = omega arith
+count_at_most (v ∷ vs) p = counted (is_below v p) true (count_below vs p) (length vs) (λ _. refl) (count_at_most vs p)
 
 pub count_grows : (vs : List Pair) (p q : Pair) → IsBelow p q → count_below vs p ≤ count_below vs q
 count_grows [] p q below = omega arith

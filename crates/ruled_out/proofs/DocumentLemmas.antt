@@ -1,5 +1,5 @@
 -- The walk over the answered calls of a document, call by call.
-use Rattle.std.proofs.Common.{ℕ, suc, ◌≡◌, ◌<◌, ◌≤◌, ◌+◌, ◌⊎◌, inl, inr, List, [], ◌∷◌, length, refl, sym, ap, subst, ◌∙◌, arith, Option, Some, None, Bor, slice_get, slice_index_or}
+use Rattle.std.proofs.Common.{ℕ, suc, ◌≡◌, ◌<◌, ◌≤◌, ◌+◌, ◌⊎◌, inl, inr, List, length, refl, sym, ap, subst, ◌∙◌, arith, Option, Some, None, Bor, slice_get, slice_index_or}
 use Rattle.std.proofs.lemmas.Bool.{cases_lt}
 use Rattle.std.proofs.lemmas.Option.{slice_get_past, slice_get_within}
 use Rattle.std.specs.Slice.{IsItemAt}
@@ -12,7 +12,7 @@ use Rattle.ruled_out.specs.aids.Answers.{AreAnswers}
 use Rattle.ruled_out.specs.aids.Standing.{Answers}
 use Rattle.ruled_out.specs.aids.States.{AreEarlier, HasPassed, IsAt, PassesCalls, floor_in}
 use Rattle.ruled_out.specs.aids.Walks.{IsAnswerAt, IsWalked}
-use Rattle.ruled_out.proofs.AnswerLemmas.{walked_same}
+use Rattle.ruled_out.proofs.AnswerLemmas.{past_is, walked_same}
 use Rattle.ruled_out.proofs.ReplyOrder.{answered_entry, replies_rise}
 use Rattle.ruled_out.proofs.WalkLemmas.{not_ruled_out, walked_first, walked_on}
 
@@ -25,15 +25,11 @@ pub record IsWalkedTo (records : List Rec) (answers : List (ℕ × ℕ)) (i : �
   pub before : (m : ℕ) (a : ℕ × ℕ) → m < i → slice_get answers m ≡ Some a → a.0 < event
   pub after : (m : ℕ) (a : ℕ × ℕ) → i ≤ m → slice_get answers m ≡ Some a → event ≤ a.0
 
-past_all : (floors : List ℕ) (j : ℕ) → length floors ≡ 0 → slice_index_or floors j 0 ≡ 0
-past_all [] j none = refl
-past_all (x ∷ floors) j none = absurd (omega arith)
-
 pub walked_start : (records : List Rec) (answers : List (ℕ × ℕ)) (walk : Walk) → IsAt records walk → length walk.floors.items ≡ 0 → walk.reached ≡ 0 → IsWalkedTo records answers 0 walk
 walked_start records answers walk known none zero_reached = record {
   known = known;
   event = 0;
-  walked = walked_first records (floor_in walk) (λ j. ap (λ n. slice_index_or walk.floors.items j n) zero_reached ∙ past_all walk.floors.items j none);
+  walked = walked_first records (floor_in walk) (λ j. ap (λ n. slice_index_or walk.floors.items j n) zero_reached ∙ past_is walk.floors.items j 0 (omega (arith, none)));
   earlier = λ j r at inside. absurd (let empty : length walk.floors.items ≡ 0 = none in omega arith);
   before = λ m a less at. absurd (omega (arith, less));
   after = λ m a over at. omega arith;

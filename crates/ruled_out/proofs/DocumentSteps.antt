@@ -91,7 +91,7 @@ came_in_step d s e m step = by_test (is_same e.doc d) refl where
   by_test false is = inl (step.others d (λ same. true≢false (sym ((bytes_decides e.doc d).1 (sym same)) ∙ is)))
 
 -- a document's pair does not fall in a step
-step_keeps : (d : List ℕ) (q : Pair) (s : State) (e : Entry) (m : State) → Step s e m → AtMost q (s.document d) → AtMost q (m.document d)
+pub step_keeps : (d : List ℕ) (q : Pair) (s : State) (e : Entry) (m : State) → Step s e m → AtMost q (s.document d) → AtMost q (m.document d)
 step_keeps d q s e m step most = by_change (came_in_step d s e m step) where
   by_change : (m.document d ≡ s.document d) ⊎ ((e.doc ≡ d) × ((p : Pair) × (pair_taken e.reply e.hidden ≡ Some p) × Performs (s.document d) e.op p (m.document d)))
       → AtMost q (m.document d)
@@ -109,19 +109,6 @@ keeps d q zero j s es t run within most = keeps_on d q j s es t run most
 keeps d q (suc i) zero s es t run within most = absurd (omega arith)
 keeps d q (suc i) (suc j) s [] t run within most = most
 keeps d q (suc i) (suc j) s (e ∷ es) t (m, step, rest) within most = keeps d q i j m es t rest (omega arith) most
-
--- a pair that exceeds a document exceeds what it was before
-pub exceeds_earlier : (d : List ℕ) (q : Pair) (i j : ℕ) (s : State) (es : List Entry) (t : State) (run : IsRun s es t) → i ≤ j → Exceeds q (at_place d j s es t run) → Exceeds q (at_place d i s es t run)
-exceeds_earlier d q i j s es t run within exceeds = by_state (at_place d i s es t run) refl where
-  above : (x : DocState) (p : Pair) → at_place d i s es t run ≡ x → last_pair x ≡ Some p → IsBelow p q
-  above x p here is =
-      below_new p q (at_place d j s es t run)
-      (keeps d p i j s es t run within (pair_reached (at_place d i s es t run) p (ap last_pair here ∙ is))) exceeds
-
-  by_state : (x : DocState) → at_place d i s es t run ≡ x → Exceeds q (at_place d i s es t run)
-  by_state Never here = subst (Exceeds q) (sym here) tt
-  by_state (Gone p) here = subst (Exceeds q) (sym here) (above (Gone p) p here refl)
-  by_state (Here p k) here = subst (Exceeds q) (sym here) (above (Here p k) p here refl)
 
 -- before the place an entry of the document took its last pair, and it stayed as that left it
 pub record IsTakenBefore (d : List ℕ) (j : ℕ) (s : State) (es : List Entry) (t : State) (run : IsRun s es t) : Type 0 where

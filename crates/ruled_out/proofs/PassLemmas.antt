@@ -1,6 +1,6 @@
 -- One more call is passed: what the walk knows of the calls without a reply.
-use Rattle.std.proofs.Common.{ℕ, zero, suc, ◌≡◌, ◌<◌, ◌≤◌, ◌+◌, ◌⊎◌, inl, inr, List, [], ◌∷◌, ◌++◌, length, refl, sym, ap, subst, ◌∙◌, arith, Option, Some, None, true, true≢false, Result, Ok, Err, Vec, Global, slice_get, slice_index_or}
-use Rattle.std.specs.Prelude.{◌↔◌, OnOk, is_some}
+use Rattle.std.proofs.Common.{ℕ, zero, suc, ◌≡◌, ◌<◌, ◌≤◌, ◌+◌, ◌⊎◌, inl, inr, List, [], ◌∷◌, ◌++◌, length, refl, sym, ap, subst, ◌∙◌, arith, Option, Some, None, true, true≢false, Vec, Global, slice_get, slice_index_or, length-append}
+use Rattle.std.specs.Prelude.{◌↔◌, is_some}
 use Rattle.std.specs.BTreeSet.{BTreeSet}
 use Rattle.std.proofs.lemmas.Bool.{cases_lt}
 use Rattle.std.proofs.lemmas.Option.{slice_get_within}
@@ -264,28 +264,13 @@ settled_to records walk place taken k = record {
 
 -- ---- small steps
 
-pub ok_then : {E P Q : Type 0} (r : Result (Unit {0}) E) → (P → Q) → OnOk r P → OnOk r Q
-ok_then (Ok u) f p = f p
-ok_then (Err e) f p = p
-
 pub answered_is : {X : Type 0} (o : Option X) → is_some o ≡ true → (o ≡ None) → ⊥
 answered_is None is none = true≢false (sym is)
 answered_is (Some x) is none = none_is_not_some x (sym none)
 
 -- what the walk knows doesn't hang on its floors, nor on what is reached
-pub knows_floors : (records : List Rec) (floors : List ℕ) (walk : Walk) (vec : Vec ℕ Global) → Knows records floors walk → Knows records floors (record walk { floors = vec })
-knows_floors records floors walk vec k = record {
-  versions = k.versions;
-  absent = k.absent;
-  present = k.present;
-  absent_rooms = k.absent_rooms;
-  present_rooms = k.present_rooms;
-  writers = k.writers;
-  settled = k.settled;
-}
-
-pub knows_reached : (records : List Rec) (floors : List ℕ) (walk : Walk) (n : ℕ) → Knows records floors walk → Knows records floors (record walk { reached = n })
-knows_reached records floors walk n k = record {
+pub still_knows : (records : List Rec) (floors : List ℕ) (walk : Walk) (vec : Vec ℕ Global) (n : ℕ) → Knows records floors walk → Knows records floors (record walk { floors = vec; reached = n })
+still_knows records floors walk vec n k = record {
   versions = k.versions;
   absent = k.absent;
   present = k.present;
@@ -297,17 +282,13 @@ knows_reached records floors walk n k = record {
 
 -- ---- calls up to an event
 
-pub length_more : (floors : List ℕ) (f : ℕ) → length (floors ++ f ∷ []) ≡ suc (length floors)
-length_more [] f = refl
-length_more (x ∷ floors) f = ap suc (length_more floors f)
-
 -- one more call, which was made before the event
 pub earlier_more : (records : List Rec) (floors : List ℕ) (f event : ℕ) (call : Rec) → slice_get records (length floors) ≡ Some call → call.call_at < event → AreEarlier records floors event → AreEarlier records (floors ++ f ∷ []) event
 earlier_more records floors f event call at before earlier i r there inside = by_place (cases_lt i (length floors)) where
   by_place : ((i < length floors) ⊎ (length floors ≤ i)) → r.call_at < event
   by_place (inl less) = earlier i r there less
   by_place (inr not) =
-      let more : length (floors ++ f ∷ []) ≡ suc (length floors) = length_more floors f in
+      let more : length (floors ++ f ∷ []) ≡ length floors + 1 = length-append floors (f ∷ []) in
       let here : i ≡ length floors = omega arith in
       let one : call ≡ r = same_some call r (sym at ∙ (ap (slice_get records) (sym here) ∙ there)) in
       subst (λ (c : Rec). c.call_at < event) one before

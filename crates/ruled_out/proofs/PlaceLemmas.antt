@@ -17,15 +17,6 @@ use Rattle.ruled_out.proofs.Counts.{below_tested, pair_order, tested_below}
 use Rattle.ruled_out.proofs.VersionLemmas.{gone_version}
 use Rattle.ruled_out.proofs.KnownLemmas.{count_moved, count_parted, later_not_below, there_known}
 
--- a place within the list has a pair
-pub pair_at : (pairs : List Pair) (place : ℕ) → place < length pairs → (p : Pair) × (slice_get pairs place ≡ Some p)
-pair_at [] place within = absurd (omega arith)
-pair_at (p ∷ pairs) zero within = (p, refl)
-pair_at (p ∷ pairs) (suc place) within = pair_at pairs place (omega arith)
-
-pub front_next : (pairs : List Pair) (place : ℕ) (p : Pair) → slice_get pairs place ≡ Some p → take (place + 1) pairs ≡ take place pairs ++ p ∷ []
-front_next pairs place p at = let next : place + 1 ≡ suc place = omega arith in ap (λ n. take n pairs) next ∙ take_one_more pairs place p at
-
 -- where the place before has the same pair, the pair is among the first
 pub repeated : (pairs : List Pair) (i place : ℕ) (p v : Pair) → i + 1 ≡ place → slice_get pairs i ≡ Some v → v ≡ p → IsAmongFirst pairs place p
 repeated pairs i place p v next at same = (length (take i pairs), subst (λ (xs : List Pair). slice_get xs (length (take i pairs)) ≡ Some p) (sym front) (get_last (take i pairs) v ∙ ap (λ (u : Pair). Some u) same)) where

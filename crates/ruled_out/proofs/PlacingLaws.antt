@@ -1,5 +1,6 @@
 -- Each document of a history that an order explains has a placing: its calls stand where they do in the order.
-use Rattle.std.proofs.Common.{ℕ, zero, suc, ◌≡◌, ◌<◌, ◌≤◌, ◌⊎◌, inl, inr, List, [], ◌∷◌, refl, sym, ap, subst, ◌∙◌, arith, Bool, true, false, not, true≢false, Option, Some, None, length, option_and_then, slice_get}
+use Rattle.std.proofs.Common.{ℕ, suc, ◌≡◌, ◌<◌, ◌≤◌, ◌⊎◌, inl, inr, List, [], refl, sym, ap, subst, ◌∙◌, arith, Bool, true, false, not, true≢false, Option, Some, None, length, option_and_then}
+use Rattle.std.proofs.lemmas.Option.{slice_get_within}
 use Rattle.std.proofs.lemmas.Bool.{cases_lt, true_from_ne_false}
 use Rattle.version_pair.specs.declared.pair.Pair.{Pair}
 use Rattle.doc_register.specs.declared.op.Op.{Op}
@@ -292,12 +293,6 @@ may_answer x c replied Conflict listed s =
 
 -- ---- the placing
 
--- an element stands inside its list
-inside : {X : Type 0} (xs : List X) (i : ℕ) (y : X) → slice_get xs i ≡ Some y → i < length xs
-inside [] i y at = absurd (none_is_not_some y at)
-inside (z ∷ zs) zero y at = omega arith
-inside (z ∷ zs) (suc i) y at = let rest : i < length zs = inside zs i y at in omega arith
-
 -- a call that is made after a reply stands after the answered call, if at all
 later_place : (x : Explained) (c r : Rec) (replied : ℕ) (reply : Answer) (a : IsAnswered x c reply) → IsListed (recs x) r → c.heard ≡ Some (replied, reply) → replied < r.call_at
     → place_in x.order c.no < place_in x.order r.no
@@ -305,7 +300,7 @@ later_place x c r replied reply a listed heard before = by_order (cases_lt (plac
   by_order : ((place_in x.order c.no < place_in x.order r.no) ⊎ (place_in x.order r.no ≤ place_in x.order c.no)) → place_in x.order c.no < place_in x.order r.no
   by_order (inl first) = first
   by_order (inr not) =
-      let within : place_in x.order c.no < length x.order = inside x.order (place_in x.order c.no) a.placed a.own.entry.at in
+      let within : place_in x.order c.no < length x.order = slice_get_within x.order (place_in x.order c.no) a.placed a.own.entry.at in
       let q = get_within x.order (place_in x.order r.no) (omega arith) in
       stands_first x (place_in x.order c.no) (place_in x.order r.no) a.placed q.0 c r replied reply a.own
       (of_record x (place_in x.order r.no) q.0 r q.1 listed (place_is x.order r.no q.0 q.1)) heard before

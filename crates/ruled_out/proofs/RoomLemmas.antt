@@ -1,5 +1,5 @@
 -- Where there is room for a pair that isn't known; and the known pairs beside a pair.
-use Rattle.std.proofs.Common.{ℕ, zero, suc, ◌≡◌, ◌<◌, ◌≤◌, ◌+◌, ◌*◌, ◌⊎◌, inl, inr, List, [], ◌∷◌, ◌++◌, append-nil, length, refl, sym, ap, subst, ◌∙◌, arith, Bool, true, false, cond, Option, Some, None, slice_get, take, get_or}
+use Rattle.std.proofs.Common.{ℕ, zero, suc, ◌≡◌, ◌<◌, ◌≤◌, ◌+◌, ◌*◌, ◌⊎◌, inl, inr, List, [], ◌∷◌, ◌++◌, append-nil, length, refl, sym, ap, subst, ◌∙◌, arith, Option, Some, None, slice_get, take, get_or}
 use Rattle.std.specs.Prelude.{◌↔◌, unwrap_or}
 use Rattle.std.proofs.lemmas.Bool.{cases_lt}
 use Rattle.std.proofs.lemmas.Option.{get_or_from_slice_get, slice_get-get_or, slice_get_within}
@@ -7,19 +7,19 @@ use Rattle.version_pair.specs.declared.pair.Pair.{Pair}
 use Rattle.version_pair.specs.PairOrder.{IsBelow}
 use Rattle.doc_register.proofs.RunLemmas.{below_trans, not_below_itself, not_both_below}
 use Rattle.history.specs.declared.record.Rec.{Rec}
-use Rattle.version_pair.proofs.ListLemmas.{get_front, get_last, get_snoc, none_is_not_some, same_some}
+use Rattle.history.proofs.PlaceLemmas.{take_next}
+use Rattle.version_pair.proofs.ListLemmas.{get_front, get_last, get_snoc, get_within, none_is_not_some, same_some}
 use Rattle.std.specs.Option.{option_to_list}
 use Rattle.ruled_out.specs.Told.{IsKnown, known_pairs}
-use Rattle.ruled_out.specs.Positions.{count_below, gap_of, is_below, version_of}
+use Rattle.ruled_out.specs.Positions.{count_below, gap_of, version_of}
 use Rattle.ruled_out.specs.aids.Above.{IsAbove, IsLeastAbove}
 use Rattle.ruled_out.specs.aids.KnownPairs.{AreKnown, HasRoom, IsGapAbove, IsLastKnown, IsNextKnown, IsVersionOf}
 use Rattle.ruled_out.specs.aids.Places.{Gives, RoomBehind}
 use Rattle.ruled_out.specs.aids.VersionsOf.{IsLeastAfter}
 use Rattle.ruled_out.specs.aids.Rooms.{AreRooms, IsAmong}
 use Rattle.ruled_out.specs.aids.Wild.{IsOffered}
-use Rattle.ruled_out.proofs.Counts.{below_tested, count_grows, count_same, pair_order, tested_below}
+use Rattle.ruled_out.proofs.Counts.{below_tested, count_at_most, count_grows, count_same, pair_order, tested_below}
 use Rattle.ruled_out.proofs.KnownLemmas.{Has, below_first, below_inside, count_moved, inside_below, known_there, later_not_below, there_known}
-use Rattle.ruled_out.proofs.PlaceLemmas.{front_next, pair_at}
 
 -- ---- the gap above a pair
 
@@ -140,15 +140,6 @@ inside_count records vs q u known is below =
     let same : count_below vs q ≡ count_below (known_pairs records) q = count_moved (known_pairs records) vs q known.all in
     omega arith
 
-one_at_most : (b : Bool) (m n : ℕ) → m ≤ n → cond b (suc m) m ≤ suc n
-one_at_most true m n within = omega arith
-one_at_most false m n within = omega arith
-
--- no more pairs are below q than there are
-count_at_most : (vs : List Pair) (q : Pair) → count_below vs q ≤ length vs
-count_at_most [] q = omega arith
-count_at_most (v ∷ vs) q = one_at_most (is_below v q) (count_below vs q) (length vs) (count_at_most vs q)
-
 pub last_known : (records : List Rec) (vs : List Pair) (q : Pair) (n : ℕ) (o : Option Pair) → AreKnown records vs → count_below (known_pairs records) q ≡ suc n → o ≡ slice_get vs n → IsLastKnown records q o
 last_known records vs q n None known count is =
     let same : count_below vs q ≡ count_below (known_pairs records) q = count_moved (known_pairs records) vs q known.all in
@@ -245,9 +236,9 @@ rooms_more records lowers v rooms o gives are n = (forth o (gives n).0, back) wh
 
 -- one more pair is looked at, which gives its room, or stands before it too
 pub rooms_next : (records : List Rec) (vs : List Pair) (place : ℕ) (rooms : List ℕ) (o : Option ℕ) → place < length vs → Gives (RoomBehind records) vs place o → AreRoomsOf records (take place vs) rooms → AreRoomsOf records (take (place + 1) vs) (rooms ++ option_to_list o)
-rooms_next records vs place rooms o within gives are = by_pair (pair_at vs place within) where
+rooms_next records vs place rooms o within gives are = by_pair (get_within vs place within) where
   by_pair : ((v : Pair) × (slice_get vs place ≡ Some v)) → AreRoomsOf records (take (place + 1) vs) (rooms ++ option_to_list o)
-  by_pair (v, at) = subst (λ (xs : List Pair). AreRoomsOf records xs (rooms ++ option_to_list o)) (sym (front_next vs place v at)) (rooms_more records (take place vs) v rooms o (λ n. gives v n at) are)
+  by_pair (v, at) = subst (λ (xs : List Pair). AreRoomsOf records xs (rooms ++ option_to_list o)) (sym (take_next vs place v at)) (rooms_more records (take place vs) v rooms o (λ n. gives v n at) are)
 
 -- the greatest of some pairs below a pair, or there is none
 greatest_below : (vs : List Pair) (p : Pair) → ((v : Pair) × ((i : ℕ) × (slice_get vs i ≡ Some v)) × IsBelow v p × ((u : Pair) (i : ℕ) → slice_get vs i ≡ Some u → IsBelow u p → ¬ IsBelow v u))

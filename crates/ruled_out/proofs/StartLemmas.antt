@@ -4,7 +4,8 @@ use Rattle.std.specs.Prelude.{◌↔◌}
 use Rattle.std.specs.BTreeSet.{BTreeSet}
 use Rattle.version_pair.specs.declared.pair.Pair.{Pair}
 use Rattle.history.specs.declared.record.Rec.{Rec}
-use Rattle.version_pair.proofs.ListLemmas.{get_front, get_last, get_snoc, none_is_not_some}
+use Rattle.history.proofs.PlaceLemmas.{take_next}
+use Rattle.version_pair.proofs.ListLemmas.{get_front, get_last, get_snoc, get_within, none_is_not_some}
 use Rattle.ruled_out.specs.Told.{IsGone, IsKnown, pair_shown}
 use Rattle.ruled_out.specs.Positions.{version_of}
 use Rattle.ruled_out.specs.aids.KnownPairs.{AreKnown}
@@ -13,7 +14,6 @@ use Rattle.ruled_out.specs.aids.Places.{Gives, GoneAt, PresentAt}
 use Rattle.ruled_out.specs.aids.Wild.{IsToldAbsent, IsToldPresent}
 use Rattle.ruled_out.proofs.Counts.{shown_known}
 use Rattle.ruled_out.proofs.KnownLemmas.{Has, known_there}
-use Rattle.ruled_out.proofs.PlaceLemmas.{front_next, pair_at}
 
 -- what the set has by the first pairs, where so is what a pair gives
 abbrev Gathers : (Pair → ℕ → Type 0) → (ℕ → Type 0) → List Pair → BTreeSet ℕ → Type 0
@@ -48,9 +48,9 @@ gathers_more P Base pairs v o old new gives adds are n = (λ is. forth ((adds n)
 -- one more pair is looked at, which gives its position, or stands before it too
 gathers_next : (P : Pair → ℕ → Type 0) (Base : ℕ → Type 0) (vs : List Pair) (place : ℕ) (o : Option ℕ) (old new : BTreeSet ℕ) → place < length vs → Gives P vs place o → IsWithSome old new o → Gathers P Base (take place vs) old
     → Gathers P Base (take (place + 1) vs) new
-gathers_next P Base vs place o old new within gives adds are = by_pair (pair_at vs place within) where
+gathers_next P Base vs place o old new within gives adds are = by_pair (get_within vs place within) where
   by_pair : ((v : Pair) × (slice_get vs place ≡ Some v)) → Gathers P Base (take (place + 1) vs) new
-  by_pair (v, at) = subst (λ (xs : List Pair). Gathers P Base xs new) (sym (front_next vs place v at)) (gathers_more P Base (take place vs) v o old new (λ n. gives v n at) adds are)
+  by_pair (v, at) = subst (λ (xs : List Pair). Gathers P Base xs new) (sym (take_next vs place v at)) (gathers_more P Base (take place vs) v o old new (λ n. gives v n at) adds are)
 
 -- ---- absent
 

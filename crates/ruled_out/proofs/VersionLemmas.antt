@@ -1,5 +1,5 @@
 -- What replies tell of the known pairs, as the code keeps it.
-use Rattle.std.proofs.Common.{ℕ, zero, suc, ◌≡◌, ◌<◌, ◌≤◌, ◌⊎◌, ◌==◌, inl, inr, List, [], ◌∷◌, length, drop, refl, sym, ap, subst, ◌∙◌, arith, Bool, true, false, cond, true≢false, Option, Some, None, slice_get}
+use Rattle.std.proofs.Common.{ℕ, zero, suc, ◌≡◌, ◌<◌, ◌≤◌, ◌⊎◌, ◌==◌, inl, inr, List, [], ◌∷◌, length, drop, refl, sym, ap, subst, ◌∙◌, arith, Bool, true, false, cond, true≢false, Option, Some, None, slice_get, length-set}
 use Rattle.std.specs.Prelude.{◌↔◌, set, replicate}
 use Rattle.std.proofs.lemmas.Bool.{and_from, and_parts, eq-eqb, eqb-true, false_from_ne_true}
 use Rattle.std.proofs.lemmas.List.{length-replicate}
@@ -21,7 +21,7 @@ use Rattle.ruled_out.specs.declared.version.Version.{Version}
 use Rattle.ruled_out.specs.Told.{IsFoundWith, IsGone, IsKnown, IsListed, IsToldOf, known_pairs, pair_shown}
 use Rattle.ruled_out.specs.Positions.{count_below, is_below}
 use Rattle.ruled_out.specs.aids.Versions.{AreVersions, IsNoted, allows, number_with, shows, untold, version_heard, version_told, version_with}
-use Rattle.ruled_out.proofs.Counts.{count_passes, pair_order, shown_known, tested_below}
+use Rattle.ruled_out.proofs.Counts.{count_at_most, count_passes, counted_here, counted_less, pair_order, shown_known, tested_below}
 
 -- ---- the pair that is shown
 
@@ -73,14 +73,9 @@ noted_past records h q versions is past shown = (refl, λ p x known at. at ∙ a
       let count : count_below (known_pairs records) q ≡ count_below (known_pairs records) p = ap (count_below (known_pairs records)) same in
       omega arith
 
-pub length_set : {X : Type 0} (xs : List X) (k : ℕ) (x : X) → length (set xs k x) ≡ length xs
-length_set [] k x = refl
-length_set (y ∷ xs) zero x = refl
-length_set (y ∷ xs) (suc k) x = ap suc (length_set xs k x)
-
 pub noted_there : (records : List Rec) (h : ℕ × Reply) (q : Pair) (old : List Version) (place : ℕ) (y : Version) → pair_of_reply h.1 ≡ Some q → place ≡ count_below (known_pairs records) q
     → slice_get old place ≡ Some y → IsNoted records (Some h) old (set old place (version_with y h.1))
-noted_there records h q old place y is count at shown = (length_set old place (version_with y h.1), λ p x known there. by_pair p x known there (pair_order q p)) where
+noted_there records h q old place y is count at shown = (length-set old place (version_with y h.1), λ p x known there. by_pair p x known there (pair_order q p)) where
   here : (p : Pair) (x : Version) → slice_get old (count_below (known_pairs records) p) ≡ Some x → q ≡ p → slice_get (set old place (version_with y h.1)) (count_below (known_pairs records) p) ≡ Some (version_heard x p (Some h))
   here p x there same =
       let place_is : count_below (known_pairs records) p ≡ place = ap (count_below (known_pairs records)) (sym same) ∙ sym count in
@@ -104,27 +99,11 @@ noted_there records h q old place y is count at shown = (length_set old place (v
 -- the number of known pairs below a known pair is the number of one of them
 pub count_inside : (records : List Rec) (p : Pair) → IsKnown records p → count_below (known_pairs records) p < length (known_pairs records)
 count_inside records p known = inside (known_pairs records) known.0 known.1 where
-  at_most : (b : Bool) (m n : ℕ) → m ≤ n → cond b (suc m) m ≤ suc n
-  at_most true m n within = omega arith
-  at_most false m n within = omega arith
-
-  most : (vs : List Pair) → count_below vs p ≤ length vs
-  most [] = omega arith
-  most (v ∷ vs) = at_most (is_below v p) (count_below vs p) (length vs) (most vs)
-
-  less : (b : Bool) (m n : ℕ) → b ≡ false → m ≤ n → cond b (suc m) m < suc n
-  less true m n is within = absurd (true≢false is)
-  less false m n is within = omega arith
-
-  more : (b : Bool) (m n : ℕ) → m < n → cond b (suc m) m < suc n
-  more true m n within = omega arith
-  more false m n within = omega arith
-
   inside : (vs : List Pair) (i : ℕ) → slice_get vs i ≡ Some p → count_below vs p < length vs
   inside [] i at = absurd (none_is_not_some p at)
   inside (v ∷ vs) zero at =
-      less (is_below v p) (count_below vs p) (length vs) (false_from_ne_true (is_below v p) (λ is. not_below_itself p (subst (λ x. IsBelow x p) (same_some v p at) (tested_below v p is)))) (most vs)
-  inside (v ∷ vs) (suc i) at = more (is_below v p) (count_below vs p) (length vs) (inside vs i at)
+      counted_here (is_below v p) true (count_below vs p) (length vs) (false_from_ne_true (is_below v p) (λ is. not_below_itself p (subst (λ x. IsBelow x p) (same_some v p at) (tested_below v p is)))) refl (count_at_most vs p)
+  inside (v ∷ vs) (suc i) at = counted_less (is_below v p) true (count_below vs p) (length vs) (λ _. refl) (inside vs i at)
 
 -- what a call of the records shows is known
 pub shown_by : (records : List Rec) (i : ℕ) (call : Rec) → slice_get records i ≡ Some call → (q : Pair) → pair_shown call.heard ≡ Some q → IsKnown records q

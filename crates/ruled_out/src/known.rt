@@ -1,4 +1,4 @@
-ghost use Rattle.std.specs.Prelude.{◌≡◌, ◌≤◌, ◌<◌, ◌+◌, ◌*◌, ◌^◌, ◌↔◌, ◌++◌, length, IfOk, IfSome, OnOk, IsTrue, List};
+ghost use Rattle.std.specs.Prelude.{◌≡◌, ◌≤◌, ◌<◌, ◌+◌, ◌*◌, ◌^◌, ◌++◌, length, IfOk, IfSome, OnOk, IsTrue, List};
 ghost use Rattle.std.specs.Option.{option_to_list};
 ghost use Rattle.history.specs.declared.record.Rec.{Rec as Record};
 ghost use Rattle.ruled_out.specs.Positions.{count_below, gap_of, is_below};

@@ -1,6 +1,6 @@
-use Rattle.std.proofs.Common.{◌≡◌, ◌≤◌, ◌<◌, ◌+◌, ◌++◌, [], length, take, sym, ap, subst, ◌∙◌, arith, List, ℕ}
+use Rattle.std.proofs.Common.{◌≡◌, ◌≤◌, ◌<◌, ◌+◌, ◌++◌, [], length, take, sym, ap, subst, ◌∙◌, List, ℕ}
 use Rattle.std.specs.Option.{option_to_list}
-use Rattle.std.proofs.Math.Seq.{take-length}
+use Rattle.std.proofs.lemmas.List.{take_all}
 use Rattle.version_pair.specs.declared.pair.Pair.{Pair}
 use Rattle.ruled_out.proofs.RoomLemmas.{AreRoomsOf, rooms_all, rooms_first, rooms_next}
 use Rattle.ruled_out.proofs.versions.rooms_among.Goals as goal
@@ -23,7 +23,5 @@ returns c records known =
     let vs = c.args.known.now.pairs.items in
     let place = c.loop-place.place in
     let past : length vs ≤ place = subst (λ (xs : List Pair). length xs ≤ place) c.pairs-place-end.ensures c.loop-place-test.false in
-    let within : place ≤ length c.pairs-place-end.result.now = c.loop-place.auto.place-end in
-    let end : place ≡ length vs = (let most : place ≤ length vs = subst (λ (xs : List Pair). place ≤ length xs) c.pairs-place-end.ensures within in omega arith) in
-    let all : take place vs ≡ vs = ap (λ n. take n vs) end ∙ take-length vs in
+    let all : take place vs ≡ vs = take_all place vs past in
     rooms_all records vs c.loop-place.rooms.items known (subst (λ (ys : List Pair). AreRoomsOf records ys c.loop-place.rooms.items) all (c.loop-place.invariant records known))

@@ -1,5 +1,5 @@
-use Rattle.std.proofs.Common.{◌≡◌, ◌≤◌, ◌<◌, length, take, ap, subst, ◌∙◌, arith, List}
-use Rattle.std.proofs.Math.Seq.{take-length}
+use Rattle.std.proofs.Common.{◌≡◌, ◌≤◌, ◌<◌, length, take, subst, List}
+use Rattle.std.proofs.lemmas.List.{take_all}
 use Rattle.version_pair.specs.declared.pair.Pair.{Pair}
 use Rattle.ruled_out.proofs.StartLemmas.{IsToldAbsentSo, absent_all, absent_first, absent_more}
 use Rattle.ruled_out.proofs.walk.told_absent.Goals as goal
@@ -24,7 +24,5 @@ returns-clause-told c records are =
     let vs = c.args.versions.now.known.pairs.items in
     let place = c.loop-place.place in
     let past : length vs ≤ place = subst (λ (xs : List Pair). length xs ≤ place) c.pairs-place-end.ensures c.loop-place-test.false in
-    let within : place ≤ length c.pairs-place-end.result.now = c.loop-place.auto.place-end in
-    let end : place ≡ length vs = (let most : place ≤ length vs = subst (λ (xs : List Pair). place ≤ length xs) c.pairs-place-end.ensures within in omega arith) in
-    let all : take place vs ≡ vs = ap (λ n. take n vs) end ∙ take-length vs in
+    let all : take place vs ≡ vs = take_all place vs past in
     absent_all records vs c.loop-place.away.positions are.known (subst (λ (ys : List Pair). IsToldAbsentSo records ys c.loop-place.away.positions) all (c.loop-place.invariant.1 records are))

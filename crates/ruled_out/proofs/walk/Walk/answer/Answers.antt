@@ -8,7 +8,7 @@ use Rattle.ruled_out.specs.aids.Standing.{IsEarliestOf, IsRaised}
 use Rattle.ruled_out.specs.aids.States.{IsAt, floor_in}
 use Rattle.ruled_out.specs.aids.Walks.{IsEarliest}
 use Rattle.ruled_out.proofs.AnswerLemmas.{walked_more}
-use Rattle.ruled_out.proofs.PassLemmas.{knows_reached}
+use Rattle.ruled_out.proofs.PassLemmas.{still_knows}
 use Rattle.ruled_out.proofs.PlacingLaws.{told_known}
 use Rattle.ruled_out.proofs.WalkLemmas.{walked_out}
 use Rattle.ruled_out.proofs.walk.Walk.answer.Goals as goal
@@ -34,7 +34,7 @@ returns-in-Some-earliest c records y reply order knows passed answer walked =
     let lifted : IsRaised walk.reached (position_after records (pair_of call.heard) n) new.reached =
     subst (λ m. IsRaised m (position_after records (pair_of call.heard) n) new.reached) keeps.reached (subst (λ o. IsRaised middle.reached (position_after records o n) new.reached) taken raised) in (
       record {
-        known = subst (IsAt records) (sym stays) (knows_reached records middle.floors.items middle new.reached known);
+        known = subst (IsAt records) (sym stays) (still_knows records middle.floors.items middle middle.floors new.reached known);
         walked = walked_more records walk new c.args.number y n call reply order passed answer walked earliest same lifted;
       },
       same,

@@ -1,9 +1,9 @@
-use Rattle.std.proofs.Common.{◌≡◌, ◌≤◌, ◌<◌, ◌++◌, ◌∷◌, [], ℕ, List, Some, length, slice_get, slice_index_or, refl, sym, ap, subst, ◌∙◌, arith}
+use Rattle.std.proofs.Common.{◌≡◌, ◌≤◌, ◌<◌, ◌++◌, ◌∷◌, [], ℕ, List, Some, length, length-append, slice_get, slice_index_or, refl, sym, ap, subst, ◌∙◌, arith}
 use Rattle.std.proofs.lemmas.Option.{slice_get_read}
 use Rattle.history.specs.declared.record.Rec.{Rec}
 use Rattle.version_pair.proofs.ListLemmas.{same_some}
 use Rattle.ruled_out.specs.aids.States.{AreEarlier}
-use Rattle.ruled_out.proofs.PassLemmas.{earlier_more, floors_more, length_more, passed_all, passed_here}
+use Rattle.ruled_out.proofs.PassLemmas.{earlier_more, floors_more, passed_all, passed_here}
 use Rattle.ruled_out.proofs.walk.Walk.pass_until.Goals as goal
 
 pub loop-i-preserved : goal.loop-i-preserved
@@ -20,7 +20,7 @@ loop-i-preserved c =
     let before : call.call_at < c.args.event = subst (λ (r : Rec). r.call_at < c.args.event) (sym c.index-records-i.is ∙ tested) c.if-records-i.false in
     record {
       known = λ knows. c.in_ok-pass.ensures.known records (inv.known knows) at;
-      place = ap length passes.one_more ∙ (length_more old.floors.items old.reached ∙ (let same : length old.floors.items ≡ c.loop-i.i = inv.place in omega arith));
+      place = ap length passes.one_more ∙ (length-append old.floors.items (old.reached ∷ []) ∙ (let same : length old.floors.items ≡ c.loop-i.i = inv.place in omega arith));
       earlier = λ earlier. subst (λ (xs : List ℕ). AreEarlier records xs c.args.event) (sym passes.one_more) (earlier_more records old.floors.items old.reached c.args.event call at before (inv.earlier earlier));
       floors = λ j. (
           ap (λ (xs : List ℕ). slice_index_or xs j c.pass.new.self.reached) passes.one_more ∙ (ap (λ n. slice_index_or (old.floors.items ++ old.reached ∷ []) j n) passes.stays ∙ (floors_more old.floors.items old.reached j ∙ inv.floors j))

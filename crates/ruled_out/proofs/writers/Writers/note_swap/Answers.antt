@@ -1,19 +1,14 @@
-use Rattle.std.proofs.Common.{rules, ◌≡◌, ◌<◌, refl, sym, subst, ◌∙◌, length, true, Option, Some, None, true≢false}
-use Rattle.version_pair.specs.declared.pair.Pair.{Pair}
+use Rattle.std.proofs.Common.{rules, ◌<◌, refl, sym, subst, ◌∙◌, length, true, Some, None, true≢false, length-set}
 use Rattle.ruled_out.specs.aids.KnownPairs.{IsNextKnown}
-use Rattle.ruled_out.proofs.VersionLemmas.{length_set}
+use Rattle.ruled_out.proofs.ReachLemmas.{none_none}
 use Rattle.ruled_out.proofs.WriterLemmas.{IsNextCall, flags_kept, flags_none, flags_past, flags_set, writers_swap}
 use Rattle.ruled_out.proofs.writers.Writers.note_swap.Goals as goal
 use Rattle.ruled_out.proofs.writers.Writers.note_swap.Goals.{else-below-len-via-then-below-len+else-may_take, else-below-len-via-else-below-len}
 
-none_of : (o : Option Pair) → ((x : Pair) → o ≡ Some x → ⊥) → o ≡ None
-none_of None not = refl
-none_of (Some x) not = absurd (not x refl)
-
 pub returns-in_default : goal.returns-in_default
 returns-in_default c records floors w versions at unanswered gives swaps are =
     let next : IsNextCall records floors w = record { at = at; unanswered = unanswered } in
-    let none : IsNextKnown records c.args.condition None = subst (IsNextKnown records c.args.condition) (none_of c.next_above.result c.in_default.not-Some) (c.next_above.ensures records versions.known) in
+    let none : IsNextKnown records c.args.condition None = subst (IsNextKnown records c.args.condition) (none_none c.next_above.result c.in_default.not-Some) (c.next_above.ensures records versions.known) in
     writers_swap records floors w c.args.k c.args.floor c.args.condition c.args.self.now c.args.self.now next gives swaps refl (λ q. refl) refl
     (λ v b known there. flags_none records c.args.floor c.args.k c.args.condition c.args.self.now.swapped.items none v b known there) are
 
@@ -23,7 +18,7 @@ returns-then-may_take c records floors w versions at unanswered gives swaps are 
     let is : IsNextKnown records c.args.condition (Some c.in-Some.pair) = subst (IsNextKnown records c.args.condition) c.in-Some.is (c.next_above.ensures records versions.known) in
     let within : c.count_below-below.result < length c.args.self.now.swapped.items = search rules in
     let may = (c.may_take.ensures records versions is.0).0 c.if-may_take.true in
-    writers_swap records floors w c.args.k c.args.floor c.args.condition c.args.self.now _ next gives swaps refl (λ q. refl) (length_set c.args.self.now.swapped.items c.count_below-below.result true)
+    writers_swap records floors w c.args.k c.args.floor c.args.condition c.args.self.now _ next gives swaps refl (λ q. refl) (length-set c.args.self.now.swapped.items c.count_below-below.result true)
     (λ v b known there. flags_set records c.args.floor c.args.k c.args.condition c.in-Some.pair c.count_below-below.result c.args.self.now.swapped.items is (c.count_below-below.ensures.exact records versions.known) within may v b known there) are
 
 pub returns-else-below-len : goal.returns-else-below-len
