@@ -10,9 +10,10 @@ use Rattle.doc_register.specs.declared.state.DocState.{DocState}
 use Rattle.doc_register.specs.declared.state.DocState.TheVariants.{Gone, Here}
 use Rattle.doc_register.specs.Register.{DocStep, WriteStep, value_of}
 use Rattle.doc_register.specs.Run.{Entry, IsRun, State, Step, pair_taken}
-use Rattle.doc_register.proofs.RunLemmas.{AtMost, IsKind, below_new, leaves_pair, step_kind}
-use Rattle.doc_register.proofs.RunLaws.{pair_performs, still_most}
+use Rattle.doc_register.proofs.RunLemmas.{AtMost, IsKind, leaves_pair, step_kind}
+use Rattle.doc_register.proofs.RunLaws.{pair_performs}
 use Rattle.history.specs.Events.{is_same}
+use Rattle.ruled_out.proofs.DocumentSteps.{step_keeps}
 use Rattle.version_pair.proofs.ListLemmas.{none_is_not_some, same_some}
 
 -- the step of the document before which it has the pair or one above it
@@ -32,25 +33,14 @@ taken_most s e t q is step = leaves_pair s e.op q t q (pair_performs s e t q is 
 other_stays : (s : State) (e : Entry) (m : State) (d : List ℕ) → Step s e m → is_same e.doc d ≡ false → m.document d ≡ s.document d
 other_stays s e m d step is = step.others d (λ same. true≢false (sym ((bytes_decides e.doc d).1 (sym same)) ∙ is))
 
--- a document's pair does not fall in a step
-step_keeps : (s : State) (e : Entry) (m : State) (d : List ℕ) (q : Pair) → Step s e m → AtMost q (s.document d) → AtMost q (m.document d)
-step_keeps s e m d q step most = by_test (is_same e.doc d) refl where
-  by_test : (b : Bool) → is_same e.doc d ≡ b → AtMost q (m.document d)
-  by_test true is =
-      let same : e.doc ≡ d = (bytes_decides e.doc d).0 is in
-      subst (λ x. AtMost q (m.document x)) same
-      (still_most (s.document e.doc) e (m.document e.doc) q (subst (λ x. AtMost q (s.document x)) (sym same) most)
-      (step_kind (s.document e.doc) e.op e.reply e.hidden (m.document e.doc) step.own))
-  by_test false is = subst (AtMost q) (sym (other_stays s e m d step is)) most
-
--- nor in a run
+-- the step of a document in a run that begins with the pair or one above it
 above_at : (es : List Entry) (s t : State) (q : Pair) → IsRun s es t → (j : ℕ) (f : Entry) → slice_get es j ≡ Some f → AtMost q (s.document f.doc) → StepsAbove q f
 above_at [] s t q run j f at most = absurd (none_is_not_some f at)
 above_at (e ∷ es) s t q (m, step, rest) zero f at most =
     let same : e ≡ f = same_some e f at in
     subst (StepsAbove q) same
     (record { before = s.document e.doc; after = m.document e.doc; most = subst (λ (x : Entry). AtMost q (s.document x.doc)) (sym same) most; step = step.own })
-above_at (e ∷ es) s t q (m, step, rest) (suc j) f at most = above_at es m t q rest j f at (step_keeps s e m f.doc q step most)
+above_at (e ∷ es) s t q (m, step, rest) (suc j) f at most = above_at es m t q rest j f at (step_keeps f.doc q s e m step most)
 
 -- a call of a document that stands after another which takes a pair meets this pair or one above it
 pub above_taken : (es : List Entry) (s t : State) → IsRun s es t → (i j : ℕ) (e f : Entry) (q : Pair) → i < j → slice_get es i ≡ Some e → slice_get es j ≡ Some f

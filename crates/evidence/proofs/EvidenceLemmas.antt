@@ -11,7 +11,7 @@ use Rattle.doc_register.specs.declared.reply.Reply.TheVariants.{Found}
 use Rattle.doc_register.specs.declared.state.Conflicts.{Conflicts}
 use Rattle.history.specs.declared.event.Event.{Event}
 use Rattle.history.specs.declared.event.Event.TheVariants.{Call, Reply}
-use Rattle.history.specs.Events.{IsCallAt, IsHistory, IsReplyAt, PassesAt, Precedes, heard_of, is_call_of}
+use Rattle.history.specs.Events.{IsCallAt, IsHistory, PassesAt, Precedes, heard_of, is_call_of}
 use Rattle.history.proofs.HistoryLemmas.{call_passes, reply_passes}
 use Rattle.version_pair.proofs.ListLemmas.{same_some}
 use Rattle.history.specs.Heard.{taken_by}
@@ -49,10 +49,6 @@ one_call events i j n h g d e op o history at bt =
     record { place = place; shard = same_shard events j n n h g d e op o moved bt; doc = same.1; operation = same.2 }
 
 -- ---- what the history tells of a call
-
--- the place of a reply that was heard
-heard_reply : (events : List Event) (n i h y : ℕ) (d : List ℕ) (op : Op) (r : Answer) → IsHistory events → IsCallAt events i n h d op → heard_of events n ≡ Some (y, r) → IsReplyAt events y n r
-heard_reply events n i h y d op r history call heard = heard_is_reply events history i n h d op call y r heard
 
 -- a performed write as the history tells of it
 abbrev pub performed_as : (events : List Event) (n : ℕ) (w : PerformedWrite) (look : IsPerformedWrite events n w) (d : List ℕ) (q : Pair) → look.doc ≡ d → w.pair ≡ q → IsPerformed events n d q
@@ -112,7 +108,7 @@ get_within events n get look = slice_get_within events get.called (Call look.sha
 
 pub reply_within : (events : List Event) (n : ℕ) (get : FoundGet) → IsHistory events → IsFoundGet events n get → get.replied < length events
 reply_within events n get history look =
-    slice_get_within events get.replied (Reply n (Found get.pair get.k)) (heard_reply events n get.called look.shard get.replied look.doc look.op (Found get.pair get.k) history look.call look.heard)
+    slice_get_within events get.replied (Reply n (Found get.pair get.k)) (heard_is_reply events history get.called n look.shard look.doc look.op look.call get.replied (Found get.pair get.k) look.heard)
 
 -- ---- a pair twice
 
@@ -140,7 +136,7 @@ twice_told events a b one two history x y apart = (
 precedes : (events : List Event) (a b : ℕ) (w : PerformedWrite) (j h : ℕ) (d : List ℕ) (op : Op) → IsHistory events → IsPerformedWrite events a w → IsCallAt events j b h d op
     → w.replied < j ↔ Precedes events a b
 precedes events a b w j h d op history look call =
-    let reply = heard_reply events a w.called w.shard w.replied look.doc w.op look.reply history look.call look.heard in (
+    let reply = heard_is_reply events history w.called a w.shard look.doc w.op look.call w.replied look.reply look.heard in (
       λ before. record { answered = w.replied; called = j; before = before; reply = (look.reply, reply); call = call_passes events j b h d op call },
       λ first.
           let answered : first.answered ≡ w.replied =
