@@ -17,9 +17,9 @@ use Rattle.witness.specs.Text.{DocPlaces}
 use Rattle.compose.specs.Covers.{AreCover, IsEntered}
 use Rattle.compose.specs.Laws.{CoversExplain, IsOrderOf}
 use Rattle.compose.proofs.CalledDocuments.{call_document}
-use Rattle.compose.proofs.Filtering.{part_from, rank, rank_at, rank_once}
+use Rattle.compose.proofs.Filtering.{rank, rank_at, rank_once}
 use Rattle.compose.proofs.Gathering.{AreGathered, gathered}
-use Rattle.compose.proofs.Points.{Pointed, call_place, called_there, is_of, part, part_placed, placed_at, placed_of, pointed_at}
+use Rattle.compose.proofs.Points.{Pointed, call_place, called_there, in_order, is_of, part, part_placed, placed_at, placed_of, pointed_at}
 use Rattle.compose.proofs.Sorting.{IsRising, rising_at}
 use Rattle.compose.proofs.Standing.{listed, passes}
 use Rattle.compose.proofs.WholeRun.{distinct, part_legal}
@@ -47,13 +47,6 @@ once conflicts events entries ks history all i j k l at bt same =
     (a.own.explains.once (rank (is_of d) ks i) (rank (is_of d) ks j) k.placed l.placed
     (placed_at (part d ks) (rank (is_of d) ks i) k a.stands) (placed_at (part d ks) (rank (is_of d) ks j) l stands) same)
 
--- what stands in a part of the order stands in the order
-in_order : (d : List ℕ) (ks : List Pointed) (r : ℕ) (p : Placed) → slice_get (placed_of (part d ks)) r ≡ Some p → (i : ℕ) × (slice_get (placed_of ks) i ≡ Some p)
-in_order d ks r p at =
-    let k = pointed_at (part d ks) r p at in
-    let from = part_from (is_of d) ks r k.0 k.1 in
-    (from.0, subst (λ q. slice_get (placed_of ks) from.0 ≡ Some q) k.2 (placed_at ks from.0 k.0 from.1))
-
 -- an answered call stands with its reply in the part of its document
 answered : (conflicts : Conflicts) (events : List Event) (entries : List DocPlaces) (ks : List Pointed) → IsHistory events → AreCover conflicts events entries → AreGathered conflicts events entries ks
     → (k n : ℕ) (r : Answer) → IsReplyAt events k n r → (i : ℕ) × (p : Placed) × (slice_get (placed_of ks) i ≡ Some p) × (p.no ≡ n) × (p.entry.reply ≡ r)
@@ -63,7 +56,7 @@ answered conflicts events entries ks history cover all k n r reply =
     let e = cover.complete document.1.0 (call.2, document.0) document.1.1 in
     let own = all.parts e.0 e.1 e.2 in
     let found = own.explains.answered k call.0 n call.1 call.3 r reply (subst (λ d. IsCallAt events call.0 n call.1 d call.3) (sym e.3) call.4) in
-    let at = in_order e.1.doc ks found.0 found.1 found.2 in
+    let at = in_order (is_of e.1.doc) ks found.0 found.1 found.2 in
     (at.0, found.1, at.1, found.3, found.4)
 
 -- Where one call precedes another it stands first. Otherwise the other's point would not be after its own, which some call

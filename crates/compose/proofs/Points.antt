@@ -10,7 +10,7 @@ use Rattle.history.specs.Order.{IsOfCall, Placed, run_of}
 use Rattle.history.proofs.HistoryLemmas.{call_passes}
 use Rattle.version_pair.proofs.ListLemmas.{none_is_not_some, same_some}
 use Rattle.compose.specs.Laws.{part_of_order}
-use Rattle.compose.proofs.Filtering.{filter_made}
+use Rattle.compose.proofs.Filtering.{filter_made, part_from}
 use Rattle.compose.proofs.Sorting.{IsBelowAll, IsRising}
 
 -- A call of an order, with its point.
@@ -41,6 +41,13 @@ pub pointed_at : (ks : List Pointed) (i : ℕ) (p : Placed) → slice_get (place
 pointed_at [] i p at = absurd (none_is_not_some p at)
 pointed_at (k ∷ ks) zero p at = (k, refl, same_some k.placed p at)
 pointed_at (k ∷ ks) (suc i) p at = pointed_at ks i p at
+
+-- what stands in a part of the order stands in the order
+pub in_order : (test : Pointed → Bool) (ks : List Pointed) (r : ℕ) (p : Placed) → slice_get (placed_of (filter test ks)) r ≡ Some p → (i : ℕ) × (slice_get (placed_of ks) i ≡ Some p)
+in_order test ks r p at =
+    let k = pointed_at (filter test ks) r p at in
+    let from = part_from test ks r k.0 k.1 in
+    (from.0, subst (λ q. slice_get (placed_of ks) from.0 ≡ Some q) k.2 (placed_at ks from.0 k.0 from.1))
 
 -- the part of the order is the order of the part
 pub part_placed : (d : List ℕ) (ks : List Pointed) → part_of_order d (placed_of ks) ≡ placed_of (part d ks)

@@ -11,8 +11,8 @@ use Rattle.history.specs.Order.{Explains, IsOfCall, Placed, run_of}
 use Rattle.history.proofs.HistoryLemmas.{answered_call, call_passes}
 use Rattle.compose.specs.Shards.{LocalByShard, part_of_shard}
 use Rattle.evidence.proofs.CallsByNumber.{same_shard}
-use Rattle.compose.proofs.Filtering.{filter_made, part_from, rank, rank_at, rank_once}
-use Rattle.compose.proofs.Points.{Pointed, call_place, called_there, placed_at, placed_of, pointed_at}
+use Rattle.compose.proofs.Filtering.{filter_made, rank, rank_at, rank_once}
+use Rattle.compose.proofs.Points.{Pointed, call_place, called_there, in_order, placed_at, placed_of, pointed_at}
 use Rattle.compose.proofs.ShardMerge.{AreMerged, IsOrderOn, is_on, merged, those_on}
 use Rattle.compose.proofs.ShardOrders.{one_shard, part_explained}
 use Rattle.compose.proofs.ShardParts.{has_call, part_call, precedes_in_part, reply_in_part, split_by_shard}
@@ -70,13 +70,6 @@ once conflicts events n ks history all i j k l at bt same =
     (a.own.explains.is_order.once (rank (is_on h) ks i) (rank (is_on h) ks j) k.placed l.placed
     (placed_at (those_on h ks) (rank (is_on h) ks i) k a.stands) (placed_at (those_on h ks) (rank (is_on h) ks j) l (rank_at (is_on h) ks j l bt there)) same)
 
--- what stands among those on a shard stands among all
-in_order : (h : ℕ) (ks : List Pointed) (r : ℕ) (p : Placed) → slice_get (placed_of (those_on h ks)) r ≡ Some p → (i : ℕ) × (slice_get (placed_of ks) i ≡ Some p)
-in_order h ks r p at =
-    let k = pointed_at (those_on h ks) r p at in
-    let from = part_from (is_on h) ks r k.0 k.1 in
-    (from.0, subst (λ q. slice_get (placed_of ks) from.0 ≡ Some q) k.2 (placed_at ks from.0 k.0 from.1))
-
 -- an answered call stands with its reply among those on its shard
 answered : (conflicts : Conflicts) (events : List Event) (ks : List Pointed) → IsHistory events → AreMerged conflicts events shards ks
     → (k n : ℕ) (r : Answer) → IsReplyAt events k n r → (i : ℕ) × (p : Placed) × (slice_get (placed_of ks) i ≡ Some p) × (p.no ≡ n) × (p.entry.reply ≡ r)
@@ -85,7 +78,7 @@ answered conflicts events ks history all k n r reply =
     let h : ℕ = call.1 in
     let own = all.parts h (history.shards call.0 n h call.2 call.3 call.4) in
     let found = own.explains.is_order.answered _ n r (reply_in_part events h k n r reply (has_call events call.0 n h call.2 call.3 call.4)) in
-    let at = in_order h ks found.0 found.1 found.2 in
+    let at = in_order (is_on h) ks found.0 found.1 found.2 in
     (at.0, found.1, at.1, found.3, found.4)
 
 -- Where one call precedes another it stands first. Otherwise the other's point would not be after its own, which some call

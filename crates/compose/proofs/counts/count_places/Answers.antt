@@ -1,5 +1,5 @@
-use Rattle.std.proofs.Common.{arith, ◌≡◌, ◌+◌, ◌∙◌, ap, length, map, refl, sym, take}
-use Rattle.std.proofs.Math.Seq.{take-length}
+use Rattle.std.proofs.Common.{arith, ◌≡◌, ◌+◌, ◌∙◌, ap, length, map, refl, sym, take, ◌≤◌}
+use Rattle.std.proofs.lemmas.List.{take_all}
 use Rattle.std.proofs.lemmas.Option.{slice_get_read}
 use Rattle.witness.specs.Documents.{witness_places}
 use Rattle.compose.specs.Laws.{places_in}
@@ -27,6 +27,6 @@ loop-i-preserved c =
 pub returns : goal.returns
 returns c =
     let ws = c.args.witnesses.now in
-    let end : c.loop-i.i ≡ length ws = omega (arith, c.loop-i-test.false, c.loop-i.auto.i-end) in
+    let past : length ws ≤ c.loop-i.i = omega (arith, c.loop-i-test.false) in
     let so_far : c.loop-i.places ≡ places_in (map witness_places (take c.loop-i.i ws)) = c.loop-i.invariant in
-    so_far ∙ ap (λ vs. places_in (map witness_places vs)) (ap (λ n. take n ws) end ∙ take-length ws)
+    so_far ∙ ap (λ vs. places_in (map witness_places vs)) (take_all c.loop-i.i ws past)

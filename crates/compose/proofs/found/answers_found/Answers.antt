@@ -1,5 +1,5 @@
-use Rattle.std.proofs.Common.{arith, true, ◌≡◌, ◌<◌, ◌∙◌, ap, length, subst, sym, take}
-use Rattle.std.proofs.Math.Seq.{take-length}
+use Rattle.std.proofs.Common.{arith, true, ◌<◌, length, subst, sym, take, ◌≤◌}
+use Rattle.std.proofs.lemmas.List.{take_all}
 use Rattle.history.specs.Events.{documents_of}
 use Rattle.compose.specs.aids.Searched.{AreAnswersFor}
 use Rattle.compose.proofs.FoundLemmas.{answered_one_more}
@@ -14,5 +14,5 @@ loop-doc-preserved c =
 pub returns : goal.returns
 returns c =
     let docs = documents_of c.args.history.now in
-    let end : c.loop-doc.doc ≡ length docs = omega (arith, c.loop-doc-test.false, c.loop-doc.auto.doc-end, c.docs-doc-end.ensures) in
-    subst (λ ds. AreAnswersFor c.args.conflicts c.args.history.now true ds c.loop-doc.answers.items) (ap (λ n. take n docs) end ∙ take-length docs) c.loop-doc.invariant
+    let past : length docs ≤ c.loop-doc.doc = omega (arith, c.loop-doc-test.false, c.docs-doc-end.ensures) in
+    subst (λ ds. AreAnswersFor c.args.conflicts c.args.history.now true ds c.loop-doc.answers.items) (take_all c.loop-doc.doc docs past) c.loop-doc.invariant

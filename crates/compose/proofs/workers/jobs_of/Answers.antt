@@ -1,5 +1,5 @@
-use Rattle.std.proofs.Common.{arith, ◌≡◌, ◌<◌, ◌∙◌, ap, length, subst, sym, take}
-use Rattle.std.proofs.Math.Seq.{take-length}
+use Rattle.std.proofs.Common.{arith, ◌<◌, ◌∙◌, length, subst, sym, take, ◌≤◌}
+use Rattle.std.proofs.lemmas.List.{take_all}
 use Rattle.history.specs.Events.{documents_of}
 use Rattle.check_pool.proofs.JobLemmas.{AreNumbered-snoc}
 use Rattle.compose.specs.aids.Worked.{AreJobsFor}
@@ -20,5 +20,5 @@ loop-doc-preserved c =
 pub returns-clause-jobs : goal.returns-clause-jobs
 returns-clause-jobs c =
     let docs = documents_of c.args.history.now in
-    let end : c.loop-doc.doc ≡ length docs = omega (arith, c.loop-doc-test.false, c.loop-doc.auto.doc-end, c.docs-doc-end.ensures) in
-    subst (λ ds. AreJobsFor c.args.conflicts c.args.history.now ds c.loop-doc.jobs.items) (ap (λ n. take n docs) end ∙ take-length docs) c.loop-doc.invariant.own
+    let past : length docs ≤ c.loop-doc.doc = omega (arith, c.loop-doc-test.false, c.docs-doc-end.ensures) in
+    subst (λ ds. AreJobsFor c.args.conflicts c.args.history.now ds c.loop-doc.jobs.items) (take_all c.loop-doc.doc docs past) c.loop-doc.invariant.own
