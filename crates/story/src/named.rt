@@ -142,7 +142,10 @@ impl Named {
             }
         }
         for call in calls.iter().rev() {
-            if chosen.len() < most && !self.matters(call) {
+            if chosen.len() >= most {
+                break;
+            }
+            if !self.matters(call) {
                 chosen.push(*call)?;
             }
         }
@@ -160,7 +163,10 @@ pub fn rest_of<'h>(
 ) -> Result<Vec<Call<'h>>, NoMemory> {
     let mut rest = Vec::new(alloc);
     for call in calls.iter().rev() {
-        if rest.len() < most && !first.iter().any(|other| other.record.no == call.record.no) {
+        if rest.len() >= most {
+            break;
+        }
+        if !first.iter().any(|other| other.record.no == call.record.no) {
             rest.push(*call)?;
         }
     }
