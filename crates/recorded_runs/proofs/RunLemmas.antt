@@ -1,6 +1,6 @@
 -- The setting of a run, and its recording.
-use Rattle.std.proofs.Common.{◌≡◌, ℕ, ◌<◌, ◌∷◌, Err, Ok, Result, true, ap, arith, inl, inr, refl, suc, sym, zero}
-use Rattle.std.specs.Prelude.{◌↔◌, ◌⊎◌, map, replicate}
+use Rattle.std.proofs.Common.{◌≡◌, ℕ, ◌<◌, Err, Ok, Result, true, arith, inl, inr, refl, sym}
+use Rattle.std.specs.Prelude.{◌↔◌, ◌⊎◌}
 use Rattle.std.proofs.lemmas.Bool.Decides.{nat_tests}
 use Rattle.repl_group.specs.declared.fault.CoreFault.{CoreFault}
 use Rattle.repl_group.specs.declared.fault.CoreFault.TheVariants as core
@@ -23,8 +23,3 @@ copies_told (Ok x) copies just =
 copies_told (Err core.Copies) copies just = sym (refused_if copies (just.0 refl))
 copies_told (Err core.NoMemory) copies just =
     sym (false_from_ne_true (are_refused copies) (λ here. let e : Err core.NoMemory ≡ Err core.Copies = just.1 (refused_so copies here) in cc))
-
--- each of so many is mapped to the same
-pub map_replicate : {X Y : Type 0} (f : X → Y) (x : X) (count : ℕ) → map f (replicate count x) ≡ replicate count (f x)
-map_replicate f x zero = refl
-map_replicate f x (suc count) = ap (λ ys. f x ∷ ys) (map_replicate f x count)

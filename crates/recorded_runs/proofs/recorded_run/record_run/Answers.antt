@@ -3,13 +3,13 @@ use Rattle.std.specs.Prelude.{replicate}
 use Rattle.recorder.specs.Clock.{pens_of}
 use Rattle.recorder.specs.Pens.{new_pen}
 use Rattle.recorder.specs.Recordings.{lists_of}
-use Rattle.recorded_runs.proofs.RunLemmas.{map_replicate}
+use lib.LanesLaws.{map-replicate}
 use Rattle.recorded_runs.proofs.recorded_run.record_run.Goals as goal
 
 pub returns-in-Ok-close-clause-run : goal.returns-in-Ok-close-clause-run
 returns-in-Ok-close-clause-run g c = record {
   lists = lists_of (pens_of c.in-Ok-play.pens.items);
   runs = c.in-Ok-play.ensures.of_new_pens
-      (ap (λ pens. pens_of pens) c.in-Ok.ensures.ok.1 ∙ map_replicate (λ pen. pen.pen) _ _ ∙ ap (λ count. replicate count new_pen) c.clients.ensures.count);
+      (ap (λ pens. pens_of pens) c.in-Ok.ensures.ok.1 ∙ map-replicate (λ pen. pen.pen) _ _ ∙ ap (λ count. replicate count new_pen) c.clients.ensures.count);
   recording = c.in-Ok-close.ensures.recording;
 }
