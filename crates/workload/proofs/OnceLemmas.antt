@@ -1,11 +1,11 @@
 -- That a round visits each client once.
-use Rattle.std.proofs.Common.{◌≡◌, ◌∙◌, ◌≤◌, ℕ, ◌+◌, ◌<◌, List, Some, ap, arith, get_or, inl, inr, length, refl, slice_get, subst, sym}
+use Rattle.std.proofs.Common.{◌≡◌, ◌∙◌, ◌≤◌, ℕ, ◌+◌, ◌<◌, List, Some, ap, arith, get_or, inl, inr, length, slice_get, subst}
 use Rattle.std.proofs.Math.ListN.{set}
 use Rattle.std.proofs.lemmas.List.{length-set}
 use Rattle.std.proofs.lemmas.Option.{slice_get-get_or, slice_get_within}
 use Rattle.workload.specs.aids.Seats.{AreVisitedOnce, IsVisitedOnce}
 use Rattle.workload.specs.declared.seat.Seat.{Seat}
-use Rattle.version_pair.proofs.ListLemmas.{from_set, same_some}
+use Rattle.version_pair.proofs.ListLemmas.{from_set}
 
 module _ {P : Type 0} (polls : ℕ) where
   -- The first i clients were visited once, and the others not yet.
@@ -13,13 +13,6 @@ module _ {P : Type 0} (polls : ℕ) where
     pub count : length now ≡ length old
     pub front : (k : ℕ) (before after : Seat P) → k < i → slice_get old k ≡ Some before → slice_get now k ≡ Some after → IsVisitedOnce polls before after
     pub rest : (k : ℕ) (before after : Seat P) → i ≤ k → slice_get old k ≡ Some before → slice_get now k ≡ Some after → after ≡ before
-
-  pub visited_at_start : (old : List (Seat P)) → AreVisitedSoFar old old 0
-  visited_at_start old = record {
-    count = refl;
-    front = λ k before after none. absurd (omega arith);
-    rest = λ k before after _ at_old at_now. same_some after before (sym at_now ∙ at_old);
-  }
 
   -- the visit of the next client
   pub visited_after : (old now : List (Seat P)) (i : ℕ) (d new : Seat P) → i < length now → IsVisitedOnce polls (get_or now i d) new

@@ -93,15 +93,6 @@ module _ (issued : Ticket → List ℕ → Op → Type 0) (gave : Ticket → Pro
     pub same : acted ≡ false → now ≡ old
     pub done : acted ≡ false → (k : ℕ) (d : Seat P) → k < i → IsDone clients (get_or old k d)
 
-  pub round_at_start : (old : List (Seat P)) → IsRoundSoFar old old 0 false
-  round_at_start old = record {
-    count = refl;
-    keeps = λ pens seated. seated;
-    fewer = λ is_true. absurd (cc);
-    same = λ _. refl;
-    done = λ _ k d none. absurd (omega arith);
-  }
-
   seated_after : (pens : List P) (now : List (Seat P)) (i : ℕ) (seat new : Seat P) (acted : Bool) → slice_get now i ≡ Some seat
       → Visits issued gave polls state clients seat new acted → AreSeated issued gave polls state clients pens now
       → AreSeated issued gave polls state clients pens (set now i new)
