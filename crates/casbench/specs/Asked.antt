@@ -68,26 +68,30 @@ ruling_given None = Off
 ruling_given (Some text) = if bytes_eq text (codes "true") then On else Off
 
 -- one worker where no number is given
-abbrev pub check_of : Option Text → Option Text → Option Text → Option Text → Option Asked
-check_of file name workers rule_out =
-    option_and_then (λ conflicts. option_map (λ n. ToCheck file conflicts n (ruling_given rule_out)) (number_or 1 workers)) (conflicts_named name)
+abbrev pub check_of : List Row → Option Asked
+check_of rows =
+    option_and_then (λ conflicts. option_map (λ n. ToCheck (first_of (codes "history") rows) conflicts n (ruling_given (first_of (codes "rule-out") rows)))
+    (number_or 1 (first_of (codes "workers") rows))) (conflicts_named (first_of (codes "conflicts") rows))
 
 -- one worker where no number is given
-abbrev pub explain_of : Option Text → Option Text → Option Text → Option Text → Option Text → Option Asked
-explain_of file name workers rule_out page =
-    option_and_then (λ conflicts. option_map (λ n. ToExplain file conflicts n (ruling_given rule_out) page) (number_or 1 workers)) (conflicts_named name)
+abbrev pub explain_of : List Row → Option Asked
+explain_of rows =
+    option_and_then (λ conflicts. option_map (λ n. ToExplain (first_of (codes "history") rows) conflicts n (ruling_given (first_of (codes "rule-out") rows)) (first_of (codes "html") rows))
+    (number_or 1 (first_of (codes "workers") rows))) (conflicts_named (first_of (codes "conflicts") rows))
 
-abbrev pub witness_of : Option Text → Option Text → Option Text → Option Asked
-witness_of file name rule_out = option_map (λ conflicts. ToWitness file conflicts (ruling_given rule_out)) (conflicts_named name)
+abbrev pub witness_of : List Row → Option Asked
+witness_of rows =
+    option_map (λ conflicts. ToWitness (first_of (codes "history") rows) conflicts (ruling_given (first_of (codes "rule-out") rows))) (conflicts_named (first_of (codes "conflicts") rows))
 
-abbrev pub verify_of : Option Text → Option Text → Option Text → Option Asked
-verify_of (Some history) (Some witness) name = option_map (λ conflicts. ToVerify history witness conflicts) (conflicts_named name)
-verify_of _ _ _ = None
+abbrev pub verify_of : List Row → Option Asked
+verify_of rows =
+    option_and_then (λ history. option_and_then (λ witness. option_map (λ conflicts. ToVerify history witness conflicts) (conflicts_named (first_of (codes "conflicts") rows)))
+    (first_of (codes "witness") rows)) (first_of (codes "history") rows)
 
 -- the calls are numbered from 0 where no number is given
-abbrev pub bulk_of : Option Text → Option Text → Option Text → Option Asked
-bulk_of (Some body) (Some reply) first = option_map (λ n. ToWriteBulk body reply n) (number_or 0 first)
-bulk_of _ _ _ = None
+abbrev pub bulk_of : List Row → Option Asked
+bulk_of rows =
+    option_and_then (λ body. option_and_then (λ reply. option_map (λ n. ToWriteBulk body reply n) (number_or 0 (first_of (codes "first") rows))) (first_of (codes "reply") rows)) (first_of (codes "body") rows)
 
 -- the number that is given, if one is
 abbrev pub number_given : Option Text → Option ℕ
@@ -109,16 +113,12 @@ fault_named name =
     else (if bytes_eq name (codes "blind") then Some fault.Blind else None)))))
 
 -- what a run is made with, where each number is given and the fault is named
-abbrev pub setting_of : Option ℕ → Option Text → Option Text → Option Text → Option Text → Option Text → Option RunSetting
-setting_of seed clients calls docs copies name =
-    option_and_then (λ s. option_and_then (λ a. option_and_then (λ b. option_and_then (λ d. option_and_then (λ e.
-    option_map (λ f. record { seed = s; clients = a; calls = b; docs = d; copies = e; fault = f }) (option_and_then fault_named name))
-    (small_given copies)) (small_given docs)) (small_given calls)) (small_given clients)) seed
-
 abbrev pub setting_given : Option ℕ → List Row → Option RunSetting
 setting_given seed rows =
-    setting_of seed (first_of (codes "clients") rows) (first_of (codes "calls") rows)
-    (first_of (codes "docs") rows) (first_of (codes "copies") rows) (first_of (codes "fault") rows)
+    option_and_then (λ s. option_and_then (λ a. option_and_then (λ b. option_and_then (λ d. option_and_then (λ e.
+    option_map (λ f. record { seed = s; clients = a; calls = b; docs = d; copies = e; fault = f }) (option_and_then fault_named (first_of (codes "fault") rows)))
+    (small_given (first_of (codes "copies") rows))) (small_given (first_of (codes "docs") rows))) (small_given (first_of (codes "calls") rows)))
+    (small_given (first_of (codes "clients") rows))) seed
 
 -- the disturbance of this name, which is none where none is given
 abbrev pub disturbance_named : Option Text → Option Disturbance
@@ -135,11 +135,9 @@ playing_given None = OnThreads
 playing_given (Some text) = if bytes_eq text (codes "true") then InTurns else OnThreads
 
 -- how a run goes, where the disturbance is named or none is
-abbrev pub manner_of : Option Text → Option Text → Option Manner
-manner_of in_turns name = option_map (λ d. record { playing = playing_given in_turns; disturbance = d }) (disturbance_named name)
-
 abbrev pub manner_given : List Row → Option Manner
-manner_given rows = manner_of (first_of (codes "in-turns") rows) (first_of (codes "disturb") rows)
+manner_given rows =
+    option_map (λ d. record { playing = playing_given (first_of (codes "in-turns") rows); disturbance = d }) (disturbance_named (first_of (codes "disturb") rows))
 
 -- a minus sign
 abbrev pub is_minus : ℕ → Bool
@@ -179,18 +177,12 @@ run_of rows = runs_of (first_of (codes "seed") rows) (first_of (codes "until") r
 -- what a command of this name asks for, which was given these texts by the names of its arguments
 abbrev pub asked_of_command : Text → List Row → Option Asked
 asked_of_command name rows =
-    if bytes_eq name (codes "check") then check_of (first_of (codes "history") rows) (first_of (codes "conflicts") rows) (first_of (codes "workers") rows) (first_of (codes "rule-out") rows)
-    else (if bytes_eq name (codes "witness")
-    then witness_of (first_of (codes "history") rows) (first_of (codes "conflicts") rows) (first_of (codes "rule-out") rows)
-    else (if bytes_eq name (codes "verify")
-    then verify_of (first_of (codes "history") rows) (first_of (codes "witness") rows) (first_of (codes "conflicts") rows)
-    else (if bytes_eq name (codes "bulk")
-    then bulk_of (first_of (codes "body") rows) (first_of (codes "reply") rows) (first_of (codes "first") rows)
+    if bytes_eq name (codes "check") then check_of rows
+    else (if bytes_eq name (codes "witness") then witness_of rows
+    else (if bytes_eq name (codes "verify") then verify_of rows
+    else (if bytes_eq name (codes "bulk") then bulk_of rows
     else (if bytes_eq name (codes "run") then run_of rows
-    else (if bytes_eq name (codes "explain")
-    then explain_of (first_of (codes "history") rows) (first_of (codes "conflicts") rows) (first_of (codes "workers") rows) (first_of (codes "rule-out") rows)
-    (first_of (codes "html") rows)
-    else None)))))
+    else (if bytes_eq name (codes "explain") then explain_of rows else None)))))
 
 -- no command asks for a check of standard input by one worker
 abbrev pub asked_of : Option (Text × List Row) → Option Asked
@@ -205,25 +197,21 @@ file_rule name = record (new_rule name) { value_names = 1 }
 abbrev pub needed_rule : Text → Rule
 needed_rule name = record (file_rule name) { required = true }
 
+-- an option with a value, under this name
+abbrev pub option_rule : Text → Rule
+option_rule name = record (file_rule name) { long = Some name }
+
 -- `--first N`, N below 2^64
 abbrev pub first_rule : Rule
-first_rule = record (file_rule (codes "first")) { long = Some (codes "first"); parser = Some (parser.Unsigned 0 18446744073709551615) }
-
--- `--conflicts READING`
-abbrev pub conflicts_rule : Rule
-conflicts_rule = record (file_rule (codes "conflicts")) { long = Some (codes "conflicts") }
+first_rule = record (option_rule (codes "first")) { parser = Some (parser.Unsigned 0 18446744073709551615) }
 
 -- `--workers N`, N from 1 to 16
 abbrev pub workers_rule : Rule
-workers_rule = record (file_rule (codes "workers")) { long = Some (codes "workers"); parser = Some (parser.Unsigned 1 16) }
+workers_rule = record (option_rule (codes "workers")) { parser = Some (parser.Unsigned 1 16) }
 
 -- `--rule-out`
 abbrev pub rule_out_rule : Rule
 rule_out_rule = record (new_rule (codes "rule-out")) { long = Some (codes "rule-out"); action = Some SetTrue }
-
--- `--html OUT`
-abbrev pub html_rule : Rule
-html_rule = record (file_rule (codes "html")) { long = Some (codes "html") }
 
 -- a number below 2^32 that is required, under this name
 abbrev pub small_rule : Text → Rule
@@ -231,7 +219,7 @@ small_rule name = record (needed_rule name) { long = Some name; parser = Some (p
 
 -- `--seed S`, S below 2^64
 abbrev pub seed_rule : Rule
-seed_rule = record (file_rule (codes "seed")) { long = Some (codes "seed"); parser = Some (parser.Unsigned 0 18446744073709551615) }
+seed_rule = record (option_rule (codes "seed")) { parser = Some (parser.Unsigned 0 18446744073709551615) }
 
 -- `--fault F`, which is required
 abbrev pub fault_rule : Rule
@@ -241,35 +229,23 @@ fault_rule = record (needed_rule (codes "fault")) { long = Some (codes "fault") 
 abbrev pub in_turns_rule : Rule
 in_turns_rule = record (new_rule (codes "in-turns")) { long = Some (codes "in-turns"); action = Some SetTrue }
 
--- `--disturb NAME`
-abbrev pub disturb_rule : Rule
-disturb_rule = record (file_rule (codes "disturb")) { long = Some (codes "disturb") }
-
--- `--until ANSWER`
-abbrev pub until_rule : Rule
-until_rule = record (file_rule (codes "until")) { long = Some (codes "until") }
-
--- `--seeds A-B`
-abbrev pub seeds_rule : Rule
-seeds_rule = record (file_rule (codes "seeds")) { long = Some (codes "seeds") }
-
 -- a command of this name that takes what a check takes
 abbrev pub searched_line : Text → App
-searched_line name = with_rule (with_rule (with_rule (with_rule (new_app name) (file_rule (codes "history"))) conflicts_rule) workers_rule) rule_out_rule
+searched_line name = with_rule (with_rule (with_rule (with_rule (new_app name) (file_rule (codes "history"))) (option_rule (codes "conflicts"))) workers_rule) rule_out_rule
 
 abbrev pub check_line : App
 check_line = searched_line (codes "check")
 
 -- with the page too
 abbrev pub explain_line : App
-explain_line = with_rule (searched_line (codes "explain")) html_rule
+explain_line = with_rule (searched_line (codes "explain")) (option_rule (codes "html"))
 
 abbrev pub witness_line : App
-witness_line = with_rule (with_rule (with_rule (new_app (codes "witness")) (file_rule (codes "history"))) conflicts_rule) rule_out_rule
+witness_line = with_rule (with_rule (with_rule (new_app (codes "witness")) (file_rule (codes "history"))) (option_rule (codes "conflicts"))) rule_out_rule
 
 abbrev pub verify_line : App
 verify_line =
-    with_rule (with_rule (with_rule (new_app (codes "verify")) (needed_rule (codes "history"))) (needed_rule (codes "witness"))) conflicts_rule
+    with_rule (with_rule (with_rule (new_app (codes "verify")) (needed_rule (codes "history"))) (needed_rule (codes "witness"))) (option_rule (codes "conflicts"))
 
 abbrev pub bulk_line : App
 bulk_line = with_rule (with_rule (with_rule (new_app (codes "bulk")) (needed_rule (codes "body"))) (needed_rule (codes "reply"))) first_rule
@@ -284,11 +260,11 @@ group_line = with_rule (with_rule (with_rule plan_line (small_rule (codes "docs"
 
 -- and with how it goes
 abbrev pub manner_line : App
-manner_line = with_rule (with_rule group_line in_turns_rule) disturb_rule
+manner_line = with_rule (with_rule group_line in_turns_rule) (option_rule (codes "disturb"))
 
 -- and with the seeds that are tried
 abbrev pub run_line : App
-run_line = with_rule (with_rule manner_line until_rule) seeds_rule
+run_line = with_rule (with_rule manner_line (option_rule (codes "until"))) (option_rule (codes "seeds"))
 
 -- `casbench`, which has a version
 abbrev pub named_line : App

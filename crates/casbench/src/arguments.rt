@@ -1,6 +1,6 @@
 ghost use Rattle.std.specs.Prelude.{◌≡◌, false, codes};
 ghost use Rattle.clap.specs.Words.{rule_of};
-ghost use Rattle.casbench.specs.Asked.{conflicts_rule, disturb_rule, fault_rule, file_rule, first_rule, html_rule, in_turns_rule, needed_rule, rule_out_rule, seed_rule, seeds_rule, small_rule, until_rule, workers_rule};
+ghost use Rattle.casbench.specs.Asked.{fault_rule, file_rule, first_rule, in_turns_rule, needed_rule, option_rule, rule_out_rule, seed_rule, small_rule, workers_rule};
 
 use clap::builder::ValueParser;
 use clap::{Arg, ArgAction};
@@ -84,29 +84,31 @@ pub fn needed_file<'a>(alloc: Global, id: &'a str, shown: &'a str, help: &'a str
         .required(true)
 }
 
+/// An option with a value, which may be left out.
+pub fn option<'a>(alloc: Global, id: &'a str, shown: &'a str, help: &'a str) -> Arg<'a>
+    ensures rule { rule_of result ≡ option_rule id.entry.now }
+    ensures local { result.global ≡ false }
+{
+    Arg::new(alloc, id).long(id).value_name(shown).help(help)
+}
+
 /// The number of the first call, which may be left out.
 pub fn first<'a>(alloc: Global) -> Arg<'a>
     ensures rule { rule_of result ≡ first_rule }
     ensures local { result.global ≡ false }
 {
-    Arg::new(alloc, FIRST)
-        .long(FIRST)
-        .value_name("N")
-        .value_parser(ValueParser::Unsigned(0, u64::MAX))
-        .help("The number of the first call; 0 where it is left out")
+    let help = "The number of the first call; 0 where it is left out";
+    option(alloc, FIRST, "N", help).value_parser(ValueParser::Unsigned(0, u64::MAX))
 }
 
 /// How a conflict is read, which may be left out.
 pub fn conflicts<'a>(alloc: Global) -> Arg<'a>
-    ensures rule { rule_of result ≡ conflicts_rule }
+    ensures rule { rule_of result ≡ option_rule (codes "conflicts") }
     ensures local { result.global ≡ false }
 {
-    Arg::new(alloc, CONFLICTS)
-        .long(CONFLICTS)
-        .value_name("READING")
-        .help(
-            "How a conflict is read: plain, as not performed, or maybe; plain where it is left out",
-        )
+    let help =
+        "How a conflict is read: plain, as not performed, or maybe; plain where it is left out";
+    option(alloc, CONFLICTS, "READING", help)
 }
 
 /// How many workers there are, which may be left out.
@@ -114,11 +116,8 @@ pub fn workers<'a>(alloc: Global) -> Arg<'a>
     ensures rule { rule_of result ≡ workers_rule }
     ensures local { result.global ≡ false }
 {
-    Arg::new(alloc, WORKERS)
-        .long(WORKERS)
-        .value_name("N")
-        .value_parser(ValueParser::Unsigned(1, 16))
-        .help("How many workers search the documents, 1 to 16; 1 where it is left out")
+    let help = "How many workers search the documents, 1 to 16; 1 where it is left out";
+    option(alloc, WORKERS, "N", help).value_parser(ValueParser::Unsigned(1, 16))
 }
 
 /// Whether documents are looked at that may be ruled out.
@@ -134,29 +133,14 @@ pub fn rule_out<'a>(alloc: Global) -> Arg<'a>
         )
 }
 
-/// The file of the page, which may be left out.
-pub fn html<'a>(alloc: Global) -> Arg<'a>
-    ensures rule { rule_of result ≡ html_rule }
-    ensures local { result.global ≡ false }
-{
-    Arg::new(alloc, HTML)
-        .long(HTML)
-        .value_name("OUT")
-        .help("Write the story as a page of HTML too, to this file")
-}
-
 /// The seed of a run, which is left out where several are tried.
 pub fn seed<'a>(alloc: Global) -> Arg<'a>
     ensures rule { rule_of result ≡ seed_rule }
     ensures local { result.global ≡ false }
 {
-    Arg::new(alloc, SEED)
-        .long(SEED)
-        .value_name("S")
-        .value_parser(ValueParser::Unsigned(0, u64::MAX))
-        .help(
-            "The seed from which the plan of the clients, the steps of the group and its disturbances are drawn",
-        )
+    let help =
+        "The seed from which the plan of the clients, the steps of the group and its disturbances are drawn";
+    option(alloc, SEED, "S", help).value_parser(ValueParser::Unsigned(0, u64::MAX))
 }
 
 /// A number below 2^32 that may not be left out.
@@ -193,38 +177,4 @@ pub fn in_turns<'a>(alloc: Global) -> Arg<'a>
         .long(IN_TURNS)
         .action(ArgAction::SetTrue)
         .help("Play the clients in turns on one thread: the same words write the same text")
-}
-
-/// How the group is disturbed, which may be left out.
-pub fn disturb<'a>(alloc: Global) -> Arg<'a>
-    ensures rule { rule_of result ≡ disturb_rule }
-    ensures local { result.global ≡ false }
-{
-    Arg::new(alloc, DISTURB)
-        .long(DISTURB)
-        .value_name("NAME")
-        .help(
-            "How the group is disturbed meanwhile: none, cuts, promotions or storm; none where it is left out",
-        )
-}
-
-/// What a run is looked for that gets it, which may be left out.
-pub fn until<'a>(alloc: Global) -> Arg<'a>
-    ensures rule { rule_of result ≡ until_rule }
-    ensures local { result.global ≡ false }
-{
-    Arg::new(alloc, UNTIL).long(UNTIL).value_name("ANSWER").help(
-        "Try the seeds of --seeds in order, in turns, until a run is refuted, or gets no; ANSWER is refuted",
-    )
-}
-
-/// The seeds that are tried, which may be left out.
-pub fn seeds<'a>(alloc: Global) -> Arg<'a>
-    ensures rule { rule_of result ≡ seeds_rule }
-    ensures local { result.global ≡ false }
-{
-    Arg::new(alloc, SEEDS)
-        .long(SEEDS)
-        .value_name("A-B")
-        .help("The seeds that are tried, from A to B")
 }

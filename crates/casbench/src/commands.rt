@@ -1,14 +1,14 @@
 ghost use Rattle.std.specs.Prelude.{◌≡◌, false, IfOk, codes};
-ghost use Rattle.clap.specs.Words.{app_of, new_app};
+ghost use Rattle.clap.specs.Words.{app_of, new_app, rule_of, with_rule};
 ghost use Rattle.clap.specs.declared.builder.command.Command.TheViews.{out-Command as fields_of};
 ghost use Rattle.casbench.specs.Asked.{bulk_line, check_line, command_line, explain_line, group_line, manner_line, named_line, plan_line, run_line, searched_line, verify_line, witness_line};
 
 use crate::arguments;
 use crate::arguments::{
-    BODY, CALLS, CLIENTS, COPIES, DOCS, HISTORY, REPLY, conflicts, disturb, fault, first, history,
-    html, in_turns, needed_file, rule_out, seed, seeds, small, until, workers,
+    BODY, CALLS, CLIENTS, COPIES, DISTURB, DOCS, HISTORY, HTML, REPLY, SEEDS, UNTIL, conflicts,
+    fault, first, history, in_turns, needed_file, option, rule_out, seed, small, workers,
 };
-use clap::Command;
+use clap::{Arg, Command};
 use std::alloc::{AllocError, Global};
 
 /// Checks a history.
@@ -29,6 +29,15 @@ pub const RUN: &str = "run";
 /// Checks a history, and tells what was found.
 pub const EXPLAIN: &str = "explain";
 
+// The command with one more argument, which its subcommands don't take.
+fn with_argument<'a>(command: Command<'a>, argument: Arg<'a>) -> Result<Command<'a>, AllocError>
+    requires { argument.global ≡ false }
+    ensures line { IfOk result (λ told. app_of told ≡ with_rule (app_of command.entry) (rule_of argument.entry)) }
+    ensures local { IfOk result (λ told. (fields_of told).has_globals ≡ (fields_of command.entry).has_globals) }
+{
+    command.arg(argument)
+}
+
 // A command of this name that takes what a check takes.
 fn searched_command<'a>(
     alloc: Global,
@@ -39,13 +48,11 @@ fn searched_command<'a>(
     ensures line { IfOk result (λ command. app_of command ≡ searched_line name.entry.now) }
     ensures local { IfOk result (λ command. (fields_of command).has_globals ≡ false) }
 {
-    Command::new(alloc, name)
-        .about(about)
-        .after_help(example)
-        .arg(history(alloc))?
-        .arg(conflicts(alloc))?
-        .arg(workers(alloc))?
-        .arg(rule_out(alloc))
+    let command = Command::new(alloc, name).about(about).after_help(example);
+    let command = with_argument(command, history(alloc))?;
+    let command = with_argument(command, conflicts(alloc))?;
+    let command = with_argument(command, workers(alloc))?;
+    with_argument(command, rule_out(alloc))
 }
 
 fn check_command<'a>(alloc: Global) -> Result<Command<'a>, AllocError>
@@ -64,54 +71,59 @@ fn witness_command<'a>(alloc: Global) -> Result<Command<'a>, AllocError>
     ensures line { IfOk result (λ command. app_of command ≡ witness_line) }
     ensures local { IfOk result (λ command. (fields_of command).has_globals ≡ false) }
 {
-    Command::new(alloc, WITNESS)
+    let command = Command::new(alloc, WITNESS)
         .about("Write the witness of a history")
-        .after_help("Example:\n  casbench witness history.ndjson > history.witness")
-        .arg(history(alloc))?
-        .arg(conflicts(alloc))?
-        .arg(rule_out(alloc))
+        .after_help("Example:\n  casbench witness history.ndjson > history.witness");
+    let command = with_argument(command, history(alloc))?;
+    let command = with_argument(command, conflicts(alloc))?;
+    with_argument(command, rule_out(alloc))
 }
 
 fn verify_command<'a>(alloc: Global) -> Result<Command<'a>, AllocError>
     ensures line { IfOk result (λ command. app_of command ≡ verify_line) }
     ensures local { IfOk result (λ command. (fields_of command).has_globals ≡ false) }
 {
-    Command::new(alloc, VERIFY)
+    let history = needed_file(alloc, HISTORY, "FILE", "The history text");
+    let witness = needed_file(alloc, arguments::WITNESS, "WITNESS", "The witness text");
+    let command = Command::new(alloc, VERIFY)
         .about("Check a witness against a history")
-        .after_help("Example:\n  casbench verify history.ndjson history.witness")
-        .arg(needed_file(alloc, HISTORY, "FILE", "The history text"))?
-        .arg(needed_file(alloc, arguments::WITNESS, "WITNESS", "The witness text"))?
-        .arg(conflicts(alloc))
+        .after_help("Example:\n  casbench verify history.ndjson history.witness");
+    let command = with_argument(command, history)?;
+    let command = with_argument(command, witness)?;
+    with_argument(command, conflicts(alloc))
 }
 
 fn bulk_command<'a>(alloc: Global) -> Result<Command<'a>, AllocError>
     ensures line { IfOk result (λ command. app_of command ≡ bulk_line) }
     ensures local { IfOk result (λ command. (fields_of command).has_globals ≡ false) }
 {
-    Command::new(alloc, BULK)
+    let body = needed_file(alloc, BODY, "BODY", "The body of the bulk request");
+    let reply = needed_file(
+        alloc,
+        REPLY,
+        "REPLY",
+        "The body of its reply, the status being 200",
+    );
+    let command = Command::new(alloc, BULK)
         .about("Write a bulk request and its reply as lines of a history")
-        .after_help("Example:\n  casbench bulk bulk.body bulk.reply --first 100 >> history.ndjson")
-        .arg(needed_file(alloc, BODY, "BODY", "The body of the bulk request"))?
-        .arg(needed_file(
-            alloc,
-            REPLY,
-            "REPLY",
-            "The body of its reply, the status being 200",
-        ))?
-        .arg(first(alloc))
+        .after_help("Example:\n  casbench bulk bulk.body bulk.reply --first 100 >> history.ndjson");
+    let command = with_argument(command, body)?;
+    let command = with_argument(command, reply)?;
+    with_argument(command, first(alloc))
 }
 
 fn explain_command<'a>(alloc: Global) -> Result<Command<'a>, AllocError>
     ensures line { IfOk result (λ command. app_of command ≡ explain_line) }
     ensures local { IfOk result (λ command. (fields_of command).has_globals ≡ false) }
 {
-    searched_command(
+    let command = searched_command(
         alloc,
         EXPLAIN,
         "Check a history and tell what was found, for people",
         "Example:\n  casbench explain history.ndjson --html story.html",
-    )?
-    .arg(html(alloc))
+    )?;
+    let help = "Write the story as a page of HTML too, to this file";
+    with_argument(command, option(alloc, HTML, "OUT", help))
 }
 
 // The command without its arguments.
@@ -131,15 +143,16 @@ fn plan_command<'a>(alloc: Global) -> Result<Command<'a>, AllocError>
     ensures line { IfOk result (λ command. app_of command ≡ plan_line) }
     ensures local { IfOk result (λ command. (fields_of command).has_globals ≡ false) }
 {
-    bare_command(alloc)
-        .arg(seed(alloc))?
-        .arg(small(alloc, CLIENTS, "A", "How many clients there are, 1 to 8"))?
-        .arg(small(
-            alloc,
-            CALLS,
-            "B",
-            "How many calls each client makes; 524,288 at most in all",
-        ))
+    let clients = small(alloc, CLIENTS, "A", "How many clients there are, 1 to 8");
+    let calls = small(
+        alloc,
+        CALLS,
+        "B",
+        "How many calls each client makes; 524,288 at most in all",
+    );
+    let command = with_argument(bare_command(alloc), seed(alloc))?;
+    let command = with_argument(command, clients)?;
+    with_argument(command, calls)
 }
 
 // And with those that say what the group is.
@@ -147,10 +160,11 @@ fn group_command<'a>(alloc: Global) -> Result<Command<'a>, AllocError>
     ensures line { IfOk result (λ command. app_of command ≡ group_line) }
     ensures local { IfOk result (λ command. (fields_of command).has_globals ≡ false) }
 {
-    plan_command(alloc)?
-        .arg(small(alloc, DOCS, "D", "How many documents there are, 1 to 1,024"))?
-        .arg(small(alloc, COPIES, "E", "How many copies the group has, 1 to 5"))?
-        .arg(fault(alloc))
+    let docs = small(alloc, DOCS, "D", "How many documents there are, 1 to 1,024");
+    let copies = small(alloc, COPIES, "E", "How many copies the group has, 1 to 5");
+    let command = with_argument(plan_command(alloc)?, docs)?;
+    let command = with_argument(command, copies)?;
+    with_argument(command, fault(alloc))
 }
 
 // And with those that say how the run goes.
@@ -158,9 +172,10 @@ fn manner_command<'a>(alloc: Global) -> Result<Command<'a>, AllocError>
     ensures line { IfOk result (λ command. app_of command ≡ manner_line) }
     ensures local { IfOk result (λ command. (fields_of command).has_globals ≡ false) }
 {
-    group_command(alloc)?
-        .arg(in_turns(alloc))?
-        .arg(disturb(alloc))
+    let command = with_argument(group_command(alloc)?, in_turns(alloc))?;
+    let help =
+        "How the group is disturbed meanwhile: none, cuts, promotions or storm; none where it is left out";
+    with_argument(command, option(alloc, DISTURB, "NAME", help))
 }
 
 // And with those that say which seeds are tried.
@@ -168,7 +183,14 @@ fn run_command<'a>(alloc: Global) -> Result<Command<'a>, AllocError>
     ensures line { IfOk result (λ command. app_of command ≡ run_line) }
     ensures local { IfOk result (λ command. (fields_of command).has_globals ≡ false) }
 {
-    manner_command(alloc)?.arg(until(alloc))?.arg(seeds(alloc))
+    let until =
+        "Try the seeds of --seeds in order, in turns, until a run is refuted, or gets no; ANSWER is refuted";
+    let command = with_argument(
+        manner_command(alloc)?,
+        option(alloc, UNTIL, "ANSWER", until),
+    )?;
+    let seeds = "The seeds that are tried, from A to B";
+    with_argument(command, option(alloc, SEEDS, "A-B", seeds))
 }
 
 // The program without its commands.

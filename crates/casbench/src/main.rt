@@ -11,6 +11,7 @@ mod arguments;
 mod commands;
 mod exit;
 mod files;
+mod given;
 mod run;
 mod run_words;
 mod search_teller;

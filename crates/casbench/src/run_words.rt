@@ -1,10 +1,11 @@
 ghost use Rattle.std.specs.Prelude.{◌≡◌, Some, codes, option_map};
 ghost use Rattle.clap.specs.Words.{first_of, found_of, rows_of};
-ghost use Rattle.casbench.specs.Asked.{asked_by, disturbance_named as disturbance_by, fault_named as fault_by, manner_given as manner_by, manner_of, one_run_of, playing_given as playing_by, number_given as number_by, run_of, runs_of, search_among as among_by, search_of, seeds_named as seeds_by, setting_given as given_by, setting_of, small_given as small_by};
+ghost use Rattle.casbench.specs.Asked.{asked_by, disturbance_named as disturbance_by, fault_named as fault_by, manner_given as manner_by, one_run_of, playing_given as playing_by, number_given as number_by, run_of, runs_of, search_among as among_by, search_of, seeds_named as seeds_by, setting_given as given_by, small_given as small_by};
 
 use crate::arguments::{
     CALLS, CLIENTS, COPIES, DISTURB, DOCS, FAULT, IN_TURNS, SEED, SEEDS, UNTIL,
 };
+use crate::given::text_given;
 use crate::words::{GIVEN, Words, number_or};
 use clap::ArgMatches;
 use disturbances::Disturbance;
@@ -63,41 +64,18 @@ pub fn fault_name(fault: Fault) -> &'static str
     }
 }
 
-// What a run is made with, where each number is given and the fault is named.
-fn setting(
-    seed: Option<u64>,
-    clients: Option<&str>,
-    calls: Option<&str>,
-    docs: Option<&str>,
-    copies: Option<&str>,
-    fault: Option<&str>,
-) -> Option<RunSetting>
-    ensures { result ≡ setting_of seed (option_map (λ t. t.now) clients.entry)
-        (option_map (λ t. t.now) calls.entry) (option_map (λ t. t.now) docs.entry) (option_map (λ t. t.now) copies.entry)
-        (option_map (λ t. t.now) fault.entry) }
-{
-    Some(RunSetting {
-        seed: seed?,
-        clients: small_given(clients)?,
-        calls: small_given(calls)?,
-        docs: small_given(docs)?,
-        copies: small_given(copies)?,
-        fault: fault_named(fault?)?,
-    })
-}
-
-// What a run with the seed is made with by the matches of the command.
+// What a run with the seed is made with, where each number is given and the fault is named.
 fn setting_given(seed: Option<u64>, given: &ArgMatches<'_>) -> Option<RunSetting>
     ensures { result ≡ given_by seed (rows_of (found_of given.now)) }
 {
-    setting(
-        seed,
-        given.get_str(CLIENTS),
-        given.get_str(CALLS),
-        given.get_str(DOCS),
-        given.get_str(COPIES),
-        given.get_str(FAULT),
-    )
+    Some(RunSetting {
+        seed: seed?,
+        clients: small_given(text_given(given, CLIENTS))?,
+        calls: small_given(text_given(given, CALLS))?,
+        docs: small_given(text_given(given, DOCS))?,
+        copies: small_given(text_given(given, COPIES))?,
+        fault: fault_named(text_given(given, FAULT)?)?,
+    })
 }
 
 // The disturbance of this name: none where none is given.
@@ -138,21 +116,21 @@ fn playing_given(text: Option<&str>) -> Playing
     }
 }
 
-// How a run goes, where the disturbance is named or none is.
-fn manner(in_turns: Option<&str>, disturb: Option<&str>) -> Option<Manner>
-    ensures { result ≡ manner_of (option_map (λ t. t.now) in_turns.entry) (option_map (λ t. t.now) disturb.entry) }
+// How the group is disturbed by the matches of the command.
+fn disturbance_given(given: &ArgMatches<'_>) -> Option<Disturbance>
+    ensures { result ≡ disturbance_by (first_of (codes "disturb") (rows_of (found_of given.now))) }
 {
-    Some(Manner {
-        playing: playing_given(in_turns),
-        disturbance: disturbance_named(disturb)?,
-    })
+    disturbance_named(text_given(given, DISTURB))
 }
 
-// How a run goes by the matches of the command.
+// How a run goes, where the disturbance is named or none is.
 fn manner_given(given: &ArgMatches<'_>) -> Option<Manner>
     ensures { result ≡ manner_by (rows_of (found_of given.now)) }
 {
-    manner(given.get_str(IN_TURNS), given.get_str(DISTURB))
+    Some(Manner {
+        playing: playing_given(text_given(given, IN_TURNS)),
+        disturbance: disturbance_given(given)?,
+    })
 }
 
 // The run that is asked for, where the seed and each number is given and the fault and the disturbance are named.
@@ -172,13 +150,6 @@ fn seeds_named(text: &str) -> Option<Seeds>
     let first = number_given(Some(first))?;
     let last = number_given(Some(last))?;
     Seeds::new(first, last)
-}
-
-// How the group is disturbed by the matches of the command.
-fn disturbance_given(given: &ArgMatches<'_>) -> Option<Disturbance>
-    ensures { result ≡ disturbance_by (first_of (codes "disturb") (rows_of (found_of given.now))) }
-{
-    disturbance_named(given.get_str(DISTURB))
 }
 
 // Runs with these seeds, where each number is given and the fault and the disturbance are named.
@@ -225,9 +196,9 @@ pub fn asked_run<'a>(given: &ArgMatches<'a>) -> Option<Words<'a>>
     ensures { option_map asked_by result ≡ run_of (rows_of (found_of given.now)) }
 {
     runs(
-        given.get_str(SEED),
-        given.get_str(UNTIL),
-        given.get_str(SEEDS),
+        text_given(given, SEED),
+        text_given(given, UNTIL),
+        text_given(given, SEEDS),
         given,
     )
 }
@@ -235,9 +206,9 @@ pub fn asked_run<'a>(given: &ArgMatches<'a>) -> Option<Words<'a>>
 // What is wrong with the seeds of a run, where something is.
 fn seeds_fault(given: &ArgMatches<'_>) -> Option<&'static str> {
     match (
-        given.get_str(SEED),
-        given.get_str(UNTIL),
-        given.get_str(SEEDS),
+        text_given(given, SEED),
+        text_given(given, UNTIL),
+        text_given(given, SEEDS),
     ) {
         (Some(_), None, None) => None,
         (None, Some(REFUTED), Some(seeds)) => match seeds_named(seeds) {
@@ -256,7 +227,7 @@ pub fn unnamed_of_run(given: &ArgMatches<'_>) -> &'static str {
     if let Some(told) = seeds_fault(given) {
         return told;
     }
-    match given.get_str(FAULT) {
+    match text_given(given, FAULT) {
         Some(name) if fault_named(name).is_some() => {
             "the value of --disturb is none, cuts, promotions or storm"
         }

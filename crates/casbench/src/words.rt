@@ -5,6 +5,7 @@ ghost use Rattle.casbench.specs.Asked.{asked_by, asked_of, asked_of_command, ask
 use crate::arguments;
 use crate::arguments::{BODY, CONFLICTS, FIRST, HISTORY, HTML, REPLY, RULE_OUT, WORKERS};
 use crate::commands::{BULK, CHECK, EXPLAIN, RUN, VERIFY, WITNESS, program};
+use crate::given::text_given;
 use crate::run_words::{asked_run, unnamed_of_run};
 use clap::error::ErrorKind;
 use clap::{ArgMatches, Error};
@@ -107,99 +108,61 @@ pub fn number_or(other: u64, text: Option<&str>) -> Option<u64>
 }
 
 // A check of a history, where a reading is named or none, and a number of workers or none.
-fn check_words<'a>(
-    file: Option<&'a str>,
-    conflicts: Option<&'a str>,
-    workers: Option<&'a str>,
-    rule_out: Option<&'a str>,
-) -> Option<Words<'a>>
-    ensures { option_map asked_by result
-        ≡ check_of (option_map (λ f. f.now) file.entry) (option_map (λ t. t.now) conflicts.entry) (option_map
-        (λ t. t.now) workers.entry) (option_map (λ t. t.now) rule_out.entry) }
+fn check_words<'a>(given: &ArgMatches<'a>) -> Option<Words<'a>>
+    ensures { option_map asked_by result ≡ check_of (rows_of (found_of given.now)) }
 {
-    let conflicts = conflicts_named(conflicts)?;
-    let workers = number_or(1, workers)?;
     Some(Words::Check {
-        file,
-        conflicts,
-        workers,
-        ruling_out: ruling_given(rule_out),
+        file: text_given(given, HISTORY),
+        conflicts: conflicts_named(text_given(given, CONFLICTS))?,
+        workers: number_or(1, text_given(given, WORKERS))?,
+        ruling_out: ruling_given(text_given(given, RULE_OUT)),
     })
 }
 
 // The witness of a history, where a reading is named or none.
-fn witness_words<'a>(
-    file: Option<&'a str>,
-    conflicts: Option<&'a str>,
-    rule_out: Option<&'a str>,
-) -> Option<Words<'a>>
-    ensures { option_map asked_by result
-        ≡ witness_of (option_map (λ f. f.now) file.entry) (option_map (λ t. t.now) conflicts.entry) (option_map
-        (λ t. t.now) rule_out.entry) }
+fn witness_words<'a>(given: &ArgMatches<'a>) -> Option<Words<'a>>
+    ensures { option_map asked_by result ≡ witness_of (rows_of (found_of given.now)) }
 {
-    let conflicts = conflicts_named(conflicts)?;
     Some(Words::Witness {
-        file,
-        conflicts,
-        ruling_out: ruling_given(rule_out),
+        file: text_given(given, HISTORY),
+        conflicts: conflicts_named(text_given(given, CONFLICTS))?,
+        ruling_out: ruling_given(text_given(given, RULE_OUT)),
     })
 }
 
 // A check of a witness, where both files are named, and a reading or none.
-fn verify_words<'a>(
-    history: Option<&'a str>,
-    witness: Option<&'a str>,
-    conflicts: Option<&'a str>,
-) -> Option<Words<'a>>
-    ensures { option_map asked_by result
-        ≡ verify_of (option_map (λ f. f.now) history.entry) (option_map (λ f. f.now) witness.entry) (option_map
-        (λ t. t.now) conflicts.entry) }
+fn verify_words<'a>(given: &ArgMatches<'a>) -> Option<Words<'a>>
+    ensures { option_map asked_by result ≡ verify_of (rows_of (found_of given.now)) }
 {
     Some(Words::Verify {
-        history: history?,
-        witness: witness?,
-        conflicts: conflicts_named(conflicts)?,
+        history: text_given(given, HISTORY)?,
+        witness: text_given(given, arguments::WITNESS)?,
+        conflicts: conflicts_named(text_given(given, CONFLICTS))?,
     })
 }
 
 // The lines of a bulk, where both files are named.
-fn bulk_words<'a>(
-    body: Option<&'a str>,
-    reply: Option<&'a str>,
-    first: Option<&'a str>,
-) -> Option<Words<'a>>
-    ensures { option_map asked_by result
-        ≡ bulk_of (option_map (λ f. f.now) body.entry) (option_map (λ f. f.now) reply.entry) (option_map
-        (λ t. t.now) first.entry) }
+fn bulk_words<'a>(given: &ArgMatches<'a>) -> Option<Words<'a>>
+    ensures { option_map asked_by result ≡ bulk_of (rows_of (found_of given.now)) }
 {
     Some(Words::Bulk {
-        body: body?,
-        reply: reply?,
-        first: number_or(0, first)?,
+        body: text_given(given, BODY)?,
+        reply: text_given(given, REPLY)?,
+        first: number_or(0, text_given(given, FIRST))?,
     })
 }
 
 // A check of a history that is told, where a reading is named or none, a number of workers or none, and a file for the page or
 // none.
-fn explain_words<'a>(
-    file: Option<&'a str>,
-    conflicts: Option<&'a str>,
-    workers: Option<&'a str>,
-    rule_out: Option<&'a str>,
-    page: Option<&'a str>,
-) -> Option<Words<'a>>
-    ensures { option_map asked_by result
-        ≡ explain_of (option_map (λ f. f.now) file.entry) (option_map (λ t. t.now) conflicts.entry) (option_map
-        (λ t. t.now) workers.entry) (option_map (λ t. t.now) rule_out.entry) (option_map (λ t. t.now) page.entry) }
+fn explain_words<'a>(given: &ArgMatches<'a>) -> Option<Words<'a>>
+    ensures { option_map asked_by result ≡ explain_of (rows_of (found_of given.now)) }
 {
-    let conflicts = conflicts_named(conflicts)?;
-    let workers = number_or(1, workers)?;
     Some(Words::Explain {
-        file,
-        conflicts,
-        workers,
-        ruling_out: ruling_given(rule_out),
-        page,
+        file: text_given(given, HISTORY),
+        conflicts: conflicts_named(text_given(given, CONFLICTS))?,
+        workers: number_or(1, text_given(given, WORKERS))?,
+        ruling_out: ruling_given(text_given(given, RULE_OUT)),
+        page: text_given(given, HTML),
     })
 }
 
@@ -208,33 +171,13 @@ fn asked_of_command<'a>(name: &str, given: &ArgMatches<'a>) -> Option<Words<'a>>
     ensures { option_map asked_by result
         ≡ asked_of_command name.now (rows_of (found_of given.now)) }
 {
-    let file = given.get_str(HISTORY);
     match name {
-        CHECK => check_words(
-            file,
-            given.get_str(CONFLICTS),
-            given.get_str(WORKERS),
-            given.get_str(RULE_OUT),
-        ),
-        WITNESS => witness_words(file, given.get_str(CONFLICTS), given.get_str(RULE_OUT)),
-        VERIFY => verify_words(
-            file,
-            given.get_str(arguments::WITNESS),
-            given.get_str(CONFLICTS),
-        ),
-        BULK => bulk_words(
-            given.get_str(BODY),
-            given.get_str(REPLY),
-            given.get_str(FIRST),
-        ),
+        CHECK => check_words(given),
+        WITNESS => witness_words(given),
+        VERIFY => verify_words(given),
+        BULK => bulk_words(given),
         RUN => asked_run(given),
-        EXPLAIN => explain_words(
-            file,
-            given.get_str(CONFLICTS),
-            given.get_str(WORKERS),
-            given.get_str(RULE_OUT),
-            given.get_str(HTML),
-        ),
+        EXPLAIN => explain_words(given),
         _ => None,
     }
 }
