@@ -31,12 +31,9 @@ use Rattle.report.proofs.WitnessLimits.{within_limits}
 -- ---- answers
 
 pub is_refusal : (ruling : RulingOut) (conflicts : Conflicts) (input : List ℕ) (status : Status) (text : List ℕ) (told : TextFault) → status ≡ Refused → text ≡ refused_line told.line told.cause
-    → history_text input ≡ Err told → IsAnswer ruling conflicts input status text
-is_refusal ruling conflicts input status text told is line refused = subst (λ s. IsAnswer ruling conflicts input s text) (sym is) (told, line, refused)
-
-pub is_witness_refusal : (ruling : RulingOut) (conflicts : Conflicts) (input : List ℕ) (status : Status) (text : List ℕ) (told : TextFault) → status ≡ Refused
-    → text ≡ refused_line told.line told.cause → history_text input ≡ Err told → IsWitnessAnswer ruling conflicts input status text
-is_witness_refusal ruling conflicts input status text told is line refused = subst (λ s. IsWitnessAnswer ruling conflicts input s text) (sym is) (told, line, refused)
+    → history_text input ≡ Err told → IsAnswer ruling conflicts input status text × IsWitnessAnswer ruling conflicts input status text
+is_refusal ruling conflicts input status text told is line refused =
+    subst (λ s. IsAnswer ruling conflicts input s text × IsWitnessAnswer ruling conflicts input s text) (sym is) ((told, line, refused), (told, line, refused))
 
 pub is_undecided : (ruling : RulingOut) (conflicts : Conflicts) (input : List ℕ) (H : List Event) (status : Status) (text : List ℕ) (o : Offence) → status ≡ No
     → text ≡ no_line o → IsHistoryText input H → HasNoOrderFound conflicts H → IsOffence conflicts H o → (ruling ≡ On → IsWithoutRuledOut conflicts H)
@@ -67,12 +64,6 @@ witnessed conflicts input H ws text is are explained reads = record {
 
 -- ---- what is told of all bytes of a reader
 
--- what is true of them
-pub if_each : {P Q : List ℕ → Type 0} (input : Option (List ℕ)) → IfSome input P → ((bytes : List ℕ) → P bytes → Q bytes) → IfSome input Q
-if_each None p on = tt
-if_each (Some bytes) p on = on bytes p
-
--- and what is true of all bytes
 pub if_any : {P : List ℕ → Type 0} (input : Option (List ℕ)) → ((bytes : List ℕ) → P bytes) → IfSome input P
 if_any None all = tt
 if_any (Some bytes) all = all bytes

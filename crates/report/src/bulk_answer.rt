@@ -1,6 +1,5 @@
-ghost use Rattle.std.specs.Prelude.{◌≡◌, IfOk};
+ghost use Rattle.std.specs.Prelude.{IfOk};
 ghost use Rattle.report.specs.Bulk.{IsBulkAnswer};
-ghost use Rattle.result_lines.specs.Lines.{bulk_fault_line as told_line};
 
 use api_lines::BulkFault;
 use history::bulk_text;
@@ -12,15 +11,6 @@ use version_pair::NoMemory;
 // The status of every bulk whose reply is recorded.
 const STATUS: u16 = 200;
 
-// The answer to a bulk that is refused.
-fn refusal(alloc: Global, fault: BulkFault) -> Result<Answer, NoMemory>
-    ensures status { IfOk result (λ answer. answer.status ≡ Status.Refused) }
-    ensures line { IfOk result (λ answer. answer.text.items ≡ told_line fault) }
-{
-    let line = bulk_fault_line(alloc, fault)?;
-    Ok(Answer::of(Status::Refused, line))
-}
-
 /// The answer to the body of a bulk request and its reply: their lines in a history, the calls numbered from `first`.
 pub fn bulk_answer(alloc: Global, first: u64, body: &[u8], reply: &[u8]) -> Result<Answer, NoMemory>
     ensures { IfOk result (λ answer. IsBulkAnswer first body.now reply.now answer.status
@@ -31,12 +21,10 @@ pub fn bulk_answer(alloc: Global, first: u64, body: &[u8], reply: &[u8]) -> Resu
             status: Status::Yes,
             text,
         }),
-        Err(fault) => match fault {
-            BulkFault::NoMemory => Err(AllocError),
-            told => {
-                let answer = refusal(alloc, told)?;
-                Ok(answer)
-            }
-        },
+        Err(BulkFault::NoMemory) => Err(AllocError),
+        Err(fault) => {
+            let line = bulk_fault_line(alloc, fault)?;
+            Ok(Answer::of(Status::Refused, line))
+        }
     }
 }

@@ -5,7 +5,7 @@ ghost use Rattle.history.specs.Text.{IsHistoryText};
 ghost use Rattle.compose.specs.Checked.{IsVerdictOn};
 ghost use Rattle.evidence.specs.Evidence.{Holds, IsWithoutRuledOut};
 ghost use Rattle.evidence.specs.declared.ruling_out.RulingOut.{RulingOut as Ruling};
-ghost use Rattle.result_lines.specs.Lines.{no_line as told_no, refused_line as told_refused, refuted_line as told_refuted, yes_line as told_yes};
+ghost use Rattle.result_lines.specs.Lines.{refused_line as told_refused};
 ghost use Rattle.stream_io.specs.Faults.{IsCheckFault};
 ghost use Rattle.stream_io.specs.Taken.{TakesHistory};
 ghost use Rattle.report.specs.Verdict.{AnswersInput, IsAnswer, IsWitnessAnswer};
@@ -27,34 +27,6 @@ use std::sync::Wait;
 use std::thread::Threads;
 use stream_io::{Answer, Status, StreamFault, read_history};
 use version_pair::NoMemory;
-
-// The answer that an order explains the history.
-fn yes_answer(alloc: Global, counts: Counts) -> Result<Answer, NoMemory>
-    ensures status { IfOk result (λ answer. answer.status ≡ Status.Yes) }
-    ensures line { IfOk result (λ answer. answer.text.items
-        ≡ told_yes counts.docs counts.calls counts.left_out) }
-{
-    let line = yes_line(alloc, counts)?;
-    Ok(Answer::of(Status::Yes, line))
-}
-
-// The answer that no order was found, and where the search first failed.
-fn no_answer(alloc: Global, offence: Offence) -> Result<Answer, NoMemory>
-    ensures status { IfOk result (λ answer. answer.status ≡ Status.No) }
-    ensures line { IfOk result (λ answer. answer.text.items ≡ told_no offence) }
-{
-    let line = no_line(alloc, offence)?;
-    Ok(Answer::of(Status::No, line))
-}
-
-// The answer that evidence holds in the history, and where the search first failed.
-fn refuted_answer(alloc: Global, evidence: Refuted, offence: Offence) -> Result<Answer, NoMemory>
-    ensures status { IfOk result (λ answer. answer.status ≡ Status.Refuted) }
-    ensures line { IfOk result (λ answer. answer.text.items ≡ told_refuted evidence offence) }
-{
-    let line = refuted_line(alloc, evidence, offence)?;
-    Ok(Answer::of(Status::Refuted, line))
-}
 
 // The evidence that no order explains the case's history, where some is found; documents that are ruled out are looked for
 // last, where that is asked for.
@@ -96,12 +68,12 @@ pub fn case_answer(
         Some(evidence) => {
             // What evidence says of a history is known from here on.
             evidence_refutes();
-            let answer = refuted_answer(alloc, evidence, offence)?;
-            Ok((answer, failing))
+            let line = refuted_line(alloc, evidence, offence)?;
+            Ok((Answer::of(Status::Refuted, line), failing))
         }
         None => {
-            let answer = no_answer(alloc, offence)?;
-            Ok((answer, failing))
+            let line = no_line(alloc, offence)?;
+            Ok((Answer::of(Status::No, line), failing))
         }
     }
 }
@@ -175,16 +147,15 @@ pub fn history_answer<R: Threads + Wait + Sync>(
     ensures alone { workers ≡ 1 → IfErr result (λ fault. fault ≡ StreamFault.NoMemory) }
     ensures named { IfErr result (HasDocument history) }
 {
-    match verdict_by(rt, alloc, history, workers, conflicts) {
-        Ok(Verdict::Yes(proof)) => {
-            let answer = yes_answer(alloc, Counts::of(&proof))?;
-            Ok((answer, Finding::Explained(proof)))
+    match verdict_by(rt, alloc, history, workers, conflicts)? {
+        Verdict::Yes(proof) => {
+            let line = yes_line(alloc, Counts::of(&proof))?;
+            Ok((Answer::of(Status::Yes, line), Finding::Explained(proof)))
         }
-        Ok(Verdict::No(case)) => {
+        Verdict::No(case) => {
             let (answer, failing) = case_answer(alloc, &case, ruling_out)?;
             Ok((answer, Finding::Unexplained(case, failing)))
         }
-        Err(fault) => Err(fault),
     }
 }
 
@@ -206,15 +177,11 @@ pub fn check_answer<T: Threads + Wait + Sync, R: Read>(
     ensures named { IfErr result (NamesOwnDocument (R.remaining reader.old)) }
     ensures taken { TakesHistory (R.remaining reader.old) (R.remaining reader.new) }
 {
-    match read_history(alloc, keys, reader) {
-        Ok(Ok(history)) => {
+    match read_history(alloc, keys, reader)? {
+        Ok(history) => {
             let (answer, _) = history_answer(rt, alloc, history, workers, conflicts, ruling_out)?;
             Ok(answer)
         }
-        Ok(Err(fault)) => {
-            let answer = refusal(alloc, fault)?;
-            Ok(answer)
-        }
-        Err(fault) => Err(StreamFault::from(fault)),
+        Err(fault) => Ok(refusal(alloc, fault)?),
     }
 }

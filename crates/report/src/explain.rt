@@ -122,8 +122,7 @@ pub fn explained_text<T: Threads + Wait + Sync, R: Read>(
     ensures taken { TakesHistory (R.remaining reader.old) (R.remaining reader.new) }
 {
     let (answer, story) = explain(rt, alloc, keys, reader, workers, conflicts, ruling_out)?;
-    let told = with_story(alloc, answer, &story)?;
-    Ok(told)
+    Ok(with_story(alloc, answer, &story)?)
 }
 
 /// The same, and the story as a page.

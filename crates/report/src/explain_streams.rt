@@ -46,10 +46,8 @@ pub fn explain_stream<T: Threads + Wait + Sync, R: Read, W: Write>(
     ensures named { IfErr result (NamesOwnDocument (R.remaining reader.old)) }
     ensures taken { TakesHistory (R.remaining reader.old) (R.remaining reader.new) }
 {
-    match explained_text(rt, alloc, keys, reader, workers, conflicts, ruling_out) {
-        Ok(answer) => write_answer(writer, &answer),
-        Err(fault) => Err(fault),
-    }
+    let answer = explained_text(rt, alloc, keys, reader, workers, conflicts, ruling_out)?;
+    write_answer(writer, &answer)
 }
 
 /// The same, and writes to `page` the story as a page of HTML, with a drawing of the calls. The page is written last.
@@ -84,17 +82,8 @@ pub fn explain_page_stream<T: Threads + Wait + Sync, R: Read, W: Write, P: Write
     ensures named { IfErr result (NamesOwnDocument (R.remaining reader.old)) }
     ensures taken { TakesHistory (R.remaining reader.old) (R.remaining reader.new) }
 {
-    let (answer, bytes) = match explained_page(
-        rt, alloc, keys, reader, workers, conflicts, ruling_out,
-    ) {
-        Ok(told) => told,
-        Err(fault) => return Err(fault),
-    };
-    match write_answer(writer, &answer) {
-        Ok(status) => match write_text(page, &bytes) {
-            Ok(()) => Ok(status),
-            Err(fault) => Err(fault),
-        },
-        Err(fault) => Err(fault),
-    }
+    let (answer, bytes) = explained_page(rt, alloc, keys, reader, workers, conflicts, ruling_out)?;
+    let status = write_answer(writer, &answer)?;
+    write_text(page, &bytes)?;
+    Ok(status)
 }

@@ -69,10 +69,8 @@ pub fn check_stream<T: Threads + Wait + Sync, R: Read, W: Write>(
     // their readers.
     ensures taken { TakesHistory (R.remaining reader.old) (R.remaining reader.new) }
 {
-    match check_answer(rt, alloc, keys, reader, workers, conflicts, ruling_out) {
-        Ok(answer) => write_answer(writer, &answer),
-        Err(fault) => Err(fault),
-    }
+    let answer = check_answer(rt, alloc, keys, reader, workers, conflicts, ruling_out)?;
+    write_answer(writer, &answer)
 }
 
 /// Reads a history text to its end and writes the text of its witness where `check_stream` says yes, and the line of
@@ -99,10 +97,8 @@ pub fn witness_stream<R: Read, W: Write>(
     ensures told { IfErr result IsStreamFault }
     ensures taken { TakesHistory (R.remaining reader.old) (R.remaining reader.new) }
 {
-    match witness_answer(alloc, keys, reader, conflicts, ruling_out) {
-        Ok(answer) => write_answer(writer, &answer),
-        Err(fault) => Err(fault),
-    }
+    let answer = witness_answer(alloc, keys, reader, conflicts, ruling_out)?;
+    write_answer(writer, &answer)
 }
 
 /// Reads a history text and then a witness text, each to its end, and writes one line: `verified docs=D calls=C
@@ -135,10 +131,8 @@ pub fn verify_stream<R: Read, Q: Read, W: Write>(
     // Of the witness nothing is where the history's text is refused.
     ensures unread { LeavesUnread (R.remaining history.old) (Q.remaining witness.old) (Q.remaining witness.new) }
 {
-    match verify_input(alloc, keys, history, witness, conflicts) {
-        Ok(answer) => write_answer(writer, &answer),
-        Err(fault) => Err(fault),
-    }
+    let answer = verify_input(alloc, keys, history, witness, conflicts)?;
+    write_answer(writer, &answer)
 }
 
 /// Reads the body of a bulk request and then its reply, each to its end, and writes their lines in a history: the calls of
@@ -168,16 +162,8 @@ pub fn bulk_stream<R: Read, Q: Read, W: Write>(
     ensures end { OnOk result (OnSome (R.remaining body.old) (IsAtEnd (R.remaining body.new))
         × OnSome (Q.remaining reply.old) (IsAtEnd (Q.remaining reply.new))) }
 {
-    let body = match read_all(alloc, body) {
-        Ok(bytes) => bytes,
-        Err(fault) => return Err(StreamFault::from(fault)),
-    };
-    let reply = match read_all(alloc, reply) {
-        Ok(bytes) => bytes,
-        Err(fault) => return Err(StreamFault::from(fault)),
-    };
-    match bulk_answer(alloc, first, &body, &reply) {
-        Ok(answer) => write_answer(writer, &answer),
-        Err(_) => Err(StreamFault::NoMemory),
-    }
+    let body = read_all(alloc, body)?;
+    let reply = read_all(alloc, reply)?;
+    let answer = bulk_answer(alloc, first, &body, &reply)?;
+    write_answer(writer, &answer)
 }

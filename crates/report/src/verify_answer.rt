@@ -4,7 +4,7 @@ ghost use Rattle.witness.specs.Text.{witness_text};
 ghost use Rattle.doc_register.specs.declared.state.Conflicts.{Conflicts as Reading};
 ghost use Rattle.history.specs.Reading.{history_text};
 ghost use Rattle.history.specs.Text.{IsHistoryText};
-ghost use Rattle.result_lines.specs.Lines.{broken_line as told_broken, refused_file_line, verified_line as told_verified};
+ghost use Rattle.result_lines.specs.Lines.{refused_file_line};
 ghost use Rattle.report.specs.Verdict.{IsSomeHistory, IsVerifyAnswer};
 
 use api_lines::TextFault;
@@ -16,25 +16,6 @@ use std::alloc::{AllocError, Global};
 use stream_io::{Answer, Status};
 use version_pair::{DocId, NoMemory};
 use witness::Place;
-
-// The answer that a witness covers a history with these counts.
-fn verified_answer(alloc: Global, counts: Counts) -> Result<Answer, NoMemory>
-    ensures status { IfOk result (λ answer. answer.status ≡ Status.Yes) }
-    ensures line { IfOk result (λ answer. answer.text.items
-        ≡ told_verified counts.docs counts.calls counts.left_out) }
-{
-    let line = verified_line(alloc, counts)?;
-    Ok(Answer::of(Status::Yes, line))
-}
-
-// The answer that a witness does not cover a history.
-fn broken_answer(alloc: Global, fault: VerifyFault) -> Result<Answer, NoMemory>
-    ensures status { IfOk result (λ answer. answer.status ≡ Status.No) }
-    ensures line { IfOk result (λ answer. answer.text.items ≡ told_broken fault) }
-{
-    let line = broken_line(alloc, fault)?;
-    Ok(Answer::of(Status::No, line))
-}
 
 /// The answer to a history's text that was refused.
 pub fn refused_history(alloc: Global, fault: TextFault) -> Result<Answer, NoMemory>
@@ -73,14 +54,14 @@ pub fn entries_answer(
 {
     match verify(alloc, history, entries, conflicts) {
         Ok(proof) => {
-            let answer = verified_answer(alloc, Counts::of(&proof))?;
-            Ok(answer)
+            let line = verified_line(alloc, Counts::of(&proof))?;
+            Ok(Answer::of(Status::Yes, line))
         }
         Err((fault, _)) => match fault {
             VerifyFault::NoMemory => Err(AllocError),
             told => {
-                let answer = broken_answer(alloc, told)?;
-                Ok(answer)
+                let line = broken_line(alloc, told)?;
+                Ok(Answer::of(Status::No, line))
             }
         },
     }

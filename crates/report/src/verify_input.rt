@@ -24,16 +24,9 @@ fn read_witness_answer<Q: Read>(
     ensures told { IfErr result IsReadingFault }
     ensures taken { TakesWitness (Q.remaining witness.old) (Q.remaining witness.new) }
 {
-    match read_entries(alloc, witness) {
-        Ok(Ok(entries)) => {
-            let answer = entries_answer(alloc, history, entries, conflicts)?;
-            Ok(answer)
-        }
-        Ok(Err(fault)) => {
-            let answer = refused_witness(alloc, fault)?;
-            Ok(answer)
-        }
-        Err(fault) => Err(StreamFault::from(fault)),
+    match read_entries(alloc, witness)? {
+        Ok(entries) => Ok(entries_answer(alloc, history, entries, conflicts)?),
+        Err(fault) => Ok(refused_witness(alloc, fault)?),
     }
 }
 
@@ -53,12 +46,8 @@ pub fn verify_input<R: Read, Q: Read>(
     ensures witness_taken { TakesWitness (Q.remaining witness.old) (Q.remaining witness.new) }
     ensures unread { LeavesUnread (R.remaining history.old) (Q.remaining witness.old) (Q.remaining witness.new) }
 {
-    match read_history(alloc, keys, history) {
-        Ok(Ok(found)) => read_witness_answer(alloc, found, witness, conflicts),
-        Ok(Err(fault)) => {
-            let answer = refused_history(alloc, fault)?;
-            Ok(answer)
-        }
-        Err(fault) => Err(StreamFault::from(fault)),
+    match read_history(alloc, keys, history)? {
+        Ok(found) => read_witness_answer(alloc, found, witness, conflicts),
+        Err(fault) => Ok(refused_history(alloc, fault)?),
     }
 }

@@ -53,15 +53,8 @@ pub fn witness_answer<R: Read>(
     ensures told { IfErr result IsReadingFault }
     ensures taken { TakesHistory (R.remaining reader.old) (R.remaining reader.new) }
 {
-    match read_history(alloc, keys, reader) {
-        Ok(Ok(history)) => {
-            let answer = history_witness(alloc, history, conflicts, ruling_out)?;
-            Ok(answer)
-        }
-        Ok(Err(fault)) => {
-            let answer = refusal(alloc, fault)?;
-            Ok(answer)
-        }
-        Err(fault) => Err(StreamFault::from(fault)),
+    match read_history(alloc, keys, reader)? {
+        Ok(history) => Ok(history_witness(alloc, history, conflicts, ruling_out)?),
+        Err(fault) => Ok(refusal(alloc, fault)?),
     }
 }

@@ -2,17 +2,17 @@ use Rattle.std.proofs.Common.{◌≡◌, subst, Ok, Err}
 use Rattle.std.specs.Prelude.{IfOk, IfSome, MatchResult}
 use Rattle.history.specs.Reading.{history_text}
 use Rattle.history.specs.Text.{IsHistoryText}
-use Rattle.report.proofs.AnswerLemmas.{if_each}
+use Rattle.std.proofs.lemmas.Option.{IfSome_then}
 use Rattle.report.proofs.check_answer.check_answer.Goals as goal
 
-pub returns-in_ok-answer-in-Ok-Ok-clause-answer : goal.returns-in_ok-answer-in-Ok-Ok-clause-answer
-returns-in_ok-answer-in-Ok-Ok-clause-answer g c =
+pub returns-in_ok-answer-in-Ok-clause-answer : goal.returns-in_ok-answer-in-Ok-clause-answer
+returns-in_ok-answer-in-Ok-clause-answer g c =
     let input = g.R.Read.remaining c.args.reader.now in
-    let read = subst (λ told. IfSome input (λ text. IfOk told (IsHistoryText text))) c.in-Ok-Ok.field-0-is c.in-Ok-Ok.ensures.text in
-    if_each input read (λ text is. c.in_ok-answer-in-Ok-Ok.ensures.answer text is)
+    let read = subst (λ told. IfSome input (λ text. IfOk told (IsHistoryText text))) c.in-Ok.is c.in_ok-history.ensures.text in
+    IfSome_then input read (λ text is. c.in_ok-answer-in-Ok.ensures.answer text is)
 
-pub returns-in_ok-answer-in-Ok-Err-clause-answer : goal.returns-in_ok-answer-in-Ok-Err-clause-answer
-returns-in_ok-answer-in-Ok-Err-clause-answer g c =
+pub returns-in_ok-refusal-in-Err-clause-answer : goal.returns-in_ok-refusal-in-Err-clause-answer
+returns-in_ok-refusal-in-Err-clause-answer g c =
     let input = g.R.Read.remaining c.args.reader.now in
-    let read = subst (λ told. IfSome input (λ text. MatchResult told (λ h. history_text text ≡ Ok h) (λ f. history_text text ≡ Err f))) c.in-Ok-Err.field-0-is c.in-Ok-Err.ensures.told in
-    if_each input read (λ text told. c.in_ok-answer-in-Ok-Err.ensures.answers c.args.ruling_out c.args.conflicts text told)
+    let read = subst (λ told. IfSome input (λ text. MatchResult told (λ h. history_text text ≡ Ok h) (λ f. history_text text ≡ Err f))) c.in-Err.is c.in_ok-history.ensures.told in
+    IfSome_then input read (λ text told. c.in_ok-refusal-in-Err.ensures.answers c.args.ruling_out c.args.conflicts text told)

@@ -3,47 +3,48 @@ use Rattle.std.proofs.lemmas.Result.{IfOk-weaker}
 use Rattle.std.specs.Prelude.{IfOk, IfSome, MatchResult}
 use Rattle.history.specs.Reading.{history_text}
 use Rattle.history.specs.Text.{IsHistoryText}
-use Rattle.report.proofs.AnswerLemmas.{if_any, if_each}
+use Rattle.std.proofs.lemmas.Option.{IfSome_then}
+use Rattle.report.proofs.AnswerLemmas.{if_any}
 use Rattle.stream_io.proofs.TakenLemmas.{witness_unasked}
 use Rattle.report.proofs.verify_input.verify_input.Goals as goal
 
-pub returns-in-Ok-Ok-clause-answer : goal.returns-in-Ok-Ok-clause-answer
-returns-in-Ok-Ok-clause-answer g c =
+pub returns-in-Ok-clause-answer : goal.returns-in-Ok-clause-answer
+returns-in-Ok-clause-answer g c =
     let input = g.R.Read.remaining c.args.history.now in
-    let read = subst (λ told. IfSome input (λ text. IfOk told (IsHistoryText text))) c.in-Ok-Ok.field-0-is c.in-Ok-Ok.ensures.text in
-    IfOk-weaker c.read_witness_answer.result _ _ (λ answer each. if_each input read each) c.read_witness_answer.ensures.answer
+    let read = subst (λ told. IfSome input (λ text. IfOk told (IsHistoryText text))) c.in-Ok.is c.in_ok-found.ensures.text in
+    IfOk-weaker c.read_witness_answer.result _ _ (λ answer each. IfSome_then input read each) c.read_witness_answer.ensures.answer
 
-pub returns-in_ok-answer-in-Ok-Err-clause-answer : goal.returns-in_ok-answer-in-Ok-Err-clause-answer
-returns-in_ok-answer-in-Ok-Err-clause-answer g c =
+pub returns-in_ok-refused_history-in-Err-clause-answer : goal.returns-in_ok-refused_history-in-Err-clause-answer
+returns-in_ok-refused_history-in-Err-clause-answer g c =
     let input = g.R.Read.remaining c.args.history.now in
-    let read = subst (λ told. IfSome input (λ text. MatchResult told (λ h. history_text text ≡ Ok h) (λ f. history_text text ≡ Err f))) c.in-Ok-Err.field-0-is c.in-Ok-Err.ensures.told in
-    if_each input read (λ history told.
-    if_any (g.Q.Read.remaining c.args.witness.now) (λ witness. c.in_ok-answer-in-Ok-Err.ensures.answers c.args.conflicts history witness told))
+    let read = subst (λ told. IfSome input (λ text. MatchResult told (λ h. history_text text ≡ Ok h) (λ f. history_text text ≡ Err f))) c.in-Err.is c.in_ok-found.ensures.told in
+    IfSome_then input read (λ history told.
+    if_any (g.Q.Read.remaining c.args.witness.now) (λ witness. c.in_ok-refused_history-in-Err.ensures.answers c.args.conflicts history witness told))
 
 -- where the history is refused, or was not had, the witness isn't asked for
 
-pub returns-in_err-answer-in-Ok-Err-clause-witness_taken : goal.returns-in_err-answer-in-Ok-Err-clause-witness_taken
-returns-in_err-answer-in-Ok-Err-clause-witness_taken g c = witness_unasked (g.Q.Read.remaining c.args.witness.now)
+pub returns-in_err-refused_history-in-Err-clause-witness_taken : goal.returns-in_err-refused_history-in-Err-clause-witness_taken
+returns-in_err-refused_history-in-Err-clause-witness_taken g c = witness_unasked (g.Q.Read.remaining c.args.witness.now)
 
-pub returns-in_ok-answer-in-Ok-Err-clause-witness_taken : goal.returns-in_ok-answer-in-Ok-Err-clause-witness_taken
-returns-in_ok-answer-in-Ok-Err-clause-witness_taken g c = witness_unasked (g.Q.Read.remaining c.args.witness.now)
+pub returns-in_ok-refused_history-in-Err-clause-witness_taken : goal.returns-in_ok-refused_history-in-Err-clause-witness_taken
+returns-in_ok-refused_history-in-Err-clause-witness_taken g c = witness_unasked (g.Q.Read.remaining c.args.witness.now)
 
-pub returns-in-Err-clause-witness_taken : goal.returns-in-Err-clause-witness_taken
-returns-in-Err-clause-witness_taken g c = witness_unasked (g.Q.Read.remaining c.args.witness.now)
+pub returns-in_err-found-clause-witness_taken : goal.returns-in_err-found-clause-witness_taken
+returns-in_err-found-clause-witness_taken g c = witness_unasked (g.Q.Read.remaining c.args.witness.now)
 
 -- where the history is a text, it isn't refused
 
-pub returns-in-Ok-Ok-clause-unread : goal.returns-in-Ok-Ok-clause-unread
-returns-in-Ok-Ok-clause-unread g c =
+pub returns-in-Ok-clause-unread : goal.returns-in-Ok-clause-unread
+returns-in-Ok-clause-unread g c =
     let input = g.R.Read.remaining c.args.history.now in
-    let read = subst (λ told. IfSome input (λ text. MatchResult told (λ h. history_text text ≡ Ok h) (λ f. history_text text ≡ Err f))) c.in-Ok-Ok.field-0-is c.in-Ok-Ok.ensures.told in
-    if_each input read (λ history is told refused. cc)
+    let read = subst (λ told. IfSome input (λ text. MatchResult told (λ h. history_text text ≡ Ok h) (λ f. history_text text ≡ Err f))) c.in-Ok.is c.in_ok-found.ensures.told in
+    IfSome_then input read (λ history is told refused. cc)
 
-pub returns-in_err-answer-in-Ok-Err-clause-unread : goal.returns-in_err-answer-in-Ok-Err-clause-unread
-returns-in_err-answer-in-Ok-Err-clause-unread g c = if_any (g.R.Read.remaining c.args.history.now) (λ history told refused. refl)
+pub returns-in_err-refused_history-in-Err-clause-unread : goal.returns-in_err-refused_history-in-Err-clause-unread
+returns-in_err-refused_history-in-Err-clause-unread g c = if_any (g.R.Read.remaining c.args.history.now) (λ history told refused. refl)
 
-pub returns-in_ok-answer-in-Ok-Err-clause-unread : goal.returns-in_ok-answer-in-Ok-Err-clause-unread
-returns-in_ok-answer-in-Ok-Err-clause-unread g c = if_any (g.R.Read.remaining c.args.history.now) (λ history told refused. refl)
+pub returns-in_ok-refused_history-in-Err-clause-unread : goal.returns-in_ok-refused_history-in-Err-clause-unread
+returns-in_ok-refused_history-in-Err-clause-unread g c = if_any (g.R.Read.remaining c.args.history.now) (λ history told refused. refl)
 
-pub returns-in-Err-clause-unread : goal.returns-in-Err-clause-unread
-returns-in-Err-clause-unread g c = if_any (g.R.Read.remaining c.args.history.now) (λ history told refused. refl)
+pub returns-in_err-found-clause-unread : goal.returns-in_err-found-clause-unread
+returns-in_err-found-clause-unread g c = if_any (g.R.Read.remaining c.args.history.now) (λ history told refused. refl)
