@@ -58,12 +58,13 @@ impl Counts {
         ensures order { HasOrder proof.now.conflicts proof.now.events result.docs result.calls result.left_out }
     {
         let history = proof.history();
-        // A look at the witnesses: that they cover the history is known from here on.
-        let _ = proof.witnesses();
+        let witnesses = proof.witnesses();
+        let calls = count_calls(history);
+        let left_out = calls - count_places(witnesses);
         Counts {
             docs: history.docs(),
-            calls: count_calls(history),
-            left_out: proof.left_out(),
+            calls,
+            left_out,
         }
     }
 }

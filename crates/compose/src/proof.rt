@@ -3,7 +3,7 @@ ghost use Rattle.history.specs.Events.{IsHistory};
 ghost use Rattle.history.specs.Order.{IsLinearizable};
 ghost use Rattle.compose.specs.Verdicts.{AreWitnesses, left_out_of};
 
-use crate::counts::{count_calls, count_places};
+use crate::counts::Counts;
 use doc_register::Conflicts;
 use history::History;
 use std::marker::Model;
@@ -79,7 +79,7 @@ impl Proof {
     pub fn left_out(&self) -> usize
         ensures { result ≡ left_out_of self.now }
     {
-        count_calls(&self.history) - count_places(&self.witnesses)
+        Counts::of(self).left_out
     }
 
     /// How a conflict is read.
