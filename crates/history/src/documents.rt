@@ -43,11 +43,12 @@ pub(crate) struct Documents {
 }
 
 impl Model for Documents {
+    ghost use Rattle.indexmap.specs.IndexMap.{hasher_of};
     ghost use Rattle.history.specs.aids.Documents.{AreLinked, Documented, documented};
 
     ghost Value = { Documented };
 
-    ghost view = { λ d. documented d.shards.entries d.links.items d.ends.items };
+    ghost view = { λ d. documented (hasher_of d.shards) d.shards.entries d.links.items d.ends.items };
 
     ghost invariant = { λ d. AreLinked d.links.items d.ends.items };
 }
@@ -55,7 +56,7 @@ impl Model for Documents {
 impl Documents {
     /// No documents. It allocates nothing.
     pub fn with_keys(alloc: Global, keys: HashKeys) -> Documents
-        ensures { result ≡ no_documents }
+        ensures { result ≡ no_documents keys }
     {
         Documents {
             shards: IndexMap::with_hasher(alloc, keys),
@@ -65,7 +66,9 @@ impl Documents {
     }
 
     /// The keys of the hashes by which documents are found.
-    pub fn keys(&self) -> HashKeys {
+    pub fn keys(&self) -> HashKeys
+        ensures { result ≡ self.now.keys }
+    {
         *self.shards.hasher()
     }
 
@@ -95,6 +98,7 @@ impl Documents {
         requires there { doc < length self.old.lists }
         requires place { place < most_events }
         requires few { self.old.calls < most_events }
+        ensures keys { self.new.keys ≡ self.old.keys }
         ensures entries { self.new.entries ≡ self.old.entries }
         ensures counted { OnOk result (self.new.calls ≡ self.old.calls + 1) }
         ensures listed { OnOk result ((places : List ℕ) → slice_get self.old.lists doc ≡ Some places
@@ -120,6 +124,7 @@ impl Documents {
         requires new { is_some (lookup (is_same id.now) self.old.entries) ≡ false }
         requires place { place < most_events }
         requires few { self.old.calls < most_events }
+        ensures keys { self.new.keys ≡ self.old.keys }
         ensures counted { OnOk result (self.new.calls ≡ self.old.calls + 1) }
         ensures ok { OnOk result (self.new.entries ≡ with_document self.old.entries id.now shard) }
         ensures listed { OnOk result (self.new.lists ≡ self.old.lists ++ (place ∷ []) ∷ []) }
@@ -156,6 +161,7 @@ impl Documents {
         requires stands { doc ≡ position (λ d. is_same id.now d.0) self.old.entries }
         requires place { place < most_events }
         requires few { self.old.calls < most_events }
+        ensures keys { self.new.keys ≡ self.old.keys }
         ensures counted { OnOk result (self.new.calls ≡ self.old.calls + 1) }
         ensures ok { OnOk result (self.new.entries ≡ with_document self.old.entries id.now shard) }
         ensures listed { OnOk result (self.new.lists ≡ with_listed self.old.entries self.old.lists id.now place) }

@@ -3,15 +3,17 @@ use Rattle.std.specs.Prelude.{◌≡◌, ℕ, zero, suc, ◌≤◌, ◌<◌, Lis
 use Rattle.std.specs.Option.{option_map_or}
 use Rattle.history.specs.declared.documents.Ends.{Ends}
 use Rattle.history.specs.declared.documents.Link.{Link}
+use Rattle.history.specs.declared.hash_keys.HashKeys.{HashKeys}
 
--- documents, each with its shard, the places of the calls of each, and how many calls these are
+-- the keys of the hashes, documents, each with its shard, the places of the calls of each, and how many calls these are
 pub record Documented : Type 0 where
+  pub keys : HashKeys
   pub entries : List (List ℕ × ℕ)
   pub lists : List (List ℕ)
   pub calls : ℕ
 
-abbrev pub no_documents : Documented
-no_documents = record { entries = []; lists = []; calls = 0 }
+abbrev pub no_documents : HashKeys → Documented
+no_documents keys = record { keys = keys; entries = []; lists = []; calls = 0 }
 
 -- the places of so many calls of a document, from that of the link on back
 abbrev pub places_back : List Link → ℕ → ℕ → List ℕ
@@ -22,8 +24,9 @@ places_back links (suc n) at = option_map_or (λ link. link.place ∷ places_bac
 abbrev pub places_of : List Link → Ends → List ℕ
 places_of links calls = reverse (places_back links calls.count calls.last)
 
-abbrev pub documented : List (List ℕ × ℕ) → List Link → List Ends → Documented
-documented entries links ends = record { entries = entries; lists = map (places_of links) ends; calls = length links }
+abbrev pub documented : HashKeys → List (List ℕ × ℕ) → List Link → List Ends → Documented
+documented keys entries links ends =
+    record { keys = keys; entries = entries; lists = map (places_of links) ends; calls = length links }
 
 -- the calls of a document: no more than there are links, and the first stands at their beginning
 pub record AreCalls (links : List Link) (calls : Ends) : Type 0 where
