@@ -1,64 +1,63 @@
 -- The markup of a page.
-use Rattle.std.specs.Prelude.{ℕ, List}
+use Rattle.std.specs.Prelude.{ℕ, List, codes}
 use Rattle.page.specs.declared.markup.Markup.{Markup}
 use Rattle.page.specs.declared.markup.Markup.TheVariants as markup
-use Rattle.page.specs.declared.markup.TheConstants as constant
 
--- the bytes of a markup: those of the constant of its name
+-- the bytes of a markup, as they stand in a page
 abbrev pub markup_bytes : Markup → List ℕ
-markup_bytes markup.PageStart = constant.PAGE_START.now
-markup_bytes markup.Style = constant.STYLE.now
-markup_bytes markup.BodyStart = constant.BODY_START.now
-markup_bytes markup.PageEnd = constant.PAGE_END.now
-markup_bytes markup.TitleStart = constant.TITLE_START.now
-markup_bytes markup.TitleEnd = constant.TITLE_END.now
-markup_bytes markup.LineStart = constant.LINE_START.now
-markup_bytes markup.LineEnd = constant.LINE_END.now
-markup_bytes markup.HeadingStart = constant.HEADING_START.now
-markup_bytes markup.HeadingEnd = constant.HEADING_END.now
-markup_bytes markup.ParagraphStart = constant.PARAGRAPH_START.now
-markup_bytes markup.ParagraphEnd = constant.PARAGRAPH_END.now
-markup_bytes markup.ListStart = constant.LIST_START.now
-markup_bytes markup.ItemStart = constant.ITEM_START.now
-markup_bytes markup.ItemEnd = constant.ITEM_END.now
-markup_bytes markup.ListEnd = constant.LIST_END.now
-markup_bytes markup.FoldStart = constant.FOLD_START.now
-markup_bytes markup.FoldOpen = constant.FOLD_OPEN.now
-markup_bytes markup.FoldEnd = constant.FOLD_END.now
-markup_bytes markup.CallsStart = constant.CALLS_START.now
-markup_bytes markup.OrderStart = constant.ORDER_START.now
-markup_bytes markup.RowStart = constant.ROW_START.now
-markup_bytes markup.BrokenRowStart = constant.BROKEN_ROW_START.now
-markup_bytes markup.EvidenceRowStart = constant.EVIDENCE_ROW_START.now
-markup_bytes markup.CellBreak = constant.CELL_BREAK.now
-markup_bytes markup.RowEnd = constant.ROW_END.now
-markup_bytes markup.TableEnd = constant.TABLE_END.now
-markup_bytes markup.DrawingStart = constant.DRAWING_START.now
-markup_bytes markup.DrawingOpen = constant.DRAWING_OPEN.now
-markup_bytes markup.DrawingEnd = constant.DRAWING_END.now
-markup_bytes markup.CaptionStart = constant.CAPTION_START.now
-markup_bytes markup.CaptionEnd = constant.CAPTION_END.now
-markup_bytes markup.AxisStart = constant.AXIS_START.now
-markup_bytes markup.BarStart = constant.BAR_START.now
-markup_bytes markup.LostStart = constant.LOST_START.now
-markup_bytes markup.EvidenceStart = constant.EVIDENCE_START.now
-markup_bytes markup.BrokenStart = constant.BROKEN_START.now
-markup_bytes markup.VersionStart = constant.VERSION_START.now
-markup_bytes markup.GroupEnd = constant.GROUP_END.now
-markup_bytes markup.BoxX = constant.BOX_X.now
-markup_bytes markup.BoxY = constant.BOX_Y.now
-markup_bytes markup.BoxWidth = constant.BOX_WIDTH.now
-markup_bytes markup.BoxHeight = constant.BOX_HEIGHT.now
-markup_bytes markup.HereX = constant.HERE_X.now
-markup_bytes markup.LineY = constant.LINE_Y.now
-markup_bytes markup.LineToX = constant.LINE_TO_X.now
-markup_bytes markup.LineToY = constant.LINE_TO_Y.now
-markup_bytes markup.ShapeEnd = constant.SHAPE_END.now
-markup_bytes markup.CrossX = constant.CROSS_X.now
-markup_bytes markup.DiamondX = constant.DIAMOND_X.now
-markup_bytes markup.ArrowX = constant.ARROW_X.now
-markup_bytes markup.MarkY = constant.MARK_Y.now
-markup_bytes markup.MarkEnd = constant.MARK_END.now
-markup_bytes markup.WordsX = constant.WORDS_X.now
-markup_bytes markup.WordsAt = constant.WORDS_AT.now
-markup_bytes markup.WordsEnd = constant.WORDS_END.now
+markup_bytes markup.PageStart = codes "<!doctype html>\n<html lang=\"en\">\n<head>\n<meta charset=\"utf-8\">\n<meta name=\"viewport\" content=\"width=device-width, initial-scale=1\">\n<title>casbench explain</title>\n<style>\n"
+markup_bytes markup.Style = codes ":root { color-scheme: light dark; --ink: #1b1f24; --soft: #57606a; --edge: #d0d7de; --paper: #ffffff; --bar: #8fb4e8; --bad: #c2410c; --proof: #7c3aed; --lost: #8c959f; }\n@media (prefers-color-scheme: dark) { :root { --ink: #e6edf3; --soft: #9da7b3; --edge: #3d444d; --paper: #0d1117; --bar: #3d6fb4; --bad: #fb923c; --proof: #c4a1ff; --lost: #7d8590; } }\nbody { margin: 0; background: var(--paper); color: var(--ink); font: 16px/1.5 system-ui, sans-serif; }\nmain { max-width: 1200px; margin: 0 auto; padding: 24px 32px 48px; }\nh1 { font-size: 26px; line-height: 1.25; margin: 0 0 12px; overflow-wrap: anywhere; }\nh2 { font-size: 19px; margin: 28px 0 8px; break-after: avoid; }\np { margin: 8px 0; max-width: 90ch; overflow-wrap: anywhere; }\ncode, td.mono, svg text { font-family: ui-monospace, 'DejaVu Sans Mono', monospace; }\np.line { padding: 8px 12px; border: 1px solid var(--edge); border-radius: 6px; max-width: none; font-size: 14px; }\ntable { border-collapse: collapse; font-size: 14px; }\nth, td { text-align: left; vertical-align: top; padding: 4px 14px 4px 8px; border-bottom: 1px solid var(--edge); overflow-wrap: anywhere; }\nth { color: var(--soft); font-weight: 600; }\nth, td:first-child, td:nth-child(2), td:nth-child(3) { white-space: nowrap; }\ntr { break-inside: avoid; }\ntr.broken td { border-top: 2px solid var(--bad); border-bottom: 2px solid var(--bad); font-weight: 600; }\ntr.broken td:first-child { border-left: 6px solid var(--bad); }\ntr.evidence td:first-child { border-left: 6px double var(--proof); }\nul { margin: 8px 0; padding-left: 24px; }\nli { overflow-wrap: anywhere; }\ndetails { margin: 28px 0 0; border-top: 1px solid var(--edge); }\nsummary { cursor: pointer; font-size: 19px; font-weight: 600; padding: 12px 0; }\nfigure { margin: 12px 0; }\nfigcaption { color: var(--soft); font-size: 14px; }\nsvg { width: 100%; height: auto; display: block; }\nsvg text { font-size: 12px; fill: var(--ink); stroke: var(--paper); stroke-width: 3px; paint-order: stroke; }\n.axis text { fill: var(--soft); }\n.axis line { stroke: var(--edge); }\n.axis .here { stroke: var(--bad); stroke-width: 2; stroke-dasharray: 2 3; }\n.bar rect { fill: var(--bar); }\n.lost rect { fill: none; stroke: var(--lost); stroke-width: 2; stroke-dasharray: 6 4; }\n.evidence rect { stroke: var(--proof); stroke-width: 3; }\n.broken rect { fill: var(--bad); stroke: var(--bad); stroke-width: 3; }\n.bar path { fill: none; stroke-width: 3; stroke: var(--lost); }\n.evidence path { fill: var(--proof); stroke: none; }\n.broken path { stroke: var(--ink); }\n.version rect { fill: none; stroke: var(--edge); stroke-width: 1.5; }\n.version path { stroke: var(--soft); fill: none; stroke-width: 1.5; }\n@media print { body, table, figcaption, p.line { font-size: 11px; } h1 { font-size: 18px; } h2 { font-size: 14px; } th, td { padding: 2px 8px 2px 4px; } main { padding: 0; max-width: none; } }\n"
+markup_bytes markup.BodyStart = codes "</style>\n</head>\n<body>\n<main>\n"
+markup_bytes markup.PageEnd = codes "</main>\n</body>\n</html>\n"
+markup_bytes markup.TitleStart = codes "<h1>"
+markup_bytes markup.TitleEnd = codes "</h1>\n"
+markup_bytes markup.LineStart = codes "<p class=\"line\"><code>"
+markup_bytes markup.LineEnd = codes "</code></p>\n"
+markup_bytes markup.HeadingStart = codes "<h2>"
+markup_bytes markup.HeadingEnd = codes "</h2>\n"
+markup_bytes markup.ParagraphStart = codes "<p>"
+markup_bytes markup.ParagraphEnd = codes "</p>\n"
+markup_bytes markup.ListStart = codes "<ul>\n"
+markup_bytes markup.ItemStart = codes "<li>"
+markup_bytes markup.ItemEnd = codes "</li>\n"
+markup_bytes markup.ListEnd = codes "</ul>\n"
+markup_bytes markup.FoldStart = codes "<details>\n<summary>"
+markup_bytes markup.FoldOpen = codes "</summary>\n"
+markup_bytes markup.FoldEnd = codes "</details>\n"
+markup_bytes markup.CallsStart = codes "<table>\n<thead><tr><th></th><th>line</th><th>call</th><th>asked</th><th>answered</th><th>open at the same time</th></tr></thead>\n<tbody>\n"
+markup_bytes markup.OrderStart = codes "<table>\n<thead><tr><th>call</th><th>asked</th><th>the document after it</th></tr></thead>\n<tbody>\n"
+markup_bytes markup.RowStart = codes "<tr><td>"
+markup_bytes markup.BrokenRowStart = codes "<tr class=\"broken\"><td>"
+markup_bytes markup.EvidenceRowStart = codes "<tr class=\"evidence\"><td>"
+markup_bytes markup.CellBreak = codes "</td><td class=\"mono\">"
+markup_bytes markup.RowEnd = codes "</td></tr>\n"
+markup_bytes markup.TableEnd = codes "</tbody>\n</table>\n"
+markup_bytes markup.DrawingStart = codes "<figure>\n<svg role=\"img\" aria-label=\"The calls from left to right by their events\" viewBox=\"0 0 1180 "
+markup_bytes markup.DrawingOpen = codes "\">\n"
+markup_bytes markup.DrawingEnd = codes "</svg>\n"
+markup_bytes markup.CaptionStart = codes "<figcaption>"
+markup_bytes markup.CaptionEnd = codes "</figcaption>\n</figure>\n"
+markup_bytes markup.AxisStart = codes "<g class=\"axis\">\n"
+markup_bytes markup.BarStart = codes "<g class=\"bar\">"
+markup_bytes markup.LostStart = codes "<g class=\"bar lost\">"
+markup_bytes markup.EvidenceStart = codes "<g class=\"bar evidence\">"
+markup_bytes markup.BrokenStart = codes "<g class=\"bar broken\">"
+markup_bytes markup.VersionStart = codes "<g class=\"version\">"
+markup_bytes markup.GroupEnd = codes "</g>\n"
+markup_bytes markup.BoxX = codes "<rect rx=\"3\" x=\""
+markup_bytes markup.BoxY = codes "\" y=\""
+markup_bytes markup.BoxWidth = codes "\" width=\""
+markup_bytes markup.BoxHeight = codes "\" height=\""
+markup_bytes markup.HereX = codes "<line class=\"here\" x1=\""
+markup_bytes markup.LineY = codes "\" y1=\""
+markup_bytes markup.LineToX = codes "\" x2=\""
+markup_bytes markup.LineToY = codes "\" y2=\""
+markup_bytes markup.ShapeEnd = codes "\"/>"
+markup_bytes markup.CrossX = codes "<path d=\"M-6 -6 L6 6 M-6 6 L6 -6\" transform=\"translate("
+markup_bytes markup.DiamondX = codes "<path d=\"M0 -8 L7 0 L0 8 L-7 0 Z\" transform=\"translate("
+markup_bytes markup.ArrowX = codes "<path d=\"M-8 -6 L0 0 L-8 6\" transform=\"translate("
+markup_bytes markup.MarkY = codes " "
+markup_bytes markup.MarkEnd = codes ")\"/>"
+markup_bytes markup.WordsX = codes "<text x=\""
+markup_bytes markup.WordsAt = codes "\">"
+markup_bytes markup.WordsEnd = codes "</text>"
