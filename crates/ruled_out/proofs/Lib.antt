@@ -22,3 +22,4 @@ mod ReachLemmas
 mod AnswerLemmas
 mod ReplyOrder
 mod DocumentLemmas
+mod WorkedLemmas

@@ -2,4 +2,5 @@ pub mod Told
 pub mod Positions
 pub mod Placings
 pub mod Laws
+pub mod Worked
 pub mod aids
