@@ -4,4 +4,4 @@ pub mod CallsByNumber
 mod EarlierSteps
 mod EvidenceLaws
 mod EvidenceLemmas
-mod RuledOutLemmas
+pub mod RuledOutLemmas

@@ -1,6 +1,6 @@
 -- Documents that are ruled out, by their numbers.
 use Rattle.std.proofs.Common.{ℕ, ◌≡◌, ◌<◌, ◌≤◌, ◌+◌, ◌⊎◌, inl, inr, List, [], length, refl, sym, ap, subst, ◌∙◌, arith, Option, Some, None, option_map, slice_get, slice_index_or}
-use Rattle.std.specs.Prelude.{MatchOption}
+use Rattle.std.specs.Prelude.{IfSome, MatchOption}
 use Rattle.std.proofs.lemmas.Bool.{cases_lt}
 use Rattle.std.proofs.lemmas.Option.{slice_get-get_or, slice_get_within}
 use Rattle.doc_register.specs.declared.state.Conflicts.{Conflicts}
@@ -79,11 +79,28 @@ none_more conflicts events docs count doc history at before own n is i less ther
 -- one more document, of whose call and the one found before the lesser is kept
 pub one_more : (conflicts : Conflicts) (events : List Event) (docs : List ℕ) (count doc : ℕ) (least found both : Option ℕ) → IsHistory events → doc < length (documents_of events)
     → slice_get docs count ≡ Some doc → IsRuledOutBefore conflicts events docs count least → IsRuledOutDocument conflicts events doc found
-    → MatchOption both ((least ≡ None) × (found ≡ None)) (λ n. (least ≡ Some n) ⊎ (found ≡ Some n)) → IsRuledOutBefore conflicts events docs (count + 1) both
+    → MatchOption both ((least ≡ None) × (found ≡ None)) (λ n. ((least ≡ Some n) ⊎ (found ≡ Some n)) × IfSome least (λ a. n ≤ a) × IfSome found (λ b. n ≤ b))
+    → IsRuledOutBefore conflicts events docs (count + 1) both
 one_more conflicts events docs count doc least found None history within at before own none =
     none_more conflicts events docs count doc history at (subst (IsRuledOutBefore conflicts events docs count) none.0 before) (subst (IsRuledOutDocument conflicts events doc) none.1 own)
-one_more conflicts events docs count doc least found (Some n) history within at before own (inl was) = subst (IsRuledOutBefore conflicts events docs count) was before
-one_more conflicts events docs count doc least found (Some n) history within at before own (inr is) = found_call conflicts events doc n within (subst (IsRuledOutDocument conflicts events doc) is own)
+one_more conflicts events docs count doc least found (Some n) history within at before own (which, below_least, below_found) = (call which, bound) where
+  call : ((least ≡ Some n) ⊎ (found ≡ Some n)) → IsRuledOutIn conflicts events n
+  call (inl was) = let both : IsRuledOutBefore conflicts events docs count (Some n) = subst (IsRuledOutBefore conflicts events docs count) was before in both.0
+  call (inr is) = found_call conflicts events doc n within (subst (IsRuledOutDocument conflicts events doc) is own)
+
+  earlier : (a : Option ℕ) → IsRuledOutBefore conflicts events docs count a → IfSome a (λ b. n ≤ b) → (m : ℕ) (is : IsRuledOutIn conflicts events m) (i : ℕ) → i < count
+      → slice_get docs i ≡ Some is.doc → n ≤ m
+  earlier None none below m is i less there = absurd (none m is i less there)
+  earlier (Some a) some below m is i less there = let to : a ≤ m = some.1 m is i less there in omega (arith, below)
+
+  bound : (m : ℕ) (is : IsRuledOutIn conflicts events m) (i : ℕ) → i < count + 1 → slice_get docs i ≡ Some is.doc → n ≤ m
+  bound m is i less there = elim (cases_lt i count) as (λ _. n ≤ m) [
+    | inl before_it ↦ earlier least before below_least m is i before_it there
+    | inr not ↦ (let place : count ≡ i = omega arith in
+        let here : doc ≡ is.doc = same_some doc is.doc (sym at ∙ (ap (slice_get docs) place ∙ there)) in
+        let of_it : found ≡ Some m = only_call conflicts events m found history is (subst (λ d. IsRuledOutDocument conflicts events d found) here own) in
+        subst (λ f. IfSome f (λ b. n ≤ b)) of_it below_found)
+  ]
 
 -- all that may be ruled out
 pub all_documents : (conflicts : Conflicts) (events : List Event) (docs : List ℕ) (count : ℕ) (least : Option ℕ) → ListsRuledOut conflicts events docs → length docs ≤ count
@@ -91,4 +108,9 @@ pub all_documents : (conflicts : Conflicts) (events : List Event) (docs : List �
 all_documents conflicts events docs count None listed all before = λ n is.
     let here = listed n is in
     before n is here.0 (let within : here.0 < length docs = slice_get_within docs here.0 is.doc here.1 in omega arith) here.1
-all_documents conflicts events docs count (Some n) listed all before = before
+all_documents conflicts events docs count (Some n) listed all before = (
+  before.0,
+  λ m is.
+      let here = listed m is in
+      before.1 m is here.0 (let within : here.0 < length docs = slice_get_within docs here.0 is.doc here.1 in omega arith) here.1,
+)

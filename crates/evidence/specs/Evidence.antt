@@ -1,5 +1,5 @@
 -- Evidence in a history that no order of its calls explains it.
-use Rattle.std.specs.Prelude.{◌≡◌, ◌≢◌, ◌<◌, ◌⊎◌, ℕ, List, Option, Some, None, length, slice_get}
+use Rattle.std.specs.Prelude.{◌≡◌, ◌≢◌, ◌<◌, ◌≤◌, ◌⊎◌, ℕ, List, Option, Some, None, length, slice_get}
 use Rattle.version_pair.specs.declared.pair.Pair.{Pair}
 use Rattle.version_pair.specs.PairOrder.{IsBelow}
 use Rattle.doc_register.specs.declared.op.Op.{Op}
@@ -16,6 +16,8 @@ use Rattle.ruled_out.specs.Told.{told}
 use Rattle.ruled_out.specs.Placings.{IsRuledOut}
 use Rattle.evidence.specs.declared.refuted.Refuted.{Refuted}
 use Rattle.evidence.specs.declared.refuted.Refuted.TheVariants as evidence
+use Rattle.evidence.specs.declared.ruling_out.RulingOut.{RulingOut}
+use Rattle.evidence.specs.declared.ruling_out.RulingOut.TheVariants.{On}
 
 -- ---- calls
 
@@ -115,6 +117,10 @@ pub record IsRuledOutIn (conflicts : Conflicts) (events : List Event) (n : ℕ) 
   pub listed : slice_get (documents_of events) doc ≡ Some document
   pub ruled_out : IsRuledOut (told conflicts (records_of events document.0)) n
 
+-- the document of this number is ruled out at no call
+abbrev pub IsNotRuledOut : Conflicts → List Event → ℕ → Type 0
+IsNotRuledOut conflicts events doc = (n : ℕ) (is : IsRuledOutIn conflicts events n) → is.doc ≢ doc
+
 -- none of its documents is ruled out
 abbrev pub IsWithoutRuledOut : Conflicts → List Event → Type 0
 IsWithoutRuledOut conflicts events = (n : ℕ) → ¬ IsRuledOutIn conflicts events n
@@ -134,6 +140,28 @@ Holds conflicts events (evidence.NoWriter g) = HasNoWriter conflicts events g
 Holds conflicts events (evidence.StaleGet g w) = IsStaleGet events g w
 Holds conflicts events (evidence.StaleSwap a b) = IsStaleSwap events a b
 Holds conflicts events (evidence.RuledOut n) = IsRuledOutIn conflicts events n
+
+-- ---- what is reported
+
+-- the evidence is two calls or one, and not a document that is ruled out
+abbrev pub IsOfCalls : Refuted → Type 0
+IsOfCalls (evidence.PairTwice a b) = Unit {0}
+IsOfCalls (evidence.NoWriter g) = Unit {0}
+IsOfCalls (evidence.StaleGet g w) = Unit {0}
+IsOfCalls (evidence.StaleSwap a b) = Unit {0}
+IsOfCalls (evidence.RuledOut n) = ⊥
+
+-- no document of the history is ruled out at a call with a lesser number
+abbrev pub IsLeastRuledOut : Conflicts → List Event → ℕ → Type 0
+IsLeastRuledOut conflicts events n = (m : ℕ) → IsRuledOutIn conflicts events m → n ≤ m
+
+-- The evidence may be reported: that a document is ruled out only if that is asked for, and by the least call at which one is.
+abbrev pub IsReported : RulingOut → Conflicts → List Event → Refuted → Type 0
+IsReported ruling conflicts events (evidence.PairTwice a b) = Unit {0}
+IsReported ruling conflicts events (evidence.NoWriter g) = Unit {0}
+IsReported ruling conflicts events (evidence.StaleGet g w) = Unit {0}
+IsReported ruling conflicts events (evidence.StaleSwap a b) = Unit {0}
+IsReported ruling conflicts events (evidence.RuledOut n) = (ruling ≡ On) × IsLeastRuledOut conflicts events n
 
 -- ---- the law
 

@@ -1,8 +1,8 @@
-ghost use Rattle.std.specs.Prelude.{◌≡◌, ◌<◌, ◌≤◌, ◌↔◌, ◌⊎◌, IfOk, IsTrue, List, Some, ℕ, length};
+ghost use Rattle.std.specs.Prelude.{◌≡◌, ◌<◌, ◌≤◌, ◌↔◌, ◌⊎◌, IfOk, IsOk, IsTrue, List, Some, ℕ, length};
 ghost use Rattle.version_pair.specs.PairOrder.{IsBelow};
 ghost use Rattle.history.specs.Events.{IsHistory, PassesAt, is_call_of};
 ghost use Rattle.doc_register.specs.Register.{value_of};
-ghost use Rattle.evidence.specs.Evidence.{HasNoWriter, Holds, IsPairTwice, IsStaleGet, IsStaleSwap, IsWriter, MayTake};
+ghost use Rattle.evidence.specs.Evidence.{HasNoWriter, Holds, IsOfCalls, IsPairTwice, IsStaleGet, IsStaleSwap, IsWriter, MayTake};
 ghost use Rattle.evidence.specs.aids.AnsweredCalls.{AsksTooLittle};
 
 use crate::answered_call::{
@@ -158,15 +158,18 @@ fn is_stale_swap(history: &History, one: u64, two: u64) -> bool
 }
 
 /// Whether the evidence holds in the history, with conflicts read as told. A call number that the history doesn't have
-/// is no evidence. It takes one walk over the events at most; but for a call at which its document is ruled out it takes memory too,
-/// and a walk over the calls of each document up to that one, which sorts their pairs.
+/// is no evidence.
+///
+/// Evidence of two calls or one takes one walk over the events at most and no memory. That a document is ruled out takes a walk
+/// over the calls of each document up to that one, which sorts their pairs; only that can be out of memory.
 pub fn refutes(
     alloc: Global,
     history: &History,
     evidence: &Refuted,
     conflicts: Conflicts,
 ) -> Result<bool, NoMemory>
-    ensures { IfOk result (λ holds. IsTrue holds ↔ Holds conflicts history.now evidence.now) }
+    ensures holds { IfOk result (λ holds. IsTrue holds ↔ Holds conflicts history.now evidence.now) }
+    ensures succeeds { IsOfCalls evidence.now → IsOk result }
 {
     // A look at the history: that it is one is known from here on.
     let _ = history.len();

@@ -7,6 +7,7 @@
 #![tactic(auto)]
 
 mod answered_call;
+mod certainty;
 mod holding;
 pub mod laws;
 mod refuted;
@@ -14,7 +15,9 @@ mod ruled_out_calls;
 mod ruling_out;
 mod search;
 
+pub use certainty::Certainty;
 pub use holding::refutes;
 pub use refuted::Refuted;
+pub use ruled_out_calls::rule_out_document;
 pub use ruling_out::RulingOut;
 pub use search::{find_evidence, rule_out};

@@ -1,17 +1,18 @@
 //! The calls at which documents of a history are ruled out.
 
-ghost use Rattle.std.specs.Prelude.{◌≡◌, ◌<◌, ◌⊎◌, ◌↔◌, IfOk, IsTrue, MatchOption, None as Nothing, Some as Just, length};
+ghost use Rattle.std.specs.Prelude.{◌≡◌, ◌<◌, ◌≤◌, ◌⊎◌, ◌↔◌, IfOk, IfSome, IsTrue, MatchOption, None as Nothing, Some as Just, length};
 ghost use Rattle.history.specs.Events.{IsHistory, documents_of};
-ghost use Rattle.evidence.specs.Evidence.{AreDocuments, IsRuledOutIn, ListsRuledOut};
+ghost use Rattle.evidence.specs.Evidence.{AreDocuments, Holds, IsNotRuledOut, IsRuledOutIn, ListsRuledOut};
 ghost use Rattle.evidence.specs.aids.RuledOutCalls.{IsRuledOutCall, IsRuledOutDocument};
 
+use crate::refuted::Refuted;
 use doc_register::Conflicts;
 use history::History;
 use ruled_out::ruled_out_at;
 use std::alloc::Global;
 use version_pair::NoMemory;
 
-// The call at which the document is ruled out, where it is.
+// The call at which the document of this number is ruled out, if it is.
 fn ruled_out_call(
     alloc: Global,
     history: &History,
@@ -26,9 +27,30 @@ fn ruled_out_call(
     ruled_out_at(alloc, &records, conflicts)
 }
 
+/// The evidence that the document of this number is ruled out, with conflicts read as told, if it is. It takes one walk over its
+/// calls, which sorts their pairs.
+pub fn rule_out_document(
+    alloc: Global,
+    history: &History,
+    doc: usize,
+    conflicts: Conflicts,
+) -> Result<Option<Refuted>, NoMemory>
+    requires { doc < length (documents_of history.now) }
+    ensures holds { IfOk result (λ told. IfSome told (Holds conflicts history.now)) }
+    ensures none { IfOk result (λ told. told ≡ Nothing → IsNotRuledOut conflicts history.now doc) }
+{
+    // A look at the history: that it is one is known from here on.
+    let _ = history.len();
+    match ruled_out_call(alloc, history, doc, conflicts)? {
+        Some(call) => Ok(Some(Refuted::RuledOut(call))),
+        None => Ok(None),
+    }
+}
+
 // The lesser of two numbers of calls, where there are two.
 fn lesser(one: Option<u64>, two: Option<u64>) -> Option<u64>
-    ensures { MatchOption result ((one ≡ Nothing) × (two ≡ Nothing)) (λ n. (one ≡ Just n) ⊎ (two ≡ Just n)) }
+    ensures { MatchOption result ((one ≡ Nothing) × (two ≡ Nothing))
+        (λ n. ((one ≡ Just n) ⊎ (two ≡ Just n)) × IfSome one (λ a. n ≤ a) × IfSome two (λ b. n ≤ b)) }
 {
     match (one, two) {
         (Some(a), Some(b)) => Some(a.min(b)),

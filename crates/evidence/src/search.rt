@@ -7,11 +7,12 @@ mod stale_reads;
 mod unwritten_reads;
 
 ghost use Rattle.std.specs.Prelude.{◌≡◌, None as Nothing, IfOk, IfSome};
-ghost use Rattle.evidence.specs.Evidence.{AreDocuments, Holds, IsWithoutRuledOut, ListsRuledOut};
+ghost use Rattle.evidence.specs.Evidence.{AreDocuments, Holds, IsOfCalls, IsReported, IsWithoutRuledOut, ListsRuledOut};
 
 use crate::holding::refutes;
 use crate::refuted::Refuted;
 use crate::ruled_out_calls::least_ruled_out;
+use crate::ruling_out::RulingOut;
 use answered_calls::AnsweredCalls;
 use doc_register::Conflicts;
 use history::History;
@@ -29,7 +30,9 @@ fn confirm(
     found: Option<Refuted>,
     conflicts: Conflicts,
 ) -> Result<Option<Refuted>, NoMemory>
-    ensures { IfOk result (λ told. IfSome told (Holds conflicts history.now)) }
+    requires { IfSome found IsOfCalls }
+    ensures holds { IfOk result (λ told. IfSome told (Holds conflicts history.now)) }
+    ensures of_calls { IfOk result (λ told. IfSome told IsOfCalls) }
 {
     match found {
         Some(evidence) => {
@@ -51,7 +54,8 @@ pub fn find_evidence(
     history: &History,
     conflicts: Conflicts,
 ) -> Result<Option<Refuted>, NoMemory>
-    ensures { IfOk result (λ told. IfSome told (Holds conflicts history.now)) }
+    ensures holds { IfOk result (λ told. IfSome told (Holds conflicts history.now)) }
+    ensures of_calls { IfOk result (λ told. IfSome told IsOfCalls) }
 {
     let calls = AnsweredCalls::of(alloc, history)?;
     let twice = least_pair_twice(alloc, &calls.writes)?;
@@ -81,6 +85,7 @@ pub fn rule_out(
     requires within { AreDocuments history.now docs.now }
     requires listed { ListsRuledOut conflicts history.now docs.now }
     ensures holds { IfOk result (λ told. IfSome told (Holds conflicts history.now)) }
+    ensures least { IfOk result (λ told. IfSome told (IsReported RulingOut.On conflicts history.now)) }
     ensures none { IfOk result (λ told. told ≡ Nothing → IsWithoutRuledOut conflicts history.now) }
 {
     // A look at the history: that it is one is known from here on.

@@ -1,23 +1,26 @@
 -- The calls at which documents of a history are ruled out.
-use Rattle.std.specs.Prelude.{◌≡◌, ◌<◌, ℕ, List, Option, Some, None, slice_get}
+use Rattle.std.specs.Prelude.{◌≡◌, ◌<◌, ◌≤◌, ℕ, List, Option, Some, None, slice_get}
 use Rattle.doc_register.specs.declared.state.Conflicts.{Conflicts}
 use Rattle.history.specs.declared.event.Event.{Event}
 use Rattle.history.specs.Events.{documents_of, records_of}
 use Rattle.ruled_out.specs.Told.{told}
 use Rattle.ruled_out.specs.Placings.{IsRuledOutAt}
-use Rattle.evidence.specs.Evidence.{IsRuledOutIn, IsWithoutRuledOut}
+use Rattle.evidence.specs.Evidence.{IsLeastRuledOut, IsRuledOutIn, IsWithoutRuledOut}
 
 -- the call at which the document of this number is ruled out; where none is given, it isn't
 abbrev pub IsRuledOutDocument : Conflicts → List Event → ℕ → Option ℕ → Type 0
 IsRuledOutDocument conflicts events doc found = (document : List ℕ × ℕ) → slice_get (documents_of events) doc ≡ Some document
     → IsRuledOutAt (told conflicts (records_of events document.0)) found
 
--- a document is ruled out at the call; where none is given, no document is
+-- a document is ruled out at the call, and none at a lesser one; if none is given, no document is
 abbrev pub IsRuledOutCall : Conflicts → List Event → Option ℕ → Type 0
 IsRuledOutCall conflicts events None = IsWithoutRuledOut conflicts events
-IsRuledOutCall conflicts events (Some n) = IsRuledOutIn conflicts events n
+IsRuledOutCall conflicts events (Some n) = IsRuledOutIn conflicts events n × IsLeastRuledOut conflicts events n
 
--- of the first of these documents, so many, one is ruled out at the call; where none is given, none of them is at any
+-- of the first of these documents, so many, one is ruled out at the call, and none at a lesser one; if none is given, none of
+-- them is at any
 abbrev pub IsRuledOutBefore : Conflicts → List Event → List ℕ → ℕ → Option ℕ → Type 0
 IsRuledOutBefore conflicts events docs count None = (n : ℕ) (is : IsRuledOutIn conflicts events n) (i : ℕ) → i < count → ¬ (slice_get docs i ≡ Some is.doc)
-IsRuledOutBefore conflicts events docs count (Some n) = IsRuledOutIn conflicts events n
+IsRuledOutBefore conflicts events docs count (Some n) =
+    IsRuledOutIn conflicts events n
+    × ((m : ℕ) (is : IsRuledOutIn conflicts events m) (i : ℕ) → i < count → slice_get docs i ≡ Some is.doc → n ≤ m)

@@ -1,3 +1,6 @@
+ghost use Rattle.std.specs.Prelude.{IfOk, IfSome};
+ghost use Rattle.evidence.specs.Evidence.{IsOfCalls};
+
 use crate::holding::asks_too_little;
 use crate::refuted::Refuted;
 use crate::search::answered_calls::AnsweredWrite;
@@ -76,7 +79,9 @@ fn least_ignored(
 pub fn least_stale_swap(
     alloc: Global,
     writes: &[AnsweredWrite],
-) -> Result<Option<Refuted>, NoMemory> {
+) -> Result<Option<Refuted>, NoMemory>
+    ensures { IfOk result (λ found. IfSome found IsOfCalls) }
+{
     let Some(ignored) = least_ignored(alloc, writes)? else {
         return Ok(None);
     };

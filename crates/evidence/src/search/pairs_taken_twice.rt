@@ -1,3 +1,6 @@
+ghost use Rattle.std.specs.Prelude.{IfOk, IfSome};
+ghost use Rattle.evidence.specs.Evidence.{IsOfCalls};
+
 use crate::refuted::Refuted;
 use crate::search::answered_calls::AnsweredWrite;
 use std::alloc::Global;
@@ -15,7 +18,9 @@ fn lesser(one: (u64, u64), other: Option<(u64, u64)>) -> (u64, u64) {
 pub fn least_pair_twice(
     alloc: Global,
     writes: &[AnsweredWrite],
-) -> Result<Option<Refuted>, NoMemory> {
+) -> Result<Option<Refuted>, NoMemory>
+    ensures { IfOk result (λ found. IfSome found IsOfCalls) }
+{
     let mut taken = Vec::with_capacity(alloc, writes.len())?;
     for write in writes {
         taken.push((write.performed.shard, write.performed.pair, write.no))?;

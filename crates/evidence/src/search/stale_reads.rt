@@ -1,9 +1,14 @@
+ghost use Rattle.std.specs.Prelude.{IfSome};
+ghost use Rattle.evidence.specs.Evidence.{IsOfCalls};
+
 use crate::holding::is_overtaken;
 use crate::refuted::Refuted;
 use crate::search::answered_calls::{AnsweredGet, AnsweredWrite};
 
 /// The first stale get by its number, with the first of the writes that it missed.
-pub fn least_stale_get(gets: &[AnsweredGet], writes: &[AnsweredWrite]) -> Option<Refuted> {
+pub fn least_stale_get(gets: &[AnsweredGet], writes: &[AnsweredWrite]) -> Option<Refuted>
+    ensures { IfSome result IsOfCalls }
+{
     let get = gets
         .iter()
         .filter(|get| Some(get.found.pair) < get.newest)

@@ -1,4 +1,5 @@
-ghost use Rattle.std.specs.Prelude.{◌<◌, length};
+ghost use Rattle.std.specs.Prelude.{◌<◌, IfOk, IfSome, length};
+ghost use Rattle.evidence.specs.Evidence.{IsOfCalls};
 
 use crate::refuted::Refuted;
 use crate::search::answered_calls::AnsweredGet;
@@ -95,7 +96,9 @@ pub fn least_without_writer(
     history: &History,
     gets: &[AnsweredGet],
     conflicts: Conflicts,
-) -> Result<Option<Refuted>, NoMemory> {
+) -> Result<Option<Refuted>, NoMemory>
+    ensures { IfOk result (λ found. IfSome found IsOfCalls) }
+{
     let writers = Writers::of(alloc, history, conflicts)?;
     let least = gets
         .iter()
