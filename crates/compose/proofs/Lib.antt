@@ -32,3 +32,4 @@ mod ShardOrders
 mod ShardMerge
 mod ShardLocality
 mod OffenceLemmas
+mod CertaintyLemmas

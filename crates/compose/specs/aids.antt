@@ -4,3 +4,4 @@ pub mod Joined
 pub mod Worked
 pub mod Verified
 pub mod Replies
+pub mod Settled

@@ -10,6 +10,7 @@
 #![tactic(auto)]
 
 mod case;
+mod certainty;
 mod checking;
 mod counts;
 mod finding;
@@ -27,9 +28,10 @@ mod verify_fault;
 mod workers;
 
 pub use case::Case;
+pub use certainty::certainty_of;
 pub use checking::{CheckFault, Verdict, check, check_alone, is_explained};
 pub use counts::Counts;
-pub use evidence::{Refuted, RulingOut, refutes};
+pub use evidence::{Certainty, Refuted, RulingOut, refutes};
 pub use finding::{Failing, Finding};
 pub use offence::{Offence, first_offence};
 pub use proof::Proof;

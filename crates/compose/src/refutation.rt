@@ -1,8 +1,8 @@
 ghost use Rattle.std.specs.Prelude.{◌≡◌, None as Nothing, IfOk, IfSome};
-ghost use Rattle.evidence.specs.Evidence.{Holds, IsWithoutRuledOut};
+ghost use Rattle.evidence.specs.Evidence.{Holds, IsOfCalls, IsReported, IsWithoutRuledOut};
 
 use crate::case::Case;
-use evidence::{Refuted, find_evidence};
+use evidence::{Refuted, RulingOut, find_evidence};
 use std::alloc::Global;
 use version_pair::NoMemory;
 
@@ -10,7 +10,8 @@ use version_pair::NoMemory;
 /// the order of `Refuted`, and of that kind the one with the least call numbers, the first number counting first.
 /// `None` where no kind holds; documents that are ruled out are not looked for.
 pub fn refute(alloc: Global, case: &Case) -> Result<Option<Refuted>, NoMemory>
-    ensures { IfOk result (λ told. IfSome told (Holds case.now.conflicts case.now.events)) }
+    ensures holds { IfOk result (λ told. IfSome told (Holds case.now.conflicts case.now.events)) }
+    ensures of_calls { IfOk result (λ told. IfSome told IsOfCalls) }
 {
     find_evidence(alloc, case.history(), case.conflicts())
 }
@@ -19,6 +20,7 @@ pub fn refute(alloc: Global, case: &Case) -> Result<Option<Refuted>, NoMemory>
 /// at which one is. `None` where none is. Only those documents are walked for which no order was found: the others have one.
 pub fn rule_out(alloc: Global, case: &Case) -> Result<Option<Refuted>, NoMemory>
     ensures holds { IfOk result (λ told. IfSome told (Holds case.now.conflicts case.now.events)) }
+    ensures least { IfOk result (λ told. IfSome told (IsReported RulingOut.On case.now.conflicts case.now.events)) }
     ensures none { IfOk result (λ told. told ≡ Nothing
         → IsWithoutRuledOut case.now.conflicts case.now.events) }
 {

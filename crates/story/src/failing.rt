@@ -1,4 +1,5 @@
 use crate::calls::{Call, call_of, id_words};
+use crate::certainty_words::{certainty_words, title_of};
 use crate::event_lines::EventLines;
 use crate::kept::Kept;
 use crate::named::Named;
@@ -9,9 +10,9 @@ use crate::subject::Unexplained;
 use crate::subjects::{Subject, subjects_of};
 use crate::telling::MOST_TOLD;
 use crate::undecided::decision_words;
-use crate::weight::{Weight, title_of, weight_of, weight_words};
 use crate::why::add_why;
 use crate::words::{heard_words, op_words};
+use evidence::Certainty;
 use std::alloc::Global;
 use version_pair::NoMemory;
 
@@ -64,12 +65,12 @@ fn add_answer(
     alloc: Global,
     unexplained: &Unexplained<'_>,
     subjects: &[Subject<'_>],
-    weight: Weight,
     lines: &EventLines,
     parts: &mut Vec<Part>,
 ) -> Result<(), NoMemory> {
-    parts.push(Part::Paragraph(String::from_str(alloc, weight_words(weight))?))?;
-    if let (Weight::Undecided, Some(subject)) = (weight, subjects.first()) {
+    let certainty = unexplained.certainty;
+    parts.push(Part::Paragraph(String::from_str(alloc, certainty_words(certainty))?))?;
+    if let (Certainty::Undecided, Some(subject)) = (certainty, subjects.first()) {
         parts.push(Part::Paragraph(decision_words(alloc, unexplained, subject, lines)?))?;
     }
     if let Some(call) = call_of(unexplained.history, unexplained.call) {
@@ -115,13 +116,12 @@ pub fn failing_story(
     lines: &EventLines,
 ) -> Result<Story, NoMemory> {
     let subjects = subjects_of(alloc, unexplained)?;
-    let weight = weight_of(alloc, unexplained, &subjects)?;
     let named = Named::of(alloc, unexplained, &subjects)?;
     let last = last_event(alloc, unexplained, &named)?;
     let kept = kept_of(alloc, &subjects, &named, last)?;
     let order = order_of(alloc, unexplained, &subjects)?;
     let mut parts = Vec::new(alloc);
-    add_answer(alloc, unexplained, &subjects, weight, lines, &mut parts)?;
+    add_answer(alloc, unexplained, &subjects, lines, &mut parts)?;
     add_why(alloc, unexplained, &subjects, lines, &mut parts)?;
     let shown = Shown {
         kept: &kept,
@@ -133,7 +133,7 @@ pub fn failing_story(
     };
     shown.add(alloc, &mut parts)?;
     Ok(Story {
-        title: title_of(alloc, weight, unexplained.call)?,
+        title: title_of(alloc, unexplained.certainty, unexplained.call)?,
         parts,
     })
 }

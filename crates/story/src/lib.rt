@@ -10,6 +10,7 @@
 
 mod calls;
 mod cause_words;
+mod certainty_words;
 mod drawing;
 mod event_lines;
 mod evidence_words;
@@ -35,7 +36,6 @@ mod telling;
 mod told_line;
 mod undecided;
 mod untold_words;
-mod weight;
 mod why;
 mod window;
 mod words;

@@ -1,5 +1,5 @@
 use doc_register::Conflicts;
-use evidence::Refuted;
+use evidence::{Certainty, Refuted};
 use history::History;
 use witness::DocWitness;
 
@@ -24,6 +24,8 @@ pub struct Unexplained<'h> {
     pub conflicts: Conflicts,
     /// The evidence that there is no order, where some was found.
     pub evidence: Option<Refuted>,
+    /// How much the answer says.
+    pub certainty: Certainty,
     /// The place of the reply at which the search first failed, from 0.
     pub event: usize,
     /// The number of the call that it answers.
