@@ -7,8 +7,8 @@ use Rattle.doc_register.specs.declared.reply.Reply.{Reply as Answer}
 use Rattle.history.specs.declared.event.Event.{Event}
 use Rattle.history.specs.declared.event.Event.TheVariants.{Call}
 use Rattle.recorder.specs.Pens.{IsRising}
-use Rattle.workload.specs.ClientRuns.{Ends, IsRunFrom, IsTurn, Known, after_ending, doc_name, nothing_known, op_of}
-use Rattle.workload.specs.aids.Clients.{BeginsTurn, EndsTurn, IsFront, IsHeard, IsLongerByFront, IsLongerByRun, TakesTurn, ending_of}
+use Rattle.workload.specs.ClientRuns.{Ends, IsRunFrom, IsTurn, Known, after_ending, doc_name, ending_of, nothing_known, op_of}
+use Rattle.workload.specs.aids.Clients.{BeginsTurn, EndsTurn, IsFront, IsHeard, IsLongerByFront, IsLongerByRun, TakesTurn}
 use Rattle.workload.specs.declared.open_call.OpenCall.{OpenCall}
 use Rattle.workload.specs.declared.target.Progress.{Progress}
 use Rattle.workload.specs.declared.target.Ticket.{Ticket}

@@ -6,3 +6,5 @@ mod RoundLemmas
 mod RunningLemmas
 mod SeatLemmas
 mod OnceLemmas
+mod PlayerLemmas
+pub mod PlayedLemmas

@@ -9,9 +9,9 @@ use Rattle.std.proofs.lemmas.Option.{slice_get-get_or, slice_get_cases, slice_ge
 use Rattle.doc_register.specs.declared.op.Op.{Op}
 use Rattle.history.specs.declared.event.Event.{Event}
 use Rattle.recorder.specs.Pens.{PenState}
-use Rattle.workload.specs.ClientRuns.{AreLongerByRuns, nothing_known}
+use Rattle.workload.specs.ClientRuns.{AreLongerByRuns, nothing_known, pair_in}
 use Rattle.workload.specs.Plans.{turn_at, turn_count}
-use Rattle.workload.specs.aids.Clients.{IsLongerByClient, IsLongerByFront, pair_in}
+use Rattle.workload.specs.aids.Clients.{IsLongerByClient, IsLongerByFront}
 use Rattle.workload.specs.aids.Seats.{AreNew, AreSeated, IsDone, IsLongerSoFar, IsOpenIfAny, IsNew, IsSeated, Visits, visits_left}
 use Rattle.workload.specs.declared.seat.Seat.{Seat}
 use Rattle.workload.specs.declared.target.Progress.{Progress}
@@ -93,7 +93,7 @@ module _ (issued : Ticket → List ℕ → Op → Type 0) (gave : Ticket → Pro
     pub same : acted ≡ false → now ≡ old
     pub done : acted ≡ false → (k : ℕ) (d : Seat P) → k < i → IsDone clients (get_or old k d)
 
-  seated_after : (pens : List P) (now : List (Seat P)) (i : ℕ) (seat new : Seat P) (acted : Bool) → slice_get now i ≡ Some seat
+  pub seated_after : (pens : List P) (now : List (Seat P)) (i : ℕ) (seat new : Seat P) (acted : Bool) → slice_get now i ≡ Some seat
       → Visits issued gave polls state clients seat new acted → AreSeated issued gave polls state clients pens now
       → AreSeated issued gave polls state clients pens (set now i new)
   seated_after pens now i seat new acted at visits seated = record {

@@ -8,7 +8,7 @@ use Rattle.doc_register.specs.declared.op.Op.{Op}
 use Rattle.doc_register.specs.declared.reply.Reply.{Reply as Answer}
 use Rattle.recorder.specs.Pens.{PenState}
 use Rattle.workload.specs.Plans.{turn_at, turn_count}
-use Rattle.workload.specs.aids.Clients.{BeginsTurn, EndsTurn, IsHeard, IsLongerByFront, pair_in}
+use Rattle.workload.specs.aids.Clients.{BeginsTurn, EndsTurn, IsHeard, IsLongerByFront}
 use Rattle.workload.specs.aids.Seats.{IsLongerByOpen, IsLongerSoFar, Visits, turns_of}
 use Rattle.workload.specs.declared.open_call.OpenCall.{OpenCall}
 use Rattle.workload.specs.declared.polled_call.PolledCall.{PolledCall}
@@ -17,6 +17,7 @@ use Rattle.workload.specs.declared.target.Progress.{Progress}
 use Rattle.workload.specs.declared.target.Progress.TheVariants.{Waiting}
 use Rattle.workload.specs.declared.target.Ticket.{Ticket}
 use Rattle.workload.specs.declared.turn.Turn.{Turn}
+use Rattle.workload.specs.ClientRuns.{pair_in}
 use Rattle.workload.proofs.ClientLemmas.{longer_after, turn_taken}
 
 -- ---- turns of a plan
@@ -25,7 +26,7 @@ turn_in : (clients : List (List Turn)) (client i : ℕ) (turns : List Turn) (tur
     → turn_at clients client i ≡ Some turn → slice_get turns i ≡ Some turn
 turn_in clients client i turns turn are at = sym (ap (option_and_then (λ ts. slice_get ts i)) are) ∙ at
 
-turn_at_of : (clients : List (List Turn)) (client i : ℕ) → turn_at clients client i ≡ slice_get (turns_of clients client) i
+pub turn_at_of : (clients : List (List Turn)) (client i : ℕ) → turn_at clients client i ≡ slice_get (turns_of clients client) i
 turn_at_of clients client i =
     elim (slice_get clients client) as (λ o. option_and_then (λ ts. slice_get ts i) o ≡ slice_get (unwrap_or o []) i) [ None ↦ refl | Some turns ↦ refl ]
 
@@ -35,7 +36,7 @@ next_turn turns i turn at =
 
 -- ---- visits
 
-fewer_begun : (count begun polls : ℕ) → begun < count → (count - (begun + 1)) * (polls + 2) + (polls + 1) < (count - begun) * (polls + 2) + 0
+pub fewer_begun : (count begun polls : ℕ) → begun < count → (count - (begun + 1)) * (polls + 2) + (polls + 1) < (count - begun) * (polls + 2) + 0
 fewer_begun count begun polls within =
     let one : count - begun ≡ (count - (begun + 1)) + 1 = omega arith in
     rw one (omega arith)
@@ -106,6 +107,34 @@ module _ (issued : Ticket → List ℕ → Op → Type 0) (gave : Ticket → Pro
                 subst (λ begun. IsLongerByFront issued gave polls first seated.turns begun (pair_in known) list (state pen).list) (sym before.is_last)
                 (longer_after issued gave polls first seated.turns before.place (first + before.place) (pair_in seat.known) (pair_in known) before.turn list before.between (state pen).list
                 (next_turn seated.turns before.place before.turn before.turn_is) refl before.front taken);
+          };
+      fewer = λ _. rw is_open (omega arith);
+      done = λ no. cc;
+    }
+
+    -- a visit that polls a call which stays open
+    pub visit_waits : (seat : Seat P) (polled : PolledCall) → seat.open_call ≡ Some polled → 1 < polled.polls_left → gave polled.call.ticket Waiting
+        → Visits issued gave polls state clients seat (record seat { open_call = Some (record polled { polls_left = polled.polls_left - 1 }) }) true
+    visit_waits seat polled is_open more waits = record {
+      same_client = refl;
+      keeps = λ client list seated.
+          let first = 1 + turn_count (take client clients) in
+          let before : IsLongerByOpen issued gave polls first seated.turns seat.begun (pair_in seat.known) list (state seat.pen).list polled =
+          subst (λ o. IsLongerSoFar issued gave polls first seated.turns seat.begun (pair_in seat.known) list (state seat.pen).list o) is_open seated.longer in
+          record {
+            client_is = seated.client_is;
+            turns = seated.turns;
+            turns_are = seated.turns_are;
+            longer = record {
+              place = before.place;
+              is_last = before.is_last;
+              turn = before.turn;
+              turn_is = before.turn_is;
+              between = before.between;
+              front = before.front;
+              begins = before.begins;
+              waited = λ _. waits;
+            };
           };
       fewer = λ _. rw is_open (omega arith);
       done = λ no. cc;

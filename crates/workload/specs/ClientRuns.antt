@@ -1,5 +1,5 @@
 -- Client runs: which lists of events, each with its number, a client records that takes its turns.
-use Rattle.std.specs.Prelude.{◌≡◌, ℕ, ◌+◌, ◌<◌, ◌==◌, ◌⊎◌, suc, List, [], ◌∷◌, ◌++◌, Option, Some, None, codes, decimal, if◌then◌else◌, length, slice_get, take}
+use Rattle.std.specs.Prelude.{◌≡◌, ℕ, ◌+◌, ◌<◌, ◌==◌, ◌⊎◌, suc, List, [], ◌∷◌, ◌++◌, Option, Some, None, codes, decimal, if◌then◌else◌, length, slice_get, take, unwrap_or}
 use Rattle.version_pair.specs.declared.pair.Pair.{Pair}
 use Rattle.doc_register.specs.declared.op.Op.{Op}
 use Rattle.doc_register.specs.declared.op.Op.TheVariants.{Get, Index, Delete}
@@ -8,6 +8,7 @@ use Rattle.doc_register.specs.Register.{pair_of_reply}
 use Rattle.history.specs.declared.event.Event.{Event}
 use Rattle.history.specs.declared.event.Event.TheVariants.{Call, Reply, Lost}
 use Rattle.recorder.specs.Pens.{IsRising, PenState}
+use Rattle.recorder.specs.Recordings.{IsRecordingOf}
 use Rattle.workload.specs.Plans.{turn_count}
 use Rattle.workload.specs.declared.target.Progress.{Progress}
 use Rattle.workload.specs.declared.target.Progress.TheVariants.{Waiting, Done, Unknown}
@@ -34,6 +35,15 @@ abbrev pub after_ending : Known → ℕ → Event → Known
 after_ending known doc (Call h n d op) = known
 after_ending known doc (Reply n r) = after_reply known doc r
 after_ending known doc (Lost n) = known
+
+-- the pair that a list of pairs has of a document; none past its end
+abbrev pub pair_in : List (Option Pair) → Known
+pair_in pairs doc = unwrap_or (slice_get pairs doc) None
+
+-- the ending of the call numbered n of which this was heard, or nothing
+abbrev pub ending_of : ℕ → Option Answer → Event
+ending_of n None = Lost n
+ending_of n (Some r) = Reply n r
 
 -- the id of a document: a `d`, and its number in decimal
 abbrev pub doc_name : ℕ → List ℕ
@@ -108,3 +118,9 @@ module _ (issued : Ticket → List ℕ → Op → Type 0) (gave : Ticket → Pro
   pub record AreClientRuns (clients : List (List Turn)) (lists : List (List (ℕ × Event))) : Type 0 where
     pub count : length lists ≡ length clients
     pub each : (client : ℕ) (list : List (ℕ × Event)) → slice_get lists client ≡ Some list → IsClientRun clients client list
+
+  -- The events are the recording of pens, one for each client of the plan, and the list of each pen is the run of its client.
+  pub record AreOfClients (clients : List (List Turn)) (events : List Event) : Type 0 where
+    pub lists : List (List (ℕ × Event))
+    pub runs : AreClientRuns clients lists
+    pub recording : IsRecordingOf lists events

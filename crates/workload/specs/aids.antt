@@ -1,3 +1,4 @@
 pub mod Clients
 pub mod Gathering
+pub mod Players
 pub mod Seats

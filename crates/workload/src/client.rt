@@ -4,7 +4,8 @@ ghost use Rattle.history.specs.Refusal.{op_of};
 ghost use Rattle.recorder.specs.declared.fault.RecFault.TheVariants as recording;
 ghost use Rattle.recorder.specs.Pens.{Records, events_in, is_ended, refusal_of};
 ghost use Rattle.workload.specs.RunFaults.{HasCause, IsMisfit};
-ghost use Rattle.workload.specs.aids.Clients.{BeginsTurn, EndsTurn, IsHeard, IsLongerByRun, IsMisheard, IsOpenIn, TakesTurn, ending_of, pair_in};
+ghost use Rattle.workload.specs.ClientRuns.{ending_of, pair_in};
+ghost use Rattle.workload.specs.aids.Clients.{BeginsTurn, EndsTurn, IsHeard, IsLongerByRun, IsMisheard, IsOpenIn, TakesTurn};
 
 use crate::asked::doc_name;
 use crate::known::Known;

@@ -1,7 +1,6 @@
 ghost use Rattle.std.specs.Prelude.{◌≡◌, ◌<◌, IfOk};
-ghost use Rattle.workload.specs.ClientRuns.{after_reply, nothing_known};
+ghost use Rattle.workload.specs.ClientRuns.{after_reply, nothing_known, pair_in};
 ghost use Rattle.workload.specs.Plans.{most_docs};
-ghost use Rattle.workload.specs.aids.Clients.{pair_in};
 
 use crate::plan::MOST_DOCS;
 use doc_register::Reply;

@@ -12,8 +12,12 @@ mod client;
 mod drawing;
 mod known;
 mod open_call;
+mod owned_target;
 mod plan;
 mod plan_fault;
+mod play_fault;
+mod player;
+mod playing;
 mod polled_call;
 mod rounds;
 mod run_fault;
@@ -23,9 +27,13 @@ mod target;
 #[cfg(test)]
 mod testing;
 mod turn;
+mod visiting;
 
+pub use owned_target::OwnedTarget;
 pub use plan::{MOST_CLIENTS, MOST_DOCS, MOST_TURNS, Plan};
 pub use plan_fault::PlanFault;
+pub use play_fault::PlayFault;
+pub use playing::play_in_turns;
 pub use rounds::run_in_turns;
 pub use run_fault::RunFault;
 pub use running::run_clients;

@@ -1,29 +1,19 @@
 -- A client at its turns.
-use Rattle.std.specs.Prelude.{◌≡◌, ℕ, ◌+◌, ◌<◌, ◌⊎◌, All, List, [], ◌∷◌, ◌++◌, Option, Some, None, drop, false, IfErr, IfOk, Result, slice_get, unwrap_or}
-use Rattle.version_pair.specs.declared.pair.Pair.{Pair}
+use Rattle.std.specs.Prelude.{◌≡◌, ℕ, ◌+◌, ◌<◌, ◌⊎◌, All, List, [], ◌∷◌, ◌++◌, Option, Some, None, drop, false, IfErr, IfOk, Result}
 use Rattle.doc_register.specs.declared.op.Op.{Op}
 use Rattle.doc_register.specs.declared.reply.Reply.{Reply as Answer}
 use Rattle.doc_register.specs.Register.{fits}
 use Rattle.history.specs.declared.event.Event.{Event}
-use Rattle.history.specs.declared.event.Event.TheVariants.{Call, Reply, Lost}
+use Rattle.history.specs.declared.event.Event.TheVariants.{Call}
 use Rattle.history.specs.Refusal.{op_of as op_called}
 use Rattle.recorder.specs.Pens.{IsRising, PenState, events_in, is_ended}
-use Rattle.workload.specs.ClientRuns.{IsClientRun, IsRunFrom, IsTurn, Known, after_ending, doc_name, nothing_known, op_of}
+use Rattle.workload.specs.ClientRuns.{IsClientRun, IsRunFrom, IsTurn, Known, after_ending, doc_name, ending_of, nothing_known, op_of}
 use Rattle.workload.specs.declared.open_call.OpenCall.{OpenCall}
 use Rattle.workload.specs.declared.run_fault.RunFault.{RunFault}
 use Rattle.workload.specs.declared.target.Progress.{Progress}
 use Rattle.workload.specs.declared.target.Progress.TheVariants.{Waiting, Done, Unknown}
 use Rattle.workload.specs.declared.target.Ticket.{Ticket}
 use Rattle.workload.specs.declared.turn.Turn.{Turn}
-
--- the pair that a list of pairs has of a document; none past its end
-abbrev pub pair_in : List (Option Pair) → Known
-pair_in pairs doc = unwrap_or (slice_get pairs doc) None
-
--- the ending of the call numbered n of which this was heard, or nothing
-abbrev pub ending_of : ℕ → Option Answer → Event
-ending_of n None = Lost n
-ending_of n (Some r) = Reply n r
 
 -- The list is longer by the call of the turn, which is open: for what is asked for at that turn its ticket was issued.
 pub record BeginsTurn (issued : Ticket → List ℕ → Op → Type 0) (known : Known) (k : ℕ) (turn : Turn) (old new : List (ℕ × Event)) (call : OpenCall) : Type 0 where

@@ -3,9 +3,9 @@ use Rattle.std.specs.Prelude.{◌≡◌, ℕ, suc, ◌+◌, ◌-◌, ◌*◌, �
 use Rattle.doc_register.specs.declared.op.Op.{Op}
 use Rattle.history.specs.declared.event.Event.{Event}
 use Rattle.recorder.specs.Pens.{PenState}
-use Rattle.workload.specs.ClientRuns.{Known, nothing_known}
+use Rattle.workload.specs.ClientRuns.{Known, nothing_known, pair_in}
 use Rattle.workload.specs.Plans.{turn_at, turn_count}
-use Rattle.workload.specs.aids.Clients.{BeginsTurn, IsHeard, IsLongerByFront, IsOpenIn, pair_in}
+use Rattle.workload.specs.aids.Clients.{BeginsTurn, IsHeard, IsLongerByFront, IsOpenIn}
 use Rattle.workload.specs.declared.polled_call.PolledCall.{PolledCall}
 use Rattle.workload.specs.declared.polled_call.Polled.{Polled}
 use Rattle.workload.specs.declared.polled_call.Polled.TheVariants.{Ends, Waits}

@@ -1,5 +1,6 @@
 use Rattle.std.proofs.Common.{◌≡◌, ◌+◌}
-use Rattle.workload.specs.aids.Clients.{IsLongerByFront, pair_in}
+use Rattle.workload.specs.aids.Clients.{IsLongerByFront}
+use Rattle.workload.specs.ClientRuns.{pair_in}
 use Rattle.workload.proofs.client.run_client.Given as goal
 
 -- the pen's list is longer by a run of the turns so far

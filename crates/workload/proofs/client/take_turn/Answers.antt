@@ -1,7 +1,7 @@
 use Rattle.std.proofs.lemmas.Result.{IfErr-weaker, IfOk-weaker}
-use Rattle.workload.specs.aids.Clients.{pair_in}
 use Rattle.workload.proofs.CauseLemmas.{caused_still, misheard_misfits}
 use Rattle.workload.proofs.ClientLemmas.{turn_taken}
+use Rattle.workload.specs.ClientRuns.{pair_in}
 use Rattle.workload.proofs.client.take_turn.Goals as goal
 
 pub returns-clause-takes : goal.returns-clause-takes
