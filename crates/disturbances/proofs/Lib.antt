@@ -1,1 +1,2 @@
 mod ScheduleLemmas
+pub mod DisturbedLemmas

@@ -1,13 +1,17 @@
 -- What an incident and a poll do to a group.
-use Rattle.std.specs.Prelude.{ℕ, ◌+◌, ◌-◌, ◌%◌, List, [], ◌∷◌, Result, if◌then◌else◌, length, nat_lt}
+use Rattle.std.specs.Prelude.{◌≡◌, ℕ, ◌+◌, ◌-◌, ◌%◌, ◌^◌, List, [], ◌∷◌, Ok, Result, if◌then◌else◌, length, nat_lt}
 use Rattle.rand_pcg.specs.Lcg.{Lcg}
-use Rattle.repl_group.specs.Group.{GroupState, IsRun}
-use Rattle.repl_group.specs.Polling.{Polls}
+use Rattle.doc_register.specs.declared.op.Op.{Op}
+use Rattle.repl_group.specs.Group.{GroupState, IsRun, start}
+use Rattle.repl_group.specs.Polling.{Polls, Submits, generator_of}
+use Rattle.repl_group.specs.declared.fault.Fault.{Fault}
 use Rattle.repl_group.specs.declared.step.Step.{Step}
 use Rattle.repl_group.specs.declared.step.Step.TheVariants.{Cut, Heal, Promote}
 use Rattle.workload.specs.declared.target.Progress.{Progress}
 use Rattle.workload.specs.declared.target.TargetFault.{TargetFault}
-use Rattle.disturbances.specs.Schedules.{incident_before}
+use Rattle.workload.specs.declared.target.Ticket.{Ticket}
+use Rattle.disturbances.specs.Schedules.{incident_before, schedule_drawn}
+use Rattle.disturbances.specs.declared.disturbance.Disturbance.{Disturbance}
 use Rattle.disturbances.specs.declared.incident.Incident.{Incident}
 use Rattle.disturbances.specs.declared.incident.Incident.TheVariants.{Quiet, CutOff, Reach, TakeOver}
 
@@ -37,8 +41,39 @@ abbrev pub PollsDisturbed : List Incident → ℕ → GroupState → Lcg → ℕ
 PollsDisturbed schedule number w random t told n random' =
     (m : GroupState) × IsDisturbed w (incident_before schedule number) m × Polls m random t told n random'
 
--- what lies under the lock of a disturbed group
-pub record LockedState : Type 0 where
+-- ---- a group that one caller owns
+
+-- the group, the generator from which its steps are drawn, and how many polls there were
+pub record CountedState : Type 0 where
   pub core : GroupState
   pub random : Lcg
   pub polls : ℕ
+
+-- the same, with the incidents of the schedule by which the group is disturbed
+pub record DisturbedState : Type 0 where
+  pub core : GroupState
+  pub random : Lcg
+  pub polls : ℕ
+  pub schedule : List Incident
+
+abbrev pub with_schedule : CountedState → List Incident → DisturbedState
+with_schedule counted schedule = record { core = counted.core; random = counted.random; polls = counted.polls; schedule = schedule }
+
+-- a group at the start that does this wrong, with so many copies and the generator of the seed, and no poll was made
+abbrev pub counted_from : Fault → ℕ → ℕ → CountedState
+counted_from fault copies seed = record { core = start fault copies; random = generator_of seed; polls = 0 }
+
+-- the same, with the schedule that the seed draws
+abbrev pub disturbed_from : Fault → ℕ → ℕ → Disturbance → ℕ → DisturbedState
+disturbed_from fault copies seed disturbance count = with_schedule (counted_from fault copies seed) (schedule_drawn disturbance seed count)
+
+-- A submission that answers a ticket: the group takes the step Submit, and the rest stays.
+pub record SubmitsTicket (old : DisturbedState) (id : List ℕ) (op : Op) (ticket : Ticket) (new : DisturbedState) : Type 0 where
+  pub submits : Submits old.core id op (Ok ticket) new.core
+  pub rest_stays : new ≡ record old { core = new.core }
+
+-- A poll that tells of a ticket: what the poll of its number does, and it is counted, modulo 2^64.
+pub record TellsProgress (old : DisturbedState) (ticket : Ticket) (progress : Progress) (new : DisturbedState) : Type 0 where
+  pub polls : PollsDisturbed old.schedule old.polls old.core old.random ticket.0 (Ok progress) new.core new.random
+  pub counted : new.polls ≡ (old.polls + 1) % 2 ^ 64
+  pub schedule_stays : new.schedule ≡ old.schedule

@@ -1,3 +1,4 @@
+mod disturbed_group;
 mod group;
 mod group_core;
 mod testing;

@@ -1,6 +1,6 @@
 //! A group that threads share.
 
-use crate::tests::testing::{document, reply_told};
+use crate::tests::testing::{FAULTS, document, kth_call, reply_told};
 use doc_register::{Op, Reply};
 use rand_pcg::Lcg64Xsh32;
 use repl_group::{Core, Fault, Group, poll_step, submit_step};
@@ -8,7 +8,7 @@ use std::alloc::Global;
 use std::sync::Wait;
 use std::test::Fail;
 use std::thread::join;
-use version_pair::{DocId, Pair};
+use version_pair::DocId;
 use workload::{Progress, Target, Ticket};
 
 // The reply that was told.
@@ -70,18 +70,6 @@ fn polls_alike<R: Wait>(
     true
 }
 
-// What is asked for as the k-th call: in turn a write without condition, one with, and a get.
-fn kth_call(k: u64) -> Op {
-    match k % 3 {
-        0 => Op::Index { k, cond: None },
-        1 => Op::Index {
-            k,
-            cond: Pair::new(1, 0),
-        },
-        _ => Op::Get,
-    }
-}
-
 // Whether a group answers twenty calls, each polled twenty times, as its core does with the generator of the seed.
 fn plays_alike<R: Wait>(rt: &R, alloc: Global, copies: u32, fault: Fault) -> Result<bool, Fail> {
     let group = Group::new(alloc, copies, fault, 9)?;
@@ -101,14 +89,7 @@ fn plays_alike<R: Wait>(rt: &R, alloc: Global, copies: u32, fault: Fault) -> Res
 
 #[test]
 fn group_is_its_core_under_a_lock(rt: HostRuntime) -> Result<(), Fail> {
-    for fault in [
-        Fault::None,
-        Fault::Dirty,
-        Fault::Early,
-        Fault::SameTerm,
-        Fault::Stale,
-        Fault::Blind,
-    ] {
+    for fault in FAULTS {
         for copies in [1, 2, 3, 5] {
             assert!(rt; plays_alike(&rt, rt.alloc(), copies, fault)?);
         }

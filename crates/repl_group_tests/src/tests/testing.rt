@@ -10,6 +10,16 @@ use std::alloc::Global;
 use std::test::Fail;
 use version_pair::{DocId, Pair};
 
+/// All faults of a group.
+pub const FAULTS: [Fault; 6] = [
+    Fault::None,
+    Fault::Dirty,
+    Fault::Early,
+    Fault::SameTerm,
+    Fault::Stale,
+    Fault::Blind,
+];
+
 /// The document `d`.
 pub fn document(alloc: Global) -> Result<DocId, Fail> {
     Ok(DocId::new(alloc, "d")?)
@@ -155,4 +165,16 @@ pub fn played(alloc: Global, copies: u32, fault: Fault, script: &str) -> Result<
         text.push_str("; ")?;
     }
     Ok(text)
+}
+
+/// What is asked for as the k-th call: in turn a write without condition, one with, and a get.
+pub fn kth_call(k: u64) -> Op {
+    match k % 3 {
+        0 => Op::Index { k, cond: None },
+        1 => Op::Index {
+            k,
+            cond: Pair::new(1, 0),
+        },
+        _ => Op::Get,
+    }
 }

@@ -1,0 +1,79 @@
+ghost use Rattle.std.specs.Prelude.{◌≡◌, ◌<◌, ◌⊎◌, ◌↔◌, Err, IfOk};
+
+use crate::counted_core::CountedCore;
+use crate::disturbance::Disturbance;
+use crate::schedule::Schedule;
+use doc_register::Op;
+use repl_group::{CoreFault, Fault};
+use std::alloc::Global;
+use std::marker::Model;
+use version_pair::DocId;
+use workload::{OwnedTarget, Progress, TargetFault, Ticket};
+
+/// A replication group that one caller owns as a target, and that is disturbed by a schedule as it is polled.
+///
+/// A poll makes the group take the steps of the incident that the schedule has before it, then a step that is drawn at random from
+/// its seed. Contracts see a `DisturbedState`: the group, its generator, how many polls there were, and the incidents.
+#[derive(Drop)]
+pub struct DisturbedCore {
+    counted: CountedCore,
+    schedule: Schedule,
+}
+
+impl Model for DisturbedCore {
+    ghost use Rattle.disturbances.specs.Disturbed.{DisturbedState, with_schedule};
+
+    ghost Value = { DisturbedState };
+
+    ghost view = { λ c. with_schedule c.counted c.schedule };
+}
+
+impl DisturbedCore {
+    ghost use Rattle.disturbances.specs.Disturbed.{disturbed_from, with_schedule};
+
+    /// A group with so many copies, 1 to 5, at the start, whose steps are drawn from the seed, and from the seed too its schedule
+    /// of so many incidents; no poll was counted. Else `Copies`. Last `NoMemory`.
+    pub fn new(
+        alloc: Global,
+        copies: u32,
+        fault: Fault,
+        seed: u64,
+        disturbance: Disturbance,
+        length: u32,
+    ) -> Result<DisturbedCore, CoreFault>
+        ensures start { IfOk result (λ core. core ≡ disturbed_from fault copies seed disturbance length) }
+        ensures copies { (result ≡ Err CoreFault.Copies) ↔ ((copies ≡ 0) ⊎ (5 < copies)) }
+    {
+        let counted = CountedCore::new(alloc, copies, fault, seed)?;
+        match Schedule::draw(alloc, disturbance, seed, length) {
+            Ok(schedule) => Ok(DisturbedCore { counted, schedule }),
+            Err(_) => Err(CoreFault::NoMemory),
+        }
+    }
+
+    // The group without its schedule, and the schedule.
+    pub(crate) fn into_parts(self) -> (CountedCore, Schedule)
+        ensures { with_schedule result.0 result.1 ≡ self }
+    {
+        let DisturbedCore { counted, schedule } = self;
+        (counted, schedule)
+    }
+}
+
+impl OwnedTarget for DisturbedCore {
+    ghost use Rattle.disturbances.specs.Disturbed.{SubmitsTicket, TellsProgress};
+
+    // A submission is the step `Submit`, and leaves the rest.
+    ghost takes = { SubmitsTicket };
+
+    // A poll is the incident that the schedule has before it, then the step of the poll, and it is counted.
+    ghost tells = { TellsProgress };
+
+    fn submit(&mut self, id: &DocId, op: &Op) -> Result<Ticket, TargetFault> {
+        self.counted.submit(id, op)
+    }
+
+    fn poll(&mut self, ticket: Ticket) -> Result<Progress, TargetFault> {
+        self.counted.poll(&self.schedule, ticket)
+    }
+}
