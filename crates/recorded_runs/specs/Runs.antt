@@ -3,15 +3,14 @@ use Rattle.std.specs.Prelude.{ℕ, ◌*◌, ◌==◌, ◌||◌, Bool, List, is_s
 use Rattle.doc_register.specs.declared.op.Op.{Op}
 use Rattle.history.specs.declared.event.Event.{Event}
 use Rattle.history.specs.Text.{IsHistoryText}
-use Rattle.recorder.specs.Recordings.{IsRecordingOf}
-use Rattle.workload.specs.ClientRuns.{AreClientRuns}
+use Rattle.workload.specs.ClientRuns.{AreOfClients}
+use Rattle.workload.specs.Playing.{ArePlayed}
 use Rattle.workload.specs.Drawing.{draw_refusal, plan_drawn}
 use Rattle.workload.specs.declared.target.Progress.{Progress}
 use Rattle.workload.specs.declared.target.Ticket.{Ticket}
 use Rattle.workload.specs.declared.turn.Turn.{Turn}
-use Rattle.disturbances.specs.Schedules.{schedule_drawn}
+use Rattle.disturbances.specs.Disturbed.{DisturbedState, SubmitsTicket, TellsProgress, disturbed_from}
 use Rattle.disturbances.specs.declared.disturbance.Disturbance.{Disturbance}
-use Rattle.disturbances.specs.declared.incident.Incident.{Incident}
 use Rattle.recorded_runs.specs.declared.run_setting.RunSetting.{RunSetting}
 use Rattle.stream_io.specs.declared.stream_fault.StreamFault.{StreamFault}
 use Rattle.stream_io.specs.declared.stream_fault.StreamFault.TheVariants.{Read, Write, NoMemory, Worker, Recording, Setting}
@@ -32,23 +31,39 @@ is_refused setting = is_some (draw_refusal setting.clients setting.calls setting
 abbrev pub plan_of : RunSetting → List (List Turn)
 plan_of setting = plan_drawn setting.seed setting.clients setting.calls setting.docs
 
--- the schedule that the setting draws: one incident for each call of all clients
-abbrev pub schedule_of : RunSetting → Disturbance → List Incident
-schedule_of setting disturbance = schedule_drawn disturbance setting.seed (setting.clients * setting.calls)
+-- The group of the setting at its start, and the schedule that the setting draws of the disturbance: one incident for each call of
+-- all clients.
+abbrev pub group_at_start : RunSetting → Disturbance → DisturbedState
+group_at_start setting disturbance = disturbed_from setting.fault setting.copies setting.seed disturbance (setting.clients * setting.calls)
+
+-- ---- whatever the manner
 
 -- What the target issued tickets for, and what it gave when they were polled.
 module _ (issued : Ticket → List ℕ → Op → Type 0) (gave : Ticket → Progress → Type 0) where
   -- The events are the recording of pens, one for each client of the plan, and the list of each pen is the run of its client.
-  pub record IsRunOf (clients : List (List Turn)) (events : List Event) : Type 0 where
-    pub lists : List (List (ℕ × Event))
-    pub runs : AreClientRuns issued gave run_polls clients lists
-    pub recording : IsRecordingOf lists events
+  abbrev pub IsRunOf : List (List Turn) → List Event → Type 0
+  IsRunOf clients events = AreOfClients issued gave run_polls clients events
 
   -- the text is a text of such a history, of the clients that the setting draws
   pub record IsRunText (setting : RunSetting) (text : List ℕ) : Type 0 where
     pub events : List Event
     pub run : IsRunOf (plan_of setting) events
     pub is_text : IsHistoryText text events
+
+-- ---- in turns
+
+-- The events are what the clients of the setting's plan record that are played in turns against its group, which is disturbed so.
+pub record IsRunInTurns (setting : RunSetting) (disturbance : Disturbance) (events : List Event) : Type 0 where
+  pub after : DisturbedState
+  pub played : ArePlayed SubmitsTicket TellsProgress run_polls (plan_of setting) (group_at_start setting disturbance) after events
+
+-- the text is a text of that history
+pub record IsTextInTurns (setting : RunSetting) (disturbance : Disturbance) (text : List ℕ) : Type 0 where
+  pub events : List Event
+  pub run : IsRunInTurns setting disturbance events
+  pub is_text : IsHistoryText text events
+
+-- ---- faults
 
 -- a run reads nothing, and has no workers
 abbrev pub IsRunFault : StreamFault → Type 0

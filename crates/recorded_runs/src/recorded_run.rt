@@ -1,27 +1,26 @@
-ghost use Rattle.std.specs.Prelude.{◌≡◌, ◌≢◌, ◌↔◌, All, IfErr, IfOk, IsErrOf, IsTrue, None, is_some, length, map, replicate};
+ghost use Rattle.std.specs.Prelude.{◌≡◌, ◌≢◌, ◌↔◌, IfErr, IfOk, IsErrOf, IsTrue, None, is_some};
 ghost use Rattle.std.specs.Io.KnownBytes.{Keeps};
-ghost use Rattle.recorded_runs.specs.Runs.{IsRunFault, IsRunOf, IsRunText, are_refused, is_refused, plan_of, run_polls, schedule_of};
-ghost use Rattle.recorder.specs.Pens.{new_pen};
-ghost use Rattle.recorder.specs.Recordings.{lists_of};
-ghost use Rattle.workload.specs.ClientRuns.{AreClientRuns, AreLongerByRuns};
+ghost use Rattle.disturbances.specs.Disturbed.{DisturbedState, SubmitsTicket, TellsProgress};
+ghost use Rattle.recorded_runs.specs.Runs.{IsRunFault, IsRunInTurns, IsRunOf, IsRunText, IsTextInTurns, are_refused, group_at_start, is_refused, plan_of, run_polls};
+ghost use Rattle.workload.specs.Playing.{ArePlayed};
 ghost use Rattle.workload.specs.Drawing.{draw_refusal};
 ghost use Rattle.stream_io.specs.Written.{HasAnswer, HasFront};
 ghost use Rattle.recorded_runs.specs.aids.Recorded.{IsOfRecording, IsOfRun, tells_copies};
 ghost use Rattle.workload.specs.Plans.{refusal_told};
 
 use crate::manner::{Manner, Playing};
-use crate::run_fault::stream_fault;
+use crate::run_fault::{play_fault, stream_fault};
 use crate::run_setting::RunSetting;
-use disturbances::{Disturbance, DisturbedGroup};
+use disturbances::{Disturbance, DisturbedCore, DisturbedGroup};
 use history::{History, write};
-use recorder::{ClockPen, ClockRecorder, CloseFault, Recording, StartFault};
+use recorder::{ClockRecorder, CloseFault, StartFault};
 use repl_group::CoreFault;
 use std::alloc::Global;
 use std::io::Write;
 use std::sync::Wait;
 use std::thread::Threads;
 use stream_io::{Status, StreamFault, write_text};
-use workload::{Plan, PlanFault, RunFault, Target, run_clients, run_in_turns};
+use workload::{Plan, PlanFault, Target, play_in_turns, run_clients};
 
 /// How often a client of a run polls a call at most.
 pub const RUN_POLLS: u32 = 1_000;
@@ -34,20 +33,20 @@ fn is_plan_refused(plan: &Result<Plan, PlanFault>) -> bool
 }
 
 // Whether the number of copies is refused.
-fn is_group_refused(group: &Result<DisturbedGroup, CoreFault>) -> bool
-    ensures { result ≡ tells_copies group.now }
+fn is_core_refused(core: &Result<DisturbedCore, CoreFault>) -> bool
+    ensures { result ≡ tells_copies core.now }
 {
-    matches!(group, Err(CoreFault::Copies))
+    matches!(core, Err(CoreFault::Copies))
 }
 
 // The group of the setting, under the schedule of the disturbance, whose length is the number of all calls.
-fn group_of(
+fn core_of(
     alloc: Global,
     setting: &RunSetting,
     disturbance: Disturbance,
-) -> Result<DisturbedGroup, CoreFault>
+) -> Result<DisturbedCore, CoreFault>
     requires drawn { draw_refusal setting.now.clients setting.now.calls setting.now.docs ≡ None }
-    ensures schedule { IfOk result (λ group. group ≡ schedule_of setting.now disturbance) }
+    ensures start { IfOk result (λ core. core ≡ group_at_start setting.now disturbance) }
     ensures copies { tells_copies result ≡ are_refused setting.now.copies }
 {
     let RunSetting {
@@ -58,17 +57,17 @@ fn group_of(
         fault,
         ..
     } = *setting;
-    DisturbedGroup::new(alloc, copies, fault, seed, disturbance, clients * calls)
+    DisturbedCore::new(alloc, copies, fault, seed, disturbance, clients * calls)
 }
 
 // The plan and the group of the setting. That a number is refused is told before want of memory.
-fn plan_and_group(
+fn plan_and_core(
     alloc: Global,
     setting: &RunSetting,
     disturbance: Disturbance,
-) -> Result<(Plan, DisturbedGroup), StreamFault>
+) -> Result<(Plan, DisturbedCore), StreamFault>
     ensures plan { IfOk result (λ made. made.0 ≡ plan_of setting.now) }
-    ensures schedule { IfOk result (λ made. made.1 ≡ schedule_of setting.now disturbance) }
+    ensures start { IfOk result (λ made. made.1 ≡ group_at_start setting.now disturbance) }
     ensures setting { IsErrOf result StreamFault.Setting ↔ IsTrue (is_refused setting.now) }
     ensures told { IfErr result IsOfRun }
 {
@@ -83,48 +82,22 @@ fn plan_and_group(
     if is_plan_refused(&plan) {
         return Err(StreamFault::Setting);
     }
-    let group = group_of(alloc, setting, disturbance);
-    if is_group_refused(&group) {
+    let core = core_of(alloc, setting, disturbance);
+    if is_core_refused(&core) {
         return Err(StreamFault::Setting);
     }
-    match (plan, group) {
-        (Ok(plan), Ok(group)) => Ok((plan, group)),
+    match (plan, core) {
+        (Ok(plan), Ok(core)) => Ok((plan, core)),
         _ => Err(StreamFault::NoMemory),
     }
 }
 
-// Runs the clients of the plan, each on a thread of its own, or all in turns on this one.
-fn play<T: Threads + Wait + Sync>(
+// What the clients of the plan record against the group, each on a thread of its own.
+fn record_on_threads<T: Threads + Wait + Sync>(
     rt: &T,
     alloc: Global,
     plan: &Plan,
     group: &DisturbedGroup,
-    recorder: &ClockRecorder,
-    pens: Vec<ClockPen>,
-    playing: Playing,
-) -> Result<Vec<ClockPen>, RunFault>
-    requires count { length pens.items ≡ length plan.now }
-    requires pens { All (⟦<ClockRecorder as Recording>⟧.has_pen recorder.now) pens.items }
-    ensures runs { IfOk result (λ done. AreLongerByRuns ⟦<DisturbedGroup as Target>⟧.issued ⟦<DisturbedGroup as Target>⟧.gave run_polls plan.now
-        (map ⟦<ClockRecorder as Recording>⟧.pen_state pens.items) (map ⟦<ClockRecorder as Recording>⟧.pen_state done.items)) }
-    ensures of_new_pens { map ⟦<ClockRecorder as Recording>⟧.pen_state pens.items ≡ replicate (length plan.now) new_pen
-        → IfOk result (λ done. AreClientRuns ⟦<DisturbedGroup as Target>⟧.issued ⟦<DisturbedGroup as Target>⟧.gave run_polls plan.now
-        (lists_of (map ⟦<ClockRecorder as Recording>⟧.pen_state done.items))) }
-    ensures keeps { IfOk result (λ done. All (⟦<ClockRecorder as Recording>⟧.has_pen recorder.now) done.items) }
-{
-    match playing {
-        Playing::OnThreads => run_clients(rt, alloc, plan, group, recorder, pens, RUN_POLLS),
-        Playing::InTurns => run_in_turns(rt, alloc, plan, group, recorder, pens, RUN_POLLS),
-    }
-}
-
-// What the clients of the plan record against the group.
-fn record_run<T: Threads + Wait + Sync>(
-    rt: &T,
-    alloc: Global,
-    plan: &Plan,
-    group: &DisturbedGroup,
-    playing: Playing,
 ) -> Result<History, StreamFault>
     ensures run { IfOk result (IsRunOf ⟦<DisturbedGroup as Target>⟧.issued ⟦<DisturbedGroup as Target>⟧.gave plan.now) }
     ensures told { IfErr result IsOfRecording }
@@ -134,7 +107,7 @@ fn record_run<T: Threads + Wait + Sync>(
         Err(StartFault::NoMemory) => return Err(StreamFault::NoMemory),
         Err(StartFault::Count) => unreachable!(),
     };
-    let pens = match play(rt, alloc, plan, group, &recorder, pens, playing) {
+    let pens = match run_clients(rt, alloc, plan, group, &recorder, pens, RUN_POLLS) {
         Ok(pens) => pens,
         Err(fault) => return Err(stream_fault(fault)),
     };
@@ -145,9 +118,26 @@ fn record_run<T: Threads + Wait + Sync>(
     }
 }
 
+// What the clients of the plan record that are played in turns against the group.
+fn record_in_turns(
+    alloc: Global,
+    plan: &Plan,
+    mut core: DisturbedCore,
+) -> Result<History, StreamFault>
+    ensures played { IfOk result (λ events. (after : DisturbedState)
+        × ArePlayed SubmitsTicket TellsProgress run_polls plan.now core after events) }
+    ensures run { IfOk result (IsRunOf ⟦<DisturbedGroup as Target>⟧.issued ⟦<DisturbedGroup as Target>⟧.gave plan.now) }
+    ensures told { IfErr result IsOfRecording }
+{
+    match play_in_turns(alloc, plan, &mut core, RUN_POLLS) {
+        Ok(history) => Ok(history),
+        Err(fault) => Err(play_fault(fault)),
+    }
+}
+
 /// The history that the clients of the setting's plan record against its group, in this manner.
 ///
-/// In turns it depends on the setting and the disturbance alone; of the faults, see `run_played_stream`.
+/// In turns the setting and the disturbance lead to it; of the faults, see `run_played_stream`.
 pub fn run_history<T: Threads + Wait + Sync>(
     rt: &T,
     alloc: Global,
@@ -155,12 +145,23 @@ pub fn run_history<T: Threads + Wait + Sync>(
     manner: &Manner,
 ) -> Result<History, StreamFault>
     ensures run { IfOk result (IsRunOf ⟦<DisturbedGroup as Target>⟧.issued ⟦<DisturbedGroup as Target>⟧.gave (plan_of setting.now)) }
+    ensures in_turns { manner.now.playing ≡ Playing.InTurns
+        → IfOk result (IsRunInTurns setting.now manner.now.disturbance) }
     ensures setting { IsErrOf result StreamFault.Setting ↔ IsTrue (is_refused setting.now) }
     ensures told { IfErr result IsOfRun }
 {
-    let (plan, group) = plan_and_group(alloc, setting, manner.disturbance)?;
-    let history = record_run(rt, alloc, &plan, &group, manner.playing)?;
-    Ok(history)
+    let (plan, core) = plan_and_core(alloc, setting, manner.disturbance)?;
+    match manner.playing {
+        Playing::OnThreads => {
+            let group = DisturbedGroup::shared(core);
+            let history = record_on_threads(rt, alloc, &plan, &group)?;
+            Ok(history)
+        }
+        Playing::InTurns => {
+            let history = record_in_turns(alloc, &plan, core)?;
+            Ok(history)
+        }
+    }
 }
 
 // The text of the history that is recorded so.
@@ -172,6 +173,8 @@ fn run_text<T: Threads + Wait + Sync>(
 ) -> Result<Vec<u8>, StreamFault>
     ensures text { IfOk result (λ text. IsRunText ⟦<DisturbedGroup as Target>⟧.issued
         ⟦<DisturbedGroup as Target>⟧.gave setting.now text.items) }
+    ensures in_turns { manner.now.playing ≡ Playing.InTurns
+        → IfOk result (λ text. IsTextInTurns setting.now manner.now.disturbance text.items) }
     ensures setting { IsErrOf result StreamFault.Setting ↔ IsTrue (is_refused setting.now) }
     ensures told { IfErr result IsOfRun }
 {
@@ -201,6 +204,9 @@ pub fn run_played_stream<T: Threads + Wait + Sync, W: Write>(
     ensures written { IfOk result (λ status. (status ≡ Status.Yes) × HasAnswer (IsRunText
         ⟦<DisturbedGroup as Target>⟧.issued ⟦<DisturbedGroup as Target>⟧.gave setting.now)
         (W.contents writer.old) (W.contents writer.new)) }
+    // In turns it is the text of just the run that the setting and the disturbance lead to.
+    ensures in_turns { manner.now.playing ≡ Playing.InTurns → IfOk result (λ _. HasAnswer (IsTextInTurns setting.now
+        manner.now.disturbance) (W.contents writer.old) (W.contents writer.new)) }
     // After a write fault a front of such a text is written, and after any other fault nothing is.
     ensures cut_off { IsErrOf result StreamFault.Write → HasFront (λ _. IsRunText
         ⟦<DisturbedGroup as Target>⟧.issued ⟦<DisturbedGroup as Target>⟧.gave setting.now)

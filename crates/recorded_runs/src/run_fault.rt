@@ -1,9 +1,10 @@
 ghost use Rattle.std.specs.Prelude.{◌≡◌};
-ghost use Rattle.recorded_runs.specs.aids.Recorded.{stream_fault_of};
+ghost use Rattle.recorded_runs.specs.aids.Recorded.{stream_fault_of, stream_fault_of_play};
 
+use history::HistFault;
 use recorder::RecFault;
 use stream_io::StreamFault;
-use workload::{RunFault, TargetFault};
+use workload::{PlayFault, RunFault, TargetFault};
 
 /// A fault of a run of clients as one of a stream.
 pub fn stream_fault(fault: RunFault) -> StreamFault
@@ -14,5 +15,17 @@ pub fn stream_fault(fault: RunFault) -> StreamFault
         | RunFault::Record(RecFault::NoMemory)
         | RunFault::Target(TargetFault::NoMemory) => StreamFault::NoMemory,
         RunFault::Record(_) | RunFault::Target(_) => StreamFault::Recording,
+    }
+}
+
+/// A fault of clients that are played as one of a stream.
+pub fn play_fault(fault: PlayFault) -> StreamFault
+    ensures { result ≡ stream_fault_of_play fault }
+{
+    match fault {
+        PlayFault::NoMemory
+        | PlayFault::Event(HistFault::NoMemory)
+        | PlayFault::Target(TargetFault::NoMemory) => StreamFault::NoMemory,
+        PlayFault::Event(_) | PlayFault::Target(_) => StreamFault::Recording,
     }
 }

@@ -1,6 +1,9 @@
 -- Why there is no recording of a run.
 use Rattle.std.specs.Prelude.{Bool, false, true, Result, Ok, Err}
 use Rattle.recorder.specs.declared.fault.RecFault.TheVariants as recording
+use Rattle.history.specs.declared.fault.HistFault.TheVariants as refused
+use Rattle.workload.specs.declared.play_fault.PlayFault.{PlayFault}
+use Rattle.workload.specs.declared.play_fault.PlayFault.TheVariants as play
 use Rattle.workload.specs.declared.run_fault.RunFault.{RunFault}
 use Rattle.workload.specs.declared.run_fault.RunFault.TheVariants as run
 use Rattle.workload.specs.declared.target.TargetFault.TheVariants as target
@@ -21,6 +24,19 @@ stream_fault_of (run.Record (recording.Rewound n)) = Recording
 stream_fault_of (run.Target target.Full) = Recording
 stream_fault_of (run.Target target.NoMemory) = NoMemory
 stream_fault_of run.NoMemory = NoMemory
+
+-- a fault of clients that are played, likewise
+abbrev pub stream_fault_of_play : PlayFault → StreamFault
+stream_fault_of_play (play.Event refused.SecondCall) = Recording
+stream_fault_of_play (play.Event refused.NoCall) = Recording
+stream_fault_of_play (play.Event refused.Ended) = Recording
+stream_fault_of_play (play.Event refused.Kind) = Recording
+stream_fault_of_play (play.Event refused.Full) = Recording
+stream_fault_of_play (play.Event refused.NoMemory) = NoMemory
+stream_fault_of_play (play.Event refused.ShardMoved) = Recording
+stream_fault_of_play (play.Target target.Full) = Recording
+stream_fault_of_play (play.Target target.NoMemory) = NoMemory
+stream_fault_of_play play.NoMemory = NoMemory
 
 -- it comes of recording, and not of the setting
 abbrev pub IsOfRecording : StreamFault → Type 0
