@@ -4,7 +4,8 @@ use Rattle.std.specs.Io.KnownBytes.{Keeps}
 use Rattle.doc_register.specs.declared.op.Op.{Op}
 use Rattle.doc_register.specs.declared.state.Conflicts.TheVariants.{Plain}
 use Rattle.evidence.specs.declared.ruling_out.RulingOut.TheVariants.{On}
-use Rattle.recorded_runs.specs.Runs.{IsRunText}
+use Rattle.disturbances.specs.declared.disturbance.Disturbance.{Disturbance}
+use Rattle.recorded_runs.specs.Runs.{IsRunText, IsTextInTurns}
 use Rattle.recorded_runs.specs.declared.run_setting.RunSetting.{RunSetting}
 use Rattle.report.specs.Verdict.{IsAnswer}
 use Rattle.stream_io.specs.Written.{HasAnswer}
@@ -17,14 +18,16 @@ use Rattle.workload.specs.declared.target.Ticket.{Ticket}
 abbrev pub with_seed : RunSetting → ℕ → RunSetting
 with_seed setting seed = record setting { seed = seed }
 
--- What the target issued tickets for, and what it gave when they were polled.
-module _ (issued : Ticket → List ℕ → Op → Type 0) (gave : Ticket → Progress → Type 0) where
-  -- The text is that of a run of the setting, and the line answers it, documents being looked at that may be ruled out.
+-- What the target issued tickets for, and what it gave when they were polled; and how the group is disturbed.
+module _ (issued : Ticket → List ℕ → Op → Type 0) (gave : Ticket → Progress → Type 0) (disturbance : Disturbance) where
+  -- The text is that of the run of the setting in turns, whose lists are runs of its clients, and the line answers it, documents being
+  -- looked at that may be ruled out.
   pub record IsJudgedRun (setting : RunSetting) (text : List ℕ) (status : Status) (line : List ℕ) : Type 0 where
     pub is_run : IsRunText issued gave setting text
+    pub in_turns : IsTextInTurns setting disturbance text
     pub answer : IsAnswer On Plain text status line
 
-  -- some run of the setting is explained by an order
+  -- the run of the setting in turns is explained by an order
   abbrev pub IsCleared : RunSetting → Type 0
   IsCleared setting = (text : List ℕ) × (line : List ℕ) × IsJudgedRun setting text Yes line
 

@@ -32,7 +32,7 @@ fn judged_run<T: Threads + Wait + Sync>(
 ) -> Result<FoundRun, StreamFault>
     ensures seed { IfOk result (λ run. run.seed ≡ setting.now.seed) }
     ensures judged { IfOk result (λ run. IsJudgedRun ⟦<DisturbedGroup as Target>⟧.issued
-        ⟦<DisturbedGroup as Target>⟧.gave setting.now run.text.items run.answer.status run.answer.text.items) }
+        ⟦<DisturbedGroup as Target>⟧.gave disturbance setting.now run.text.items run.answer.status run.answer.text.items) }
     ensures setting { IsErrOf result StreamFault.Setting ↔ IsTrue (is_refused setting.now) }
     ensures told { IfErr result IsOfRun }
 {
@@ -60,9 +60,9 @@ fn tried_seed<T: Threads + Wait + Sync>(
 ) -> Result<Option<FoundRun>, StreamFault>
     ensures found { IfOk result (λ found. IfSome found (λ run. (run.seed ≡ seed) × (run.answer.status ≢ Status.Yes)
         × IsJudgedRun ⟦<DisturbedGroup as Target>⟧.issued ⟦<DisturbedGroup as Target>⟧.gave
-        (with_seed setting.now seed) run.text.items run.answer.status run.answer.text.items)) }
+        disturbance (with_seed setting.now seed) run.text.items run.answer.status run.answer.text.items)) }
     ensures none { IfOk result (λ found. IfNone found (IsCleared ⟦<DisturbedGroup as Target>⟧.issued
-        ⟦<DisturbedGroup as Target>⟧.gave (with_seed setting.now seed))) }
+        ⟦<DisturbedGroup as Target>⟧.gave disturbance (with_seed setting.now seed))) }
     ensures setting { IsErrOf result StreamFault.Setting ↔ IsTrue (is_refused setting.now) }
     ensures told { IfErr result IsOfRun }
 {
@@ -94,10 +94,10 @@ pub fn first_found<T: Threads + Wait + Sync, H: Watch>(
     watch: &H,
 ) -> Result<Option<FoundRun>, StreamFault>
     ensures found { IfOk result (λ found. IfSome found (λ run. IsFoundRun ⟦<DisturbedGroup as Target>⟧.issued
-        ⟦<DisturbedGroup as Target>⟧.gave setting.now seeds.first seeds.last run.seed run.text.items
+        ⟦<DisturbedGroup as Target>⟧.gave disturbance setting.now seeds.first seeds.last run.seed run.text.items
         run.answer.status run.answer.text.items)) }
     ensures none { IfOk result (λ found. IfNone found (AreCleared ⟦<DisturbedGroup as Target>⟧.issued
-        ⟦<DisturbedGroup as Target>⟧.gave setting.now seeds.first (seeds.last + 1))) }
+        ⟦<DisturbedGroup as Target>⟧.gave disturbance setting.now seeds.first (seeds.last + 1))) }
     ensures setting { IsErrOf result StreamFault.Setting ↔ IsTrue (is_refused setting.now) }
     ensures told { IfErr result IsOfRun }
 {
@@ -127,12 +127,12 @@ pub fn search_stream<T: Threads + Wait + Sync, H: Watch, W: Write>(
     // Where it answers yes, what it wrote is the text of the first run that is found, and the runs with the seeds before it have orders; where it
     // answers no, the runs with all seeds have.
     ensures searched { IfOk result (IsSearched ⟦<DisturbedGroup as Target>⟧.issued
-        ⟦<DisturbedGroup as Target>⟧.gave setting.now seeds.first seeds.last (W.contents writer.old)
+        ⟦<DisturbedGroup as Target>⟧.gave disturbance setting.now seeds.first seeds.last (W.contents writer.old)
         (W.contents writer.new)) }
     // After a write fault a front of such a text is written, and after any other fault nothing is.
     ensures cut_off { IsErrOf result StreamFault.Write
         → HasFront (λ _. IsFoundText ⟦<DisturbedGroup as Target>⟧.issued
-        ⟦<DisturbedGroup as Target>⟧.gave setting.now seeds.first seeds.last) (W.contents writer.old)
+        ⟦<DisturbedGroup as Target>⟧.gave disturbance setting.now seeds.first seeds.last) (W.contents writer.old)
         (W.contents writer.new) }
     ensures kept { IfErr result (λ fault. fault ≢ StreamFault.Write
         → Keeps (W.contents writer.old) (W.contents writer.new)) }

@@ -6,6 +6,6 @@ use Rattle.seed_search.proofs.search.first_found.Given as goal
 
 abbrev pub invariant-loop-seed : goal.invariant-loop-seed
 invariant-loop-seed g l = record {
-  cleared : AreCleared (group.issued-value).it (group.gave-value).it l.setting l.first l.seed;
+  cleared : AreCleared (group.issued-value).it (group.gave-value).it l.disturbance l.setting l.first l.seed;
   taken : l.first < l.seed → is_refused l.setting ≡ false;
 }
