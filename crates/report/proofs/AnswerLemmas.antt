@@ -12,8 +12,9 @@ use Rattle.witness.specs.declared.place.Place.{Place}
 use Rattle.witness.specs.Text.{AreWithinLimits, witness_text}
 use Rattle.witness.specs.Witness.{Witness}
 use Rattle.compose.specs.Covers.{AreCover}
-use Rattle.evidence.specs.Evidence.{Holds, IsWithoutRuledOut}
+use Rattle.evidence.specs.Evidence.{Holds, IsOfCalls, IsReported, IsWithoutRuledOut}
 use Rattle.evidence.specs.declared.refuted.Refuted.{Refuted as Evidence}
+use Rattle.evidence.specs.declared.refuted.Refuted.TheVariants as evidence
 use Rattle.evidence.specs.declared.ruling_out.RulingOut.{RulingOut}
 use Rattle.evidence.specs.declared.ruling_out.RulingOut.TheVariants.{On}
 use Rattle.compose.specs.Verdicts.{AreWitnesses, HasNoOrderFound}
@@ -24,7 +25,10 @@ use Rattle.compose.specs.declared.offence.Offence.{Offence}
 use Rattle.stream_io.specs.declared.status.Status.{Status}
 use Rattle.stream_io.specs.declared.status.Status.TheVariants.{No, Refuted, Refused}
 use Rattle.result_lines.specs.Lines.{broken_line, no_line, refused_file_line, refused_line, refuted_line}
+use Rattle.compose.specs.declared.finding.Finding.{Finding}
+use Rattle.compose.specs.declared.finding.Finding.TheVariants.{Explained, Unexplained}
 use Rattle.report.specs.Bulk.{AnswersBulk, IsBulkAnswer}
+use Rattle.report.specs.Findings.{HasItsEvidence, IsFindingOf, SaysFailing}
 use Rattle.report.specs.Verdict.{IsAnswer, IsRefutedBy, IsSomeHistory, IsUndecided, IsUnexplained, IsVerifyAnswer, IsWitnessAnswer, IsWitnessed}
 use Rattle.report.proofs.WitnessLimits.{within_limits}
 
@@ -44,11 +48,11 @@ is_undecided ruling conflicts input H status text o is line is_text none_found o
     (subst (λ s. IsAnswer ruling conflicts input s text) (sym is) (o, line, undecided), subst (λ s. IsWitnessAnswer ruling conflicts input s text) (sym is) (o, line, undecided))
 
 pub is_refuted : (ruling : RulingOut) (conflicts : Conflicts) (input : List ℕ) (H : List Event) (status : Status) (text : List ℕ) (told : Evidence) (o : Offence) → status ≡ Refuted
-    → text ≡ refuted_line told o → IsHistoryText input H → HasNoOrderFound conflicts H → IsOffence conflicts H o → Holds conflicts H told → (IsLinearizable conflicts H → ⊥)
+    → text ≡ refuted_line told o → IsHistoryText input H → HasNoOrderFound conflicts H → IsOffence conflicts H o → Holds conflicts H told → IsReported ruling conflicts H told → (IsLinearizable conflicts H → ⊥)
     → IsAnswer ruling conflicts input status text × IsWitnessAnswer ruling conflicts input status text
-is_refuted ruling conflicts input H status text told o is line is_text none_found offence holds no_order =
+is_refuted ruling conflicts input H status text told o is line is_text none_found offence holds reported no_order =
     let unexplained : IsUnexplained conflicts input o = record { events = H; is_text = is_text; none_found = none_found; offence = offence } in
-    let by : IsRefutedBy conflicts input told o = record { unexplained = unexplained; holds = holds; no_order = no_order } in
+    let by : IsRefutedBy ruling conflicts input told o = record { unexplained = unexplained; holds = holds; reported = reported; no_order = no_order } in
     (subst (λ s. IsAnswer ruling conflicts input s text) (sym is) (told, o, line, by), subst (λ s. IsWitnessAnswer ruling conflicts input s text) (sym is) (told, o, line, by))
 
 pub witnessed : (conflicts : Conflicts) (input : List ℕ) (H : List Event) (ws : List Witness) (text : List ℕ) → IsHistoryText input H → AreWitnesses conflicts H ws → IsLinearizable conflicts H
@@ -99,3 +103,26 @@ bulk_of_inputs first b r bytes others None reply status text is_b is_r all_body 
 bulk_of_inputs first b r bytes others (Some x) None status text is_b is_r all_body all_reply is = tt
 bulk_of_inputs first b r bytes others (Some x) (Some y) status text is_b is_r all_body all_reply is =
     subst (λ xs. IsBulkAnswer first xs y status text) (is_b ∙ all_body) (subst (λ ys. IsBulkAnswer first b ys status text) (is_r ∙ all_reply) is)
+
+-- ---- what was found
+
+-- evidence of calls may always be reported
+pub calls_reported : (ruling : RulingOut) (conflicts : Conflicts) (H : List Event) (found : Option Evidence) → IfSome found IsOfCalls → IfSome found (IsReported ruling conflicts H)
+calls_reported ruling conflicts H None calls = tt
+calls_reported ruling conflicts H (Some (evidence.PairTwice a b)) calls = tt
+calls_reported ruling conflicts H (Some (evidence.NoWriter g)) calls = tt
+calls_reported ruling conflicts H (Some (evidence.StaleGet g w)) calls = tt
+calls_reported ruling conflicts H (Some (evidence.StaleSwap a b)) calls = tt
+calls_reported ruling conflicts H (Some (evidence.RuledOut n)) calls = absurd calls
+
+-- the evidence of a line holds
+evidence_holds : (ruling : RulingOut) (conflicts : Conflicts) (H : List Event) (status : Status) (line : List ℕ) (o : Offence) (found : Option Evidence)
+    → SaysFailing ruling conflicts H status line o found → IfSome found (Holds conflicts H)
+evidence_holds ruling conflicts H status line o None says = tt
+evidence_holds ruling conflicts H status line o (Some told) says = says.2
+
+pub found_holds : (ruling : RulingOut) (conflicts : Conflicts) (H : List Event) (status : Status) (line : List ℕ) (finding : Finding)
+    → IsFindingOf ruling conflicts H status line finding → HasItsEvidence finding
+found_holds ruling conflicts H status line (Explained proof) found = tt
+found_holds ruling conflicts H status line (Unexplained case failing) found =
+    evidence_holds ruling case.conflicts case.events status line failing.offence failing.evidence found.2

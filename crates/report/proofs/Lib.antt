@@ -1,3 +1,2 @@
-mod PageLemmas
 mod WitnessLimits
 mod AnswerLemmas

@@ -1,9 +1,7 @@
 -- What a story that is written says of the bytes that were read.
-use Rattle.std.specs.Prelude.{◌≡◌, ℕ, ◌++◌, List, Option, take}
-use Rattle.std.specs.Io.KnownBytes.{Appends}
+use Rattle.std.specs.Prelude.{◌≡◌, ℕ, ◌++◌, List, Option}
 use Rattle.doc_register.specs.declared.state.Conflicts.{Conflicts}
 use Rattle.evidence.specs.declared.ruling_out.RulingOut.{RulingOut}
-use Rattle.page.specs.Pages.{IsPage}
 use Rattle.report.specs.Verdict.{AnswersInput}
 use Rattle.stream_io.specs.declared.status.Status.{Status}
 
@@ -11,7 +9,3 @@ use Rattle.stream_io.specs.declared.status.Status.{Status}
 abbrev pub ExplainsInput : RulingOut → Conflicts → Option (List ℕ) → Status → List ℕ → Type 0
 ExplainsInput ruling conflicts input status text =
     (line story : List ℕ) × (text ≡ line ++ story) × AnswersInput ruling conflicts input status line
-
--- the writer holds a page beside what it held, or a front of one
-abbrev pub HasPageFront : Option (List ℕ) → Option (List ℕ) → Type 0
-HasPageFront old new = (page : List ℕ) × (n : ℕ) × Appends old new (take n page) × IsPage page

@@ -2,3 +2,4 @@ pub mod Bulk
 pub mod Verdict
 pub mod Workers
 pub mod Explained
+pub mod Findings

@@ -9,7 +9,7 @@ use Rattle.history.specs.Reading.{history_text}
 use Rattle.history.specs.Text.{IsHistoryText}
 use Rattle.compose.specs.Counts.{calls_of}
 use Rattle.compose.specs.Covers.{AreCover}
-use Rattle.evidence.specs.Evidence.{Holds, IsWithoutRuledOut}
+use Rattle.evidence.specs.Evidence.{Holds, IsReported, IsWithoutRuledOut}
 use Rattle.evidence.specs.declared.refuted.Refuted.{Refuted as Evidence}
 use Rattle.evidence.specs.declared.ruling_out.RulingOut.{RulingOut}
 use Rattle.evidence.specs.declared.ruling_out.RulingOut.TheVariants.{On}
@@ -48,11 +48,13 @@ pub record IsUndecided (ruling : RulingOut) (conflicts : Conflicts) (input : Lis
   pub unexplained : IsUnexplained conflicts input o
   pub none : ruling ≡ On → IsWithoutRuledOut conflicts unexplained.events
 
--- All that an unexplained input is, and beside it the evidence holds in the history that it is a text of. So no order of the calls
--- explains that history, however those of unknown outcome are completed or left out.
-pub record IsRefutedBy (conflicts : Conflicts) (input : List ℕ) (told : Evidence) (o : Offence) : Type 0 where
+-- All that an unexplained input is, and beside it the evidence holds in the history that it is a text of, and may be reported: that
+-- a document is ruled out only if that was asked for, and by the least call at which one is. So no order of the calls explains that
+-- history, however those of unknown outcome are completed or left out.
+pub record IsRefutedBy (ruling : RulingOut) (conflicts : Conflicts) (input : List ℕ) (told : Evidence) (o : Offence) : Type 0 where
   pub unexplained : IsUnexplained conflicts input o
   pub holds : Holds conflicts unexplained.events told
+  pub reported : IsReported ruling conflicts unexplained.events told
   pub no_order : ¬ IsLinearizable conflicts unexplained.events
 
 -- the input is a text of no history: the line tells the first of its lines that is refused, with its first cause
@@ -65,7 +67,7 @@ IsRefused input line = (told : TextFault) × (line ≡ refused_line told.line to
 abbrev pub IsAnswer : RulingOut → Conflicts → List ℕ → Status → List ℕ → Type 0
 IsAnswer ruling conflicts input Yes line = (docs calls left_out : ℕ) × (line ≡ yes_line docs calls left_out) × IsExplained conflicts input docs calls left_out
 IsAnswer ruling conflicts input No line = (o : Offence) × (line ≡ no_line o) × IsUndecided ruling conflicts input o
-IsAnswer ruling conflicts input Refuted line = (told : Evidence) × (o : Offence) × (line ≡ refuted_line told o) × IsRefutedBy conflicts input told o
+IsAnswer ruling conflicts input Refuted line = (told : Evidence) × (o : Offence) × (line ≡ refuted_line told o) × IsRefutedBy ruling conflicts input told o
 IsAnswer ruling conflicts input Refused line = IsRefused input line
 
 -- The input is a text of a history, and what is written reads as entries that cover it; so an order explains it.
@@ -81,7 +83,7 @@ pub record IsWitnessed (conflicts : Conflicts) (input text : List ℕ) : Type 0 
 abbrev pub IsWitnessAnswer : RulingOut → Conflicts → List ℕ → Status → List ℕ → Type 0
 IsWitnessAnswer ruling conflicts input Yes text = IsWitnessed conflicts input text
 IsWitnessAnswer ruling conflicts input No text = (o : Offence) × (text ≡ no_line o) × IsUndecided ruling conflicts input o
-IsWitnessAnswer ruling conflicts input Refuted text = (told : Evidence) × (o : Offence) × (text ≡ refuted_line told o) × IsRefutedBy conflicts input told o
+IsWitnessAnswer ruling conflicts input Refuted text = (told : Evidence) × (o : Offence) × (text ≡ refuted_line told o) × IsRefutedBy ruling conflicts input told o
 IsWitnessAnswer ruling conflicts input Refused text = IsRefused input text
 
 -- The one input is a text of a history, and the other reads as entries that cover it, in no place of which so many of its

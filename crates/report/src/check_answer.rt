@@ -3,11 +3,12 @@ ghost use Rattle.doc_register.specs.declared.state.Conflicts.{Conflicts as Readi
 ghost use Rattle.history.specs.Reading.{history_text};
 ghost use Rattle.history.specs.Text.{IsHistoryText};
 ghost use Rattle.compose.specs.Checked.{IsVerdictOn};
-ghost use Rattle.evidence.specs.Evidence.{Holds, IsWithoutRuledOut};
+ghost use Rattle.evidence.specs.Evidence.{Holds, IsReported, IsWithoutRuledOut};
 ghost use Rattle.evidence.specs.declared.ruling_out.RulingOut.{RulingOut as Ruling};
 ghost use Rattle.result_lines.specs.Lines.{refused_line as told_refused};
-ghost use Rattle.stream_io.specs.Faults.{IsCheckFault};
+ghost use Rattle.stream_io.specs.Faults.{IsCheckFault, IsReadingFault};
 ghost use Rattle.stream_io.specs.Taken.{TakesHistory};
+ghost use Rattle.report.specs.Findings.{IsFindingOf, SaysFailing};
 ghost use Rattle.report.specs.Verdict.{AnswersInput, IsAnswer, IsWitnessAnswer};
 ghost use Rattle.report.specs.Workers.{HasDocument, NamesOwnDocument};
 
@@ -36,6 +37,7 @@ fn evidence_against(
     ruling_out: RulingOut,
 ) -> Result<Option<Refuted>, NoMemory>
     ensures holds { IfOk result (λ told. IfSome told (Holds case.now.conflicts case.now.events)) }
+    ensures reported { IfOk result (λ told. IfSome told (IsReported ruling_out case.now.conflicts case.now.events)) }
     ensures none { IfOk result (λ told. told ≡ Nothing → ruling_out ≡ RulingOut.On
         → IsWithoutRuledOut case.now.conflicts case.now.events) }
 {
@@ -55,9 +57,11 @@ pub fn case_answer(
     case: &Case,
     ruling_out: RulingOut,
 ) -> Result<(Answer, Failing), NoMemory>
-    ensures { IfOk result (λ told. (input : List ℕ) → IsHistoryText input case.now.events
+    ensures answers { IfOk result (λ told. (input : List ℕ) → IsHistoryText input case.now.events
         → IsAnswer ruling_out case.now.conflicts input told.0.status told.0.text.items
         × IsWitnessAnswer ruling_out case.now.conflicts input told.0.status told.0.text.items) }
+    ensures failing { IfOk result (λ told. SaysFailing ruling_out case.now.conflicts case.now.events told.0.status
+        told.0.text.items told.1.offence told.1.evidence) }
 {
     // A look at the history: that no order was found for it is known from here on.
     let _ = case.history();
@@ -141,6 +145,9 @@ pub fn history_answer<R: Threads + Wait + Sync>(
     requires few { workers ≤ 16 }
     ensures answer { IfOk result (λ told. (input : List ℕ) → IsHistoryText input history
         → IsAnswer ruling_out conflicts input told.0.status told.0.text.items) }
+    // What was found is what the line says.
+    ensures found { IfOk result (λ told. IsFindingOf ruling_out conflicts history told.0.status told.0.text.items
+        told.1) }
     ensures told { IfErr result IsCheckFault }
     // Nothing is read, and one worker is the caller's thread, which isn't lost.
     ensures unread { IfErr result (λ fault. fault ≢ StreamFault.Read) }
@@ -174,6 +181,7 @@ pub fn check_answer<T: Threads + Wait + Sync, R: Read>(
     ensures answer { IfOk result (λ answer. AnswersInput ruling_out conflicts (R.remaining reader.old) answer.status
         answer.text.items) }
     ensures told { IfErr result IsCheckFault }
+    ensures alone { workers ≡ 1 → IfErr result IsReadingFault }
     ensures named { IfErr result (NamesOwnDocument (R.remaining reader.old)) }
     ensures taken { TakesHistory (R.remaining reader.old) (R.remaining reader.new) }
 {

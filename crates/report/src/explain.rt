@@ -1,16 +1,19 @@
 //! Stories: what an answer means, for people.
 
-ghost use Rattle.std.specs.Prelude.{◌≡◌, ◌≤◌, ◌++◌, ℕ, List, IfErr, IfOk};
+ghost use Rattle.std.specs.Prelude.{◌≡◌, ◌≢◌, ◌≤◌, ◌++◌, ℕ, List, IfErr, IfOk, IfSome};
+ghost use Rattle.evidence.specs.Evidence.{Holds};
+ghost use Rattle.history.specs.Order.{IsLinearizable};
 ghost use Rattle.page.specs.Pages.{IsPage};
-ghost use Rattle.stream_io.specs.Faults.{IsCheckFault};
+ghost use Rattle.stream_io.specs.Faults.{IsCheckFault, IsReadingFault};
 ghost use Rattle.stream_io.specs.Taken.{TakesHistory};
 ghost use Rattle.report.specs.Explained.{ExplainsInput};
+ghost use Rattle.report.specs.Findings.{HasItsEvidence};
 ghost use Rattle.report.specs.Verdict.{AnswersInput};
 ghost use Rattle.report.specs.Workers.{NamesOwnDocument};
 
 use crate::check_answer::{history_answer, refusal};
 use crate::numbered_input::read_numbered;
-use compose::{Counts, Finding, RulingOut};
+use compose::{Case, Certainty, Counts, Failing, Finding, RulingOut, certainty_of};
 use doc_register::Conflicts;
 use history::HashKeys;
 use std::alloc::Global;
@@ -24,8 +27,36 @@ use story::{
 use stream_io::{Answer, StreamFault};
 use version_pair::NoMemory;
 
+// What a story tells of a history for which no order was found: how much the answer says is decided here.
+fn unexplained_of<'h>(
+    alloc: Global,
+    case: &'h Case,
+    failing: &Failing,
+) -> Result<Unexplained<'h>, NoMemory>
+    requires { IfSome failing.now.evidence (Holds case.now.conflicts case.now.events) }
+    ensures history { IfOk result (λ told. told.history.now ≡ case.now.events) }
+    ensures evidence { IfOk result (λ told. told.evidence ≡ failing.now.evidence) }
+    // It says that there is no order only if there is none, and with evidence it says so.
+    ensures proved { IfOk result (λ told. told.certainty ≢ Certainty.Undecided
+        → ¬ IsLinearizable case.now.conflicts case.now.events) }
+    ensures evident { IfSome failing.now.evidence (λ _. IfOk result (λ told. told.certainty ≢ Certainty.Undecided)) }
+{
+    let certainty = certainty_of(alloc, case, failing)?;
+    Ok(Unexplained {
+        history: case.history(),
+        conflicts: case.conflicts(),
+        evidence: failing.evidence,
+        certainty,
+        event: failing.offence.event,
+        call: failing.offence.call,
+        before_shown: failing.offence.before_shown,
+    })
+}
+
 // What is told of a history.
-fn story_of(alloc: Global, finding: &Finding, lines: &EventLines) -> Result<Story, NoMemory> {
+fn story_of(alloc: Global, finding: &Finding, lines: &EventLines) -> Result<Story, NoMemory>
+    requires { HasItsEvidence finding.now }
+{
     match finding {
         Finding::Explained(proof) => {
             let counts = Counts::of(proof);
@@ -38,14 +69,7 @@ fn story_of(alloc: Global, finding: &Finding, lines: &EventLines) -> Result<Stor
             explained_story(alloc, &explained, lines)
         }
         Finding::Unexplained(case, failing) => {
-            let unexplained = Unexplained {
-                history: case.history(),
-                conflicts: case.conflicts(),
-                evidence: failing.evidence,
-                event: failing.offence.event,
-                call: failing.offence.call,
-                before_shown: failing.offence.before_shown,
-            };
+            let unexplained = unexplained_of(alloc, case, failing)?;
             failing_story(alloc, &unexplained, lines)
         }
     }
@@ -66,6 +90,7 @@ fn explain<T: Threads + Wait + Sync, R: Read>(
     ensures answer { IfOk result (λ told. AnswersInput ruling_out conflicts (R.remaining reader.old) told.0.status
         told.0.text.items) }
     ensures told { IfErr result IsCheckFault }
+    ensures alone { workers ≡ 1 → IfErr result IsReadingFault }
     ensures named { IfErr result (NamesOwnDocument (R.remaining reader.old)) }
     ensures taken { TakesHistory (R.remaining reader.old) (R.remaining reader.new) }
 {
@@ -118,6 +143,7 @@ pub fn explained_text<T: Threads + Wait + Sync, R: Read>(
     ensures answer { IfOk result (λ told. ExplainsInput ruling_out conflicts (R.remaining reader.old) told.status
         told.text.items) }
     ensures told { IfErr result IsCheckFault }
+    ensures alone { workers ≡ 1 → IfErr result IsReadingFault }
     ensures named { IfErr result (NamesOwnDocument (R.remaining reader.old)) }
     ensures taken { TakesHistory (R.remaining reader.old) (R.remaining reader.new) }
 {
@@ -125,7 +151,8 @@ pub fn explained_text<T: Threads + Wait + Sync, R: Read>(
     Ok(with_story(alloc, answer, &story)?)
 }
 
-/// The same, and the story as a page.
+/// Reads a history text to its end, and gives the answer that `explain_stream` writes for it, and the story as a page of HTML, with
+/// a drawing of the calls. It writes nothing.
 pub fn explained_page<T: Threads + Wait + Sync, R: Read>(
     rt: &T,
     alloc: Global,
@@ -137,10 +164,13 @@ pub fn explained_page<T: Threads + Wait + Sync, R: Read>(
 ) -> Result<(Answer, Vec<u8>), StreamFault>
     requires some { 1 ≤ workers }
     requires few { workers ≤ 16 }
+    // The text of the answer begins with a line that answers the bytes of the reader as the line of `check_stream` does.
     ensures text { IfOk result (λ told. ExplainsInput ruling_out conflicts (R.remaining reader.old) told.0.status
         told.0.text.items) }
+    // The page is made of markup of the crate `page`, numbers, and escaped texts.
     ensures page { IfOk result (λ told. IsPage told.1.items) }
     ensures told { IfErr result IsCheckFault }
+    ensures alone { workers ≡ 1 → IfErr result IsReadingFault }
     ensures named { IfErr result (NamesOwnDocument (R.remaining reader.old)) }
     ensures taken { TakesHistory (R.remaining reader.old) (R.remaining reader.new) }
 {

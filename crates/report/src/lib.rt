@@ -10,7 +10,6 @@
 mod bulk_answer;
 mod check_answer;
 mod explain;
-mod explain_streams;
 mod numbered_input;
 mod streams;
 mod verify_answer;
@@ -19,8 +18,8 @@ mod witness_answer;
 
 pub use check_answer::history_answer;
 pub use compose::{Finding, Offence, RulingOut, first_offence};
-pub use explain_streams::{explain_page_stream, explain_stream};
+pub use explain::explained_page;
 pub use page::laws;
 pub use recorded_runs::{RUN_POLLS, RunSetting, run_stream};
-pub use stream_io::{Answer, Status, StreamFault};
-pub use streams::{bulk_stream, check_stream, verify_stream, witness_stream};
+pub use stream_io::{Answer, Status, StreamFault, write_answer};
+pub use streams::{bulk_stream, check_stream, explain_stream, verify_stream, witness_stream};

@@ -1,6 +1,7 @@
-ghost use Rattle.std.specs.Prelude.{◌≢◌, ◌≤◌, IfErr, IfOk, IsErrOf, OnOk, OnSome};
+ghost use Rattle.std.specs.Prelude.{◌≡◌, ◌≢◌, ◌≤◌, IfErr, IfOk, IsErrOf, OnOk, OnSome};
 ghost use Rattle.std.specs.Io.KnownBytes.{IsAtEnd, Keeps};
 ghost use Rattle.report.specs.Bulk.{AnswersBulk};
+ghost use Rattle.report.specs.Explained.{ExplainsInput};
 ghost use Rattle.report.specs.Verdict.{IsAnswered, IsCutOff, LeavesUnread, VerifiesInputs, WitnessesInput};
 ghost use Rattle.report.specs.Workers.{NamesOwnDocument};
 ghost use Rattle.stream_io.specs.Faults.{IsStreamFault, IsWorkedFault};
@@ -9,6 +10,7 @@ ghost use Rattle.stream_io.specs.Written.{HasAnswer, HasFront};
 
 use crate::bulk_answer::bulk_answer;
 use crate::check_answer::check_answer;
+use crate::explain::explained_text;
 use crate::verify_input::verify_input;
 use crate::witness_answer::witness_answer;
 use compose::RulingOut;
@@ -62,6 +64,8 @@ pub fn check_stream<T: Threads + Wait + Sync, R: Read, W: Write>(
     ensures kept { IfErr result (λ fault. fault ≢ StreamFault.Write
         → Keeps (W.contents writer.old) (W.contents writer.new)) }
     ensures told { IfErr result IsWorkedFault }
+    // One worker is the caller's thread, which isn't lost.
+    ensures alone { workers ≡ 1 → IfErr result IsStreamFault }
     // A document that a fault names is one of the history whose text the reader had.
     ensures named { IfErr result (NamesOwnDocument (R.remaining reader.old)) }
     // Of the bytes of the reader no line behind the first that is refused is taken, and nothing behind that one but what the
@@ -70,6 +74,41 @@ pub fn check_stream<T: Threads + Wait + Sync, R: Read, W: Write>(
     ensures taken { TakesHistory (R.remaining reader.old) (R.remaining reader.new) }
 {
     let answer = check_answer(rt, alloc, keys, reader, workers, conflicts, ruling_out)?;
+    write_answer(writer, &answer)
+}
+
+/// Reads a history text to its end and writes the line that `check_stream` writes for it, and after it a story of what was
+/// found, for people: where no order was found the calls that matter, why no order explains the reply, and the order before
+/// it; where one was found what became of the calls of unknown outcome; where the text was refused its line.
+pub fn explain_stream<T: Threads + Wait + Sync, R: Read, W: Write>(
+    rt: &T,
+    alloc: Global,
+    keys: HashKeys,
+    reader: &mut R,
+    writer: &mut W,
+    workers: usize,
+    conflicts: Conflicts,
+    ruling_out: RulingOut,
+) -> Result<Status, StreamFault>
+    requires some_workers { 1 ≤ workers }
+    requires few_workers { workers ≤ 16 }
+    // What it writes begins with a line that answers the bytes of the reader as the line of `check_stream` does.
+    ensures answered { IfOk result (λ status. HasAnswer (ExplainsInput ruling_out conflicts (R.remaining reader.old) status)
+        (W.contents writer.old) (W.contents writer.new)) }
+    // After a write fault a front of such a text is written, and after any other fault nothing is.
+    ensures cut_off { IsErrOf result StreamFault.Write
+        → HasFront (ExplainsInput ruling_out conflicts (R.remaining reader.old)) (W.contents writer.old)
+        (W.contents writer.new) }
+    ensures kept { IfErr result (λ fault. fault ≢ StreamFault.Write
+        → Keeps (W.contents writer.old) (W.contents writer.new)) }
+    ensures told { IfErr result IsWorkedFault }
+    // One worker is the caller's thread, which isn't lost.
+    ensures alone { workers ≡ 1 → IfErr result IsStreamFault }
+    // A document that a fault names is one of the history whose text the reader had.
+    ensures named { IfErr result (NamesOwnDocument (R.remaining reader.old)) }
+    ensures taken { TakesHistory (R.remaining reader.old) (R.remaining reader.new) }
+{
+    let answer = explained_text(rt, alloc, keys, reader, workers, conflicts, ruling_out)?;
     write_answer(writer, &answer)
 }
 
