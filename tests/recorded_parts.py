@@ -1,5 +1,5 @@
 #!/usr/bin/env python3
-"""Tests recordings in parts that are longer than one history, and what checks a folder of parts side by side.
+"""Tests recordings in parts that are longer than one history, a history that is split, and what checks a folder of parts side by side.
 
     python3 tests/recorded_parts.py [PROGRAM]
 
@@ -10,8 +10,12 @@ a line says so. The last line says how many tests passed and failed.
 import os
 import pathlib
 import re
+import resource
+import shutil
+import signal
 import subprocess
 import sys
+import time
 import unittest
 
 from program import TOP
@@ -57,6 +61,21 @@ class Long(FolderTest):
         # (a bulk request that a history has no room for goes to the next one)
         self.assertEqual((sum(counts), max(counts), min(counts[:6]) > 296), (2000, 300, True), counts)
 
+    def test_a_folder_and_a_file_that_are_there(self):
+        os.mkdir(self.file)
+        kept = pathlib.Path(self.file) / "carts-1.ndjson"
+        kept.write_text("old")
+        for words in ((), ("--part", "300")):
+            ran = record("http://127.0.0.1:9", "carts", self.file, *words)
+            self.assertEqual((ran.returncode, ran.stderr), (1, f"record.py: {self.file}: File exists\n"))
+            self.assertEqual((os.listdir(self.file), kept.read_text()), (["carts-1.ndjson"], "old"))
+        link = os.path.join(self.folder, "link")
+        os.symlink(kept, link)
+        for file in (kept, link):
+            ran = record("http://127.0.0.1:9", "carts", file)
+            self.assertEqual((ran.returncode, ran.stderr), (1, f"record.py: {file}: File exists\n"))
+            self.assertEqual(kept.read_text(), "old")
+
     def test_a_part_that_no_history_is(self):
         for part in ("3", "524289", "0"):
             ran = record("http://127.0.0.1:9", "carts", self.file, "--part", part)
@@ -71,6 +90,81 @@ class Long(FolderTest):
                 call.indexed(Pair(1, number), created=number in (0, most))
         answers = [judged(self.program, it.path) for it in parts.histories]
         self.assertEqual(answers, [f"yes docs=1 calls={it} left_out=0" for it in (most, more)])
+
+
+def limit_files():
+    """Has files take 100 bytes and no more: a write past that fails."""
+    signal.signal(signal.SIGXFSZ, signal.SIG_IGN)
+    resource.setrlimit(resource.RLIMIT_FSIZE, (100, 100))
+
+
+class Split(FolderTest):
+    """A history that is split has all of its parts or none, and they come over nothing that is there."""
+
+    def setUp(self):
+        super().setUp()
+        self.parts = os.path.join(self.folder, "parts")
+        self.words = [sys.executable, "-m", "casbench_recording.split", self.file, self.parts]
+        self.write(self.file, index(0) + index(1, ',"shard":3', "e") + created(1, 1, 0) + created(0, 1, 0))
+
+    def write(self, name, text):
+        """Writes a file."""
+        with open(name, "w", encoding="utf-8") as file:
+            file.write(text)
+
+    def split(self, **how):
+        """How the command ends: its status, and what it says."""
+        ran = subprocess.run(self.words, stdout=subprocess.PIPE, stderr=subprocess.STDOUT, text=True, env=environment(), **how)
+        return ran.returncode, ran.stdout
+
+    def left(self):
+        """What is in the folder beside the history, with what the files have."""
+        paths = pathlib.Path(self.folder).rglob("*")
+        return {str(it.relative_to(self.folder)): it.read_text() for it in paths if it.is_file() and str(it) != self.file}
+
+    def test_parts(self):
+        for folder in (self.parts, self.parts + "/"):
+            self.words[-1] = folder
+            self.assertEqual(self.split(), (0, ""))
+            wanted = {"parts/shard-0.ndjson": index(0) + created(0, 1, 0), "parts/shard-3.ndjson": index(1, ',"shard":3', "e") + created(1, 1, 0)}
+            self.assertEqual(self.left(), wanted)
+            self.assertEqual(sorted(os.listdir(self.folder)), ["carts.ndjson", "parts"])
+            shutil.rmtree(self.parts)
+
+    def test_a_folder_and_a_file_that_are_there(self):
+        refused = (1, f"split_by_shard.py: [Errno 17] File exists: '{self.parts}'\n")
+        os.mkdir(self.parts)
+        self.assertEqual((self.split(), self.left()), (refused, {}))
+        self.write(os.path.join(self.parts, "shard-0.ndjson"), "old")
+        self.assertEqual((self.split(), self.left()), (refused, {"parts/shard-0.ndjson": "old"}))
+        shutil.rmtree(self.parts)
+        self.write(self.parts, "old")
+        self.assertEqual((self.split(), self.left()), (refused, {"parts": "old"}))
+        self.words[-1] = self.file
+        self.assertEqual(self.split()[0], 1)
+        self.assertEqual(pathlib.Path(self.file).read_text().count("\n"), 4)
+
+    def test_a_line_and_a_disk_that_stop_it(self):
+        self.assertEqual(self.split(preexec_fn=limit_files), (1, "split_by_shard.py: [Errno 27] File too large\n"))
+        self.assertEqual(os.listdir(self.folder), ["carts.ndjson"])
+        with open(self.file, "a", encoding="utf-8") as history:
+            history.write("{}\n")
+        status, told = self.split()
+        self.assertEqual((status, os.listdir(self.folder)), (1, ["carts.ndjson"]))
+        self.assertIn("line 5 can't be given to a shard", told)
+
+    def test_an_interruption(self):
+        os.remove(self.file)
+        os.mkfifo(self.file)
+        with subprocess.Popen(self.words, stderr=subprocess.PIPE, env=environment()) as child, open(self.file, "w", encoding="utf-8") as history:
+            history.write(index(0) + created(0, 1, 0))
+            history.flush()
+            while len(os.listdir(self.folder)) == 1:
+                self.assertIsNone(child.poll())
+                time.sleep(0.01)
+            child.send_signal(signal.SIGINT)
+            self.assertEqual((child.wait(60), child.stderr.read()), (130, b""))
+        self.assertEqual(os.listdir(self.folder), ["carts.ndjson"])
 
 
 WRITES = index(0) + created(0, 1, 0, "d") + index(1) + updated(1, 1, 1, "d")

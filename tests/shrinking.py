@@ -5,12 +5,16 @@
 
 PROGRAM is the built casbench; where it is not named, the one that ./casbench would run. The recordings are those of tests/ruled_out.py,
 with one fault each, that get another answer than yes. What is left has to be lines of the recording as they stood, to get the same
-answer, to be few calls where evidence of two calls alone is told, and to lose that answer where any one call more is left out.
+answer, to be few calls where evidence of two calls alone is told, and to lose that answer where any one call more is left out. None of it
+comes into the history, whatever name that has.
 """
 
 import json
+import os
+import pathlib
 import subprocess
 import sys
+import tempfile
 from concurrent.futures import ThreadPoolExecutor
 
 from orders import text_of
@@ -99,6 +103,38 @@ def commanded(program, text, *words):
     return ran.returncode, ran.stdout, ran.stderr.partition(" after ")[0]
 
 
+def into_itself(program, given, way):
+    """What becomes of a history, which the command is given by one name, and its output goes to by another; and how the command ends. A
+    shell opens the output so where the words are `>>history` or `1<>history`."""
+    with tempfile.TemporaryDirectory() as folder:
+        history = pathlib.Path(folder) / "history"
+        history.write_text(WROTE + MISSED)
+        (history.parent / "link").symlink_to("history")
+        os.link(history, history.parent / "other")
+        words = [sys.executable, "-m", "casbench_recording.shrink", "--program", program, given]
+        out = os.open(history, way)
+        ran = subprocess.run(words, cwd=folder, stdout=out, stderr=subprocess.PIPE, text=True, env=environment())
+        os.close(out)
+        return ran.returncode, ran.stderr, history.read_text() == WROTE + MISSED
+
+
+def onto_a_full_disk(program):
+    """How the command ends where its output takes nothing."""
+    words = [sys.executable, "-m", "casbench_recording.shrink", "--program", program, "/dev/stdin"]
+    with open("/dev/full", "wb") as full:
+        ran = subprocess.run(words, input=WROTE + MISSED, stdout=full, stderr=subprocess.PIPE, text=True, env=environment())
+    return ran.returncode, ran.stderr
+
+
+def output_trials(program):
+    """Outputs that are the history itself, or take nothing."""
+    for given in ("history", "./history", "link", "other"):
+        for way in (os.O_WRONLY | os.O_APPEND, os.O_RDWR):
+            wanted = (1, f"shrink.py: {given}: the history would be overwritten\n", True)
+            yield Trial(f"into itself, as {given}", into_itself, (program, given, way), wanted)
+    yield Trial("a full disk", onto_a_full_disk, (program,), (1, "shrink.py: [Errno 28] No space left on device\n"))
+
+
 def command_trials(program):
     """What the command is asked, and how it has to end."""
     left = (0, WROTE + MISSED, "3 calls, 2 of them left,")
@@ -117,7 +153,7 @@ def main():
     drawn = [(seed, reading, words) for seed in range(RECORDINGS) for reading in READINGS for words in ((), ("--rule-out",))]
     trials = [Trial(f"recording {it}", shrunk, (program, *it)) for it in drawn]
     with ThreadPoolExecutor() as pool:
-        answers, wrong = try_all([*trials, *command_trials(program)], pool)
+        answers, wrong = try_all([*trials, *command_trials(program), *output_trials(program)], pool)
     passed = len(answers) - len(wrong)
     wrong += [f"no recording with the answer {it} was cut down" for it in sorted(KINDS - set(answers[: len(trials)]))]
     return tell(passed, wrong)

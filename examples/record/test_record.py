@@ -10,7 +10,6 @@ passed and failed.
 import json
 import os
 import resource
-import shutil
 import signal
 import socket
 import socketserver
@@ -372,7 +371,8 @@ class Shards(Test):
             ran = subprocess.run([*script("split_by_shard.py"), self.file, parts], stderr=subprocess.PIPE)
             self.assertEqual(ran.returncode, 1)
             self.assertIn(f"line {len(lines)} can't".encode(), ran.stderr)
-            shutil.rmtree(parts)
+            # (parts of some of the lines could be taken for those of all)
+            self.assertEqual(os.listdir(self.folder), [os.path.basename(self.file)])
 
 
 def bodies(lines):

@@ -4,16 +4,18 @@
 
 The answer of casbench to what is left is the same: `no` or `refuted`, of a refutation the kind and the calls of the evidence, of a
 `no` the call at whose reply the search fails. A `no` that isn't proved, since a write of that call's document has no reply, stays one. Each
-line that is left stands as it was, in its order, and none of the calls can be left out alone.
+line that is left stands as it was, in its order, and none of the calls can be left out alone. What is left is written at the end, and
+not where it would go into the history itself.
 """
 
 import argparse
 import json
 import os
 import shutil
+import stat
 import subprocess
 import sys
-from typing import Any, Dict, Iterable, List, NamedTuple, Optional, Sequence, Set, Tuple
+from typing import Any, BinaryIO, Dict, Iterable, List, NamedTuple, Optional, Sequence, Set, Tuple
 
 from .history import pair_of
 
@@ -207,20 +209,33 @@ def words_of(arguments: Sequence[str]) -> argparse.Namespace:
     return parser.parse_args(arguments)
 
 
+def refuse_as_output(history: BinaryIO) -> None:
+    """Refuses a history that standard output goes to, by whatever name it was opened: what is written would be written into it."""
+    its = os.fstat(history.fileno())
+    if stat.S_ISREG(its.st_mode) and os.path.samestat(its, os.fstat(sys.stdout.fileno())):
+        raise ShrinkError(f"{history.name}: the history would be overwritten")
+
+
+def write(text: bytes) -> None:
+    """Writes the text to standard output."""
+    with open(sys.stdout.fileno(), "wb", closefd=False) as out:
+        out.write(text)
+
+
 def main(arguments: Sequence[str]) -> int:
-    """Cuts down by the words given, and returns the exit status: 0, or 1 where there is nothing to cut down."""
+    """Cuts down by the words given, and returns the exit status: 0, or 1 where there is nothing to cut down, or it can't be written."""
     setting = words_of(arguments)
     try:
         words = ["--conflicts", setting.conflicts, *(["--rule-out"] if setting.rule_out else [])]
         program = Program(setting.program or program_at_hand(), words)
         with open(setting.file, "rb") as lines:
+            refuse_as_output(lines)
             shrinker = Shrinker(lines, program)
         shrinker.shrink()
+        write(shrinker.text_of(shrinker.kept))
     except (ShrinkError, OSError) as fault:
         print(f"shrink.py: {fault}", file=sys.stderr)
         return 1
-    sys.stdout.buffer.write(shrinker.text_of(shrinker.kept))
-    sys.stdout.flush()
     print(f"{shrinker.before} calls, {len(shrinker.kept)} of them left, after {program.runs} checks", file=sys.stderr)
     return 0
 

@@ -5,13 +5,17 @@
 Writes parts/shard-0.ndjson and so on, one file for each shard that a call names. Each line goes, as it stands and in
 its order, to the file of its call's shard. So a part is a history text itself, and the history is right exactly where
 each part is (docs/RECORDING.md). What the parts can't show by themselves is looked at here: that each ending is of a
-call that is open, and that no document is on two shards.
+call that is open, and that no document is on two shards. The folder has its name only once all lines are in it: where
+one can't be given to a shard, or can't be written, or the split is interrupted, there is none.
 """
 
+import contextlib
+import errno
 import json
 import os
+import shutil
 import sys
-from typing import Any, BinaryIO, Dict, Iterable, Sequence
+from typing import Any, BinaryIO, Dict, Iterable, Iterator, Sequence
 
 
 class Shards:
@@ -35,22 +39,44 @@ class Shards:
         return shard
 
 
+class SplitError(Exception):
+    """Why a history can't be split, in words for the operator."""
+
+
 def split(lines: Iterable[bytes], folder: str) -> None:
     """Writes each line to the file of its shard."""
     shards = Shards()
     files: Dict[int, BinaryIO] = {}
-    for place, line in enumerate(lines, start=1):
-        if not line.strip():
-            continue
-        try:
-            shard = shards.of_line(json.loads(line))
-        except (ValueError, KeyError, TypeError) as fault:
-            raise SystemExit(f"split_by_shard.py: line {place} can't be given to a shard: {fault}") from fault
-        if shard not in files:
-            files[shard] = open(os.path.join(folder, f"shard-{shard}.ndjson"), "xb")
-        files[shard].write(line.rstrip(b"\n") + b"\n")
-    for file in files.values():
-        file.close()
+    with contextlib.ExitStack() as stack:
+        for place, line in enumerate(lines, start=1):
+            if not line.strip():
+                continue
+            try:
+                shard = shards.of_line(json.loads(line))
+            except (ValueError, KeyError, TypeError) as fault:
+                raise SplitError(f"line {place} can't be given to a shard: {fault}") from fault
+            if shard not in files:
+                files[shard] = stack.enter_context(open(os.path.join(folder, f"shard-{shard}.ndjson"), "xb"))
+            files[shard].write(line.rstrip(b"\n") + b"\n")
+
+
+@contextlib.contextmanager
+def named_at_last(folder: str) -> Iterator[str]:
+    """A new folder beside the one that is named, whose name it gets at the end of the block; after a fault nothing is left of it.
+
+    What has the name already is refused, and left alone.
+    """
+    folder = folder.rstrip("/") or folder
+    if os.path.lexists(folder):
+        raise FileExistsError(errno.EEXIST, os.strerror(errno.EEXIST), folder)
+    unfinished = f"{folder}.{os.getpid()}.unfinished"
+    os.mkdir(unfinished)
+    try:
+        yield unfinished
+        os.rename(unfinished, folder)
+    except BaseException:
+        shutil.rmtree(unfinished, ignore_errors=True)
+        raise
 
 
 def main(arguments: Sequence[str]) -> int:
@@ -58,9 +84,14 @@ def main(arguments: Sequence[str]) -> int:
     if len(arguments) != 2:
         raise SystemExit("usage: split_by_shard.py HISTORY FOLDER")
     history, folder = arguments
-    with open(history, "rb") as lines:
-        os.mkdir(folder)
-        split(lines, folder)
+    try:
+        with open(history, "rb") as lines, named_at_last(folder) as parts:
+            split(lines, parts)
+    except (SplitError, OSError) as fault:
+        print(f"split_by_shard.py: {fault}", file=sys.stderr)
+        return 1
+    except KeyboardInterrupt:
+        return 130
     return 0
 
 
