@@ -73,3 +73,12 @@ IsRunFault NoMemory = Unit {0}
 IsRunFault (Worker doc) = ⊥
 IsRunFault Recording = Unit {0}
 IsRunFault Setting = Unit {0}
+
+-- the same of a run of which nothing is written
+abbrev pub IsOfRun : StreamFault → Type 0
+IsOfRun Read = ⊥
+IsOfRun Write = ⊥
+IsOfRun NoMemory = Unit {0}
+IsOfRun (Worker doc) = ⊥
+IsOfRun Recording = Unit {0}
+IsOfRun Setting = Unit {0}

@@ -1,11 +1,11 @@
 ghost use Rattle.std.specs.Prelude.{◌≡◌, ◌≢◌, ◌↔◌, IfErr, IfOk, IsErrOf, IsTrue, None, is_some};
 ghost use Rattle.std.specs.Io.KnownBytes.{Keeps};
 ghost use Rattle.disturbances.specs.Disturbed.{DisturbedState, SubmitsTicket, TellsProgress};
-ghost use Rattle.recorded_runs.specs.Runs.{IsRunFault, IsRunInTurns, IsRunOf, IsRunText, IsTextInTurns, are_refused, group_at_start, is_refused, plan_of, run_polls};
+ghost use Rattle.recorded_runs.specs.Runs.{IsOfRun, IsRunFault, IsRunInTurns, IsRunOf, IsRunText, IsTextInTurns, are_refused, group_at_start, is_refused, plan_of, run_polls};
 ghost use Rattle.workload.specs.Playing.{ArePlayed};
 ghost use Rattle.workload.specs.Drawing.{draw_refusal};
 ghost use Rattle.stream_io.specs.Written.{HasAnswer, HasFront};
-ghost use Rattle.recorded_runs.specs.aids.Recorded.{IsOfRecording, IsOfRun, tells_copies};
+ghost use Rattle.recorded_runs.specs.aids.Recorded.{IsOfRecording, tells_copies};
 ghost use Rattle.workload.specs.Plans.{refusal_told};
 
 use crate::manner::{Manner, Playing};

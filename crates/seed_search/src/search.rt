@@ -1,7 +1,6 @@
 ghost use Rattle.std.specs.Prelude.{◌≡◌, ◌≢◌, ◌↔◌, ◌+◌, IfErr, IfNone, IfOk, IfSome, IsErrOf, IsTrue};
 ghost use Rattle.std.specs.Io.KnownBytes.{Keeps};
-ghost use Rattle.recorded_runs.specs.Runs.{IsRunFault, is_refused};
-ghost use Rattle.recorded_runs.specs.aids.Recorded.{IsOfRun};
+ghost use Rattle.recorded_runs.specs.Runs.{IsOfRun, IsRunFault, is_refused};
 ghost use Rattle.stream_io.specs.Written.{HasFront};
 ghost use Rattle.seed_search.specs.Found.{AreCleared, IsCleared, IsFoundRun, IsFoundText, IsJudgedRun, IsSearched, with_seed};
 

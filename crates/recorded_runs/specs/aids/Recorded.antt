@@ -47,15 +47,6 @@ IsOfRecording (Worker doc) = ⊥
 IsOfRecording Recording = Unit {0}
 IsOfRecording Setting = ⊥
 
--- it comes of recording or of the setting, and not of writing
-abbrev pub IsOfRun : StreamFault → Type 0
-IsOfRun Read = ⊥
-IsOfRun Write = ⊥
-IsOfRun NoMemory = Unit {0}
-IsOfRun (Worker doc) = ⊥
-IsOfRun Recording = Unit {0}
-IsOfRun Setting = Unit {0}
-
 -- the answer is that the number of copies is refused
 abbrev pub tells_copies : {X : Type 0} → Result X CoreFault → Bool
 tells_copies (Ok x) = false
