@@ -25,8 +25,8 @@ impl<F: Read, I: Read> Read for Source<F, I> {
     }
 }
 
-// Tells on standard error which file can't be opened, and why; also where standard error fails.
-fn tell_unopened(rt: &impl Eprint, path: &str, error: &io::Error) {
+/// Reports on standard error which file can't be opened, and why; also if standard error fails.
+pub fn tell_unopened(rt: &impl Eprint, path: &str, error: &io::Error) {
     let _ = match error.kind() {
         ErrorKind::NotFound => eprintln!(rt; "casbench: {path}: no such file"),
         _ => eprintln!(rt; "casbench: {path}: {error}"),
@@ -73,44 +73,4 @@ pub fn open_both<R: Files + Eprint>(
     let first = open(rt, first)?;
     let second = open(rt, second)?;
     Ok((first, second))
-}
-
-// Tells on standard error that a page would be written over the history; also where standard error fails.
-fn tell_overwritten(rt: &impl Eprint, path: &str) {
-    let _ = eprintln!(rt; "casbench: {path}: the history would be overwritten");
-}
-
-// The file, empty and open to be written. That it can't be opened is told on standard error by its name.
-fn create<R: Files + Eprint>(rt: &R, path: &str) -> Result<R::File, StreamFault>
-    ensures { IfErr result (λ fault. fault ≡ StreamFault.Write) }
-{
-    match fs::create(rt, path) {
-        Ok(file) => Ok(file),
-        Err(error) => {
-            tell_unopened(rt, path, &error);
-            Err(StreamFault::Write)
-        }
-    }
-}
-
-/// The file that is named, empty and open to be written, or none where none is. That it can't be opened, or is the file that is
-/// read, is told on standard error by its name, and is a write fault.
-pub fn create_or_none<R: Files + Eprint>(
-    rt: &R,
-    path: Option<&str>,
-    read: Option<&str>,
-) -> Result<Option<R::File>, StreamFault>
-    ensures none { path.entry ≡ None → result ≡ Ok None }
-    ensures err { IfErr result (λ fault. fault ≡ StreamFault.Write) }
-{
-    let Some(path) = path else {
-        return Ok(None);
-    };
-    if let Some(read) = read {
-        if read == path {
-            tell_overwritten(rt, path);
-            return Err(StreamFault::Write);
-        }
-    }
-    Ok(Some(create(rt, path)?))
 }

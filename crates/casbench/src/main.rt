@@ -12,6 +12,7 @@ mod commands;
 mod exit;
 mod files;
 mod given;
+mod page_file;
 mod run;
 mod run_words;
 mod search_teller;

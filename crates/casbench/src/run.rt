@@ -1,30 +1,31 @@
-ghost use Rattle.std.specs.Prelude.{◌≡◌, ◌≢◌, ◌≤◌, ℕ, List, Option, None, IfErr, IfOk};
+ghost use Rattle.std.specs.Prelude.{◌≡◌, ◌≢◌, ◌≤◌, ◌⊎◌, ℕ, List, Option, None, IfErr, IfOk, IsErrOf};
 ghost use Rattle.std.proofs.Common.{Bor};
 ghost use Rattle.std.specs.Io.KnownBytes.{Keeps};
 ghost use Rattle.doc_register.specs.declared.state.Conflicts.{Conflicts as Reading};
 ghost use Rattle.evidence.specs.declared.ruling_out.RulingOut.{RulingOut as Ruling};
 ghost use Rattle.report.specs.Explained.{ExplainsInput};
-ghost use Rattle.report.specs.Verdict.{IsAnswered, WitnessesInput};
-ghost use Rattle.recorded_runs.specs.Runs.{IsRunText};
+ghost use Rattle.report.specs.Verdict.{IsAnswered, IsCutOff, WitnessesInput};
+ghost use Rattle.recorded_runs.specs.Runs.{IsRunText, IsTextInTurns};
 ghost use Rattle.recorded_runs.specs.declared.manner.Manner.{Manner as Going};
 ghost use Rattle.recorded_runs.specs.declared.run_setting.RunSetting.{RunSetting as Setting};
-ghost use Rattle.seed_search.specs.Found.{IsSearched};
+ghost use Rattle.seed_search.specs.Found.{IsFoundText, IsSearched};
 ghost use Rattle.seed_search.specs.declared.seeds.Seeds.{Seeds as Range};
 ghost use Rattle.disturbances.specs.declared.disturbance.Disturbance.{Disturbance as Way};
 ghost use Rattle.casbench.specs.Faults.{MayFail};
 ghost use Rattle.stream_io.specs.Faults.{IsWorkedFault};
-ghost use Rattle.stream_io.specs.Written.{HasAnswer};
+ghost use Rattle.stream_io.specs.Written.{HasAnswer, HasFront};
 
-use crate::files::{create_or_none, open_both, open_or};
+use crate::files::{open_both, open_or};
+use crate::page_file::{ReadyPage, refuse_history};
 use crate::search_teller::SearchTeller;
 use crate::words::Words;
 use disturbances::DisturbedGroup;
 use doc_register::Conflicts;
 use history::HashKeys;
-use recorded_runs::run_played_stream;
+use recorded_runs::{Playing, run_played_stream};
 use report::{
-    RulingOut, Status, StreamFault, bulk_stream, check_stream, explain_page_stream, explain_stream,
-    verify_stream, witness_stream,
+    RulingOut, Status, StreamFault, bulk_stream, check_stream, explain_stream, explained_page,
+    verify_stream, witness_stream, write_answer,
 };
 use seed_search::search_stream;
 use std::alloc::Global;
@@ -48,14 +49,15 @@ fn worker_count(workers: u64) -> usize
     }
 }
 
-// Checks a history and tells what was found, on a page too where there is a writer for one.
-fn explain<T: Threads + Wait + Sync, R: Read, W: Write, P: Write>(
+// Checks a history and tells what was found; on a page too, if one is named, which takes its place when the answer is written.
+fn explain<F: Files + Eprint, T: Threads + Wait + Sync, R: Read, W: Write>(
+    rt: &F,
     threads: &T,
     alloc: Global,
     keys: HashKeys,
     history: &mut R,
     writer: &mut W,
-    page: Option<&mut P>,
+    page: Option<&str>,
     workers: usize,
     conflicts: Conflicts,
     ruling_out: RulingOut,
@@ -64,17 +66,31 @@ fn explain<T: Threads + Wait + Sync, R: Read, W: Write, P: Write>(
     requires few { workers ≤ 16 }
     ensures explained { IfOk result (λ status. HasAnswer (ExplainsInput ruling_out conflicts (R.remaining history.old) status)
         (W.contents writer.old) (W.contents writer.new)) }
+    ensures cut_off { IsErrOf result StreamFault.Write
+        → HasFront (ExplainsInput ruling_out conflicts (R.remaining history.old)) (W.contents writer.old)
+        (W.contents writer.new) ⊎ Keeps (W.contents writer.old) (W.contents writer.new) }
     ensures kept { IfErr result (λ fault. fault ≢ StreamFault.Write
         → Keeps (W.contents writer.old) (W.contents writer.new)) }
     ensures told { IfErr result IsWorkedFault }
 {
-    match page {
-        None => explain_stream(
+    let Some(path) = page else {
+        return explain_stream(
             threads, alloc, keys, history, writer, workers, conflicts, ruling_out,
-        ),
-        Some(page) => explain_page_stream(
-            threads, alloc, keys, history, writer, page, workers, conflicts, ruling_out,
-        ),
+        );
+    };
+    let (answer, page) = explained_page(
+        threads, alloc, keys, history, workers, conflicts, ruling_out,
+    )?;
+    let ready = ReadyPage::new(rt, alloc, path, &page)?;
+    match write_answer(writer, &answer) {
+        Ok(status) => {
+            ready.keep(rt, &page)?;
+            Ok(status)
+        }
+        Err(fault) => {
+            ready.discard(rt);
+            Err(fault)
+        }
     }
 }
 
@@ -110,10 +126,35 @@ pub fn run<R: Files + Eprint, T: Threads + Wait + Sync, I: Read + Drop, W: Write
     ensures recorded { (setting : Setting) (manner : Going) → words.entry ≡ Words.Run setting manner
         → IfOk result (λ status. (status ≡ Status.Yes) × HasAnswer (IsRunText ⟦<DisturbedGroup as Target>⟧.issued ⟦<DisturbedGroup as Target>⟧.gave setting)
         (W.contents writer.old) (W.contents writer.new)) }
+    // In turns it is the text of just the run that the setting and the disturbance lead to.
+    ensures in_turns { (setting : Setting) (manner : Going) → words.entry ≡ Words.Run setting manner
+        → manner.playing ≡ Playing.InTurns → IfOk result (λ _. HasAnswer (IsTextInTurns setting manner.disturbance)
+        (W.contents writer.old) (W.contents writer.new)) }
     // Of a search through seeds the first run is written that no order is found for, and the status is yes; or none has it, and no.
     ensures searched { (seeds : Range) (setting : Setting) (way : Way) → words.entry ≡ Words.Search seeds setting way
-        → IfOk result (IsSearched ⟦<DisturbedGroup as Target>⟧.issued ⟦<DisturbedGroup as Target>⟧.gave setting
+        → IfOk result (IsSearched ⟦<DisturbedGroup as Target>⟧.issued ⟦<DisturbedGroup as Target>⟧.gave way setting
         seeds.first seeds.last (W.contents writer.old) (W.contents writer.new)) }
+    // After a write fault the writer holds a front of what the command answers; of an `explain` maybe nothing more than it held, since
+    // a page can fail before.
+    ensures check_cut_off { (conflicts : Reading) (workers : ℕ) (ruling : Ruling)
+        → words.entry ≡ Words.Check None conflicts workers ruling → IsErrOf result StreamFault.Write
+        → IsCutOff ruling conflicts (I.remaining input) (W.contents writer.old) (W.contents writer.new) }
+    ensures witness_cut_off { (conflicts : Reading) (ruling : Ruling) → words.entry ≡ Words.Witness None conflicts ruling
+        → IsErrOf result StreamFault.Write
+        → HasFront (WitnessesInput ruling conflicts (I.remaining input)) (W.contents writer.old)
+        (W.contents writer.new) }
+    ensures explain_cut_off { (conflicts : Reading) (workers : ℕ) (ruling : Ruling) (page : Option (Bor (List ℕ)))
+        → words.entry ≡ Words.Explain None conflicts workers ruling page → IsErrOf result StreamFault.Write
+        → HasFront (ExplainsInput ruling conflicts (I.remaining input)) (W.contents writer.old) (W.contents writer.new)
+        ⊎ Keeps (W.contents writer.old) (W.contents writer.new) }
+    ensures run_cut_off { (setting : Setting) (manner : Going) → words.entry ≡ Words.Run setting manner
+        → IsErrOf result StreamFault.Write
+        → HasFront (λ _. IsRunText ⟦<DisturbedGroup as Target>⟧.issued ⟦<DisturbedGroup as Target>⟧.gave setting)
+        (W.contents writer.old) (W.contents writer.new) }
+    ensures search_cut_off { (seeds : Range) (setting : Setting) (way : Way) → words.entry ≡ Words.Search seeds setting way
+        → IsErrOf result StreamFault.Write
+        → HasFront (λ _. IsFoundText ⟦<DisturbedGroup as Target>⟧.issued ⟦<DisturbedGroup as Target>⟧.gave way setting
+        seeds.first seeds.last) (W.contents writer.old) (W.contents writer.new) }
     ensures kept { IfErr result (λ fault. fault ≢ StreamFault.Write
         → Keeps (W.contents writer.old) (W.contents writer.new)) }
     // Each command answers its own faults alone.
@@ -174,14 +215,15 @@ pub fn run<R: Files + Eprint, T: Threads + Wait + Sync, I: Read + Drop, W: Write
             page,
         } => {
             let mut history = open_or(rt, file, input)?;
-            let mut page = create_or_none(rt, page, file)?;
+            refuse_history(rt, page, &history)?;
             explain(
+                rt,
                 threads,
                 alloc,
                 keys,
                 &mut history,
                 writer,
-                page.as_mut(),
+                page,
                 worker_count(workers),
                 conflicts,
                 ruling_out,

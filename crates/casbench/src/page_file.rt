@@ -1,0 +1,170 @@
+//! The page of `explain` as a file. It is written whole to a new file beside the path, which takes the path's name when all else is
+//! done: a page that is there survives every fault and interruption. It never takes the place of the history.
+
+ghost use Rattle.std.specs.Prelude.{◌≡◌, ◌⊎◌, IfErr};
+
+use crate::files::{Source, tell_unopened};
+use report::StreamFault;
+use std::alloc::Global;
+use std::fs::{self, Metadata, OpenFile, OpenOptions};
+use std::io::{self, ErrorKind};
+use std::os::unix::fs::MetadataExt;
+use std::rt::Files;
+use stream_io::write_text;
+
+// The name by which the system knows what standard input is.
+const STANDARD_INPUT: &str = "/dev/stdin";
+
+// How many names are tried for a new file.
+const NEW_NAMES: u32 = 100;
+
+// What the system knows of the file that is read, or of standard input.
+fn metadata_of<R: Files, I>(rt: &R, source: &Source<R::File, I>) -> io::Result<Metadata> {
+    match source {
+        Source::File(file) => file.metadata(),
+        Source::Input(_) => fs::metadata(rt, STANDARD_INPUT),
+    }
+}
+
+// Whether both are one regular file, whatever it is called.
+fn are_one_file(one: &Metadata, other: &Metadata) -> bool {
+    one.is_file() && one.dev() == other.dev() && one.ino() == other.ino()
+}
+
+/// Refuses a page that is the history itself, whatever both are called. That is reported on standard error by the page's name, and is
+/// a write fault.
+pub fn refuse_history<R: Files + Eprint, I>(
+    rt: &R,
+    page: Option<&str>,
+    source: &Source<R::File, I>,
+) -> Result<(), StreamFault>
+    ensures { IfErr result (λ fault. fault ≡ StreamFault.Write) }
+{
+    let Some(path) = page else {
+        return Ok(());
+    };
+    let (Ok(there), Ok(read)) = (fs::metadata(rt, path), metadata_of(rt, source)) else {
+        return Ok(());
+    };
+    if are_one_file(&there, &read) {
+        let _ = eprintln!(rt; "casbench: {path}: the history would be overwritten");
+        return Err(StreamFault::Write);
+    }
+    Ok(())
+}
+
+// That the file of this name can't be written, which is reported on standard error.
+fn unwritten(rt: &impl Eprint, path: &str, error: &io::Error) -> StreamFault
+    ensures { result ≡ StreamFault.Write }
+{
+    tell_unopened(rt, path, error);
+    StreamFault::Write
+}
+
+// A new file beside the path, with its name.
+fn new_file<R: Files + Eprint>(
+    rt: &R,
+    alloc: Global,
+    path: &str,
+) -> Result<(String, R::File), StreamFault>
+    ensures { IfErr result (λ fault. (fault ≡ StreamFault.Write) ⊎ (fault ≡ StreamFault.NoMemory)) }
+{
+    for n in 0..NEW_NAMES {
+        let name = format!(in alloc; "{path}.new-{n}")?;
+        let opened = OpenOptions::new()
+            .write(true)
+            .create_new(true)
+            .open(rt, name.as_str());
+        match opened {
+            Ok(file) => return Ok((name, file)),
+            Err(error) if error.kind() == ErrorKind::AlreadyExists => {}
+            Err(error) => return Err(unwritten(rt, path, &error)),
+        }
+    }
+    let taken = io::Error::from(ErrorKind::AlreadyExists);
+    Err(unwritten(rt, path, &taken))
+}
+
+// Writes the page to the file, and that to the disk.
+fn write_through<R: Files + Eprint>(
+    rt: &R,
+    file: &mut R::File,
+    path: &str,
+    page: &[u8],
+) -> Result<(), StreamFault>
+    ensures { IfErr result (λ fault. fault ≡ StreamFault.Write) }
+{
+    write_text(file, page)?;
+    match file.sync_all() {
+        Ok(()) => Ok(()),
+        Err(error) => Err(unwritten(rt, path, &error)),
+    }
+}
+
+/// A page that is ready to take its place.
+#[derive(Drop)]
+pub enum ReadyPage<'p> {
+    /// It stands whole in a new file of the first name, beside the one of the second name.
+    Beside(String, String),
+    /// It is to be written to what has this name, which is no regular file: a pipe or a terminal, for one.
+    Through(&'p str),
+}
+
+impl<'p> ReadyPage<'p> {
+    /// Writes the page to a new file beside the path, or beside the file that the path links to.
+    ///
+    /// `Write` if it can't be written, and `NoMemory` if a growth was refused: then the new file is gone again.
+    pub fn new<R: Files + Eprint>(
+        rt: &R,
+        alloc: Global,
+        path: &'p str,
+        page: &[u8],
+    ) -> Result<ReadyPage<'p>, StreamFault>
+        ensures { IfErr result (λ fault. (fault ≡ StreamFault.Write) ⊎ (fault ≡ StreamFault.NoMemory)) }
+    {
+        let target = match fs::metadata(rt, path) {
+            Ok(there) if !there.is_file() => return Ok(ReadyPage::Through(path)),
+            Ok(_) => match rt.canonicalize(alloc, path) {
+                Ok(target) => target.into_string(),
+                Err(error) => return Err(unwritten(rt, path, &error)),
+            },
+            Err(_) => String::from_str(alloc, path)?,
+        };
+        let (name, mut file) = new_file(rt, alloc, target.as_str())?;
+        match write_through(rt, &mut file, path, page) {
+            Ok(()) => Ok(ReadyPage::Beside(name, target)),
+            Err(fault) => {
+                let _ = fs::remove_file(rt, name.as_str());
+                Err(fault)
+            }
+        }
+    }
+
+    /// Has the page take its place, at once if that is a regular file's or nobody's. If it can't, what is there stays.
+    pub fn keep<R: Files + Eprint>(self, rt: &R, page: &[u8]) -> Result<(), StreamFault>
+        ensures { IfErr result (λ fault. fault ≡ StreamFault.Write) }
+    {
+        match self {
+            ReadyPage::Beside(name, target) => {
+                match fs::rename(rt, name.as_str(), target.as_str()) {
+                    Ok(()) => Ok(()),
+                    Err(error) => {
+                        let _ = fs::remove_file(rt, name.as_str());
+                        Err(unwritten(rt, target.as_str(), &error))
+                    }
+                }
+            }
+            ReadyPage::Through(path) => match OpenOptions::new().write(true).open(rt, path) {
+                Ok(mut file) => write_text(&mut file, page),
+                Err(error) => Err(unwritten(rt, path, &error)),
+            },
+        }
+    }
+
+    /// Leaves everything as it was.
+    pub fn discard<R: Files>(self, rt: &R) {
+        if let ReadyPage::Beside(name, _) = self {
+            let _ = fs::remove_file(rt, name.as_str());
+        }
+    }
+}
