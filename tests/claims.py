@@ -344,7 +344,7 @@ def names_of_part(part, has):
     found = re.fullmatch(r"the trait `(\w+)`(?:: (.+))?", part)
     if found:
         return [f"{found[1]}::{it}" for it in quoted(found[2] or "")] or [found[1]]
-    found = re.fullmatch(r"`(\w+)`(?: as a `(\w+)`|, as a (reader))", part)
+    found = re.fullmatch(r"`(\w+)`(?: as an? `(\w+)`|, as a (reader))", part)
     if found:
         return [f"{found[1]} as {found[2] or SPELLED_TRAITS[found[3]]}"]
     found = re.fullmatch(r"`(==|hash)` of `(\w+)`", part)

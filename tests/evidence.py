@@ -22,8 +22,9 @@ from trials import Trial, Wrong, tell, try_all
 # How many seeds each kind of fault has, in how many of them a fault is found at least, and how many seeds have no fault.
 SEEDS, FAULTS, HONEST = 300, 150, 300
 
-# How many steps the calls of a history take: each is made, performed and answered.
-STEPS = 60
+# How many steps the calls of a history take, where there are three clients: each is made, performed and answered. How many clients
+# there are of one document where writes are to overtake one another.
+STEPS, MANY = 60, 6
 
 
 def shard_of(doc):
@@ -38,14 +39,14 @@ class Waiting:
 
 
 class Clients:
-    """Three clients of two to four documents on two shards, and what was recorded of their calls."""
+    """Clients of one to four documents on two shards, and what was recorded of their calls; where no number is named, of two at least."""
 
-    def __init__(self, seed):
+    def __init__(self, seed, clients=3, docs=None):
         self.draws = Draws(seed)
-        self.docs = self.draws.below(3) + 2
+        self.docs = docs or self.draws.below(3) + 2
         # Of each document what it is, and the pair that was shown last.
         self.states, self.shown = [None] * 4, [None] * 4
-        self.waiting = [None] * 3
+        self.waiting = [None] * clients
         self.calls, self.performed, self.events = 0, 0, []
 
     def operation(self, doc):
@@ -78,7 +79,7 @@ class Clients:
 
     def step(self):
         """A drawn client takes its next step."""
-        client = self.draws.below(3)
+        client = self.draws.below(len(self.waiting))
         waiting = self.waiting[client]
         if waiting is None:
             self.waiting[client] = self.call()
@@ -204,6 +205,17 @@ def stale_get(earlier, write, get):
     return get.replied, Ending(get.no, Reply("found", old, earlier.op.k)), ("stale-get", (get.no, write.no))
 
 
+def overtaken_get(slow, fast, get):
+    """The same where the replies of two writes came in the other order than their pairs: a get that was called after both were answered
+    finds what the one gave that was answered last."""
+    old, new = pair_taken(slow.reply), pair_taken(fast.reply)
+    if old is None or new is None or slow.op.k is None or get.op.name != "get":
+        return None
+    if not slow.doc == fast.doc == get.doc or new <= old or not fast.replied < slow.replied < get.called:
+        return None
+    return get.replied, Ending(get.no, Reply("found", old, slow.op.k)), ("stale-get", (get.no, fast.no))
+
+
 def stale_swap(earlier, one, two):
     """A write was performed although its condition asks for a pair that is gone."""
     old, gone, new = (pair_taken(it.reply) for it in (earlier, one, two))
@@ -219,7 +231,7 @@ def forgotten(get, *_):
     return (get.replied, Ending(get.no, MISSING), None) if found(get) else None
 
 
-FAULT_KINDS = [pair_twice, no_writer, refused_writer, stale_get, stale_swap, forgotten]
+FAULT_KINDS = [pair_twice, no_writer, refused_writer, stale_get, overtaken_get, stale_swap, forgotten]
 
 
 def drawn_fault(draws, calls, put):
@@ -250,8 +262,8 @@ def is_told(events, evidence, line):
 
 def judged(program, put, seed):
     """Judges a seed with a fault that is put so, or without one; tells whether the drawn calls could have such a fault."""
-    clients = Clients(seed)
-    for _ in range(STEPS):
+    clients = Clients(seed, MANY, docs=1) if put is overtaken_get else Clients(seed)
+    for _ in range(STEPS * len(clients.waiting) // 3):
         clients.step()
     reading = "maybe" if clients.draws.below(2) else "plain"
     events, mine = clients.events, None

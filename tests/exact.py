@@ -1,6 +1,6 @@
 """The exact search: whether any order of all calls explains a history, straight from the definitions of docs/MODEL.md.
 
-It is no test itself. The history has a few calls, on documents of one shard. Its calls are as evidence.Known tells them.
+It is no test itself. The history has a few calls. Its calls are as evidence.Known tells them.
 """
 
 from typing import NamedTuple
@@ -17,6 +17,11 @@ def number_of(pair):
     return pair[0] * (MOST_OF_PAIR + 1) + pair[1]
 
 
+def pair_at(number):
+    """The pair that has so many below it."""
+    return divmod(number, MOST_OF_PAIR + 1)
+
+
 def room_between(pairs):
     """How many pairs lie before the first of these, between each two, and after the last."""
     edges = [LEAST - 1, *map(number_of, pairs), GREATEST + 1]
@@ -28,12 +33,18 @@ def is_told(call, reading):
     return call.reply is not None and not (call.reply == CONFLICT and reading == "maybe")
 
 
+def one_shard(_):
+    """The shard of a document, where all are on one."""
+    return 0
+
+
 class Ranked(NamedTuple):
     """A call with ranks for pairs; where it was not answered there is no reply, and its place is behind all."""
 
     called: int
     replied: float
     doc: int
+    shard: int
     op: Op
     reply: Reply
     is_told: bool
@@ -41,7 +52,7 @@ class Ranked(NamedTuple):
 
 class After(NamedTuple):
     """What a front of an order leaves: the calls behind it, of each document what it is and the rank that it took last, and how often
-    each rank was given."""
+    each rank of each shard was given."""
 
     left: frozenset
     states: tuple
@@ -55,27 +66,40 @@ def changed(row, at, item):
 
 class Search:
     """The search for an order. The pairs that the history shows have odd ranks, and those between each two, before the first and
-    after the last have the even rank between: no reply and no condition tells these apart."""
+    after the last have the even rank between: no reply and no condition tells these apart. The ranks of a shard stand one after the
+    other, and those of the next shard behind them; of a document they are counted from its shard's first."""
 
-    def __init__(self, calls, reading):
+    def __init__(self, calls, reading, shard_of):
         shown = [it.op.condition for it in calls] + [it.reply.pair for it in calls if it.reply]
         pairs = sorted(set(filter(None, shown)))
         self.ranks = {None: None, **{pair: 2 * at + 1 for at, pair in enumerate(pairs)}}
+        self.count = 2 * len(pairs) + 1
         # An unanswered get can be left out of each order.
-        self.calls = [self.ranked(it, reading) for it in calls if it.reply or it.op.name != "get"]
-        self.told = [pair_taken(it.reply) for it in self.calls if pair_taken(it.reply)]
-        # How often each rank may be given to writes whose reply doesn't tell a pair.
-        self.room = [1] * (2 * len(pairs) + 1)
-        self.room[::2] = room_between(pairs)
-        for rank in self.told:
-            self.room[rank] = 0
+        kept = [it for it in calls if it.reply or it.op.name != "get"]
+        shards = sorted({shard_of(it.doc) for it in kept})
+        self.calls = [self.ranked(it, reading, shards.index(shard_of(it.doc))) for it in kept]
+        self.told = [self.at(it, pair_taken(it.reply)) for it in self.calls if pair_taken(it.reply)]
+        self.room = self.rooms(pairs, len(shards))
         self.failed = set()
 
-    def ranked(self, call, reading):
+    def ranked(self, call, reading, shard):
         reply = call.reply and call.reply._replace(pair=self.ranks[call.reply.pair])
         replied = float("inf") if reply is None else call.replied
         op = call.op._replace(condition=self.ranks[call.op.condition])
-        return Ranked(call.called, replied, call.doc, op, reply, is_told(call, reading))
+        return Ranked(call.called, replied, call.doc, shard, op, reply, is_told(call, reading))
+
+    def at(self, call, rank):
+        """Where the rank stands among those of all shards, for a call."""
+        return call.shard * self.count + rank
+
+    def rooms(self, pairs, shards):
+        """How often each rank of each shard may be given to writes whose reply doesn't tell a pair."""
+        room = [1] * self.count
+        room[::2] = room_between(pairs)
+        room *= shards
+        for place in self.told:
+            room[place] = 0
+        return room
 
     def has_order(self):
         docs = max((it.doc for it in self.calls), default=0) + 1
@@ -103,12 +127,13 @@ class Search:
             if reply == call.reply and (taken is None or last < taken):
                 yield self.stepped(after, no, then, last if taken is None else taken)
         if not call.is_told:
-            for rank in range(max(last, 0), len(self.room)):
+            for rank in range(max(last, 0), self.count):
                 # (an even rank can be taken again)
-                is_free = after.given[rank] < self.room[rank] and (last < rank or rank % 2 == 0)
+                place = self.at(call, rank)
+                is_free = after.given[place] < self.room[place] and (last < rank or rank % 2 == 0)
                 reply, then = performed(state, call.op, rank)
                 if is_free and reply != CONFLICT:
-                    given = changed(after.given, rank, after.given[rank] + 1)
+                    given = changed(after.given, place, after.given[place] + 1)
                     yield self.stepped(after._replace(given=given), no, then, rank)
 
     def stepped(self, after, no, then, last):
@@ -116,6 +141,6 @@ class Search:
         return After(after.left - {no}, changed(after.states, doc, then), changed(after.last, doc, last), after.given)
 
 
-def has_order(calls, reading):
+def has_order(calls, reading, shard_of=one_shard):
     """Whether an order of all calls explains the history."""
-    return Search(calls, reading).has_order()
+    return Search(calls, reading, shard_of).has_order()

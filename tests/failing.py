@@ -14,8 +14,8 @@ EIO or, in turn, as one that is interrupted; a write fails so too, and in anothe
 5,800 writes that fail, and 500 calls that are never made.
 
 After a read fault nothing has been written; after a write fault a front of what is written else, just up to that write; where
-no call fails the answer is what it is else. Each time just those calls are made that are wanted, file by file, and none after the
-one that fails.
+no call fails the answer is what it is else. A page is there only where no call failed, and whole then; no other file is left beside
+it. Each time just those calls are made that are wanted, file by file, and none after the one that fails.
 """
 
 import errno
@@ -90,13 +90,15 @@ class Failing(NamedTuple):
 
 
 class Ended(NamedTuple):
-    """How a run ended: its status, both outputs, the page if there is one, and the calls that were made."""
+    """How a run ended: its status, both outputs, the page if there is one, the calls that were made, and the files that it left beside
+    these."""
 
     status: int
     out: bytes
     why: str
     page: Optional[bytes]
     calls: str
+    left: tuple
 
 
 # A get that was not answered, and the same cut short; one that finds nothing, with its witness; one that finds what nobody wrote;
@@ -160,7 +162,9 @@ def ended(program, row, folder, more):
             ran = subprocess.run([program, *words], cwd=folder, env=where, stdin=given, stdout=taken, stderr=subprocess.PIPE, timeout=60)
         except subprocess.TimeoutExpired:
             return None
-    return Ended(ran.returncode, out.read_bytes(), ran.stderr.decode(), page.read_bytes() if page.exists() else None, told.read_text())
+    written = page.read_bytes() if page.exists() else None
+    left = {it.name for it in folder.iterdir()} - {it.name for it in row.texts} - {OUT, PAGE, TOLD}
+    return Ended(ran.returncode, out.read_bytes(), ran.stderr.decode(), written, told.read_text(), tuple(sorted(left)))
 
 
 def plain_end(program, row):
@@ -184,10 +188,8 @@ def wanted(row, plain, failing):
     before, after = "." * sum(counts[:at]), "." * sum(counts[at + 1 :])
     if number > counts[at]:
         return plain._replace(calls=before + "n" * counts[at] + after)
-    left = (number - 1) * size
-    out = plain.out if name == PAGE else plain.out[:left] if name == OUT else b""
-    page = None if plain.page is None else plain.page[:left] if name == PAGE else b""
-    return Ended(4, out, WRITE_FAULT if name in (OUT, PAGE) else READ_FAULT, page, before + "n" * (number - 1) + "!")
+    out = plain.out if name == PAGE else plain.out[: (number - 1) * size] if name == OUT else b""
+    return Ended(4, out, WRITE_FAULT if name in (OUT, PAGE) else READ_FAULT, None, before + "n" * (number - 1) + "!", ())
 
 
 def numbers(count):
@@ -212,7 +214,9 @@ def failures(row, plain, size):
 def is_right(program, library, row, plain, folder, failing):
     """Whether a run in which that call fails ends as it has to."""
     name, number, error, size = failing
-    more = {"FILE": name, "NUMBER": str(number), "ERROR": str(error), "MOST": str(size), "TOLD": TOLD, "LD_PRELOAD": str(library)}
+    # (what is written of a page gets its name only at last)
+    file = "*" if name == PAGE else name
+    more = {"FILE": file, "NUMBER": str(number), "ERROR": str(error), "MOST": str(size), "TOLD": TOLD, "LD_PRELOAD": str(library)}
     return ended(program, row, folder, more) == wanted(row, plain, failing)
 
 
@@ -229,7 +233,7 @@ def is_plain(row, plain):
     if plain is None or (plain.page is not None) != (PAGE in row.words):
         return False
     is_page = plain.page is None or plain.page.startswith(b"<!doctype html>")
-    return (plain.status, plain.why) == (row.status, "") and plain.out.startswith(row.begins.encode()) and is_page
+    return (plain.status, plain.why, plain.left) == (row.status, "", ()) and plain.out.startswith(row.begins.encode()) and is_page
 
 
 def kind(row, plain, failing):

@@ -2,45 +2,67 @@
 """Draws honest recordings, with calls that are lost before or after they took effect, and has the built program judge them.
 
     python3 tests/honest.py [PROGRAM]
-    python3 tests/honest.py --seed 7 [--docs 4] [--clients 8] [--calls 800] [--loss 0.05] [--maybe 0.01]    writes one
+    python3 tests/honest.py --seed 7 [--docs 4] [--shards 1] [--clients 8] [--calls 800] [--loss 0.05] [--maybe 0.01]    writes one
 
 PROGRAM is the built casbench; where it is not named, the one that ./casbench would run. Each recording is of an index that
-kept its promise, so each should get `yes`. Where calls were lost the search misses some orders, and so few may get `no` all
-the same: MOST says how many. Each `yes` is verified by its own witness.
+kept its promise, so each should get `yes`. Where calls were lost the search misses some orders, and so few get `no` all
+the same: SETS says how many. Each `yes` is verified by its own witness.
 """
 
 import argparse
 import random
 import sys
 from concurrent.futures import ProcessPoolExecutor
+from typing import NamedTuple
 
 import texts
 from program import built_program
 from running import asked
 from trials import Trial, Wrong, tell, try_all
 
-# Of how many recordings of each kind how many may get `no`: 200 short ones in each reading of a conflict, and 20 long ones.
-SHORT, LONG = 200, 20
-MOST = {"plain": 2, "maybe": 6, "long": 1}
+
+class Set(NamedTuple):
+    """Recordings that are drawn alike: how many, on how many shards, how a conflict is read, whether they are long, and how many of
+    them get `no`."""
+
+    count: int
+    shards: int
+    reading: str
+    is_long: bool
+    no: int
+
+
+# How many get `no` is no promise: these numbers are what the program of this checkout answers. A change of the search may lessen them,
+# and then they are renewed with it; where one grows, or changes without a change of the search, orders are missed that were found.
+SETS = {
+    "plain": Set(200, 1, "plain", False, 0),
+    "plain, three shards": Set(200, 3, "plain", False, 3),
+    "maybe": Set(600, 1, "maybe", False, 6),
+    "maybe, three shards": Set(600, 3, "maybe", False, 8),
+    "long": Set(20, 1, "plain", True, 0),
+}
 
 
 class Index:
-    """An index of one shard, whose changes take rising numbers."""
+    """An index of some shards. The changes on each shard take rising numbers; a document is on the shard of its number."""
 
-    def __init__(self, draw, docs, term):
-        self.draw, self.new_term = draw, term
-        self.term, self.seq = 1, 0
+    def __init__(self, draw, docs, term, shards):
+        self.draw, self.new_term, self.shards = draw, term, shards
+        self.term, self.seq = [1] * shards, [0] * shards
         # Of each document the pair of its last change, and its value; None where it isn't there.
         self.last, self.value = [None] * docs, [None] * docs
 
-    def next_pair(self):
-        """The pair of the next change; now and then with a new term, which may count from 0 again."""
+    def shard_of(self, doc):
+        return doc % self.shards
+
+    def next_pair(self, shard):
+        """The pair of the next change on a shard; now and then with a new term, which may count from 0 again."""
         if self.draw.random() < self.new_term:
-            self.term += 1
+            self.term[shard] += 1
             if self.draw.random() < 0.3:
-                self.seq = 0
-        self.seq += 1
-        return self.term, self.seq - 1
+                self.seq[shard] = 0
+        self.seq[shard] += 1
+        return self.term[shard], self.seq[shard] - 1
 
     def perform(self, call):
         """Performs a call, and gives the line of its reply."""
@@ -50,7 +72,7 @@ class Index:
             return texts.found(n, *self.last[doc], self.value[doc], name) if is_there else texts.missing(n, name)
         if kind == "create" and is_there or call.condition and (not is_there or call.condition != self.last[doc]):
             return texts.conflict(n)
-        self.last[doc] = self.next_pair()
+        self.last[doc] = self.next_pair(self.shard_of(doc))
         self.value[doc] = call.value
         if kind == "delete":
             told = texts.deleted if is_there else texts.not_found
@@ -62,23 +84,25 @@ class Index:
 class Call:
     """A call of a client. What is lost may take effect before its ending, after it, or never."""
 
-    def __init__(self, number, doc, kind, value, condition):
-        self.number, self.doc, self.kind, self.value, self.condition = number, doc, kind, value, condition
+    def __init__(self, number, doc, shard, kind, value, condition):
+        self.number, self.doc, self.shard, self.kind, self.value, self.condition = number, doc, shard, kind, value, condition
         self.reply, self.is_lost, self.is_late, self.has_effect = None, False, False, True
 
     def line(self):
         more = "" if self.value is None else ',"k":%d' % self.value
         if self.condition:
             more += texts.condition(*self.condition)
+        if self.shard:
+            more += f',"shard":{self.shard}'
         return texts.call(self.number, self.kind, more, f"d{self.doc}")
 
 
 class Recording:
     """Clients at work on an index, and what they know of it."""
 
-    def __init__(self, seed, docs, clients, calls, loss, creates=0.0, term=0.0, maybe=0.0):
+    def __init__(self, seed, docs, clients, calls, loss, creates=0.0, term=0.0, maybe=0.0, shards=1):
         self.draw = random.Random(f"honest {seed}")
-        self.index = Index(self.draw, docs, term)
+        self.index = Index(self.draw, docs, term, shards)
         self.docs, self.calls, self.loss, self.creates, self.maybe = docs, calls, loss, creates, maybe
         self.open = [None] * clients
         # Of each client what it last heard of each document.
@@ -91,20 +115,26 @@ class Recording:
         if chance() < 0.5:
             return None
         if chance() < 0.25:
-            return self.index.term, self.draw.randrange(self.index.seq + 2)
+            shard = self.index.shard_of(doc)
+            return self.index.term[shard], self.draw.randrange(self.index.seq[shard] + 2)
         return self.known[client][doc]
+
+    def operation(self, client, doc):
+        """A drawn operation of a client: its kind, the value that it writes, and its condition."""
+        chance = self.draw.random
+        if chance() < 0.35:
+            return "get", None, None
+        if chance() < 0.1:
+            return "delete", None, self.condition(client, doc)
+        if chance() < self.creates:
+            return "create", self.begun + 1, None
+        return "index", self.begun + 1, self.condition(client, doc)
 
     def begin(self, client):
         """Begins a call."""
         chance, doc = self.draw.random, self.draw.randrange(self.docs)
-        if chance() < 0.35:
-            call = Call(self.begun, doc, "get", None, None)
-        elif chance() < 0.1:
-            call = Call(self.begun, doc, "delete", None, self.condition(client, doc))
-        elif chance() < self.creates:
-            call = Call(self.begun, doc, "create", self.begun + 1, None)
-        else:
-            call = Call(self.begun, doc, "index", self.begun + 1, self.condition(client, doc))
+        kind, value, condition = self.operation(client, doc)
+        call = Call(self.begun, doc, self.index.shard_of(doc), kind, value, condition)
         if chance() < self.loss:
             call.is_lost, call.has_effect, call.is_late = True, chance() < 0.6, chance() < 0.5
         self.begun += 1
@@ -142,10 +172,10 @@ class Recording:
                 yield self.end(client, call)
 
 
-def short_settings(seed, reading):
-    """The settings of a short recording."""
-    draw = random.Random(f"settings {seed} {reading}")
-    docs = draw.choice([1, 1, 4, 40])
+def short_settings(seed, kind):
+    """The settings of a short recording: of one document or more, but of several where there are several shards."""
+    draw = random.Random(f"settings {seed} {kind.reading}")
+    docs = draw.choice([1, 1, 4, 40]) if kind.shards == 1 else draw.choice([4, 7, 40])
     return {
         "docs": docs,
         "clients": draw.choice([4, 16]),
@@ -153,7 +183,8 @@ def short_settings(seed, reading):
         "loss": draw.choice([0.02, 0.05, 0.2]),
         "creates": draw.choice([0, 0.1]),
         "term": draw.choice([0, 0.01]),
-        "maybe": 0.01 if reading == "maybe" else 0,
+        "maybe": 0.01 if kind.reading == "maybe" else 0,
+        "shards": kind.shards,
     }
 
 
@@ -165,22 +196,22 @@ def long_settings(seed):
 
 def judged(program, kind, seed):
     """Judges a recording: tells `yes` where it is verified by its own witness, and else what is answered."""
-    reading = "maybe" if kind == "maybe" else "plain"
-    settings = long_settings(seed) if kind == "long" else short_settings(seed, reading)
+    settings = long_settings(seed) if kind.is_long else short_settings(seed, kind)
     history = "".join(Recording(seed, **settings).lines())
-    status, order = asked(program, "witness", history, conflicts=reading)
-    if status != 0:
-        return order
-    status, line = asked(program, "verify", history, order, conflicts=reading)
+    status, order = asked(program, "witness", history, conflicts=kind.reading)
+    if status == 1 and order.startswith("no "):
+        return "no"
+    status, line = asked(program, "verify", history, order, conflicts=kind.reading)
     if status != 0 or not line.startswith("verified "):
-        raise Wrong(line)
+        raise Wrong(f"{order[:100]}, and {line}")
     return "yes"
 
 
 def write_one(words):
     """Writes the recording that the words ask for."""
     asked = argparse.ArgumentParser()
-    for name, default in (("seed", 1), ("docs", 4), ("clients", 8), ("calls", 800), ("loss", 0.05), ("creates", 0.0), ("term", 0.0), ("maybe", 0.0)):
+    settings = {"seed": 1, "docs": 4, "clients": 8, "calls": 800, "loss": 0.05, "creates": 0.0, "term": 0.0, "maybe": 0.0, "shards": 1}
+    for name, default in settings.items():
         asked.add_argument(f"--{name}", type=type(default), default=default)
     sys.stdout.writelines(Recording(**vars(asked.parse_args(words))).lines())
 
@@ -191,16 +222,16 @@ def main():
         write_one(words)
         return 0
     program = built_program(words)
-    kinds = ["long"] * LONG + ["plain"] * SHORT + ["maybe"] * SHORT
-    seeds = [*range(LONG), *range(SHORT), *range(SHORT)]
-    trials = [Trial(f"{kind} {seed}", judged, (program, kind, seed)) for kind, seed in zip(kinds, seeds)]
+    trials = [(name, Trial(f"{name}, {seed}", judged, (program, kind, seed))) for name, kind in SETS.items() for seed in range(kind.count)]
+    # (the long ones first, so that none of them is left for the end)
+    trials.sort(key=lambda it: not SETS[it[0]].is_long)
     with ProcessPoolExecutor() as pool:
-        told, wrong = try_all(trials, pool)
-    passed = told.count("yes")
-    for kind, most in MOST.items():
-        others = [f"{trial.name}: {answer.strip()}" for trial, answer in zip(trials, told) if trial.of[1] == kind and answer not in ("yes", None)]
-        print(f"{kind}: {len(others)} got no, of at most {most}")
-        wrong += [f"{kind}: {len(others)} got no: {others}"] if len(others) > most else []
+        told, wrong = try_all([trial for _, trial in trials], pool)
+    passed = len(told) - len(wrong)
+    for name, kind in SETS.items():
+        unfound = [trial.name for (own, trial), it in zip(trials, told) if own == name and it == "no"]
+        print(f"{name}: {len(unfound)} of {kind.count} got no")
+        wrong += [f"{name}: {len(unfound)} got no, and not {kind.no}: {unfound}"] if len(unfound) != kind.no else []
     return tell(passed, wrong)
 
 

@@ -14,7 +14,8 @@ import tempfile
 from program import built_program
 from running import run, run_on_files, run_words
 from texts import DEPTH, EVENTS, ID_BYTES, LINE_BYTES, LINES, READ_FAULT, SETTING_FAULT, WRITE_FAULT
-from texts import answer_of, broken, condition, created, delete, get, index, lost, nested, refused, verified, witness_of, written_call, yes
+from texts import answer_of, broken, condition, conflict, created, delete, found, get, index, lost, nested, refused, refuted, updated, verified
+from texts import witness_of, written_call, yes
 from trials import Trial, try_and_tell
 
 # As many calls as a history may have.
@@ -35,6 +36,48 @@ TEXTS = [
     ("nested as deep as is read", '{"e":"lost","n":0,"x":' + nested(DEPTH - 1) + "}\n", refused(1, "no-call")),
     ("nested one deeper", '{"e":"lost","n":0,"x":' + nested(DEPTH) + "}\n", refused(1, "json")),
 ]
+
+
+# Documents of many versions. Each of these gives the lines of so many, whose calls are numbered from 0, and how many calls there are.
+
+
+def told_versions(count):
+    """Each version is told by the reply to its write, and there is room for another one between each two."""
+    return [index(n, k=n) + (updated if n else created)(n, 1, 2 * n + 1) for n in range(count)], count
+
+
+def versions_after_open_writes(count):
+    """The same, after as many writes that are never answered. Each of these may stand between any two of the others."""
+    rows = [index(n) for n in range(count)]
+    return rows + [index(count + n, k=n) + (updated if n else created)(count + n, 1, 2 * n + 1) for n in range(count)], 2 * count
+
+
+def shown_versions(count):
+    """Each version is told by a get alone, its write being without a reply."""
+    return [index(2 * n, k=n) + get(2 * n + 1) + found(2 * n + 1, 1, n, k=n) for n in range(count)], 2 * count
+
+
+# How many versions these documents have: many more than fit into a page of memory, and as many as the events of a history allow with
+# two more; each version is two events, or three.
+SOME, MOST_TOLD, MOST_SHOWN = 10_000, (EVENTS - 2) // 2, (EVENTS - 2) // 3
+LONG = [
+    (told_versions, SOME),
+    (told_versions, MOST_TOLD),
+    (versions_after_open_writes, SOME),
+    (versions_after_open_writes, MOST_SHOWN),
+    (shown_versions, SOME),
+    (shown_versions, MOST_SHOWN),
+]
+
+
+def ruled_out_at_last(program, versions, count):
+    """Whether such a document is ruled out, in the time that a run has, by an index without a condition that is refused at last."""
+    rows, calls = versions(count)
+    text = "".join(rows)
+    events = text.count("\n")
+    ran = run(program, ["check", "--rule-out"], text + index(calls) + conflict(calls))
+    return ran == answer_of(refuted("ruled-out", calls, events + 1, calls))
+
 
 # 2^63-1, 2^63, 2^64-1 and 2^64.
 NUMBERS = [str(it) for it in (2**63 - 1, 2**63, 2**64 - 1, 2**64)]
@@ -129,6 +172,8 @@ def trials(program):
         for put, line in zip(puts, lines):
             put_in = [text.replace("@", put) for text in texts]
             yield Trial(f"{command} with {put[:20]}: {texts}", run_on_files, (program, command, put_in), answer_of(line))
+    for row in LONG:
+        yield Trial(f"{row[0].__name__}, {row[1]} of them", ruled_out_at_last, (program, *row))
     for name, *row in FAULTS:
         yield Trial(name, fault_is_right, (program, *row))
 

@@ -16,7 +16,8 @@ import tempfile
 
 from program import CASES, built_program
 from running import run, said
-from texts import READINGS, condition, conflict, create, created, delete, deleted, found, get, index, lost, missing, no, no_writer, refuted, updated
+from texts import MOST_OF_PAIR, READINGS, condition, conflict, create, created, delete, deleted, found, get, index, lost, missing, no
+from texts import no_writer, refuted, updated
 from trials import Trial, Wrong, try_and_tell
 
 # A get of what nobody wrote, of a document with markup for its id, after blank lines.
@@ -165,6 +166,9 @@ TOLD += [
     ),
 ]
 
+# The greatest pair.
+GREATEST = MOST_OF_PAIR, MOST_OF_PAIR
+
 # Documents that are ruled out, each by a call that has no place. Name, text, the reply at which the search fails and its call and the
 # call that has no place, what the story has, and what the page has how often.
 RULED_OUT = [
@@ -262,6 +266,157 @@ RULED_OUT = [
         [
             "So the document must have had the version 1/2 by then. But no reply tells which write made 1/2.",
             "\n  line 3, call 1: delete -> no reply: it deletes, and a write of a number is needed\n",
+        ],
+        {},
+    ),
+    (
+        "a version that none of the writes without a reply can have made",
+        index(0) + created(0, 1, 0) + index(1, condition(1, 3), k=9) + lost(1) + index(2, k=8) + lost(2) + delete(3) + lost(3)
+        + get(4) + found(4, 1, 1, k=9) + index(5, k=9) + lost(5),
+        (9, 4, 4),
+        [
+            "So the document must have had the version 1/1 by then. But no reply tells which write made 1/1.\n"
+            "No write without a reply can have done it:\n"
+            "  line 7, call 3: delete -> no reply: it deletes, and a write of a number is needed\n"
+            "  line 5, call 2: index k=8 -> no reply: it writes another number than was found\n"
+            "  line 3, call 1: index k=9 if at 1/3 -> no reply: it asks for another version, 1/3\n"
+            "  line 11, call 5: index k=9 -> no reply: it was called only after the reply to call 4 (line 10)\n"
+            "So no order ",
+        ],
+        {},
+    ),
+    (
+        "a version whose writer was called after a later one",
+        index(0) + created(0, 1, 0) + get(1) + index(2, k=2) + updated(2, 1, 5) + index(3, k=9) + lost(3) + found(1, 1, 1, k=9),
+        (7, 1, 2),
+        [
+            "So the document must have had the version 1/1 (call 1, line 8) by then. But no reply tells which write made 1/1.\n"
+            "No write without a reply can have done it:\n"
+            "  line 6, call 3: index k=9 -> no reply: it was called only after the reply to call 2 (line 5)\nSo no order ",
+        ],
+        {},
+    ),
+    (
+        "a delete under a version that was replaced at once",
+        index(0) + created(0, 1, 0) + index(1, k=2) + updated(1, 1, 1) + delete(2, condition(1, 0)) + lost(2) + get(3) + missing(3),
+        (7, 3, 3),
+        [
+            "\nNo write without a reply can have done it:\n  line 5, call 2: delete if at 1/0 -> no reply: "
+            "it could only have been performed between 1/0 and 1/1, and no number is free between them\nSo no order ",
+        ],
+        {},
+    ),
+    (
+        "a conflict on a version behind which a write under the one before it can't stand",
+        index(0) + created(0, 1, 0) + index(1, k=2) + updated(1, 1, 1) + index(2, condition(1, 0), k=5) + lost(2)
+        + index(3, condition(1, 1), k=3) + conflict(3),
+        (7, 3, 3),
+        [
+            "\nNo write without a reply can have done it:\n  line 5, call 2: index k=5 if at 1/0 -> no reply: "
+            "it could only have been performed between 1/0 and 1/1, and no number is free between them\nSo no order ",
+        ],
+        {},
+    ),
+    (
+        "a creation behind another version than the one for which a delete asks",
+        index(0) + created(0, 1, 0) + index(1, k=2) + updated(1, 1, 4) + delete(2, condition(1, 0)) + lost(2) + index(3, k=3) + created(3, 1, 9),
+        (7, 3, 3),
+        ["\nNo write without a reply can have done it:\n  line 5, call 2: delete if at 1/0 -> no reply: it asks for another version, 1/0\nSo no order "],
+        {},
+    ),
+    (
+        "the greatest version, behind which there is none",
+        index(0) + created(0, *GREATEST) + delete(1) + lost(1) + delete(2, condition(*GREATEST)) + lost(2) + get(3) + missing(3),
+        (7, 3, 3),
+        [
+            "\nNo write without a reply can have done it:\n"
+            f"  line 5, call 2: delete if at {GREATEST[0]}/{GREATEST[1]} -> no reply: no write would help\n"
+            "  line 3, call 1: delete -> no reply: no write would help\nSo no order ",
+        ],
+        {},
+    ),
+    (
+        "an update before which no version is left",
+        index(0, k=9) + lost(0) + index(1, k=2) + updated(1, 1, 0),
+        (3, 1, 1),
+        [
+            "\nCall 1 (index k=2, called in line 3) was answered \"updated as 1/0\" (line 4). This says that the document was there just before 1/0. "
+            "But no reply shows a version before 1/0, so the document was not there. So something else must have written it just before.\n"
+            "No write without a reply can have done it:\n"
+            "  line 1, call 0: index k=9 -> no reply: it could only have been performed before 1/0, and no version is before it\nSo no order ",
+        ],
+        {},
+    ),
+    (
+        "an update of a document that was deleted",
+        index(0) + created(0, 1, 0) + delete(1) + deleted(1, 1, 1) + delete(2) + lost(2) + index(3, k=3) + updated(3, 1, 3),
+        (7, 3, 3),
+        [
+            "This says that the document was there just before 1/3. "
+            "But the last version before 1/3 that a reply shows is 1/1 (call 1, line 4), and with it the document was not there.",
+            "\nNo write without a reply can have done it:\n"
+            "  line 5, call 2: delete -> no reply: it deletes, and a write of a number is needed\nSo no order ",
+        ],
+        {},
+    ),
+    (
+        "a get that found a version after another one had missed it",
+        index(0) + created(0, 1, 0) + delete(1) + lost(1) + get(2) + missing(2) + get(3) + found(3, 1, 0),
+        (7, 3, 3),
+        [
+            "But the document had been changed after 1/0 by a write of unknown outcome before the call was made, "
+            "and a document never goes back to an older version.\nWhat became of the writes without a reply plays no part in this.\nSo no order ",
+        ],
+        {"can have done it": [0]},
+    ),
+    (
+        "a write below a version that was found",
+        index(0) + created(0, 1, 0) + index(1, k=9) + lost(1) + get(2) + found(2, 1, 5, k=9) + index(3, k=3) + updated(3, 1, 3),
+        (7, 3, 3),
+        [
+            "\nCall 2, a get, was answered with k=9 at the version 1/5 (line 6), so the document had reached it by then. ",
+            "But the document had reached 1/5 before the call was made, and each write of a document gets a version newer than those before.",
+        ],
+        {},
+    ),
+    (
+        "a write under a condition that created its document",
+        index(0) + created(0, 1, 0) + index(1, condition(1, 0), k=3) + created(1, 1, 5),
+        (3, 1, 1),
+        ["It was to be performed only where the document is there at 1/0, and its reply says that the document was not there. It can't be both.\nSo no order "],
+        {},
+    ),
+    (
+        "a write under a version above its own",
+        index(0) + created(0, 1, 5) + index(1, condition(1, 7), k=3) + updated(1, 1, 6),
+        (3, 1, 1),
+        ["It was to be performed only where the document is at 1/7, and a write that replaces 1/7 gets a newer version than it. This one got none that is newer."],
+        {},
+    ),
+    (
+        "a write under a version that was replaced",
+        index(0) + created(0, 1, 0) + index(1, k=9) + lost(1) + get(2) + found(2, 1, 1, k=9) + index(3, condition(1, 0), k=3) + updated(3, 1, 3),
+        (7, 3, 3),
+        ["But the version 1/1 (call 2, line 6) lies between 1/0 and its own, so the document was past 1/0 by then."],
+        {},
+    ),
+    (
+        "a write under a version that was changed by a write without a reply",
+        index(0) + created(0, 1, 0) + delete(1) + lost(1) + get(2) + missing(2) + index(3, condition(1, 0), k=3) + updated(3, 1, 9),
+        (7, 3, 3),
+        [
+            "It was to be performed only where the document is still at 1/0. "
+            "But the document had been changed after 1/0 by a write of unknown outcome before the call was made.",
+        ],
+        {},
+    ),
+    (
+        "a create that met no document, of which nothing is known",
+        create(0) + conflict(0),
+        (1, 0, 0),
+        [
+            "So something must have written the document before line 2. But no reply shows that anything did.\n"
+            "The document has no write without a reply that could have done it.\nSo no order ",
         ],
         {},
     ),
