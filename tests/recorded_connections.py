@@ -8,7 +8,6 @@ PROGRAM isn't run. The last line says how many tests passed and failed.
 """
 
 import contextlib
-import io
 import json
 import os
 import random
@@ -25,12 +24,13 @@ from unittest import mock
 from program import TOP
 from recordings import FolderTest, run_tests
 
+from casbench_recording.connecting import Addresses, Connecting
 from casbench_recording.documents import digest_of, digest_of_object, digest_of_text, object_of
 from casbench_recording.history import History, counting_members
 from casbench_recording.inspection import Shape
 from casbench_recording.judge import Judge
 from casbench_recording.loop import Loop, Stream
-from casbench_recording.proxy import ClientSide
+from casbench_recording.sides import ClientSide
 from casbench_recording.routes import Names
 from casbench_recording.tls import TlsStream
 from casbench_recording.unjudged import Unjudged
@@ -53,6 +53,9 @@ class Taker:
 
     def resume_writing(self):
         self.heard.append("resume")
+
+    def ended(self):
+        self.stream.close()
 
     def connection_lost(self):
         self.heard.append("lost")
@@ -162,14 +165,14 @@ class Streams(LoopTest):
     def test_a_fault_of_a_user_ends_its_connection_alone(self):
         (taker, other), (second, another) = self.pair(), self.pair()
         taker.received = mock.Mock(side_effect=ValueError("a fault of the test"))
-        with contextlib.redirect_stderr(io.StringIO()) as told:
+        with mock.patch("casbench_recording.console.tell") as tell:
             other.sendall(b"x")
             self.until(lambda: taker.heard == ["lost"])
             self.loop.call(lambda: 1 // 0)
             another.sendall(b"y")
             self.until(lambda: second.data == b"y")
-        self.assertIn("a fault of the test", told.getvalue())
-        self.assertIn("ZeroDivisionError", told.getvalue())
+        told = [call.args[0] for call in tell.call_args_list]
+        self.assertRegex("".join(told), "^[^\n]*a fault of the test\n[^\n]*ZeroDivisionError[^\n]*\n$")
 
 
 class Listening(LoopTest):
@@ -179,11 +182,12 @@ class Listening(LoopTest):
         accepted, made = [], []
         listeners = self.make(lambda: self.loop.listen("127.0.0.1", 0, accepted.append))
         port = listeners[0].port
-        self.loop.connect(("127.0.0.1", port), made.append)
+        addresses = Addresses("127.0.0.1", port)
+        self.make(lambda: Connecting(self.loop, addresses, made.append))
         self.until(lambda: accepted and made)
         self.assertEqual(made[0].getsockname(), accepted[0].getpeername())
         self.make(lambda: [it.close() for it in listeners])
-        self.loop.connect(("127.0.0.1", port), made.append)
+        self.make(lambda: Connecting(self.loop, addresses, made.append))
         self.until(lambda: len(made) == 2)
         self.assertIsInstance(made[1], ConnectionRefusedError)
         for it in (accepted[0], made[0]):
@@ -223,11 +227,11 @@ class Listening(LoopTest):
 
     def test_a_connection_that_nobody_can_use_is_closed(self):
         (listener,) = self.make(lambda: self.loop.listen("127.0.0.1", 0, mock.Mock(side_effect=ValueError("a fault of the test"))))
-        with contextlib.redirect_stderr(io.StringIO()) as told:
+        with mock.patch("casbench_recording.console.tell") as tell:
             for _ in range(2):
                 with socket.create_connection(("127.0.0.1", listener.port), timeout=30) as connection:
                     self.assertEqual(connection.recv(1), b"")
-        self.assertEqual(told.getvalue().count("ValueError: a fault of the test"), 2)
+        self.assertEqual(["ValueError: a fault of the test\n" in call.args[0] for call in tell.call_args_list], [True] * 2)
         self.make(listener.close)
 
     def test_a_signal_ends_it(self):
@@ -304,7 +308,8 @@ class Encrypted(LoopTest):
 class Noted:
     """A connection that notes what is written to it."""
 
-    is_closing = False
+    is_closing = is_at_end = is_paused = False
+    waiting = 0
 
     def __init__(self, *_):
         self.data = b""
@@ -319,7 +324,7 @@ class Pieces(FolderTest):
     def setUp(self):
         super().setUp()
         self.draw = random.Random(2)
-        patch = mock.patch("casbench_recording.proxy.Stream", Noted)
+        patch = mock.patch("casbench_recording.sides.Stream", Noted)
         patch.start()
         self.addCleanup(patch.stop)
 
@@ -328,8 +333,9 @@ class Pieces(FolderTest):
         shape = Shape("carts", Names(["carts"], []), 1, 512, True)
         judge = Judge(shape, "carts", History(path, clock=lambda: 0.0), Unjudged(path))
         soon = []
-        proxy = SimpleNamespace(loop=SimpleNamespace(soon=soon.append), judge=judge, clients=set(), cluster=SimpleNamespace(trust=None))
-        proxy.connect, proxy.look_again = lambda made: None, lambda exchange: None
+        proxy = SimpleNamespace(loop=SimpleNamespace(soon=soon.append, now=0.0), judge=judge, clients=set(), cluster=SimpleNamespace(trust=None))
+        proxy.finding, proxy.has_room, proxy.hold = None, lambda: True, lambda count: None
+        proxy.connect = lambda made: SimpleNamespace(cancel=lambda: None)
         client = ClientSide(proxy, None)
         client.received(b"")
         client.connection_made(None)

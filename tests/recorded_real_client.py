@@ -1,16 +1,18 @@
 #!/usr/bin/env python3
-"""Tests the recording proxy with a client that nobody here wrote: the one of Debian's package python3-elasticsearch.
+"""Tests the recording proxy with clients that nobody here wrote: those of Debian's packages python3-elasticsearch, ruby-elasticsearch and
+libsearch-elasticsearch-perl.
 
     python3 tests/recorded_real_client.py [PROGRAM]
 
-PROGRAM is the built casbench; where it is not named, the one that ./casbench would run. Where the client isn't installed, neither for
-the Python that runs this nor for /usr/bin/python3, a line says so and nothing is tested. The last line says how many tests passed and
-failed.
+PROGRAM is the built casbench; where it is not named, the one that ./casbench would run. If a client isn't installed, that for Python
+neither for the Python that runs this nor for /usr/bin/python3, a line says so and it isn't tried. The last line says how many tests passed
+and failed.
 """
 
 import json
 import subprocess
 import sys
+import unittest
 
 from program import TOP
 from recordings import FolderTest, Started, run_tests
@@ -31,19 +33,74 @@ def python_with_client():
 PYTHON = python_with_client()
 
 
-class RealClient(FolderTest):
-    """The client asks through the proxy."""
+def is_there(*words):
+    """Whether these words run."""
+    try:
+        return subprocess.run(words, capture_output=True).returncode == 0
+    except OSError:
+        return False
 
-    def talked(self, letters, *fault, seconds="30"):
-        """Has the client make its turns through the proxy; gives what it saw."""
+
+RUBY = is_there("/usr/bin/ruby", "-e", 'require "elasticsearch"')
+PERL = is_there("/usr/bin/perl", "-MSearch::Elasticsearch", "-e", "1")
+
+
+class ClientTest(FolderTest):
+    """A test of a client that asks through the proxy."""
+
+    def talked_by(self, words, *fault):
+        """Has a client make its turns through the proxy, whose address stands in the place of URL; gives what it saw."""
         with Started("stand_in", "--port", "0", "--product", "Elasticsearch", *fault) as other:
             other.make("carts")
             with Started("proxy", "--listen", "127.0.0.1:0", "--cluster", other.url, "--index", "carts", self.file) as proxy:
-                words = [PYTHON, TOP / "tests" / "real_client.py", proxy.url, seconds, letters]
-                ran = subprocess.run(words, capture_output=True, text=True, timeout=60)
+                words = [proxy.url if it == "URL" else it for it in words]
+                ran = subprocess.run(words, capture_output=True, text=True, timeout=120)
                 self.assertEqual(ran.returncode, 0, ran.stderr)
                 self.said = proxy.ended()
         return json.loads(ran.stdout)
+
+
+class OthersTest(ClientTest):
+    """What a client for another language saw, and what was recorded of it: index, get, create, conflict, bulk and delete, and retries."""
+
+    def hold(self, words, missing):
+        """Holds what a client saw to what it has to see."""
+        seen = self.talked_by(words)
+        bulk = ["created", "created", "created", "deleted"]
+        self.assertEqual(seen, ["created", 1, "Conflict", "Conflict", bulk, [True, True, False], "deleted", missing])
+        self.assertEqual(self.check(), "yes docs=4 calls=15 left_out=0")
+        for fault in ("drop-after", "drop-before"):
+            self.setUp()
+            seen = self.talked_by(words, "--fault", fault, "--every", "3")
+            self.assertEqual(len(seen), 8)
+            self.assertRegex(self.check(), "^yes docs=4 ")
+            # (what was tried again is a call of its own, and the first try has no reply)
+            self.assertIn("lost", [it["e"] for it in self.lines()])
+
+
+@unittest.skipUnless(RUBY, "the client of ruby-elasticsearch isn't installed")
+class RubyClient(OthersTest):
+    """The client of ruby-elasticsearch."""
+
+    def test_turns_and_retries(self):
+        self.hold(["/usr/bin/ruby", TOP / "tests" / "real_client.rb", "URL"], "NotFound")
+
+
+@unittest.skipUnless(PERL, "the client of libsearch-elasticsearch-perl isn't installed")
+class PerlClient(OthersTest):
+    """The client of libsearch-elasticsearch-perl."""
+
+    def test_turns_and_retries(self):
+        self.hold(["/usr/bin/perl", TOP / "tests" / "real_client.pl", "URL"], "Missing")
+
+
+@unittest.skipUnless(PYTHON, "the client of python3-elasticsearch 7.17 isn't installed")
+class RealClient(ClientTest):
+    """The client of python3-elasticsearch."""
+
+    def talked(self, letters, *fault, seconds="30"):
+        """Has the client make its turns; gives what it saw."""
+        return self.talked_by([PYTHON, TOP / "tests" / "real_client.py", "URL", seconds, letters], *fault)
 
     def calls(self):
         """The calls in short, each with its ending."""
@@ -64,7 +121,7 @@ class RealClient(FolderTest):
         self.assertIn("0 of them without a reply", self.said)
 
     def test_a_retry_after_a_timeout_is_a_second_call(self):
-        seen = self.talked("icgwgcg", "--fault", "late", "--every", "4", "--late", "1.5", seconds="0.5")
+        seen = self.talked("icgwgcg", "--fault", "late", "--every", "4", "--late", "60", seconds="0.5")
         # the first try of a create was performed, and the second meets it
         self.assertEqual(seen, ["created", "created", 1, "ConflictError", 3, "ConflictError", 3])
         calls = ["index d 201", "create e 201", "get d 200", "get d lost", "get d 200", "index d 200", "index d 409", "get d lost"]
@@ -83,8 +140,7 @@ class RealClient(FolderTest):
 
 
 if __name__ == "__main__":
-    if PYTHON is None:
-        print("SKIPPED: the client of python3-elasticsearch 7.17 isn't installed here, so the proxy was not tried with it")
-        print("0 passed, 0 failed")
-        sys.exit(0)
+    for name, has_client in (("python3-elasticsearch 7.17", PYTHON), ("ruby-elasticsearch", RUBY), ("libsearch-elasticsearch-perl", PERL)):
+        if not has_client:
+            print(f"SKIPPED: the client of {name} isn't installed here, so the proxy was not tried with it")
     sys.exit(run_tests())

@@ -366,9 +366,9 @@ class Several(JudgeTest):
             asked = self.ask(judge, "POST", target, own)
             self.assertEqual(len(self.lines()), 5)
             self.answer(judge, asked, (200, {"items": items, "errors": True}))
-            wanted = ["0 index d k=2", "1 create e k=2", "2 delete f", "3 index d k=3 if 1/0", "4 index d k=1", "0 201 created 1/0"]
-            wanted += ["1 409 version_conflict", "2 404 not_found 1/1", "3 200 updated 1/2", "4 200 updated 1/3"]
-            self.assertEqual(self.ended(judge), [*wanted, f"5 index {MADE}x k=2", "5 201 created 1/4"])
+            wanted = ["0 index d k=2", "1 create e k=2", "2 delete f", "3 index d k=3 if 1/0", "4 index d k=1", f"5 index {MADE}x k=2"]
+            wanted += ["0 201 created 1/0", "1 409 version_conflict", "2 404 not_found 1/1", "3 200 updated 1/2", "4 200 updated 1/3"]
+            self.assertEqual(self.ended(judge), [*wanted, "5 201 created 1/4"])
             self.assertEqual(self.names(), {})
             self.tidy()
 
@@ -387,7 +387,7 @@ class Several(JudgeTest):
 
     def test_a_bulk_request_that_can_not_be_read_ends_the_recording(self):
         bodies = [b"what\n", b'{"index":{"_id":"d"},"x":{}}\n{}\n', b'{"index":null}\n{}\n', b'{"upsert":{"_id":"d"}}\n{}\n', b'{"index":{"_id":1.5}}\n{}\n']
-        bodies += [None, b'{"index":{"_id":"d","pipeline":"p"}}\n{}\n', b'{"index":{"_id":"d","_index":5}}\n{}\n']
+        bodies += [None, b'{"index":{"_id":"d","pipeline":"p"}}\n{}\n', b'{"index":{"_id":"d","_index":5.5}}\n{}\n', b'{"index":{"_id":"d","_id":"e"}}\n{}\n']
         for body in bodies:
             judge = self.judge()
             get = self.ask(judge, "GET", "/carts/_doc/d")
@@ -716,7 +716,7 @@ class Inspections(JudgeTest):
     """What is asked of an index before it is recorded."""
 
     def inspect(self, asked, told=(), name="carts"):
-        return Inspector(Answers(asked, told)).inspect(name)
+        return Inspector(Answers(asked, told)).look(name)
 
     def test_the_names_and_shards_of_an_index(self):
         shape = self.inspect({"settings": {"number_of_shards": 3}, "aliases": {"shop": {"index_routing": "x"}, "old": {}}})

@@ -190,7 +190,7 @@ class Passed(ProxyTest):
 
     def test_bytes_of_requests_and_answers(self):
         requests = [
-            b"GET /carts/_doc/d?pretty HTTP/1.1\r\nhost:  x \r\nX-Odd;: \xe9\r\nCONTENT-length:0\r\n\r\n",
+            b"GET /carts/_doc/d?pretty HTTP/1.1\r\nhost:  x \r\nX-Odd!: \xe9\r\nCONTENT-length:0\r\n\r\n",
             b"PUT /carts/_doc/d HTTP/1.1\r\nTransfer-Encoding: CHUNKED\r\n\r\n3;x=y\r\n{\"a\r\n4\r\n\":1}\r\n0\r\nT: x\r\n\r\n",
             b"HEAD /carts/_doc/d HTTP/1.1\r\n\r\n",
             b"POST /other/_search HTTP/1.1\r\nContent-Length: 2\r\n\r\n{}",
@@ -306,11 +306,13 @@ class Passed(ProxyTest):
     def test_a_large_document_is_judged(self):
         with self.stand_in() as other, self.proxy(other.url) as proxy:
             asker = self.asker(proxy)
-            source = {"text": "ü" * 3_000_000}
-            self.assertEqual(asker.ask("PUT", "/carts/_doc/d", source)[0], 201)
-            self.assertEqual(asker.ask("GET", "/carts/_doc/d")[1]["_source"], source)
+            for id, count, status in (("d", 300_000, 201), ("e", 3_000_000, 201)):
+                source = {"text": "ü" * count}
+                self.assertEqual(asker.ask("PUT", f"/carts/_doc/{id}", source)[0], status)
+                self.assertEqual(asker.ask("GET", f"/carts/_doc/{id}")[1]["_source"], source)
             proxy.ended()
-        self.assertEqual(self.check(), "yes docs=1 calls=2 left_out=0")
+        # (the second one is too large to be read, so its source is unknown, and the get of it lost)
+        self.assertEqual(self.check(), "yes docs=2 calls=4 left_out=1")
         self.assertLess(os.path.getsize(self.file), 1000)
 
     def test_packed_bodies_are_read(self):
@@ -402,10 +404,12 @@ class Broken(ProxyTest):
         self.assertEqual(asker.ask("PUT", "/carts/_doc/d", {"a": 0})[0], 201)
         self.assertEqual(asker.ask("PUT", "/carts/_doc/d", {"a": 1})[0], None)
         self.assertEqual(asker.ask("PUT", "/carts/_doc/d", {"a": 1})[0], 200)
+        # (a client that is gone looks as one that sends no more, and the answer comes all the same)
+        wait_for_lines(self.file, 6)
         proxy.ended()
         told = [(it["e"], it["n"]) for it in self.lines()]
-        self.assertEqual(told, [("call", 0), ("reply", 0), ("call", 1), ("lost", 1), ("call", 2), ("reply", 2)])
-        self.assertRegex(self.check(), "^yes docs=1 calls=3 ")
+        self.assertEqual(told, [("call", 0), ("reply", 0), ("call", 1), ("call", 2), ("reply", 2), ("reply", 1)])
+        self.assertEqual(self.check(), "yes docs=1 calls=3 left_out=0")
 
     def test_a_proxy_that_is_ended(self):
         for sent in (signal.SIGTERM, signal.SIGINT, signal.SIGKILL):
@@ -560,7 +564,6 @@ class Here:
     def __exit__(self, *_):
         self.proxy.loop.stop()
         self.thread.join()
-        self.proxy.inspector.connection.close()
 
 
 class Drawn:

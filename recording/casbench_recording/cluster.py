@@ -2,11 +2,14 @@
 
 import argparse
 import base64
+import contextlib
 import http.client
+import socket
 import ssl
+import threading
 import time
 import urllib.parse
-from typing import Any, Callable, Dict, Mapping, NamedTuple, Optional, Union
+from typing import Any, Callable, Dict, Iterator, Mapping, NamedTuple, Optional, Union
 
 from .history import text_of, value_of
 
@@ -14,6 +17,10 @@ Url = urllib.parse.SplitResult
 
 PAUSE = 0.1
 """How many seconds lie between two tries to connect."""
+
+
+MOST_OF_AN_ANSWER = 16 * 1024 * 1024
+"""The most bytes of an answer that are taken."""
 
 
 class ClusterError(Exception):
@@ -59,6 +66,8 @@ class Connection:
         url, timeout = cluster.url, cluster.timeout
         self.prefix = url.path.rstrip("/")
         self.headers = {"Content-Type": "application/json", **cluster.credentials}
+        # (also while http.client has let go of it)
+        self.socket: Optional[socket.socket] = None
         self.http: Union[http.client.HTTPConnection, http.client.HTTPSConnection]
         if cluster.trust is not None:
             self.http = http.client.HTTPSConnection(str(url.hostname), port_of(url), timeout=timeout, context=cluster.trust)
@@ -74,6 +83,7 @@ class Connection:
         while self.http.sock is None and not is_over():
             try:
                 self.http.connect()
+                self.socket = self.http.sock
             except ssl.SSLCertVerificationError as fault:
                 self.http.close()
                 raise ClusterError(f"the cluster's certificate is not trusted: {fault.verify_message}") from fault
@@ -92,14 +102,41 @@ class Connection:
         try:
             self.http.request(method, self.prefix + path, body, self.headers)
             response = self.http.getresponse()
-            return Answer(response.status, response.read())
+            return Answer(response.status, body_of(response))
         except (OSError, http.client.HTTPException) as fault:
             self.http.close()
             raise NoAnswer(str(fault) or type(fault).__name__) from fault
 
+    @contextlib.contextmanager
+    def within(self, seconds: float) -> Iterator[None]:
+        """Breaks the connection off if the block takes longer, however slowly an answer comes."""
+        timer = threading.Timer(seconds, self._break_off)
+        timer.daemon = True
+        timer.start()
+        try:
+            yield
+        finally:
+            timer.cancel()
+
+    def _break_off(self) -> None:
+        """Ends the connection under whoever uses it."""
+        if self.socket is not None:
+            with contextlib.suppress(OSError):
+                socket.socket.shutdown(self.socket, socket.SHUT_RDWR)
+
     def close(self) -> None:
         """Closes the connection."""
         self.http.close()
+
+
+def body_of(response: http.client.HTTPResponse) -> bytes:
+    """The body of a response, all of it. One that is too long is a fault."""
+    if response.length is not None and response.length <= MOST_OF_AN_ANSWER:
+        return response.read()
+    body = response.read(MOST_OF_AN_ANSWER + 1) if response.length is None else b""
+    if response.length is not None or len(body) > MOST_OF_AN_ANSWER:
+        raise http.client.HTTPException(f"the answer is longer than {MOST_OF_AN_ANSWER} bytes")
+    return body
 
 
 def connection_to(url: str, timeout: float = 10.0) -> Connection:

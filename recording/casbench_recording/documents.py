@@ -96,6 +96,10 @@ class Document:
         return self.number_of(digest)
 
 
+NOT_LOOKED_AT = Document("", 0, State.NOT_JUDGED)
+"""Stands for each document that is judged no longer."""
+
+
 def digest_of(source: Any) -> Optional[bytes]:
     """What equal sources have in common, and others don't; None of a source that is nested too deep to be compared."""
     try:

@@ -9,6 +9,7 @@ The line of a call is in the file before `call` returns, so before its request c
 `reply` returns. A call that is left without a reply is written as lost. One lock orders all lines.
 """
 
+import contextlib
 import functools
 import json
 import os
@@ -102,7 +103,7 @@ class Call:
 
     def lost(self) -> None:
         """Writes that the outcome will never be known."""
-        self.history.end_once(self, "lost", "")
+        self.history.end_once(self, None)
 
     # Replies by what they say, for a store that answers in other words than OpenSearch.
 
@@ -163,8 +164,8 @@ class History:
         self._shards: Dict[str, int] = {}
         self._length = 0
         try:
-            # (unbuffered, and never over a file that is there)
-            self._file = open(path, "xb", buffering=0)
+            # (unbuffered, at the end of the file whoever else may write there, and never over a file that is there)
+            self._file = open(path, "xb", buffering=0, opener=lambda path, flags: os.open(path, flags | os.O_APPEND, 0o666))
         except OSError as fault:
             raise HistoryError(f"{path}: {fault.strerror}") from fault
 
@@ -256,23 +257,30 @@ class History:
         """Writes the line of a reply, with the JSON text of its body, or without one where that is None."""
         if not is_whole(status, 0, 65_535):
             raise CallError(f"a status is a whole number up to 65535, and not {status!r}")
-        self.end_once(call, "reply", rest_of_reply(status, text))
+        self.end_once(call, rest_of_reply(status, text))
 
-    def end_once(self, call: Call, event: str, rest: str) -> None:
-        """Writes the line of an ending, for a call that is open."""
+    def end_once(self, call: Call, rest: Optional[str]) -> None:
+        """Writes the line of an ending, for a call that is open: that of a reply with this rest, or as lost where it is None."""
         with self._lock:
             if self.has_ended:
                 raise Ended
             if call.number not in self._open:
                 raise CallError(f"call {call.number} has its ending already")
-            self._end_call(call.number, event, rest)
+            self._end_call(call.number, rest)
+
+    def end_all(self, endings: "Sequence[Tuple[Call, Optional[Tuple[int, str]]]]") -> None:
+        """Writes the endings of several calls together: of each its status and the text of its body, or None where it is lost.
+
+        A call that has its ending already keeps it. At the end of the history there is nothing to write.
+        """
+        rests = [(call.number, rest_of_reply(*reply) if reply is not None else None) for call, reply in endings]
+        with self._lock:
+            if not self.has_ended:
+                self._end_calls([it for it in rests if it[0] in self._open])
 
     def lose(self, calls: Sequence[Call]) -> None:
-        """Writes those of the calls as lost that are open. At the end of the history there is nothing to write."""
-        with self._lock:
-            for call in calls:
-                if not self.has_ended and call.number in self._open:
-                    self._end_call(call.number, "lost", "")
+        """Writes those of the calls as lost that are open."""
+        self.end_all([(it, None) for it in calls])
 
     def end(self) -> None:
         """Writes the calls that are open as lost, all at once, and closes the file; later calls and endings raise Ended.
@@ -281,10 +289,24 @@ class History:
         """
         with self._lock:
             try:
-                for number in sorted(self._open) if not self.has_ended else ():
-                    self._end_call(number, "lost", "")
+                if not self.has_ended:
+                    self._end_calls([(number, None) for number in sorted(self._open)])
             finally:
                 self._close()
+
+    def damage(self) -> Optional[str]:
+        """What somebody else did to the file, or None if it is as it was written."""
+        with self._lock:
+            if self.has_ended:
+                return None
+            own = os.fstat(self._file.fileno())
+            try:
+                there = os.stat(self.path)
+            except OSError:
+                return f"{self.path} was removed while it was recorded"
+            if (there.st_dev, there.st_ino) != (own.st_dev, own.st_ino):
+                return f"{self.path} was replaced while it was recorded"
+            return None if own.st_size == self._length else f"{self.path} was changed while it was recorded"
 
     def _close(self) -> None:
         """Closes the file, once."""
@@ -293,16 +315,32 @@ class History:
         if not self._file.closed:
             self._file.close()
             if self.calls == 0:
-                os.remove(self.path)
+                with contextlib.suppress(FileNotFoundError):
+                    os.remove(self.path)
 
-    def _end_call(self, number: int, event: str, rest: str) -> None:
-        """Writes the line of an ending and counts it."""
-        self._write(f'{{"e":"{event}","n":{number},"t":{self._now()}{rest}}}\n')
-        self._open.discard(number)
-        if event == "reply":
-            self.replies += 1
-        else:
+    def _end_calls(self, endings: Sequence[Tuple[int, Optional[str]]]) -> None:
+        """Writes the lines of endings together, each a number with the rest of a reply's line, or None if it is lost; counts them."""
+        now, lines, replies = self._now(), [], 0
+        for number, rest in endings:
+            if rest is None:
+                lines.append(f'{{"e":"lost","n":{number},"t":{now}}}\n')
+            else:
+                lines.append(f'{{"e":"reply","n":{number},"t":{now}{rest}}}\n')
+                replies += 1
+        self._write("".join(lines))
+        self._open.difference_update([number for number, _ in endings])
+        self.replies += replies
+        self.lost += len(endings) - replies
+
+    def _end_call(self, number: int, rest: Optional[str]) -> None:
+        """Writes the line of one ending."""
+        if rest is None:
+            self._write(f'{{"e":"lost","n":{number},"t":{self._now()}}}\n')
             self.lost += 1
+        else:
+            self._write(f'{{"e":"reply","n":{number},"t":{self._now()}{rest}}}\n')
+            self.replies += 1
+        self._open.discard(number)
 
     def _now(self) -> int:
         """The time of day in milliseconds since 1970. No order is made of it."""

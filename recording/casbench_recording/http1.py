@@ -7,7 +7,7 @@ for messages of different lengths is refused.
 import functools
 import re
 import zlib
-from typing import List, NamedTuple, Optional, Tuple
+from typing import NamedTuple, Optional, Tuple
 
 HEAD_END = b"\r\n\r\n"
 
@@ -17,13 +17,26 @@ LONGEST_HEAD = 65_536
 MOST_REMEMBERED = 2048
 """Of how many heads it is remembered what they say. Clients and clusters repeat theirs, byte for byte."""
 
+LONGEST_REMEMBERED = 1024
+"""The most bytes of such a head."""
+
 LONGEST_CHUNK_LINE = 16_384
 """The most bytes of a line between chunks."""
 
-FIELD = re.compile(rb"\r\n(content-length|transfer-encoding|content-encoding|expect)[ \t]*:[ \t]*([^\r\n]*)", re.IGNORECASE)
-REQUEST_LINE = re.compile(rb"([!-~]+) ([!-~\x80-\xff]+) HTTP/1\.[01]\r\n")
-STATUS_LINE = re.compile(rb"HTTP/1\.[01] ([1-5]\d\d)[ \r]")
-NUMBER = re.compile(rb"\d{1,18}")
+MOST_TRAILERS = 65_536
+"""The most bytes of the fields behind the last chunk."""
+
+TOKEN = rb"[!#$%&'*+.^_`|~0-9A-Za-z-]+"
+VALUE = rb"[\t -~\x80-\xff]*"
+
+FIELD = re.compile(rb"\r\n(content-length|transfer-encoding|content-encoding|expect):[ \t]*([^\r\n]*)", re.IGNORECASE)
+FIELDS = re.compile(rb"(?:\r\n" + TOKEN + rb":" + VALUE + rb")*\r\n\r\n")
+TRAILER = re.compile(TOKEN + rb":" + VALUE)
+CHUNK_LINE = re.compile(rb"([0-9a-fA-F]{1,15})[ \t]*(?:;" + VALUE + rb")?")
+REQUEST_LINE = re.compile(rb"(" + TOKEN + rb") ([!-~\x80-\xff]+) HTTP/1\.([01])\r\n")
+STATUS_LINE = re.compile(rb"HTTP/1\.([01]) ([1-5][0-9][0-9])(?: [\t -~\x80-\xff]*)?\r\n")
+NUMBER = re.compile(rb"[0-9]{1,18}")
+EMPTY_LINES = re.compile(rb"(?:\r\n)*")
 
 
 class BadMessage(Exception):
@@ -37,20 +50,22 @@ class Body:
     is_kept = True
 
     def __init__(self) -> None:
-        self.pieces: List[bytes] = []
+        self.kept = bytearray()
 
     def take(self, data: bytes) -> int:
         """How many of the bytes, from the first on, belong to the body."""
         raise NotImplementedError
 
     def content(self) -> bytes:
-        """The content that was kept so far."""
-        return b"".join(self.pieces)
+        """Hands over the content that was kept so far."""
+        content = bytes(self.kept)
+        self.kept = bytearray()
+        return content
 
     def keep(self, piece: bytes) -> None:
         """Takes a piece of the content."""
         if self.is_kept:
-            self.pieces.append(piece)
+            self.kept += piece
 
     def at_close(self) -> bool:
         """Whether the body is whole where the connection closes now."""
@@ -91,6 +106,7 @@ class ChunkedBody(Body):
         super().__init__()
         self.line = b""
         self.left = 0  # (bytes of a chunk)
+        self.trailers = 0  # (bytes of the fields behind the last one)
         self.is_behind_chunk = self.is_behind_last = False
 
     def take(self, data: bytes) -> int:
@@ -122,16 +138,19 @@ class ChunkedBody(Body):
     def heed(self, line: bytes) -> None:
         """Heeds a line: what ends a chunk, the length of the next one, or a field behind the last one."""
         if self.is_behind_last:
+            self.trailers += len(line)
+            if line and not TRAILER.fullmatch(line) or self.trailers > MOST_TRAILERS:
+                raise BadMessage("a field behind the last chunk is none")
             self.is_done = not line
         elif self.is_behind_chunk:
             self.is_behind_chunk = False
             if line:
                 raise BadMessage("a chunk is longer than it says")
         else:
-            size = line.partition(b";")[0].strip()
-            if not re.fullmatch(rb"[0-9a-fA-F]{1,15}", size):
+            size = CHUNK_LINE.fullmatch(line)
+            if size is None:
                 raise BadMessage("a chunk has no length")
-            self.left = int(size, 16)
+            self.left = int(size[1], 16)
             self.is_behind_last = not self.left
             self.is_behind_chunk = bool(self.left)
 
@@ -187,26 +206,26 @@ class Response:
         return ChunkedBody() if self.fields.is_chunked else ClosedBody()
 
 
-@functools.lru_cache(maxsize=MOST_REMEMBERED)
-def fields_of(head: bytes) -> Fields:
-    """The fields of a head, from the end of its first line on. A field that is told twice with two values, or on two lines, is refused."""
-    if not head.count(b"\n") == head.count(b"\r") == head.count(b"\r\n") or b"\n " in head or b"\n\t" in head:
-        raise BadMessage("a line of the head ends or goes on as it may not")
+def fields_of(head: bytes, is_old: bool) -> Fields:
+    """The fields of a head, from the end of its first line on. A field that is told twice with two values, or on two lines, is
+    refused, and so is what isn't a field, and what the version of HTTP doesn't have."""
+    if FIELDS.fullmatch(head) is None:
+        raise BadMessage("a line of the head is no field")
     length: Optional[int] = None
     is_chunked = expects = False
     encoding = b""
     for name, value in FIELD.findall(head):
-        name, value = name.lower(), value.strip().lower()
+        name, value = name.lower(), value.strip(b" \t").lower()
         if name == b"content-length":
             if not NUMBER.fullmatch(value) or length not in (None, int(value)):
                 raise BadMessage("the length of the body is told wrong")
             length = int(value)
         elif name == b"transfer-encoding":
-            if value != b"chunked" or is_chunked:
+            if value != b"chunked" or is_chunked or is_old:
                 raise BadMessage("the body comes in a form that is not known")
             is_chunked = True
         elif name == b"content-encoding":
-            encoding = value
+            encoding = encoding + b"," + value if encoding else value
         else:
             expects = value == b"100-continue"
     if is_chunked and length is not None:
@@ -214,22 +233,49 @@ def fields_of(head: bytes) -> Fields:
     return Fields(length, is_chunked, encoding, expects)
 
 
-@functools.lru_cache(maxsize=MOST_REMEMBERED)
-def request_of(head: bytes) -> Request:
+remembered_fields = functools.lru_cache(maxsize=MOST_REMEMBERED)(fields_of)
+"""The same, remembered: a client's fields are often the same where its first lines aren't."""
+
+
+def fields_behind(head: bytes, is_old: bool) -> Fields:
+    """The fields behind the first line of a head."""
+    return (remembered_fields if len(head) <= LONGEST_REMEMBERED else fields_of)(head, is_old)
+
+
+def read_request(head: bytes) -> Request:
     """Reads the head of a request."""
     line = REQUEST_LINE.match(head)
     if line is None:
         raise BadMessage("it doesn't begin as a request of HTTP/1.1")
-    return Request(line[1].decode("ascii"), line[2], fields_of(head[line.end() - 2 :]))
+    return Request(line[1].decode("ascii"), line[2], fields_behind(head[line.end() - 2 :], line[3] == b"0"))
 
 
-@functools.lru_cache(maxsize=MOST_REMEMBERED)
-def response_of(head: bytes) -> Response:
+def read_response(head: bytes) -> Response:
     """Reads the head of a response."""
     line = STATUS_LINE.match(head)
     if line is None:
         raise BadMessage("it doesn't begin as a response of HTTP/1.1")
-    return Response(int(line[1]), fields_of(head[head.index(b"\r") :]))
+    return Response(int(line[2]), fields_behind(head[line.end() - 2 :], line[1] == b"0"))
+
+
+remembered_request = functools.lru_cache(maxsize=MOST_REMEMBERED)(read_request)
+remembered_response = functools.lru_cache(maxsize=MOST_REMEMBERED)(read_response)
+
+
+def request_of(head: bytes) -> Request:
+    """Reads the head of a request, or remembers it."""
+    return (remembered_request if len(head) <= LONGEST_REMEMBERED else read_request)(head)
+
+
+def response_of(head: bytes) -> Response:
+    """Reads the head of a response, or remembers it."""
+    return (remembered_response if len(head) <= LONGEST_REMEMBERED else read_response)(head)
+
+
+def without_empty_lines(data: bytes) -> bytes:
+    """The bytes without the empty lines that may stand before a request."""
+    empty = EMPTY_LINES.match(data)
+    return data[empty.end() :] if empty is not None else data
 
 
 def head_end(data: bytes) -> int:
@@ -251,12 +297,17 @@ def split_head(data: bytes) -> Tuple[bytes, bytes]:
 def decoded(content: bytes, encoding: bytes, most: int) -> Optional[bytes]:
     """The content without its encoding, or None where that isn't known, is broken, or hides more bytes than the most."""
     if encoding in (b"", b"identity"):
-        return content
-    if encoding not in (b"gzip", b"x-gzip", b"deflate"):
+        return content if len(content) <= most else None
+    decoder = decoder_of(encoding)
+    if decoder is None:
         return None
-    reader = zlib.decompressobj(zlib.MAX_WBITS | 32)
     try:
-        plain = reader.decompress(content, most)
+        plain = decoder.decompress(content, most)
     except zlib.error:
         return None
-    return plain if reader.eof and not reader.unused_data else None
+    return plain if decoder.eof and not decoder.unused_data else None
+
+
+def decoder_of(encoding: bytes) -> "Optional[zlib._Decompress]":
+    """What takes the encoding from a content, if it is one that is known and changes anything."""
+    return zlib.decompressobj(zlib.MAX_WBITS | 32) if encoding in (b"gzip", b"x-gzip", b"deflate") else None

@@ -11,6 +11,10 @@ PROBES = 16
 """For how many routings the cluster is asked which shard they are on, where there are several."""
 
 
+SECONDS = 10.0
+"""How long the cluster may take to tell all that is asked of an index."""
+
+
 class Shape(NamedTuple):
     """An index: its own name, all names by which it is reached, its shards, and whether nothing was ever written to it."""
 
@@ -32,7 +36,12 @@ class Inspector:
         self.connection = connection
 
     def inspect(self, name: str) -> Optional[Shape]:
-        """What the index is, or None where there is none. Raises ClusterError where it can't be judged."""
+        """What the index is, or None where there is none. Raises ClusterError where it can't be judged, or isn't told in time."""
+        with self.connection.within(SECONDS):
+            return self.look(name)
+
+    def look(self, name: str) -> Optional[Shape]:
+        """What the index is, however long the cluster takes to tell."""
         told = self.ask(f"/{quoted(name)}")
         if told is None:
             return None

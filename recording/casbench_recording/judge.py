@@ -5,23 +5,46 @@ no longer: its open calls are lost, later ones aren't recorded, and a list besid
 told which documents are written, the recording ends. So what was recorded stays right in each case.
 """
 
+import functools
 import json
 import re
-from typing import Any, Dict, FrozenSet, Iterator, List, Mapping, Optional, Sequence, Tuple, Union
+from typing import Any, Dict, FrozenSet, Iterable, Iterator, List, Mapping, Optional, Sequence, Tuple, Union
 
-from .documents import Document, State, digest_of, digest_of_text, is_id, object_of
-from .history import Call, Ended, History, HistoryError, Operation, Pair
-from .history import compact, counting_members, is_whole, pair_of, text_of_find, text_of_write
+from .asked import Asked, AskedInPieces, Part, condition_of
+from .bodies import texts_of
+from .bulk import Item, Untellable, items_of_long
+from .documents import NOT_LOOKED_AT, Document, State, digest_of, digest_of_text, is_id, object_of
+from .history import Call, Ended, History, HistoryError, Operation
+from .history import compact, counting_members, is_whole, pair_of, text_of, text_of_find, text_of_write
 from .inspection import Shape
 from .parts import Parts
-from .routes import OF_A_GET, OF_AN_UPDATE, PARTS_OF_A_SOURCE, PASS, READS, Kind, Names, Route, route_of
+from .routes import OF_A_GET, OF_AN_UPDATE, PASS, READS, Kind, Names, Route, route_of
 from .unjudged import Unjudged
 from .usual import read_reply
 
+MOST_READ = 2 * 1024 * 1024
+"""The most bytes of a body that are read at once. The source of a longer one is none that is known."""
+
+MOST_LOOKED_AT = 512 * 1024
+"""The most bytes of a body of settings, mappings or aliases that is looked at."""
+
+MOST_PLACES = 5000
+"""The most documents of a get of several that is recorded."""
+
+MOST_AT_ONCE = 500
+"""How many items of an answer are looked at before others have their turn."""
+
+MOST_SWEPT = 2000
+"""How many documents are judged no longer before others have their turn."""
+
+MOST_REMEMBERED = 4096
+"""How many texts of replies are remembered."""
+
+LONGEST_REMEMBERED = 1024
+"""The most letters of such a text."""
+
 MADE_ID = re.compile(r"[A-Za-z0-9_-]{20}")
 """An id as a cluster makes one for a document that is given none."""
-
-DIGITS = re.compile(r"[0-9]{1,19}")
 
 OF_AN_ITEM = {"_index", "_type", "_id", "op_type", *OF_AN_UPDATE}
 """What may stand in the action of a bulk request's item."""
@@ -38,48 +61,8 @@ OF_SEVERAL = (Kind.BULK, Kind.MULTIPLE_GET, Kind.SWEEP)
 Body = Dict[str, Any]
 Reply = Tuple[int, str]
 
-
-class Untellable(Exception):
-    """It can't be told which documents a request writes."""
-
-
-class Part:
-    """A call that a request makes, and how its reply is read."""
-
-    __slots__ = ("id", "op", "words", "digest", "document", "call", "number", "is_sure", "sweeps")
-
-    def __init__(self, id: str, op: str, words: Mapping[str, Any], digest: Optional[bytes] = None) -> None:
-        # (an empty id where the answer tells it)
-        self.id = id
-        self.op = op
-        self.words = words
-        # of the source that is written, where it can be known
-        self.digest = digest
-        self.document: Optional[Document] = None
-        self.call: Optional[Call] = None
-        self.number: Optional[int] = None
-        # whether its line tells the whole condition, so that a conflict may be recorded
-        self.is_sure = True
-        # how many sweeps there had been when it was made
-        self.sweeps = 0
-
-    @property
-    def shows_all(self) -> bool:
-        """Whether the reply to a get shows the whole source."""
-        words = self.words
-        return not words or words.get("_source", True) in (True, "true") and not (PARTS_OF_A_SOURCE - {"_source"} | {"filter_path"}) & set(words)
-
-
-class Asked:
-    """A request that is passed on: its kind, its calls, or None for an item that is none of ours, and whether its answer is its end."""
-
-    __slots__ = ("kind", "parts", "is_head", "is_over_at_answer")
-
-    def __init__(self, kind: Kind, parts: Sequence[Optional[Part]], is_head: bool = False, is_over_at_answer: bool = True) -> None:
-        self.kind = kind
-        self.parts = parts
-        self.is_head = is_head
-        self.is_over_at_answer = is_over_at_answer
+Passed = Tuple[str, bytes, Route]
+"""A request that was passed on: its method, its target, and what it was taken for."""
 
 
 class Judge:
@@ -108,23 +91,24 @@ class Judge:
         self._unnamed = 0
         # how many requests that change documents nobody knows were made, and how many of them may still go on
         self._sweeps = self._open_sweeps = 0
+        # the endings that are written next, together, or None if each is written at once
+        self._endings: Optional[List[Tuple[Call, Optional[Reply]]]] = None
 
     def route(self, method: str, target: bytes) -> Route:
         """What a request asks."""
         return PASS if self.has_ended else route_of(method, target, self.names)
 
-    def found(self, shape: Shape, passed: Sequence[Tuple[str, bytes, Route]]) -> None:
+    def found(self, shape: Shape, passed: Iterable[Passed], gone: Iterable[Passed] = ()) -> None:
         """Takes what the index is that was not there before. If something was written to it, only what is seen created is judged.
 
-        Of requests that were passed on and are not answered it is told what they are. Where one may write to the index by
-        a name that wasn't known, the index isn't looked at yet.
+        It is told which requests were passed on, and not answered when the index was looked for, and which of those never will be.
+        If one may write to the index by a name that wasn't known, the index isn't looked at yet, or never can be.
         """
-        for method, target, route in passed:
-            was_passed_by = route.kind is Kind.PASS and method not in READS and route_of(method, target, shape.names) is not PASS
-            if was_passed_by or route.kind is Kind.BULK:
-                return
-        self.shape, self.names = shape, shape.names
-        self._first = State.JUDGED if shape.is_empty else State.UNSURE
+        if any(may_have_written(it, shape) for it in gone):
+            self.end("a request that was never answered may write to the index, by a name that wasn't known")
+        elif not any(may_have_written(it, shape) for it in passed):
+            self.shape, self.names = shape, shape.names
+            self._first = State.JUDGED if shape.is_empty else State.UNSURE
 
     def end(self, why: str) -> None:
         """Ends the recording before its time: all calls that are open are lost, and no more are written."""
@@ -135,9 +119,8 @@ class Judge:
 
     def close(self) -> None:
         """Ends the recording at its time. What was never seen created isn't judged."""
-        for document in self._documents.values():
-            if document.state is State.UNSURE:
-                self._mark(document.id, "it was never seen created")
+        unsure = [it.id for it in self._documents.values() if it.state is State.UNSURE]
+        self._mark_all([(it, "it was never seen created") for it in unsure])
         self.has_ended = True
         self._end_histories()
         self.unjudged.close()
@@ -156,12 +139,29 @@ class Judge:
         """Writes the calls of a request, before it is passed on. The content is None where it can't be read."""
         try:
             return None if self.has_ended else self._ask(route, method, content)
-        except Untellable as fault:
-            self.end(str(fault))
         except Exception as fault:
-            # (the application goes on, and nothing stands in the history behind what wasn't understood)
-            self.end(f"a fault of the recorder: {fault!r}")
+            self._end_by(fault)
         return None
+
+    def ask_in_pieces(self, route: Route) -> AskedInPieces:
+        """Begins with a bulk request, whose content comes in pieces."""
+        return AskedInPieces(route.words, route.room, MOST_READ)
+
+    def take_items(self, asked: AskedInPieces, content: Optional[bytes], is_last: bool) -> None:
+        """Writes the calls of the items that are whole, before they are passed on. The content is None where it can't be read."""
+        try:
+            if content is None and not self.has_ended:
+                raise Untellable("a bulk request whose body can't be read")
+            if content is not None and not self.has_ended:
+                parts = [self._item(it, asked) for it in asked.items.take(content, is_last)]
+                self._write_parts(parts)
+                asked.parts += parts
+        except Exception as fault:
+            self._end_by(fault)
+
+    def _end_by(self, fault: Exception) -> None:
+        """Ends the recording: the application goes on, and nothing stands in the history behind what wasn't understood."""
+        self.end(str(fault) if isinstance(fault, Untellable) else f"a fault of the recorder: {fault!r}")
 
     def _ask(self, route: Route, method: str, content: Optional[bytes]) -> Optional[Asked]:
         kind = route.kind
@@ -173,14 +173,21 @@ class Judge:
         if kind is Kind.UPDATE:
             return self._made(kind, [self._update(route.id, route.words, object_of(content))])
         if kind is Kind.BULK:
-            return self._made(kind, list(self._items(route, content)))
+            bulk = self.ask_in_pieces(route)
+            self.take_items(bulk, content, True)
+            return bulk if bulk.has_calls else None
         if kind is Kind.MULTIPLE_GET:
             return self._made(kind, list(self._places(route, object_of(content))))
         if kind is Kind.SWEEP:
-            return self._swept(route)
+            asked = self.begin_sweep(route)
+            for _ in self.sweeping(route):
+                pass
+            return asked
         if kind is Kind.UNTOLD:
             self._untold(route.id, route.why)
-        elif kind is Kind.END or kind is Kind.LOOK and (content is None or any(it in content for it in route.told)):
+            if route.op == "new":
+                self._untold("", route.why)
+        elif kind is Kind.END or kind is Kind.LOOK and not is_harmless(route, content):
             raise Untellable(route.why)
         return None
 
@@ -192,11 +199,15 @@ class Judge:
 
     def _made(self, kind: Kind, parts: List[Optional[Part]]) -> Optional[Asked]:
         """Writes the calls of the parts, all of them before the request is passed on."""
+        self._write_parts(parts)
+        return Asked(kind, parts) if any(it is not None for it in parts) else None
+
+    def _write_parts(self, parts: Sequence[Optional[Part]]) -> None:
+        """Writes the calls of the parts."""
         ready = [it for it in parts if it is not None and self._is_ready(it)]
         # (another part of the request may have ended the judgement of a document)
         judged = [it for it in ready if it.document is not None and it.document.state is not State.NOT_JUDGED]
         self._write_calls([(it, self._operation(it)) for it in judged])
-        return Asked(kind, parts) if any(it is not None for it in parts) else None
 
     def _is_ready(self, part: Part) -> bool:
         """Whether a part is a call of a document that is judged. A write that can't be told ends that."""
@@ -234,7 +245,9 @@ class Judge:
             self._write_calls_of(self.history.of_shard(shard), its)
 
     def _write_calls_of(self, history: History, made: Sequence[Tuple[Part, Operation]]) -> None:
-        """Writes the lines of calls to a history."""
+        """Writes the lines of calls to a history. Several gets for which there is no room aren't recorded."""
+        if self.has_ended or len(made) > 1 and len(made) > history.room and all(it.op == "get" for _, it in made):
+            return
         try:
             calls = [history.call_one(made[0][1])] if len(made) == 1 else history.call_all([it for _, it in made])
         except Ended:
@@ -266,7 +279,10 @@ class Judge:
         """A document that is seen for the first time, or None where it isn't looked at."""
         if not is_id(id) or self._only is not None and id not in self._only:
             return None
-        document = self._documents[id] = Document(id, self.shape.shard_of(id) if self.shape else 0, self._first)
+        shard = self.shape.shard_of(id) if self.shape else 0
+        if self.has_ended or self.history.of_shard(shard).has_ended:
+            return None
+        document = self._documents[id] = Document(id, shard, self._first)
         if self._open_sweeps:
             self._mark(id, "it was first seen while a request changed documents that nobody named")
         elif self._unnamed and MADE_ID.fullmatch(id):
@@ -282,22 +298,44 @@ class Judge:
 
     def _mark(self, id: str, why: str) -> None:
         """Judges a document no longer: what is open is lost."""
-        document = self._documents[id]
-        if document.state is State.NOT_JUDGED:
-            return
-        for call in document.open:
-            self._end_call(call, None)
-        self._documents[id] = Document(id, document.shard, State.NOT_JUDGED)
-        document.state = State.NOT_JUDGED
-        self.unjudged.names(id, why)
+        self._mark_all([(id, why)])
 
-    def _swept(self, route: Route) -> Asked:
-        """Heeds that a request may change every document that is there."""
-        for id in list(self._documents):
-            self._mark(id, f"{route.why} may have changed it")
+    def _mark_all(self, reasons: Sequence[Tuple[str, str]]) -> None:
+        """The same of several documents, each with the reason."""
+        lost: List[Call] = []
+        named: List[Tuple[str, str]] = []
+        for id, why in reasons:
+            document = self._documents[id]
+            if document.state is not State.NOT_JUDGED:
+                lost += document.open
+                document.state, self._documents[id] = State.NOT_JUDGED, NOT_LOOKED_AT
+                named.append((id, why))
+        if lost:
+            self._write_endings([(it, None) for it in lost])
+        self.unjudged.names(named)
+        if self.unjudged.is_full:
+            self.end("more documents can't be judged than the list takes")
+
+    def begin_sweep(self, route: Route) -> Optional[Asked]:
+        """Heeds that a request may change every document that is there, those of now and those that are seen before its answer."""
+        if self.has_ended:
+            return None
         self._sweeps += 1
         self._open_sweeps += 1
         return Asked(route.kind, (), is_over_at_answer=not route.op)
+
+    def sweeping(self, route: Route) -> Iterator[None]:
+        """Judges those no longer that are there, before the request is passed on, in steps between which others have their turn."""
+        try:
+            why, ids = f"{route.why} may have changed it", list(self._documents)
+            for at in range(0, len(ids), MOST_SWEPT):
+                if at:
+                    yield
+                if self.has_ended:
+                    return
+                self._mark_all([(id, why) for id in ids[at : at + MOST_SWEPT]])
+        except Exception as fault:
+            self._end_by(fault)
 
     def _update(self, id: str, words: Mapping[str, Any], body: Optional[Body]) -> Optional[Part]:
         """The call that an update is: a write of a source that nobody knows, where it can't be a delete."""
@@ -308,42 +346,28 @@ class Judge:
 
     # The items of requests on several documents
 
-    def _items(self, route: Route, content: Optional[bytes]) -> Iterator[Optional[Part]]:
-        """The calls of a bulk request, item by item. Where it can't be read, nobody knows what is written."""
-        lines = iter((content or b"").split(b"\n"))
-        if content is None:
-            raise Untellable("a bulk request whose body can't be read")
-        for line in lines:
-            if line.strip():
-                action = object_of(line)
-                if action is None or len(action) != 1 or not isinstance(next(iter(action.values())), dict):
-                    raise Untellable("a bulk request with an action that can't be read")
-                ((op, words),) = action.items()
-                source = next(lines, b"") if op != "delete" else None
-                yield self._item(op, {**route.words, **words}, source, route.room)
-
-    def _item(self, op: str, words: Body, source: Optional[bytes], index: str) -> Optional[Part]:
-        """The call of an item, or None where it is none of the index, or can't be told."""
-        index, id = words.get("_index", index), words.get("_id", "")
-        if op not in ("index", "create", "delete", "update") or not isinstance(index, str) or type(id) not in (str, int):
-            raise Untellable(f"a bulk request with the action {op!r}")
-        id = str(id)
+    def _item(self, item: Item, asked: AskedInPieces) -> Optional[Part]:
+        """The call of an item of a bulk request, or None where it is none of the index, or can't be told."""
+        op, words = item.op, {**asked.words, **item.words}
+        index, id = words.get("_index", asked.room), words.get("_id", "")
+        if op not in ("index", "create", "delete", "update") or not isinstance(index, str) or not isinstance(id, str):
+            raise Untellable(f"a bulk request with the action {op[:20]!r}")
         if index not in self.names.all:
             if self.names.may_be_among(index):
-                self._untold(id, f"it was written by a bulk request to {index}")
+                self._untold(id, f"it was written by a bulk request to {index[:200]}")
             return None
         if index in self.names.routed:
             words = {"routing": index, **words}
         if words.get("pipeline", "_none") != "_none":
-            raise Untellable(f"a bulk request with pipeline={words['pipeline']}")
+            raise Untellable(f"a bulk request with pipeline={str(words['pipeline'])[:200]}")
         strange = sorted(set(words) - OF_AN_ITEM - {"pipeline"})
         if strange:
-            self._untold(id, f"it was written by a bulk request, with {strange[0]}")
+            self._untold(id, f"it was written by a bulk request, with {strange[0][:200]}")
             return None
         if op == "update":
-            return self._update(id, words, object_of(source))
+            return self._update(id, words, object_of(item.source))
         op = "create" if op == "index" and words.get("op_type") == "create" else op
-        return Part(id, op, words, digest_of_text(source))
+        return Part(id, op, words, digest_of_text(item.source))
 
     def _places(self, route: Route, body: Optional[Body]) -> Iterator[Optional[Part]]:
         """The calls of a get of several documents."""
@@ -351,7 +375,7 @@ class Judge:
         ids = (body or {}).get("ids")
         if not isinstance(places, list):
             places = [{"_id": it} for it in ids] if isinstance(ids, list) else []
-        for place in places:
+        for place in places if len(places) <= MOST_PLACES else ():
             words = {**route.words, **place} if isinstance(place, dict) else {}
             index, id = words.get("_index", route.room), words.get("_id")
             is_plain = OF_A_PLACE.issuperset(words) and words.get("realtime", True) in (True, "true")
@@ -364,16 +388,25 @@ class Judge:
 
     def answered(self, asked: Asked, status: int, content: Optional[bytes], length: Optional[int]) -> None:
         """Writes what an answer says, after all of it was received. The content is None where it can't be read."""
+        if asked.kind in OF_SEVERAL:
+            for _ in self.answering(asked, status, content):
+                pass
+            return
         try:
             if not self.has_ended:
                 self._heed_answer(asked, status, content, length)
         except Exception as fault:
-            self.end(f"a fault of the recorder: {fault!r}")
+            self._end_by(fault)
+
+    def answering(self, asked: Asked, status: int, content: Optional[bytes]) -> Iterator[None]:
+        """The same of an answer to a request on several documents, in steps, between which others may have their turn."""
+        try:
+            if not self.has_ended:
+                yield from self._heed_answer_to_several(asked, status, content)
+        except Exception as fault:
+            self._end_by(fault)
 
     def _heed_answer(self, asked: Asked, status: int, content: Optional[bytes], length: Optional[int]) -> None:
-        if asked.kind in OF_SEVERAL:
-            self._heed_answer_to_several(asked, status, object_of(content))
-            return
         (part,) = asked.parts
         assert part is not None
         if asked.is_head:
@@ -381,35 +414,53 @@ class Judge:
         else:
             self._answered(part, status, read_reply(part.op, status, content) or object_of(content))
 
-    def _heed_answer_to_several(self, asked: Asked, status: int, body: Optional[Body]) -> None:
+    def _heed_answer_to_several(self, asked: Asked, status: int, content: Optional[bytes]) -> Iterator[None]:
         """Writes what an answer says to a request on several documents."""
+        is_long = content is not None and len(content) > MOST_READ
+        body = object_of(content) if not is_long else None
         if asked.kind is Kind.SWEEP:
             if status == 200 and asked.is_over_at_answer and body is not None and not {"task", "timed_out"} & told_true(body):
                 self._open_sweeps -= 1
-        elif asked.kind is Kind.BULK:
-            self._answered_items(asked.parts, status, body, "items")
+        elif asked.kind is Kind.MULTIPLE_GET:
+            items = listed(body, "docs", len(asked.parts)) if status == 200 else iter(())
+            yield from self._answered_items(asked.parts, items, "docs")
         else:
-            self._answered_items(asked.parts, status, body, "docs")
+            whole = items_of_long(content) if is_long and content is not None else listed(body, "items", len(asked.parts))
+            yield from self._answered_items(asked.parts, whole if status == 200 else iter(()), "items")
 
     def lost(self, asked: Asked) -> None:
         """Writes that no whole answer came. A write without an id, or a request on unnamed documents, stays open for good."""
+        self._endings = []
         for part in asked.parts:
             if part is not None and part.call is not None:
                 self._end(part, None)
+        self._flush()
 
-    def _answered_items(self, parts: Sequence[Optional[Part]], status: int, body: Optional[Body], member: str) -> None:
+    def _answered_items(self, parts: Sequence[Optional[Part]], items: Iterator[Any], member: str) -> Iterator[None]:
         """Writes what an answer says of each item: of one that doesn't stand in its place nothing can be told."""
-        items = body.get(member) if body is not None and status == 200 else None
-        if not isinstance(items, list) or len(items) != len(parts):
-            items = [None] * len(parts)
-        for part, item in zip(parts, items):
-            if part is not None:
-                told = item
-                if member == "items":
-                    told = next(iter(item.values())) if isinstance(item, dict) and len(item) == 1 else None
-                is_its = isinstance(told, dict) and (not part.id or told.get("_id") == part.id)
-                status = item_status(member, told) if is_its else 0
-                self._answered(part, status, told if status else None)
+        for at in range(0, len(parts), MOST_AT_ONCE):
+            if at:
+                yield
+            if self.has_ended:
+                return
+            self._endings = []
+            for part in parts[at : at + MOST_AT_ONCE]:
+                try:
+                    item = next(items, None)
+                except (ValueError, RecursionError):
+                    items, item = iter(()), None
+                if part is not None:
+                    self._answered_item(part, item, member)
+            self._flush()
+
+    def _answered_item(self, part: Part, item: Any, member: str) -> None:
+        """Writes what an answer says of an item."""
+        told = item
+        if member == "items":
+            told = next(iter(item.values())) if isinstance(item, dict) and len(item) == 1 else None
+        is_its = isinstance(told, dict) and (not part.id or "_id" in told and (told["_id"] == part.id or part.op != "get"))
+        status = item_status(member, told) if is_its else 0
+        self._answered(part, status, told if status else None)
 
     def _answered(self, part: Part, status: int, body: Optional[Body]) -> None:
         """Writes what the reply to a call says."""
@@ -428,7 +479,8 @@ class Judge:
         """The status and the text of the body that are written for a reply; None where it is lost."""
         document = part.document
         assert document is not None
-        pair, result, text = pair_of(body), body.get("result"), ""
+        pair, result = pair_of(body), body.get("result")
+        text: Optional[str] = None
         if part.op == "get":
             if status == 200 and body.get("found") is True and pair is not None:
                 source = body.get("_source")
@@ -447,7 +499,8 @@ class Judge:
             document.wrote_nothing(part.number)
         if document.state is State.UNSURE and not self._is_settled(part, status, body):
             return None
-        return status, text or compact(counting_members(body))
+        text = text or readable(body)
+        return (status, text) if text is not None else None
 
     def _is_settled(self, part: Part, status: int, body: Body) -> bool:
         """Whether a reply settles that the document wasn't there before. One that shows that it was ends its judgement."""
@@ -489,13 +542,23 @@ class Judge:
         call, document = part.call, part.document
         if call is None or document is None:
             return
+        part.call = None
         if call in document.open:
             document.open.remove(call)
-        if document.state is not State.NOT_JUDGED:
+        if document.state is State.NOT_JUDGED:
+            return
+        if self._endings is None:
             self._end_call(call, reply)
+        else:
+            self._endings.append((call, reply))
+
+    def _flush(self) -> None:
+        """Writes the endings that wait; those that follow are written at once."""
+        endings, self._endings = self._endings or [], None
+        self._write_endings(endings)
 
     def _end_call(self, call: Call, reply: Optional[Reply]) -> None:
-        """Writes the ending of a call. Where the history ended in the meantime the call is lost by that."""
+        """Writes the ending of a call. If the history ended in the meantime the call is lost by that."""
         try:
             if reply is None:
                 call.lost()
@@ -506,19 +569,51 @@ class Judge:
         except HistoryError as fault:
             self._end_part(call.history, str(fault))
 
+    def _write_endings(self, endings: Sequence[Tuple[Call, Optional[Reply]]]) -> None:
+        """Writes the lines of endings, those of one history together."""
+        for history in {call.history for call, _ in endings}:
+            try:
+                history.end_all([it for it in endings if it[0].history is history])
+            except HistoryError as fault:
+                self._end_part(history, str(fault))
 
-def condition_of(op: str, words: Mapping[str, Any]) -> Tuple[Optional[Pair], bool]:
-    """The condition that the words of a write tell, and whether that is all that it depends on."""
-    if not words:
-        return None, True
-    seq, term = words.get("if_seq_no"), words.get("if_primary_term")
-    is_sure = not {"version", "version_type", "if_seq_no", "if_primary_term"} & set(words)
-    if op not in ("index", "delete") or not (DIGITS.fullmatch(str(seq)) and DIGITS.fullmatch(str(term))):
-        return None, is_sure
-    pair = Pair(int(str(term)), int(str(seq)))
-    if not is_whole(pair.term, 1, 2**63 - 1) or not is_whole(pair.seq, 0, 2**63 - 1):
-        return None, False
-    return pair, not {"version", "version_type"} & set(words)
+
+def may_have_written(passed: Passed, shape: Shape) -> bool:
+    """Whether a request that was passed on may have written to the index, unknown by the name that it used."""
+    method, target, route = passed
+    was_passed_by = route.kind is Kind.PASS and method not in READS and route_of(method, target, shape.names) is not PASS
+    return was_passed_by or route.kind is Kind.BULK
+
+
+def is_harmless(route: Route, content: Optional[bytes]) -> bool:
+    """Whether neither the body nor the query of a request says one of the words that count."""
+    texts = texts_of(content) if content is not None and len(content) <= MOST_LOOKED_AT else None
+    if texts is None:
+        return False
+    texts.update(route.words, route.words.values())
+    together = "\n".join(texts)
+    return not route.whole & texts and not any(it in together for it in route.told)
+
+
+def readable(body: Body) -> Optional[str]:
+    """The text of the members of a body that count, or None where casbench wouldn't read it."""
+    counting = counting_members(body)
+    counting.pop("_source", None)
+    try:
+        text = compact(counting)
+    except (ValueError, RecursionError):
+        return None
+    return read_again(text) if len(text) <= LONGEST_REMEMBERED else text_of(text)
+
+
+read_again = functools.lru_cache(maxsize=MOST_REMEMBERED)(text_of)
+"""A text that casbench reads, remembered: most replies without a pair say the same."""
+
+
+def listed(body: Optional[Body], member: str, count: int) -> Iterator[Any]:
+    """The items of an answer, if they are so many; else none."""
+    items = (body or {}).get(member)
+    return iter(items if isinstance(items, list) and len(items) == count else ())
 
 
 def told_true(body: Body) -> FrozenSet[str]:

@@ -6,13 +6,15 @@ it takes it: there is no task and no queue between.
 
 import contextlib
 import errno
+import functools
 import selectors
 import signal
 import socket
-import threading
-import traceback
+import time
 from collections import deque
-from typing import Any, Callable, Deque, List, Protocol, Tuple, Union
+from typing import Any, Callable, Deque, Dict, List, Protocol, Union
+
+from .console import tell_fault, tell_line
 
 PIECE = 65_536
 """The most bytes that are taken at once. For larger pieces the memory is asked of the system anew each time."""
@@ -21,6 +23,15 @@ MOST_WAITING = 65_536
 """How many bytes may wait to be sent before whoever writes is asked to pause."""
 
 READ, WRITE = selectors.EVENT_READ, selectors.EVENT_WRITE
+
+TICK = 0.5
+"""How many seconds lie between two looks at what takes too long."""
+
+LINGERING = 2.0
+"""For how many seconds what comes is still taken, and thrown away, after the last of an answer."""
+
+MOST_LINGERING = 16
+"""Of how many connections that is done at once."""
 
 NO_ROOM = (errno.EMFILE, errno.ENFILE, errno.ENOBUFS, errno.ENOMEM)
 """What the system says where it has room for no more connections."""
@@ -38,6 +49,9 @@ class User(Protocol):
     def resume_writing(self) -> None:
         """Hears that nothing waits to be sent any more."""
 
+    def ended(self) -> None:
+        """Hears that the other side sends no more. It may still take something."""
+
     def connection_lost(self) -> None:
         """Hears that the connection is closed, whoever closed it. Called once, and in no other method's turn."""
 
@@ -47,8 +61,17 @@ class Loop:
 
     def __init__(self) -> None:
         self.is_over = self._has_signals = False
+        # the time of this turn
+        self.now = time.monotonic()
+        # how many bytes wait to be sent, on all connections together
+        self.waiting = 0
+        # what is called every now and then, with the time
+        self.ticks: Dict[Callable[[float], None], None] = {self._end_lingering: None}
         self._selector = selectors.DefaultSelector()
         self._calls: Deque[Callable[[], None]] = deque()
+        # what is called in the next turn
+        self._next: Deque[Callable[[], None]] = deque()
+        self._lingering: "Deque[Stream]" = deque()
         # what is called when a connection was closed
         self._waiting_for_room: List[Callable[[], None]] = []
         self._woken, self._waker = socket.socketpair()
@@ -59,11 +82,24 @@ class Loop:
     def run(self) -> None:
         """Runs until it is stopped."""
         selector, calls = self._selector, self._calls
+        next_tick = time.monotonic() + TICK
         while not self.is_over:
-            for key, events in selector.select():
+            ready = selector.select(0 if self._next or calls else max(0.0, next_tick - self.now))
+            self.now = time.monotonic()
+            for key, events in ready:
                 key.data(events)
+            if self._next:
+                calls.extend(self._next)
+                self._next.clear()
             if calls:
                 self._make_calls()
+            if self.now >= next_tick:
+                next_tick = self.now + TICK
+                calls.extend(self.ticks_due())
+
+    def ticks_due(self) -> List[Callable[[], None]]:
+        """The calls that look at what takes too long."""
+        return [functools.partial(it, self.now) for it in self.ticks]
 
     def _make_calls(self) -> None:
         """Makes the calls that are due. One that fails keeps no other from being made."""
@@ -71,7 +107,7 @@ class Loop:
             try:
                 self._calls.popleft()()
             except Exception:
-                traceback.print_exc()
+                tell_fault()
 
     def close(self) -> None:
         """Makes the calls that are due, and gives back what the loop has of the system."""
@@ -85,6 +121,10 @@ class Loop:
     def soon(self, what: Callable[[], None]) -> None:
         """Calls it before the loop waits again."""
         self._calls.append(what)
+
+    def later(self, what: Callable[[], None]) -> None:
+        """Calls it in the next turn, after all that can be done now."""
+        self._next.append(what)
 
     def call(self, what: Callable[[], None]) -> None:
         """Calls it in a turn of the loop."""
@@ -122,6 +162,17 @@ class Loop:
         self._calls.extend(self._waiting_for_room)
         self._waiting_for_room.clear()
 
+    def linger(self, stream: "Stream") -> None:
+        """Closes a connection in a while, unless the other side does."""
+        self._lingering.append(stream)
+        if len(self._lingering) > MOST_LINGERING:
+            self._lingering.popleft().abort()
+
+    def _end_lingering(self, now: float) -> None:
+        """Closes the connections that lingered long enough."""
+        while self._lingering and (self._lingering[0].is_closed or self._lingering[0].lingers_to <= now):
+            self._lingering.popleft().abort()
+
     def watch(self, what: socket.socket, before: int, after: int, heed: Callable[[int], None]) -> None:
         """Has these events of a socket heeded, in the place of those before."""
         if not before:
@@ -144,18 +195,6 @@ class Loop:
                     it.close()
                 raise
         return listeners
-
-    def connect(self, address: Tuple[str, int], made: Callable[[Union[socket.socket, OSError]], None]) -> None:
-        """Connects to an address, and hands on the connection, or the fault. A thread does it, since names are looked up."""
-
-        def connect() -> None:
-            try:
-                it: Union[socket.socket, OSError] = socket.create_connection(address)
-            except OSError as fault:
-                it = fault
-            self.call(lambda: made(it))
-
-        threading.Thread(target=connect, daemon=True).start()
 
 
 class Listener:
@@ -189,13 +228,14 @@ class Listener:
             connection, _ = self.socket.accept()
         except OSError as fault:
             if fault.errno in NO_ROOM:
+                tell_line(f"no more connections are taken until one is closed: {fault.strerror}")
                 self._watch(0)
                 self._loop.wait_for_room(lambda: self._watch(READ))
             return
         try:
             self._accepted(connection)
         except Exception:
-            traceback.print_exc()
+            tell_fault()
             connection.close()
 
     def _watch(self, events: int) -> None:
@@ -223,11 +263,21 @@ class Stream:
                 # (the other side may have closed it; that is seen when it is read)
                 connection.setsockopt(socket.IPPROTO_TCP, socket.TCP_NODELAY, 1)
         self._waiting = bytearray()
-        self._is_paused = False
-        self.is_closing = self._is_closed = False
+        # whether whoever writes was asked to pause
+        self.is_paused = False
+        self.is_closing = self.is_closed = False
+        # whether the other side said that it sends no more
+        self.is_at_end = False
+        # until when what comes is thrown away
+        self.lingers_to: float = 0.0
         # what of the socket is heeded
         self._events = 0
         self._watch(READ)
+
+    @property
+    def waiting(self) -> int:
+        """How many bytes wait to be sent."""
+        return len(self._waiting)
 
     def heed(self, events: int) -> None:
         """Goes on with what the socket is ready for. A fault of whoever uses the connection ends it, and no other one."""
@@ -237,7 +287,7 @@ class Stream:
             if events & self._events & READ:
                 self._receive()
         except Exception:
-            traceback.print_exc()
+            tell_fault()
             self.abort()
 
     def _receive(self) -> None:
@@ -249,24 +299,30 @@ class Stream:
         except OSError:
             self.abort()
             return
-        if data:
+        if not data:
+            self.is_at_end = True
+            self.pause_reading()
+            if self.is_closing:
+                self._close_now()
+            else:
+                self.user.ended()
+        elif not self.is_closing:
             self.user.received(data)
-        else:
-            self.close()
 
-    def write(self, data: bytes) -> None:
+    def write(self, data: Union[bytes, bytearray]) -> None:
         """Sends bytes, in their order."""
-        if self._is_closed or not data:
+        if self.is_closed or not data:
             return
         if not self._waiting:
             count = self._send(data)
-            if count == len(data):
+            if count == len(data) or self.is_closed:
                 return
-            data = data[count:]
+            data = memoryview(data)[count:] if count else data
         self._waiting += data
+        self._loop.waiting += len(data)
         self._watch(self._events | WRITE)
-        if len(self._waiting) > MOST_WAITING and not self._is_paused:
-            self._is_paused = True
+        if len(self._waiting) > MOST_WAITING and not self.is_paused:
+            self.is_paused = True
             self.user.pause_writing()
 
     def _send(self, data: Union[bytes, bytearray]) -> int:
@@ -277,20 +333,24 @@ class Stream:
             return 0
         except OSError:
             self.abort()
-            return len(data)
+            return 0
 
     def _send_waiting(self) -> None:
         """Sends what waits, as far as the system takes it."""
-        if self._is_closed:
+        if self.is_closed:
             return
-        del self._waiting[: self._send(self._waiting)]
-        if self._waiting or self._is_closed:
+        count = self._send(self._waiting)
+        if self.is_closed:
+            return
+        del self._waiting[:count]
+        self._loop.waiting -= count
+        if self._waiting:
             return
         self._watch(self._events & ~WRITE)
         if self.is_closing:
-            self._close_now()
-        elif self._is_paused:
-            self._is_paused = False
+            self._all_sent()
+        elif self.is_paused:
+            self.is_paused = False
             self.user.resume_writing()
 
     def pause_reading(self) -> None:
@@ -299,12 +359,12 @@ class Stream:
 
     def resume_reading(self) -> None:
         """Takes what comes again."""
-        if not self.is_closing:
+        if not self.is_closing and not self.is_at_end:
             self._watch(self._events | READ)
 
     def _watch(self, events: int) -> None:
         """Has these events heeded."""
-        if events != self._events and not self._is_closed:
+        if events != self._events and not self.is_closed:
             self._loop.watch(self._socket, self._events, events, self.heed)
             self._events = events
 
@@ -316,6 +376,31 @@ class Stream:
             if not self._waiting:
                 self._close_now()
 
+    def linger(self) -> None:
+        """Closes the connection when all that waits is sent and the other side ended it too, or after a while.
+
+        What comes until then is thrown away. If it weren't taken the system would take back what the other side hasn't read yet.
+        """
+        if self.is_closing:
+            return
+        self.is_closing = True
+        self.lingers_to = self._loop.now + LINGERING
+        if not self.is_at_end:
+            self._watch(self._events | READ)
+        if not self._waiting:
+            self._all_sent()
+
+    def _all_sent(self) -> None:
+        """Goes on where all was sent before the end."""
+        if not self.lingers_to or self.is_at_end:
+            self._close_now()
+            return
+        try:
+            self._socket.shutdown(socket.SHUT_WR)
+            self._loop.linger(self)
+        except OSError:
+            self._close_now()
+
     def abort(self) -> None:
         """Closes the connection at once."""
         self.is_closing = True
@@ -323,9 +408,10 @@ class Stream:
 
     def _close_now(self) -> None:
         """Closes the socket; who uses the connection hears of it soon."""
-        if not self._is_closed:
+        if not self.is_closed:
             self._watch(0)
-            self._is_closed = True
+            self.is_closed = True
+            self._loop.waiting -= len(self._waiting)
             self._waiting.clear()
             self._socket.close()
             self._loop.has_room()

@@ -4,6 +4,8 @@ import sys
 import threading
 from typing import IO, Callable, Optional, Tuple
 
+from .console import tell
+
 Counts = Callable[[], Tuple[int, int]]
 """How many calls were recorded so far, and how many of them are lost."""
 
@@ -19,7 +21,7 @@ class Progress:
         self._thread = threading.Thread(target=self._tell_on, daemon=True)
 
     def __enter__(self) -> "Progress":
-        if self._stream.isatty():
+        if self._stream is not None and self._stream.isatty():
             self._thread.start()
         return self
 
@@ -38,6 +40,5 @@ class Progress:
             before = calls
 
     def _write(self, line: str) -> None:
-        """Puts the line in the place of the one before."""
-        self._stream.write(f"\r\x1b[K{line}")
-        self._stream.flush()
+        """Puts the line in the place of the one before, if the terminal takes it."""
+        tell(f"\r\x1b[K{line}", self._stream.fileno())

@@ -3,12 +3,11 @@
 Requests that write, and of which it isn't known what they write, are never taken for harmless.
 """
 
-import fnmatch
 import functools
 import re
 import urllib.parse
 from enum import Enum
-from typing import Dict, List, Mapping, NamedTuple, Tuple
+from typing import Dict, FrozenSet, List, Mapping, NamedTuple, Sequence, Tuple
 
 
 class Kind(Enum):
@@ -22,13 +21,13 @@ class Kind(Enum):
     MULTIPLE_GET = "reads the documents of a get of several"
     UNTOLD = "judges the document no longer"
     SWEEP = "judges no document that was seen before the answer"
-    LOOK = "ends the recording where the body has one of some words"
+    LOOK = "ends the recording if the body, or the query, says one of some words"
     END = "ends the recording"
 
 
 class Route(NamedTuple):
     """What is asked: for a call its operation, document and words; for several calls the index that the path names; for a look
-    the words of the body, for an end the reason."""
+    the words that count, and the texts that count as a whole; for an end the reason."""
 
     kind: Kind
     op: str = ""
@@ -36,7 +35,8 @@ class Route(NamedTuple):
     words: Mapping[str, str] = {}
     room: str = ""
     why: str = ""
-    told: Tuple[bytes, ...] = ()
+    told: Tuple[str, ...] = ()
+    whole: FrozenSet[str] = frozenset()
 
 
 class Names:
@@ -46,21 +46,50 @@ class Names:
         self.all = frozenset(names)
         # those aliases that bring a routing along
         self.routed = frozenset(routed)
-        self.as_bytes = tuple(it.encode() for it in names)
 
     def may_be_among(self, expression: str) -> bool:
-        """Whether an expression of several indexes, or of one that a date makes, may name the index."""
-        parts = expression.split(",")
-        return expression == "_all" or any(it.startswith("<") or self.has(it) for it in parts)
+        """Whether an expression of several indexes, or of one that a date makes, may name the index. A very long one may."""
+        if expression == "_all" or len(expression) > LONGEST_EXPRESSION:
+            return True
+        return any(it.startswith("<") or self.has(it) for it in expression.split(","))
 
     def has(self, pattern: str) -> bool:
         """Whether a name, in which a star stands for any text, names the index."""
-        return any(fnmatch.fnmatchcase(it, pattern.replace("[", "[[]").replace("?", "[?]")) for it in self.all)
+        pieces = pattern.split("*")
+        return any(is_made_of(it, pieces) for it in self.all)
+
+
+def is_made_of(name: str, pieces: Sequence[str]) -> bool:
+    """Whether a name is these pieces in their order, with any text between two of them."""
+    first, last = pieces[0], pieces[-1]
+    if len(pieces) == 1:
+        return name == first
+    if not name.startswith(first) or not name.endswith(last) or len(name) < len(first) + len(last):
+        return False
+    at, end = len(first), len(name) - len(last)
+    for piece in pieces[1:-1]:
+        found = name.find(piece, at, end)
+        if found < 0:
+            return False
+        at = found + len(piece)
+    return True
 
 
 PASS = Route(Kind.PASS)
 
-PLAIN_QUERY = re.compile(rb"\w+=\w*(?:&\w+=\w*)*")
+LONGEST_EXPRESSION = 2048
+"""The most letters of an expression of indexes that are looked at."""
+
+MOST_REMEMBERED = 8192
+"""Of how many first lines it is remembered what they ask."""
+
+LONGEST_REMEMBERED = 256
+"""The most bytes of the target of such a line."""
+
+LONGEST_WHY = 200
+"""The most letters of a request in a reason."""
+
+PLAIN_QUERY = re.compile(r"\w+=\w*(?:&\w+=\w*)*", re.ASCII)
 """A query in which nothing is encoded."""
 
 READS = ("GET", "HEAD", "OPTIONS")
@@ -84,6 +113,9 @@ MEANS_NOTHING = {
 }
 """Words of a query that don't change what a call means."""
 
+OF_A_KIND = ("_bulk", "_delete_by_query", "_update_by_query", "_mapping", "_mappings")
+"""Last words of a path behind an index and a kind of documents, as older servers take them; to others they are ids."""
+
 OF_A_WRITE = MEANS_NOTHING | {"op_type", "if_seq_no", "if_primary_term", "version", "version_type", "routing", "parent"}
 OF_AN_UPDATE = (OF_A_WRITE - {"op_type"}) | {"retry_on_conflict", "_source", "_source_includes", "_source_excludes", "lang"}
 OF_A_BULK = MEANS_NOTHING | {"routing", "_source", "_source_includes", "_source_excludes"}
@@ -92,41 +124,65 @@ PARTS_OF_A_SOURCE = {"_source", "_source_includes", "_source_excludes", "_source
 OF_A_GET = MEANS_NOTHING | PARTS_OF_A_SOURCE | {"version", "version_type", "routing", "parent", "realtime"}
 
 
-@functools.lru_cache(maxsize=8192)
 def route_of(method: str, target: bytes, names: Names) -> Route:
     """Reads the first line of a request."""
-    path, _, query = target.partition(b"?")
-    if not path.startswith(b"/"):
-        path = b"/" + path.partition(b"://")[2].partition(b"/")[2]
-    parts = path[1:].split(b"/")
-    if len(parts) > 1 and not parts[-1]:
-        parts.pop()
-    texts = [text_of(it) for it in parts]
+    return (remembered_route if len(target) <= LONGEST_REMEMBERED else read_route)(method, target, names)
+
+
+def read_route(method: str, target: bytes, names: Names) -> Route:
+    """Reads the first line of a request. A write whose target servers read in several ways is none that can be told."""
+    try:
+        return route_of_text(method, target.decode("ascii"), names, "strict")
+    except UnicodeDecodeError:
+        if method in READS:
+            return PASS
+    readings = [route_of_text(method, target.decode(it, "replace"), names, "replace") for it in ("latin-1", "utf-8")]
+    return PASS if readings == [PASS, PASS] else Route(Kind.END, why=f"{shown_request(method, repr(target))}, which can be read in several ways")
+
+
+remembered_route = functools.lru_cache(maxsize=MOST_REMEMBERED)(read_route)
+"""The same, remembered."""
+
+
+def route_of_text(method: str, target: str, names: Names, faults: str) -> Route:
+    """Reads a first line whose target is this text. Servers drop all slashes at the end of a path."""
+    path, _, query = target.partition("?")
+    if not path.startswith("/"):
+        path = "/" + path.partition("://")[2].partition("/")[2]
+    texts = [text_of(it, faults) for it in path.rstrip("/")[1:].split("/")]
     first, rest = texts[0], texts[1:]
+    if "_bulk" in texts[:-1] and method not in READS:
+        return Route(Kind.END, why=f"{shown_request(method, path)}, a bulk request in pieces")
+    words = words_of(query, faults)
     if first in names.all:
-        return route_on_index(method, first, rest, words_of(query), names)
+        return route_on_index(method, first, rest, words, names)
     if rest[-1:] in (["_bulk"], ["_mget"]) or first in ("_bulk", "_mget"):
-        return route_of_several(method, first, rest, words_of(query))
+        return route_of_several(method, first, rest, words)
     if method in READS:
         return PASS
     if first.startswith("_") and first != "_all" or not first:
-        return route_of_cluster(method, first, rest, names)
+        return route_of_cluster(method, first, rest, words, names)
     return route_of_expression(method, first, rest) if names.may_be_among(first) else PASS
 
 
-def text_of(part: bytes) -> str:
+def shown_request(method: str, path: str) -> str:
+    """A request as it stands in a reason."""
+    return f"{method[:20]} {path[:LONGEST_WHY]}{'...' if len(path) > LONGEST_WHY else ''}"
+
+
+def text_of(part: str, faults: str) -> str:
     """The text of a part of a path."""
-    return urllib.parse.unquote(part.decode("utf-8", "replace")) if b"%" in part else part.decode("utf-8", "replace")
+    return urllib.parse.unquote(part, errors=faults) if "%" in part else part
 
 
-def words_of(query: bytes) -> Dict[str, str]:
+def words_of(query: str, faults: str) -> Dict[str, str]:
     """The words of a query; of a word that comes twice the last one counts."""
     if not query:
         return {}
     if PLAIN_QUERY.fullmatch(query):
-        pairs = [it.partition("=") for it in query.decode("ascii").split("&")]
+        pairs = [it.partition("=") for it in query.split("&")]
         return {name: value for name, _, value in pairs}
-    return dict(urllib.parse.parse_qsl(query.decode("utf-8", "replace").replace(";", "&"), keep_blank_values=True))
+    return dict(urllib.parse.parse_qsl(query.replace(";", "&"), keep_blank_values=True, errors=faults))
 
 
 def route_on_index(method: str, name: str, rest: List[str], words: Dict[str, str], names: Names) -> Route:
@@ -134,26 +190,32 @@ def route_on_index(method: str, name: str, rest: List[str], words: Dict[str, str
     if name in names.routed:
         words = {"routing": name, **words}
     first = rest[0] if rest else ""
-    if len(rest) == 2 and first in ("_doc", "_create") and rest[1]:
+    is_of_a_kind = len(rest) > 1 and rest[-1] in OF_A_KIND and method not in READS
+    if len(rest) == 2 and first in ("_doc", "_create") and rest[1] and not is_of_a_kind:
         return route_on_document(method, first, rest[1], words)
+    request = shown_request(method, "/".join(["", name, *rest]))
+    if is_of_a_kind:
+        return Route(Kind.END, why=f"{request}, which is a document to one server and to another is not")
     if rest[-1:] in (["_bulk"], ["_mget"]):
         return route_of_several(method, name, rest, words)
     if method in READS:
         return PASS
     if first == "_doc" and len(rest) == 1 and method == "POST":
-        return route_of_write(Kind.NEW, "index", "", words)
+        route = route_of_write(Kind.NEW, "index", "", words)
+        # (servers take the id of the query, or make one)
+        return route._replace(op="new", id=words["id"]) if route.kind is Kind.UNTOLD and "id" in words else route
     if first == "_update" and len(rest) == 2 and method == "POST":
         return checked(Route(Kind.UPDATE, "index", rest[1], words), OF_AN_UPDATE)
     if first in ("_update_by_query", "_delete_by_query"):
         is_answered_at_end = words.get("wait_for_completion", "true") == "true"
-        return Route(Kind.SWEEP, words=words, why=f"{method} /{name}/{first}", op="" if is_answered_at_end else "goes on")
+        return Route(Kind.SWEEP, words=words, why=request, op="" if is_answered_at_end else "goes on")
     if first in ("_settings", "_mapping", "_mappings"):
-        return Route(Kind.LOOK, told=(b"pipeline", b'"_source"', b'"_routing"'), why=f"{method} /{name}/{first}")
+        return Route(Kind.LOOK, words=words, told=("pipeline",), whole=frozenset(("_source", "_routing")), why=request)
     if first in HARMLESS_OF_AN_INDEX or not rest and method == "PUT":
         return PASS
     if first and not first.startswith("_") and len(rest) in (2, 3):
-        return Route(Kind.UNTOLD, id=rest[1], why=f"it was written by {method} /{name}/{first}")
-    return Route(Kind.END, why=f"{method} /{'/'.join([name, *rest])}")
+        return Route(Kind.UNTOLD, id=rest[1], why=f"it was written by {request}")
+    return Route(Kind.END, why=request)
 
 
 def route_on_document(method: str, room: str, id: str, words: Dict[str, str]) -> Route:
@@ -166,7 +228,7 @@ def route_on_document(method: str, room: str, id: str, words: Dict[str, str]) ->
         return route_of_write(Kind.CALL, "create" if room == "_create" else "index", id, words)
     if method == "DELETE" and room == "_doc":
         return route_of_write(Kind.CALL, "delete", id, words)
-    return PASS if method in READS else Route(Kind.UNTOLD, id=id, why=f"it was asked for by {method}")
+    return PASS if method in READS else Route(Kind.UNTOLD, id=id, why=f"it was asked for by {method[:20]}")
 
 
 def route_of_write(kind: Kind, op: str, id: str, words: Mapping[str, str]) -> Route:
@@ -175,7 +237,7 @@ def route_of_write(kind: Kind, op: str, id: str, words: Mapping[str, str]) -> Ro
     if op != "delete" and op_type in ("index", "create"):
         op = "create" if "create" in (op, op_type) else op
     elif op_type != op:
-        return Route(Kind.UNTOLD, id=id, why=f"it was written with op_type={op_type}")
+        return Route(Kind.UNTOLD, id=id, why=f"it was written with op_type={op_type[:LONGEST_WHY]}")
     return checked(Route(kind, op, id, words), OF_A_WRITE)
 
 
@@ -183,11 +245,16 @@ def checked(route: Route, known: "set[str]") -> Route:
     """The route of a write whose words are known ones; of another one nothing can be told. A pipeline may write anything."""
     words = route.words
     if words.get("pipeline", "_none") != "_none":
-        return Route(Kind.END, why=f"a write with pipeline={words['pipeline']}")
+        return Route(Kind.END, why=f"a write with pipeline={words['pipeline'][:LONGEST_WHY]}")
     strange = sorted(set(words) - known - {"pipeline"})
     if strange:
-        return Route(Kind.UNTOLD, id=route.id, why=f"it was written with {strange[0]}={words[strange[0]]}")
+        return Route(Kind.UNTOLD, id=route.id, why=f"it was written with {shown_word(strange[0], words)}")
     return route
+
+
+def shown_word(name: str, words: Mapping[str, str]) -> str:
+    """A word of a query as it stands in a reason."""
+    return f"{name}={words[name]}"[:LONGEST_WHY]
 
 
 def route_of_several(method: str, first: str, rest: List[str], words: Dict[str, str]) -> Route:
@@ -201,28 +268,29 @@ def route_of_several(method: str, first: str, rest: List[str], words: Dict[str, 
         return PASS
     strange = sorted(set(words) - OF_A_BULK)
     if strange:
-        return Route(Kind.END, why=f"a bulk request with {strange[0]}={words[strange[0]]}")
+        return Route(Kind.END, why=f"a bulk request with {shown_word(strange[0], words)}")
     return Route(Kind.BULK, words=words, room=index)
 
 
-def route_of_cluster(method: str, first: str, rest: List[str], names: Names) -> Route:
+def route_of_cluster(method: str, first: str, rest: List[str], words: Dict[str, str], names: Names) -> Route:
     """Reads a request that writes something and names no index in its path."""
-    if first == "_snapshot" and rest[-1:] != ["_restore"] or first in HARMLESS:
+    request = shown_request(method, "/".join(["", first, *rest]))
+    if first == "_snapshot" and "_restore" not in rest or first in HARMLESS:
         return PASS
     if first == "_plugins" and rest[:1] == ["_security"]:
         return PASS
     if first in ("_aliases", "_reindex"):
-        return Route(Kind.LOOK, told=(*names.as_bytes, b"*", b"_all", b"<", b"\\u"), why=f"{method} /{first}")
-    return Route(Kind.END, why=f"{method} /{'/'.join([first, *rest])}")
+        return Route(Kind.LOOK, words=words, told=(*names.all, "*", "_all", "<"), why=request)
+    return Route(Kind.END, why=request)
 
 
 def route_of_expression(method: str, expression: str, rest: List[str]) -> Route:
     """Reads a request that writes something on indexes that an expression names, ours perhaps among them."""
-    why = f"{method} /{'/'.join([expression, *rest])}"
+    request = shown_request(method, "/".join(["", expression, *rest]))
     if rest and rest[0] in HARMLESS_OF_AN_INDEX:
         return PASS
     if rest and rest[0] in ("_update_by_query", "_delete_by_query"):
-        return Route(Kind.SWEEP, why=why, op="goes on")
-    if len(rest) == 2 and rest[0] in ("_doc", "_create", "_update"):
-        return Route(Kind.UNTOLD, id=rest[1], why=f"it was written by {why}")
-    return Route(Kind.END, why=why)
+        return Route(Kind.SWEEP, why=request, op="goes on")
+    if len(rest) == 2 and rest[0] in ("_doc", "_create", "_update") and rest[1] not in OF_A_KIND:
+        return Route(Kind.UNTOLD, id=rest[1], why=f"it was written by {request}")
+    return Route(Kind.END, why=request)

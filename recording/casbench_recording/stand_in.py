@@ -264,7 +264,7 @@ class Store:
     def bulk(self, name: str, text: str) -> Answer:
         """Answers a bulk request, item by item."""
         items = []
-        lines = iter([json.loads(it) for it in text.splitlines() if it.strip()])
+        lines = iter([json.loads(it) for it in text.split("\n") if it.strip()])
         for action in lines:
             (kind, words), = action.items()
             source = next(lines) if kind != "delete" else None

@@ -29,6 +29,8 @@ class TlsStream:
         self.user = user
         self._tell_ready = tell_ready
         self._is_ready = self._was_told = False
+        # whether the other side said that it sends no more; an end of the connection alone doesn't say so
+        self.is_at_end = False
         self._incoming, self._outgoing = ssl.MemoryBIO(), ssl.MemoryBIO()
         self._tls = tls.wrap_bio(self._incoming, self._outgoing, server_side=host is None, server_hostname=host)
         self._stream = Stream(loop, connection, self)
@@ -38,6 +40,11 @@ class TlsStream:
     def is_closing(self) -> bool:
         """Whether it is closed, or will be when all is sent."""
         return self._stream.is_closing
+
+    @property
+    def waiting(self) -> int:
+        """How many bytes wait to be sent."""
+        return self._stream.waiting
 
     def _shake_hands(self) -> None:
         """Goes on with what both sides agree on first."""
@@ -81,6 +88,7 @@ class TlsStream:
             return b""
         try:
             plain = self._tls.read(PIECE)
+            self.is_at_end = not plain
         except ssl.SSLWantReadError:
             return b""
         except OSError:
@@ -88,6 +96,10 @@ class TlsStream:
         if not plain:
             self.close()
         return plain
+
+    def ended(self) -> None:
+        """Hears that no more encrypted bytes come."""
+        self._stream.close()
 
     def write(self, data: bytes) -> None:
         """Sends bytes, in their order."""

@@ -3,12 +3,15 @@
 import contextlib
 import json
 import os
-from typing import BinaryIO, Dict, List, Optional
+from typing import BinaryIO, Dict, Iterable, List, Optional, Tuple
 
 from .history import HistoryError
 
 MOST_TOLD = 20
 """How many documents are told at the end; the list has all of them."""
+
+MOST_LISTED = 32 * 1024 * 1024
+"""The most bytes of the list. A recording that needs more of them ends."""
 
 
 class Unjudged:
@@ -18,27 +21,43 @@ class Unjudged:
         self.path = f"{history}.not-judged"
         if os.path.exists(self.path):
             raise HistoryError(f"{self.path}: File exists")
+        # of the first documents
         self.reasons: Dict[str, str] = {}
+        self.count = 0
         self.ended: List[str] = []
+        self._length = 0
         self._file: Optional[BinaryIO] = None
 
-    def names(self, document: str, why: str) -> None:
-        """Names a document."""
-        self.reasons[document] = why
-        self._write({"id": document, "why": why})
+    @property
+    def is_full(self) -> bool:
+        """Whether the list takes no more documents."""
+        return self._length > MOST_LISTED
+
+    def names(self, documents: Iterable[Tuple[str, str]]) -> None:
+        """Names documents, each with the reason."""
+        lines = []
+        for document, why in documents:
+            if len(self.reasons) < MOST_TOLD:
+                self.reasons[document] = why
+            self.count += 1
+            lines.append(json.dumps({"id": document, "why": why}))
+        self._write(lines)
 
     def ends(self, why: str) -> None:
         """Tells why the recording ended before its time."""
         self.ended.append(why)
-        self._write({"ended": True, "why": why})
+        self._write([json.dumps({"ended": True, "why": why})])
 
-    def _write(self, line: Dict[str, object]) -> None:
-        """Puts a line at the end of the file. A disk that is full keeps nobody from going on: all is told at the end too."""
+    def _write(self, lines: List[str]) -> None:
+        """Puts lines at the end of the file. A disk that is full keeps nobody from going on: all is told at the end too."""
+        if not lines:
+            return
+        data = "".join(f"{it}\n" for it in lines).encode()
+        self._length += len(data)
         with contextlib.suppress(OSError):
             if self._file is None:
-                self._file = open(self.path, "ab")
-            self._file.write(json.dumps(line).encode() + b"\n")
-            self._file.flush()
+                self._file = open(self.path, "ab", buffering=0)
+            self._file.write(data)
 
     def close(self) -> None:
         """Closes the file."""
@@ -47,11 +66,11 @@ class Unjudged:
                 self._file.close()
             self._file = None
 
-    def told(self) -> Optional[str]:
-        """What is told at the end, or nothing."""
+    def told(self) -> List[str]:
+        """What is told at the end, line by line."""
         lines = [f"the recording ended early: {it}" for it in self.ended]
-        if self.reasons:
-            lines.append(f"{len(self.reasons)} documents are not judged, from some moment on or at all ({self.path}):")
-            lines += [f"  {document}: {why}" for document, why in list(self.reasons.items())[:MOST_TOLD]]
-            lines += [f"  and {len(self.reasons) - MOST_TOLD} more"] if len(self.reasons) > MOST_TOLD else []
-        return "\n".join(lines) or None
+        if self.count:
+            lines.append(f"{self.count} documents are not judged, from some moment on or at all ({self.path}):")
+            lines += [f"  {document}: {why}" for document, why in self.reasons.items()]
+            lines += [f"  and {self.count - MOST_TOLD} more"] if self.count > MOST_TOLD else []
+        return lines

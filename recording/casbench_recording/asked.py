@@ -1,0 +1,84 @@
+"""What a request asks, once it was read: its calls, each with how its reply is read."""
+
+import re
+from typing import Any, List, Mapping, Optional, Sequence, Tuple
+
+from .bulk import Items
+from .documents import Document
+from .history import Call, Pair, is_whole
+from .routes import PARTS_OF_A_SOURCE, Kind
+
+DIGITS = re.compile(r"[0-9]{1,19}")
+
+
+class Part:
+    """A call that a request makes, and how its reply is read."""
+
+    __slots__ = ("id", "op", "words", "digest", "document", "call", "number", "is_sure", "sweeps")
+
+    def __init__(self, id: str, op: str, words: Mapping[str, Any], digest: Optional[bytes] = None) -> None:
+        # (an empty id if the answer tells it)
+        self.id = id
+        self.op = op
+        self.words = words
+        # of the source that is written, if it can be known
+        self.digest = digest
+        self.document: Optional[Document] = None
+        self.call: Optional[Call] = None
+        self.number: Optional[int] = None
+        # whether its line tells the whole condition, so that a conflict may be recorded
+        self.is_sure = True
+        # how many sweeps there had been when it was made
+        self.sweeps = 0
+
+    @property
+    def shows_all(self) -> bool:
+        """Whether the reply to a get shows the whole source."""
+        words = self.words
+        return not words or words.get("_source", True) in (True, "true") and not (PARTS_OF_A_SOURCE - {"_source"} | {"filter_path"}) & set(words)
+
+
+class Asked:
+    """A request that is passed on: its kind, its calls, or None for an item that is none of ours, and whether its answer is its end."""
+
+    __slots__ = ("kind", "parts", "is_head", "is_over_at_answer")
+
+    def __init__(self, kind: Kind, parts: Sequence[Optional[Part]], is_head: bool = False, is_over_at_answer: bool = True) -> None:
+        self.kind = kind
+        self.parts = parts
+        self.is_head = is_head
+        self.is_over_at_answer = is_over_at_answer
+
+
+class AskedInPieces(Asked):
+    """A bulk request, whose items are read as they come."""
+
+    __slots__ = ("items", "words", "room")
+
+    parts: List[Optional[Part]]
+
+    def __init__(self, words: Mapping[str, str], room: str, longest: int) -> None:
+        super().__init__(Kind.BULK, [])
+        self.items = Items(longest)
+        self.words = words
+        # the index that the path names
+        self.room = room
+
+    @property
+    def has_calls(self) -> bool:
+        """Whether an item was one of ours."""
+        return any(it is not None for it in self.parts)
+
+
+def condition_of(op: str, words: Mapping[str, Any]) -> Tuple[Optional[Pair], bool]:
+    """The condition that the words of a write tell, and whether that is all that it depends on."""
+    if not words:
+        return None, True
+    seq, term = words.get("if_seq_no"), words.get("if_primary_term")
+    is_sure = not {"version", "version_type", "if_seq_no", "if_primary_term"} & set(words)
+    if op not in ("index", "delete") or not (DIGITS.fullmatch(str(seq)) and DIGITS.fullmatch(str(term))):
+        return None, is_sure
+    pair = Pair(int(str(term)), int(str(seq)))
+    if not is_whole(pair.term, 1, 2**63 - 1) or not is_whole(pair.seq, 0, 2**63 - 1):
+        return None, False
+    return pair, not {"version", "version_type"} & set(words)
