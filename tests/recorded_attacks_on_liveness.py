@@ -189,6 +189,45 @@ class Large(AttackTest):
             self.assertIn(f"recorded {count} calls", proxy.ended())
         self.assertEqual(self.check(), f"yes docs=1000 calls={count} left_out=0")
 
+    def test_a_long_answer_of_one_item(self):
+        item = b'{"took":5,"errors":false,"items":[{"index":{"a":[%s[]]}}]}' % (b"[]," * 9_000_000)
+        with Cluster(lambda head, _: answer_of(200, item if head[:4] == b"POST" else {})) as cluster, self.proxy(cluster.url) as proxy:
+            with Watched(proxy.port, OTHER) as watched, self.client(proxy) as client:
+                client.ask(request_of("POST", "/carts/_bulk", b'{"delete":{"_id":"d"}}\n'))
+            self.assertLess(watched.longest, MOST_SECONDS)
+            self.assertLess(megabytes(proxy), MOST_MEGABYTES)
+            proxy.ended()
+        self.assertEqual(self.check(), "yes docs=1 calls=1 left_out=1")
+
+    def test_many_open_calls_on_one_document(self):
+        body, is_in, is_over = b'{"delete":{"_id":"d"}}\n' * 150_000, threading.Event(), threading.Event()
+
+        def answer(head, body):
+            if head[:4] == b"POST":
+                is_in.set()
+                is_over.wait(60)
+                return None
+            return answer_of(200, {})
+
+        with Cluster(answer) as cluster, self.proxy(cluster.url) as proxy:
+            with Watched(proxy.port, OTHER) as watched, self.client(proxy) as client:
+                client.send(request_of("POST", "/carts/_bulk", body))
+                self.assertTrue(is_in.wait(60))
+                client.reset()
+                time.sleep(2)
+            is_over.set()
+            self.assertLess(watched.longest, 1.5)
+            self.assertIn("150000 of them without a reply", proxy.ended())
+
+    def test_items_whose_ids_nobody_knows(self):
+        body = packed([b'{"index":{}}\n{}\n' * 50_000] * 8)
+        with Cluster(lambda *_: answer_of(200, {})) as cluster, self.proxy(cluster.url) as proxy:
+            with Watched(proxy.port, OTHER) as watched, self.client(proxy) as client:
+                self.assertEqual(client.ask(request_of("POST", "/carts/_bulk", body, b"Content-Encoding: gzip"))[0], 200)
+            self.assertLess(watched.longest, MOST_SECONDS)
+            self.assertLess(megabytes(proxy), 170)
+            proxy.ended()
+
     def test_a_get_of_more_documents_than_a_history_holds(self):
         body = json.dumps({"ids": [str(it) for it in range(530_000)]}).encode()
         with Cluster(lambda head, _: answer_of(201 if head[:3] == b"PUT" else 200, performed())) as cluster, self.proxy(cluster.url) as proxy:
@@ -211,6 +250,22 @@ class Kept(AttackTest):
                 for at in range(1200):
                     client.ask(request_of("GET", b"/carts/_doc/%d?x=%s" % (at, b"y" * 60_000)))
             self.assertLess(megabytes(proxy), 150)
+            proxy.ended()
+
+    def test_long_targets_of_requests_that_are_open(self):
+        is_over, line = threading.Event(), b"/carts/_doc/%d?version=" + b"y" * 60_000
+
+        def answer(head, body):
+            is_over.wait(60)
+
+        with Cluster(answer) as cluster, self.proxy(cluster.url) as proxy, contextlib.ExitStack() as opened:
+            clients = [opened.enter_context(self.client(proxy, timeout=5)) for _ in range(700)]
+            for at, client in enumerate(clients):
+                client.send(request_of("GET", line % at))
+            is_closed = bool(select.select([it.socket for it in clients], [], [], 10)[0])
+            is_over.set()
+            # (those for which most waits lose their connections)
+            self.assertTrue(is_closed)
             proxy.ended()
 
     def test_reasons(self):

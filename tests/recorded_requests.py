@@ -554,6 +554,25 @@ class NotJudged(JudgeTest):
         open(self.file + ".not-judged", "x").close()
         self.assertRaisesRegex(HistoryError, "not-judged: File exists", Unjudged, self.file)
 
+    def test_gets_of_several_documents_for_which_there_is_no_room_keep_nothing(self):
+        judge = self.judge(history=History(self.file, most_events=6))
+        self.ask(judge, "GET", "/carts/_doc/d")
+        for at in range(20):
+            self.assertIsNone(self.ask(judge, "POST", "/carts/_mget", {"ids": [f"{at}-{it}" for it in range(3)]}))
+        self.assertEqual(list(judge._documents), ["d"])
+        self.assertEqual(len(self.ask(judge, "POST", "/carts/_mget", {"ids": ["d", "e"]}).parts), 2)
+        self.assertFalse(judge.has_ended)
+
+    def test_of_parts_that_are_no_calls_nothing_is_kept(self):
+        judge = self.judge()
+        self.ask(judge, "POST", "/carts/_update/d", {"script": "x"})
+        lines = [{"delete": {"_id": "d"}}, {"delete": {"_id": "e"}}, {"index": {}}, {"a": 1}]
+        told = [it and it.id for it in self.ask(judge, "POST", "/carts/_bulk", lines).parts]
+        self.assertEqual(told, [None, "e", ""])
+        bulk = judge.ask_in_pieces(judge.route("POST", b"/carts/_bulk"))
+        judge.take_items(bulk, b'{"index":{}}\n{"a":1}\n{"delete":{"_id":"e"}}\n', True, has_room=False)
+        self.assertEqual([it and it.id for it in bulk.parts], [None, "e"])
+
     def test_a_history_that_is_full(self):
         judge = self.judge(history=History(self.file, most_events=4))
         get = self.ask(judge, "GET", "/carts/_doc/d")

@@ -10,6 +10,9 @@ from .routes import PARTS_OF_A_SOURCE, Kind
 
 DIGITS = re.compile(r"[0-9]{1,19}")
 
+WEIGHT_OF_A_PART = 512
+"""About how many bytes a part takes that has no call yet, with its words."""
+
 
 class Part:
     """A call that a request makes, and how its reply is read."""
@@ -49,11 +52,16 @@ class Asked:
         self.is_head = is_head
         self.is_over_at_answer = is_over_at_answer
 
+    @property
+    def weight(self) -> int:
+        """About how many bytes are kept for parts that are no calls of a history."""
+        return 8 * len(self.parts)
+
 
 class AskedInPieces(Asked):
     """A bulk request, whose items are read as they come."""
 
-    __slots__ = ("items", "words", "room")
+    __slots__ = ("items", "words", "room", "unnamed")
 
     parts: List[Optional[Part]]
 
@@ -63,6 +71,20 @@ class AskedInPieces(Asked):
         self.words = words
         # the index that the path names
         self.room = room
+        # how many parts are kept whose ids the answer tells
+        self.unnamed = 0
+
+    def add(self, parts: Sequence[Optional[Part]], has_room: bool) -> None:
+        """Keeps, of parts whose calls are written, what the answer may tell something of; of those without an id only if there is room."""
+        for it in parts:
+            is_unnamed = it is not None and not it.id and has_room
+            self.unnamed += is_unnamed
+            self.parts.append(it if it is not None and (it.call is not None or is_unnamed) else None)
+
+    @property
+    def weight(self) -> int:
+        """The same, with those whose ids the answer tells."""
+        return super().weight + WEIGHT_OF_A_PART * self.unnamed
 
     @property
     def has_calls(self) -> bool:

@@ -98,18 +98,29 @@ class Items:
 START = re.compile(r'\{(?:"(?:took|ingest_took|errors)":(?:[0-9]+|true|false),)*"items":\[')
 """How the answer to a bulk request begins, in the form that clusters usually give it."""
 
+LONGEST_ITEM = 65_536
+"""The most letters of an item of a long answer that is sure to be read."""
+
+WINDOW = 4 * LONGEST_ITEM
+"""The most letters of a long answer that are looked at together, so of which an item that isn't read takes memory."""
+
 read_next = json.JSONDecoder().raw_decode
 
 
 def items_of_long(content: bytes) -> Iterator[Any]:
-    """The items of an answer that is too long to be read at once, if it is of the usual form and ASCII. Raises ValueError at what can't be read."""
+    """The items of an answer that is too long to be read at once, if it is of the usual form and ASCII, and no item is too long. Raises
+    ValueError at what can't be read."""
     text = content.decode("ascii")
     start = START.match(text)
     if start is None:
         raise ValueError("no answer of the usual form")
     at, behind = start.end(), ","
+    window, begin = "", at
     while behind == ",":
-        item, at = read_next(text, at)
+        if at - begin > len(window) - LONGEST_ITEM:
+            window, begin = text[at : at + WINDOW], at
+        item, end = read_next(window, at - begin)
+        at = begin + end
         yield item
         behind = text[at : at + 1]
         at += 1

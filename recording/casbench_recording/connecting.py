@@ -53,7 +53,9 @@ class Connecting:
         self._addresses = addresses
         self._left = list(addresses.known)
         self._made = made
-        self._end = loop.now + SECONDS
+        # how many seconds each address has, and until when the one at hand is tried
+        self._each = SECONDS / max(1, len(self._left))
+        self._end = 0.0
         self._fault = OSError(errno.EHOSTUNREACH, os.strerror(errno.EHOSTUNREACH))
         self._socket: Union[socket.socket, None] = None
         self._is_over = False
@@ -64,6 +66,7 @@ class Connecting:
         """Tries the addresses that are left, up to one for which the system says later whether it takes the connection."""
         while self._left:
             family, address = self._left.pop(0)
+            self._end = self._loop.now + self._each
             try:
                 self._socket = socket.socket(family, socket.SOCK_STREAM)
                 self._socket.setblocking(False)
@@ -80,7 +83,9 @@ class Connecting:
 
     def _heed(self, events: int) -> None:
         """Goes on where the system has made the connection, or found that it can't."""
-        assert self._socket is not None
+        if self._socket is None:
+            # (it was given up in the same turn)
+            return
         fault = self._socket.getsockopt(socket.SOL_SOCKET, socket.SO_ERROR)
         self._loop.watch(self._socket, WRITE, 0, self._heed)
         if fault:
@@ -92,10 +97,9 @@ class Connecting:
             self._tell(connection)
 
     def _tick(self, now: float) -> None:
-        """Gives up where it takes too long."""
+        """Goes on with the next address if one takes too long."""
         if now >= self._end and not self._is_over:
             self._drop_watched()
-            self._left.clear()
             self._fault = TimeoutError(errno.ETIMEDOUT, os.strerror(errno.ETIMEDOUT))
             self._try_next()
 

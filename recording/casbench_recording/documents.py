@@ -8,7 +8,7 @@ import functools
 import hashlib
 import json
 from enum import Enum
-from typing import Any, Dict, List, Optional
+from typing import Any, Dict, Optional
 
 from .history import LONGEST_ID, Call, Pair, length_of
 
@@ -41,6 +41,10 @@ class State(Enum):
     NOT_JUDGED = 3
 
 
+UNSURE, NOT_JUDGED = State.UNSURE, State.NOT_JUDGED
+"""The states that each request is asked for. An Enum takes long to find a member by its name."""
+
+
 class Document:
     """A document: its calls that are open, and the numbers of its sources."""
 
@@ -50,7 +54,8 @@ class Document:
         self.id = id
         self.shard = shard
         self.state = state
-        self.open: List[Call] = []
+        # (in their order)
+        self.open: Dict[Call, None] = {}
         # how many calls were made that may write the document, and that may delete it
         self.writes = self.deletes = 0
         self._numbers: Dict[bytes, int] = {}
@@ -96,7 +101,7 @@ class Document:
         return self.number_of(digest)
 
 
-NOT_LOOKED_AT = Document("", 0, State.NOT_JUDGED)
+NOT_LOOKED_AT = Document("", 0, NOT_JUDGED)
 """Stands for each document that is judged no longer."""
 
 

@@ -29,6 +29,8 @@ class Exchange:
     body: Optional[Body] = None
     # what of the answer waits to be passed on
     answer: Union[bytes, bytearray] = b""
+    # how many bytes are kept of a head that is long
+    weight = 0
     # whether all of the answer came, and whether anything of it was passed on
     is_answered = has_begun = False
 

@@ -255,7 +255,7 @@ class History:
 
     def reply(self, call: Call, status: int, text: Optional[str]) -> None:
         """Writes the line of a reply, with the JSON text of its body, or without one where that is None."""
-        if not is_whole(status, 0, 65_535):
+        if type(status) is not int or not 0 <= status <= 65_535:
             raise CallError(f"a status is a whole number up to 65535, and not {status!r}")
         self.end_once(call, rest_of_reply(status, text))
 
@@ -348,11 +348,12 @@ class History:
 
     def _write(self, lines: str) -> None:
         """Puts lines at the end of the file. Where that fails, what was written of them is cut off again."""
-        left = lines.encode()
-        length = len(left)
+        data = lines.encode()
+        length = len(data)
         try:
-            while left:
-                left = left[self._file.write(left) :]
+            count = self._file.write(data)
+            while count < length:
+                count += self._file.write(data[count:])
         except OSError as fault:
             self.has_ended = True
             self._file.truncate(self._length)
@@ -390,9 +391,9 @@ def pair_of(body: Any) -> Optional[Pair]:
     """The pair that a body tells, if any."""
     if not isinstance(body, dict):
         return None
-    pair = Pair(body.get("_primary_term", 0), body.get("_seq_no", 0))
-    has_both = "_seq_no" in body and is_whole(pair.term, 1, 2**63 - 1) and is_whole(pair.seq, 0, 2**63 - 1)
-    return pair if has_both else None
+    term, seq = body.get("_primary_term"), body.get("_seq_no")
+    has_both = type(term) is int and type(seq) is int and 1 <= term < 2**63 and 0 <= seq < 2**63
+    return Pair(term, seq) if has_both else None
 
 
 def members_of_call(it: Operation) -> str:
@@ -401,11 +402,11 @@ def members_of_call(it: Operation) -> str:
         raise CallError(f"an operation is one of {', '.join(OPERATIONS)}, and not {it.op!r}")
     if not isinstance(it.id, str) or not 1 <= length_of(it.id) <= LONGEST_ID:
         raise CallError(f"an id is a text of 1 to {LONGEST_ID} bytes, and not {it.id!r}")
-    if not is_whole(it.shard, 0, 1023):
+    if type(it.shard) is not int or not 0 <= it.shard <= 1023:
         raise CallError(f"a shard is a whole number up to 1023, and not {it.shard!r}")
     members = f'"id":{text_of_id(it.id)},"op":"{it.op}"'
     if it.op in WRITES_A_VALUE:
-        if not is_whole(it.value, 0, 2**64 - 1):
+        if type(it.value) is not int or not 0 <= it.value < 2**64:
             raise CallError(f"the value of a write is a whole number below 2^64, and not {it.value!r}")
         members += f',"k":{it.value}'
     if it.condition is not None:
@@ -426,9 +427,12 @@ def rest_of_reply(status: int, text: Optional[str]) -> str:
         return start
     # (as much as the number, the time and what stands around them may take)
     most = LONGEST_LINE - 100
-    if len(text.encode()) > most:
+    # (a letter takes four bytes at most)
+    if len(text) * 4 > most and len(text.encode()) > most:
         text = shortened(text)
-    return f'{start},"body":{text}' if len(text.encode()) <= most else start
+        if len(text.encode()) > most:
+            return start
+    return f'{start},"body":{text}'
 
 
 def shortened(text: str) -> str:

@@ -258,6 +258,7 @@ def read_response(head: bytes) -> Response:
     return Response(int(line[2]), fields_behind(head[line.end() - 2 :], line[1] == b"0"))
 
 
+# (only for heads that aren't longer than is remembered)
 remembered_request = functools.lru_cache(maxsize=MOST_REMEMBERED)(read_request)
 remembered_response = functools.lru_cache(maxsize=MOST_REMEMBERED)(read_response)
 
@@ -265,11 +266,6 @@ remembered_response = functools.lru_cache(maxsize=MOST_REMEMBERED)(read_response
 def request_of(head: bytes) -> Request:
     """Reads the head of a request, or remembers it."""
     return (remembered_request if len(head) <= LONGEST_REMEMBERED else read_request)(head)
-
-
-def response_of(head: bytes) -> Response:
-    """Reads the head of a response, or remembers it."""
-    return (remembered_response if len(head) <= LONGEST_REMEMBERED else read_response)(head)
 
 
 def without_empty_lines(data: bytes) -> bytes:

@@ -13,12 +13,12 @@ from typing import Any, Dict, FrozenSet, Iterable, Iterator, List, Mapping, Opti
 from .asked import Asked, AskedInPieces, Part, condition_of
 from .bodies import texts_of
 from .bulk import Item, Untellable, items_of_long
-from .documents import NOT_LOOKED_AT, Document, State, digest_of, digest_of_text, is_id, object_of
+from .documents import NOT_JUDGED, NOT_LOOKED_AT, UNSURE, Document, State, digest_of, digest_of_text, is_id, object_of
 from .history import Call, Ended, History, HistoryError, Operation
 from .history import compact, counting_members, is_whole, pair_of, text_of, text_of_find, text_of_write
 from .inspection import Shape
 from .parts import Parts
-from .routes import OF_A_GET, OF_AN_UPDATE, PASS, READS, Kind, Names, Route, route_of
+from .routes import BULK, CALL, OF_A_GET, OF_AN_UPDATE, PASS, READS, SWEEP, Kind, Names, Route, route_of
 from .unjudged import Unjudged
 from .usual import read_reply
 
@@ -55,7 +55,7 @@ OF_A_PLACE = {"_index", "_type", "_id", *OF_A_GET}
 OF_A_PARTIAL_UPDATE = {"doc", "doc_as_upsert", "upsert", "detect_noop", "_source"}
 """What may stand in the body of an update that writes a document and can't delete it."""
 
-OF_SEVERAL = (Kind.BULK, Kind.MULTIPLE_GET, Kind.SWEEP)
+OF_SEVERAL = (BULK, Kind.MULTIPLE_GET, SWEEP)
 """Requests on several documents, or on ones that nobody names."""
 
 Body = Dict[str, Any]
@@ -108,7 +108,7 @@ class Judge:
             self.end("a request that was never answered may write to the index, by a name that wasn't known")
         elif not any(may_have_written(it, shape) for it in passed):
             self.shape, self.names = shape, shape.names
-            self._first = State.JUDGED if shape.is_empty else State.UNSURE
+            self._first = State.JUDGED if shape.is_empty else UNSURE
 
     def end(self, why: str) -> None:
         """Ends the recording before its time: all calls that are open are lost, and no more are written."""
@@ -119,7 +119,7 @@ class Judge:
 
     def close(self) -> None:
         """Ends the recording at its time. What was never seen created isn't judged."""
-        unsure = [it.id for it in self._documents.values() if it.state is State.UNSURE]
+        unsure = [it.id for it in self._documents.values() if it.state is UNSURE]
         self._mark_all([(it, "it was never seen created") for it in unsure])
         self.has_ended = True
         self._end_histories()
@@ -147,15 +147,18 @@ class Judge:
         """Begins with a bulk request, whose content comes in pieces."""
         return AskedInPieces(route.words, route.room, MOST_READ)
 
-    def take_items(self, asked: AskedInPieces, content: Optional[bytes], is_last: bool) -> None:
-        """Writes the calls of the items that are whole, before they are passed on. The content is None where it can't be read."""
+    def take_items(self, asked: AskedInPieces, content: Optional[bytes], is_last: bool, has_room: bool = True) -> None:
+        """Writes the calls of the items that are whole, before they are passed on. The content is None where it can't be read.
+
+        If there is no room the answer isn't asked for the ids of those that have none.
+        """
         try:
             if content is None and not self.has_ended:
                 raise Untellable("a bulk request whose body can't be read")
             if content is not None and not self.has_ended:
                 parts = [self._item(it, asked) for it in asked.items.take(content, is_last)]
                 self._write_parts(parts)
-                asked.parts += parts
+                asked.add(parts, has_room)
         except Exception as fault:
             self._end_by(fault)
 
@@ -165,20 +168,20 @@ class Judge:
 
     def _ask(self, route: Route, method: str, content: Optional[bytes]) -> Optional[Asked]:
         kind = route.kind
-        if kind is Kind.CALL:
+        if kind is CALL:
             digest = digest_of_text(content) if route.op in ("index", "create") else None
             return self._made_one(kind, Part(route.id, route.op, route.words, digest), method == "HEAD")
         if kind is Kind.NEW:
             return self._made_one(kind, Part("", route.op, route.words, digest_of_text(content)))
         if kind is Kind.UPDATE:
             return self._made(kind, [self._update(route.id, route.words, object_of(content))])
-        if kind is Kind.BULK:
+        if kind is BULK:
             bulk = self.ask_in_pieces(route)
             self.take_items(bulk, content, True)
             return bulk if bulk.has_calls else None
         if kind is Kind.MULTIPLE_GET:
             return self._made(kind, list(self._places(route, object_of(content))))
-        if kind is Kind.SWEEP:
+        if kind is SWEEP:
             asked = self.begin_sweep(route)
             for _ in self.sweeping(route):
                 pass
@@ -200,13 +203,14 @@ class Judge:
     def _made(self, kind: Kind, parts: List[Optional[Part]]) -> Optional[Asked]:
         """Writes the calls of the parts, all of them before the request is passed on."""
         self._write_parts(parts)
-        return Asked(kind, parts) if any(it is not None for it in parts) else None
+        called = [it if it is not None and it.call is not None else None for it in parts]
+        return Asked(kind, called) if any(it is not None for it in called) else None
 
     def _write_parts(self, parts: Sequence[Optional[Part]]) -> None:
         """Writes the calls of the parts."""
         ready = [it for it in parts if it is not None and self._is_ready(it)]
         # (another part of the request may have ended the judgement of a document)
-        judged = [it for it in ready if it.document is not None and it.document.state is not State.NOT_JUDGED]
+        judged = [it for it in ready if it.document is not None and it.document.state is not NOT_JUDGED]
         self._write_calls([(it, self._operation(it)) for it in judged])
 
     def _is_ready(self, part: Part) -> bool:
@@ -245,8 +249,8 @@ class Judge:
             self._write_calls_of(self.history.of_shard(shard), its)
 
     def _write_calls_of(self, history: History, made: Sequence[Tuple[Part, Operation]]) -> None:
-        """Writes the lines of calls to a history. Several gets for which there is no room aren't recorded."""
-        if self.has_ended or len(made) > 1 and len(made) > history.room and all(it.op == "get" for _, it in made):
+        """Writes the lines of calls to a history."""
+        if self.has_ended:
             return
         try:
             calls = [history.call_one(made[0][1])] if len(made) == 1 else history.call_all([it for _, it in made])
@@ -259,7 +263,7 @@ class Judge:
         for (part, _), call in zip(made, calls):
             part.call = call
             if part.document is not None:
-                part.document.open.append(call)
+                part.document.open[call] = None
 
     def _end_part(self, history: History, why: str) -> None:
         """Ends the history of a shard, or the one of all."""
@@ -273,7 +277,7 @@ class Judge:
         document = self._documents.get(id)
         if document is None:
             document = self._first_seen(id)
-        return document if document is not None and document.state is not State.NOT_JUDGED else None
+        return document if document is not None and document.state is not NOT_JUDGED else None
 
     def _first_seen(self, id: str) -> Optional[Document]:
         """A document that is seen for the first time, or None where it isn't looked at."""
@@ -306,9 +310,9 @@ class Judge:
         named: List[Tuple[str, str]] = []
         for id, why in reasons:
             document = self._documents[id]
-            if document.state is not State.NOT_JUDGED:
+            if document.state is not NOT_JUDGED:
                 lost += document.open
-                document.state, self._documents[id] = State.NOT_JUDGED, NOT_LOOKED_AT
+                document.state, self._documents[id] = NOT_JUDGED, NOT_LOOKED_AT
                 named.append((id, why))
         if lost:
             self._write_endings([(it, None) for it in lost])
@@ -375,7 +379,9 @@ class Judge:
         ids = (body or {}).get("ids")
         if not isinstance(places, list):
             places = [{"_id": it} for it in ids] if isinstance(ids, list) else []
-        for place in places if len(places) <= MOST_PLACES else ():
+        # (those for which there is no room leave what was recorded, and no document is kept of them)
+        room = min((it.room for it in self.history.histories if not it.has_ended), default=MOST_PLACES)
+        for place in places if len(places) <= min(room, MOST_PLACES) else ():
             words = {**route.words, **place} if isinstance(place, dict) else {}
             index, id = words.get("_index", route.room), words.get("_id")
             is_plain = OF_A_PLACE.issuperset(words) and words.get("realtime", True) in (True, "true")
@@ -418,7 +424,7 @@ class Judge:
         """Writes what an answer says to a request on several documents."""
         is_long = content is not None and len(content) > MOST_READ
         body = object_of(content) if not is_long else None
-        if asked.kind is Kind.SWEEP:
+        if asked.kind is SWEEP:
             if status == 200 and asked.is_over_at_answer and body is not None and not {"task", "timed_out"} & told_true(body):
                 self._open_sweeps -= 1
         elif asked.kind is Kind.MULTIPLE_GET:
@@ -430,6 +436,8 @@ class Judge:
 
     def lost(self, asked: Asked) -> None:
         """Writes that no whole answer came. A write without an id, or a request on unnamed documents, stays open for good."""
+        if self.has_ended:
+            return
         self._endings = []
         for part in asked.parts:
             if part is not None and part.call is not None:
@@ -497,7 +505,7 @@ class Judge:
             text = text_of_write(part.id, "created" if status == 201 else "updated", pair)
         elif (status, result) == (200, "noop") and part.number is not None:
             document.wrote_nothing(part.number)
-        if document.state is State.UNSURE and not self._is_settled(part, status, body):
+        if document.state is UNSURE and not self._is_settled(part, status, body):
             return None
         text = text or readable(body)
         return (status, text) if text is not None else None
@@ -543,9 +551,8 @@ class Judge:
         if call is None or document is None:
             return
         part.call = None
-        if call in document.open:
-            document.open.remove(call)
-        if document.state is State.NOT_JUDGED:
+        document.open.pop(call, None)
+        if document.state is NOT_JUDGED:
             return
         if self._endings is None:
             self._end_call(call, reply)
@@ -582,7 +589,7 @@ def may_have_written(passed: Passed, shape: Shape) -> bool:
     """Whether a request that was passed on may have written to the index, unknown by the name that it used."""
     method, target, route = passed
     was_passed_by = route.kind is Kind.PASS and method not in READS and route_of(method, target, shape.names) is not PASS
-    return was_passed_by or route.kind is Kind.BULK
+    return was_passed_by or route.kind is BULK
 
 
 def is_harmless(route: Route, content: Optional[bytes]) -> bool:

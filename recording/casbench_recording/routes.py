@@ -25,6 +25,10 @@ class Kind(Enum):
     END = "ends the recording"
 
 
+CALL, BULK, SWEEP = Kind.CALL, Kind.BULK, Kind.SWEEP
+"""The kinds that each request is asked for. An Enum takes long to find a member by its name."""
+
+
 class Route(NamedTuple):
     """What is asked: for a call its operation, document and words; for several calls the index that the path names; for a look
     the words that count, and the texts that count as a whole; for an end the reason."""

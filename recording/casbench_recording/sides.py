@@ -6,10 +6,11 @@ from typing import TYPE_CHECKING, Iterator, Optional, Union
 from .asked import AskedInPieces
 from .connecting import Connecting
 from .exchange import Coming, ComingInPieces, Exchange
-from .http1 import BadMessage, Body, Response, decoded, head_end, request_of, response_of, without_empty_lines
+from .http1 import LONGEST_REMEMBERED, BadMessage, Body, Response, decoded, head_end, without_empty_lines
+from .http1 import read_request, read_response, remembered_request, remembered_response
 from .judge import MOST_AT_ONCE, MOST_READ
 from .loop import Stream
-from .routes import READS, Kind
+from .routes import BULK, PASS, READS, SWEEP
 from .tls import TlsStream
 
 if TYPE_CHECKING:
@@ -23,6 +24,12 @@ MOST_OF_ITEMS = 32 * 1024 * 1024
 
 MOST_TO_CONNECT = 10.0
 """For how many seconds a client waits until the cluster can be asked."""
+
+FEW_PARTS = 16
+"""Of how many parts of a request it isn't counted how much memory they take."""
+
+HEADS = 4
+"""How many times a long head is kept at most: as it is, its target, and the words that are read there."""
 
 CONTINUE = b"HTTP/1.1 100 Continue\r\n\r\n"
 
@@ -147,35 +154,41 @@ class ClientSide:
         end = head_end(data)
         if not end:
             return False
-        request = request_of(data[:end])
-        judge = self.proxy.judge
+        request = (remembered_request if end <= LONGEST_REMEMBERED else read_request)(data[:end])
+        judge, length = self.proxy.judge, request.length
         route = judge.route(request.method, request.target)
         exchange = self.exchange = Exchange(request, route)
-        is_bulk = route.kind is Kind.BULK and not judge.has_ended
-        if request.length is not None and len(data) >= end + request.length and not (is_bulk and request.fields.encoding):
-            self.data = data[end + request.length :]
-            self.ask_and_send(exchange, data[end : end + request.length], data[: end + request.length], True)
+        if end > LONGEST_REMEMBERED:
+            exchange.weight = HEADS * end
+        is_bulk = route.kind is BULK and not judge.has_ended
+        if length is not None and len(data) >= end + length and not (is_bulk and request.fields.encoding):
+            whole = end + length
+            self.data = data[whole:]
+            self.ask_and_send(exchange, data[end:whole], data[:whole], True)
             return False
         if is_bulk:
             exchange.coming = ComingInPieces(data[:end], request.body(), request.fields.encoding)
             exchange.asked = judge.ask_in_pieces(route)
         else:
-            exchange.coming = Coming(data[:end], request.body(), route.kind is not Kind.PASS)
+            exchange.coming = Coming(data[:end], request.body(), route is not PASS)
         self.data = data[end:]
         return True
 
     def ask_and_send(self, exchange: Exchange, content: Optional[bytes], data: bytes, is_sent: bool) -> None:
         """Has the calls of a request written, and passes it on. The content is None where too much of it came to be read."""
-        request, route, judge = exchange.request, exchange.route, self.proxy.judge
-        if route.kind is Kind.SWEEP:
+        route, judge = exchange.route, self.proxy.judge
+        if route.kind is SWEEP:
             exchange.asked = judge.begin_sweep(route)
             self.is_working = True
             self.proxy.work(judge.sweeping(route), lambda: self.swept(exchange, data, is_sent))
             return
-        if route.kind is not Kind.PASS:
-            if content is not None and (request.fields.encoding or len(content) > MOST_READ):
+        if route is not PASS:
+            request = exchange.request
+            if content and (request.fields.encoding or len(content) > MOST_READ):
                 content = decoded(content, request.fields.encoding, MOST_READ)
-            exchange.asked = judge.ask(route, request.method, content)
+            asked = exchange.asked = judge.ask(route, request.method, content)
+            if asked is not None and len(asked.parts) > FEW_PARTS:
+                self.account()
         self.send(exchange, data, is_sent)
 
     def swept(self, exchange: Exchange, data: bytes, is_sent: bool) -> None:
@@ -188,8 +201,9 @@ class ClientSide:
         """Passes on what came of a request, perhaps the last of it."""
         assert self.cluster is not None
         exchange.is_sent = is_sent
-        if self.proxy.finding is not None and exchange.request.method not in READS:
-            self.proxy.finding.passes(exchange, (exchange.request.method, exchange.request.target, exchange.route))
+        finding = self.proxy.finding
+        if finding is not None and exchange.request.method not in READS:
+            finding.passes(exchange, (exchange.request.method, exchange.request.target, exchange.route))
         self.cluster.stream.write(data)
 
     def take_piece(self, exchange: Exchange, coming: Coming) -> None:
@@ -222,8 +236,9 @@ class ClientSide:
                 yield
                 if self.stream.is_closing:
                     return
-            judge.take_items(asked, plain, False)
+            judge.take_items(asked, plain, False, self.proxy.has_room())
             coming.length += len(plain or b"")
+            self.account()
             if judge.has_ended:
                 break
         coming.add(raw)
@@ -244,12 +259,13 @@ class ClientSide:
 
     def heed_flow(self) -> None:
         """Takes no more from the client while the cluster is slow to take it, or while an answer is waited for and much has come."""
-        is_waiting = not self.is_connected or self.is_working or self.exchange is not None and self.exchange.is_sent
-        is_paused = self.is_cluster_full or is_waiting and len(self.data) > MOST_AHEAD
+        exchange = self.exchange
+        is_sent = exchange is not None and exchange.is_sent
+        is_paused = self.is_cluster_full or len(self.data) > MOST_AHEAD and (is_sent or self.is_working or not self.is_connected)
         if is_paused != self.is_paused:
             self.is_paused = is_paused
             (self.stream.pause_reading if is_paused else self.stream.resume_reading)()
-        if self.data or self.held or self.exchange is not None and not self.exchange.is_sent:
+        if self.data or self.held or exchange is not None and (not is_sent or exchange.weight):
             self.account()
 
     def account(self) -> None:
@@ -257,6 +273,7 @@ class ClientSide:
         exchange = self.exchange
         held = len(self.data) + (len(self.cluster.data) if self.cluster is not None else 0)
         if exchange is not None:
+            held += exchange.weight + (exchange.asked.weight if exchange.asked is not None else 0)
             held += len(exchange.answer) + (len(exchange.body.kept) if exchange.body is not None else 0)
             held += len(exchange.coming.held) + len(exchange.coming.body.kept) if exchange.coming is not None else 0
         if held != self.held:
@@ -279,7 +296,7 @@ class ClientSide:
 
     def waits_for_cluster(self) -> bool:
         """Whether it is for the cluster to do something, and the client is there to see it."""
-        is_asked = self.is_working or self.exchange is not None and self.exchange.is_sent
+        is_asked = self.is_working or self.exchange is not None and self.exchange.is_sent and not self.is_tunnel
         return is_asked and not self.stream.waiting and not self.stream.is_at_end
 
     def pause_writing(self) -> None:
@@ -329,15 +346,16 @@ class ClusterSide:
 
     def received(self, data: bytes) -> None:
         """Takes what the cluster sent, and passes it on."""
-        self.client.active_at = self.client.proxy.loop.now
+        client = self.client
+        client.active_at = client.proxy.loop.now
         self.data = self.data + data if self.data else data
         try:
             while self.data and self.has_step():
                 pass
         except BadMessage as fault:
             self.fail(f"the answer can't be read: {fault}")
-        if self.data or self.client.held or self.client.exchange is not None and self.client.exchange.body is not None:
-            self.client.account()
+        if self.data or client.held or client.exchange is not None and client.exchange.body is not None:
+            client.account()
 
     def has_step(self) -> bool:
         """Does the next step with what the cluster sent; tells whether there may be another one."""
@@ -362,7 +380,8 @@ class ClusterSide:
         end = head_end(data)
         if not end:
             return False
-        response, method = response_of(data[:end]), exchange.request.method
+        response = (remembered_response if end <= LONGEST_REMEMBERED else read_response)(data[:end])
+        method = exchange.request.method
         if response.status < 200:
             self.data = data[end:]
             self.go_on(exchange, response, data[:end])
@@ -396,7 +415,7 @@ class ClusterSide:
         if body.is_done:
             self.finish(exchange, response, body.content())
             return
-        most = MOST_OF_ITEMS if exchange.route.kind is Kind.BULK else MOST_READ
+        most = MOST_OF_ITEMS if exchange.route.kind is BULK else MOST_READ
         if exchange.asked is None or len(exchange.answer) > most or not self.client.proxy.has_room():
             self.give_up_reply(exchange, body)
             self.pass_on(exchange)
@@ -421,15 +440,15 @@ class ClusterSide:
         if asked is None:
             self.look(exchange)
             return
-        fields, judge = response.fields, self.client.proxy.judge
+        fields, proxy = response.fields, self.client.proxy
         plain: Optional[bytes] = content
         if fields.encoding or len(content) > MOST_READ:
-            plain = decoded(content, fields.encoding, MOST_OF_ITEMS if asked.kind is Kind.BULK else MOST_READ)
+            plain = decoded(content, fields.encoding, MOST_OF_ITEMS if asked.kind is BULK else MOST_READ)
         if len(asked.parts) <= MOST_AT_ONCE:
-            judge.answered(asked, response.status, plain, fields.length)
-            (self.deliver if self.client.proxy.finding is None else self.look)(exchange)
+            proxy.judge.answered(asked, response.status, plain, fields.length)
+            (self.deliver if proxy.finding is None else self.look)(exchange)
         else:
-            self.wait(lambda go_on: self.client.proxy.work(judge.answering(asked, response.status, plain), go_on), exchange)
+            self.wait(lambda go_on: proxy.work(proxy.judge.answering(asked, response.status, plain), go_on), exchange)
 
     def wait(self, work: "Callable[[Callable[[], None]], None]", exchange: Exchange) -> None:
         """Does what takes a while, and then goes on with the answer. Nothing more is taken meanwhile."""
@@ -463,8 +482,6 @@ class ClusterSide:
         """Passes on an answer, or the last of it, and goes on with the next request."""
         client = self.client
         self.pass_on(exchange)
-        if client.held:
-            client.account()
         if self.data:
             self.fail("more than an answer came")
         elif exchange.is_sent and not self.stream.is_closing:
@@ -472,6 +489,8 @@ class ClusterSide:
         else:
             # (the cluster is gone, or didn't want the rest of the request, and the client's next one can't be told from it)
             client.close()
+        if client.held:
+            client.account()
 
     def fail(self, why: str) -> None:
         """Gives up: what was asked is lost, and the client is told, unless it has a part of an answer."""

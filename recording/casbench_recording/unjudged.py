@@ -5,7 +5,7 @@ import json
 import os
 from typing import BinaryIO, Dict, Iterable, List, Optional, Tuple
 
-from .history import HistoryError
+from .history import HistoryError, compact
 
 MOST_TOLD = 20
 """How many documents are told at the end; the list has all of them."""
@@ -40,7 +40,7 @@ class Unjudged:
             if len(self.reasons) < MOST_TOLD:
                 self.reasons[document] = why
             self.count += 1
-            lines.append(json.dumps({"id": document, "why": why}))
+            lines.append(f'{{"id": {compact(document)}, "why": {compact(why)}}}')
         self._write(lines)
 
     def ends(self, why: str) -> None:
