@@ -150,12 +150,13 @@ class Drawn:
             self.pairs[found[1].decode()] = (int(found[3]), int(found[2]))
 
     def run(self, count):
-        """Makes so many exchanges, as long as there is a proxy."""
+        """Makes so many exchanges, as long as there is a proxy; tells how many it made."""
         try:
-            for _ in range(count):
+            for done in range(count):
                 self.turn()
+            return count
         except ConnectionRefusedError:
-            return
+            return done
         finally:
             if self.client is not None:
                 self.client.socket.close()
@@ -163,6 +164,9 @@ class Drawn:
 
 class Attacked(AttackTest):
     """Runs of the proxy under drawn attacks."""
+
+    # how many exchanges were made in runs that weren't cut short
+    made = 0
 
     def run_of(self, name, cluster, odds, count, is_cut_short):
         """A run; what the program says of its history, what was left behind the clients, and how long the end took."""
@@ -176,8 +180,7 @@ class Attacked(AttackTest):
             if is_cut_short:
                 time.sleep(random.Random(name).uniform(0.05, 1.5))
             else:
-                for it in runs:
-                    it.result()
+                self.made += sum(it.result() for it in runs)
                 left = self.left(proxy, before)
             seconds, status = self.end(proxy)
         self.assertEqual(status, 0)
@@ -212,12 +215,14 @@ class Attacked(AttackTest):
         self.assertLess(sorted(seconds for _, _, seconds in told)[len(told) // 2], 1.0)
 
     def test_clients_that_attack_an_honest_cluster(self):
-        plans = [(f"honest-{it}", Honest(), [0, 0.02, 0.3][it % 3], 125, it % 4 == 3) for it in range(12)]
+        plans = [(f"honest-{it}", Honest(), [0, 0.02, 0.3][it % 3], 175, it % 4 == 3) for it in range(12)]
         self.hold([self.run_of(*it) for it in plans], "^(yes .*|no call was made)$")
+        self.assertEqual(self.made, 12_600)
 
     def test_clients_and_clusters_that_attack(self):
-        plans = [(f"hostile-{it}", Hostile(it), [0, 0.02, 0.3][it % 3], 125, it % 4 == 3) for it in range(8)]
+        plans = [(f"hostile-{it}", Hostile(it), [0, 0.02, 0.3][it % 3], 160, it % 4 == 3) for it in range(8)]
         self.hold([self.run_of(*it) for it in plans], "^(yes|no|refuted) |^no call was made$")
+        self.assertEqual(self.made, 7_680)
 
 
 if __name__ == "__main__":
