@@ -34,6 +34,10 @@ ODD += [b"NaN", b"1e999", b"\xff", b"\xc3\xa9", b"\\u0061", b"\\ud800", b'"', b"
 ODD += [b"Transfer-Encoding: chunked\r\n", b"Expect: 100-continue\r\n", b"Content-Encoding: gzip\r\n", b"pipeline=p"]
 ODD += [b"&routing=x", b"\xed\xa0\x80", b"null"]
 
+# What is put in the place of a member that counts.
+VALUES = [b"NaN", b"1e999", b"9" * 400, b"-0", b'"\\ud800"', b"[" * 130 + b"]" * 130, b"null", b"true"]
+MEMBER = re.compile(rb'("(?:_seq_no|_primary_term|result|found|type)": )[^,}]+')
+
 
 def mutated(draw, data):
     """The bytes, changed in one place or some."""
@@ -87,6 +91,8 @@ class Hostile(Honest):
         if kind < 0.6:
             return b"HTTP/1.1 100 Continue\r\n\r\n" * self.draw.choice([1, 700]) + answer
         head, _, body = answer.partition(b"\r\n\r\n")
+        if kind < 0.75:
+            return answer_of(int(head.split()[1]), MEMBER.sub(lambda it: it[1] + self.draw.choice(VALUES), body, count=1))
         return mutated(self.draw, answer) if kind < 0.66 else answer_of(int(head.split()[1]), mutated(self.draw, body))
 
 
