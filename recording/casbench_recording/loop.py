@@ -25,7 +25,7 @@ MOST_WAITING = 65_536
 READ, WRITE = selectors.EVENT_READ, selectors.EVENT_WRITE
 
 TICK = 0.5
-"""How many seconds lie between two looks at what takes too long."""
+"""How many seconds lie between two looks at what takes too long, or twice as many if nothing happens."""
 
 LINGERING = 2.0
 """For how many seconds what comes is still taken, and thrown away, after the last of an answer."""
@@ -81,20 +81,20 @@ class Loop:
 
     def run(self) -> None:
         """Runs until it is stopped."""
-        selector, calls = self._selector, self._calls
-        next_tick = time.monotonic() + TICK
+        select, calls, following, clock = self._selector.select, self._calls, self._next, time.monotonic
+        next_tick = clock() + TICK
         while not self.is_over:
-            ready = selector.select(0 if self._next or calls else max(0.0, next_tick - self.now))
-            self.now = time.monotonic()
+            ready = select(0 if following or calls else TICK)
+            now = self.now = clock()
             for key, events in ready:
                 key.data(events)
-            if self._next:
-                calls.extend(self._next)
-                self._next.clear()
+            if following:
+                calls.extend(following)
+                following.clear()
             if calls:
                 self._make_calls()
-            if self.now >= next_tick:
-                next_tick = self.now + TICK
+            if now >= next_tick:
+                next_tick = now + TICK
                 calls.extend(self.ticks_due())
 
     def ticks_due(self) -> List[Callable[[], None]]:
