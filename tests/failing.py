@@ -175,7 +175,7 @@ def plain_end(program, row):
 
 def files_of(row, plain):
     """The texts and the outputs of the row, in the order of their calls."""
-    outputs = [Output(OUT, plain.out)] + ([] if plain.page is None else [Output(PAGE, plain.page)])
+    outputs = ([] if plain.page is None else [Output(PAGE, plain.page)]) + [Output(OUT, plain.out)]
     return [*row.texts, *outputs]
 
 
@@ -188,7 +188,7 @@ def wanted(row, plain, failing):
     before, after = "." * sum(counts[:at]), "." * sum(counts[at + 1 :])
     if number > counts[at]:
         return plain._replace(calls=before + "n" * counts[at] + after)
-    out = plain.out if name == PAGE else plain.out[: (number - 1) * size] if name == OUT else b""
+    out = plain.out[: (number - 1) * size] if name == OUT else b""
     return Ended(4, out, WRITE_FAULT if name in (OUT, PAGE) else READ_FAULT, None, before + "n" * (number - 1) + "!", ())
 
 

@@ -352,15 +352,15 @@ def are_read_in_turn(program, folder, command, first_text, second_text, wanted):
         return ended(child) == (0, wanted.decode(), "")
 
 
-def is_page_opened_first(program, folder):
-    """Whether the page is there before the history is read, and after it was opened."""
+def is_page_made_last(program, folder):
+    """Whether no page is there before the history was read to its end, and one afterwards."""
     history, page = Pipe(folder / "history"), folder / "page"
     with started([program, "explain", history.path, "--html", page], stdin=subprocess.DEVNULL) as child:
-        was_there = page.exists()
-        if not history.open() or not comes(page.exists):
+        if not history.open():
             return False
+        was_there = page.exists()
         os.close(history.end)
-        return (was_there, *ended(child)) == (False, 0, STORY_OF_NOTHING, "")
+        return (was_there, *ended(child), page.exists()) == (False, 0, STORY_OF_NOTHING, "", True)
 
 
 def in_turn(command, first, second, stdout):
@@ -381,7 +381,7 @@ TABLES = [
     (is_told, STORIES),
     (is_of_fault, FAULTS),
     (are_read_in_turn, TURNS),
-    (is_page_opened_first, [()]),
+    (is_page_made_last, [()]),
 ]
 
 
