@@ -7,7 +7,7 @@ use std::fs;
 use std::io::{self, ErrorKind, Read};
 use std::rt::Files;
 
-/// Where a text is read from: a file that was named, or the input where none was.
+/// Where a text is read from: a file that was named, or the input if none was.
 #[derive(Drop)]
 pub enum Source<F, I> {
     File(F),
@@ -33,7 +33,7 @@ pub fn tell_unopened(rt: &impl Eprint, path: &str, error: &io::Error) {
     };
 }
 
-/// The file, open to be read from its start. That it can't be opened is told on standard error by its name, and is a
+/// The file, open to be read from its start. If it can't be opened it is named on standard error, and that is a
 /// read fault.
 pub fn open<R: Files + Eprint>(rt: &R, path: &str) -> Result<R::File, StreamFault>
     ensures { IfErr result (λ fault. fault ≡ StreamFault.Read) }
@@ -47,7 +47,7 @@ pub fn open<R: Files + Eprint>(rt: &R, path: &str) -> Result<R::File, StreamFaul
     }
 }
 
-/// The file that is named, open as by `open`, or the input where none is.
+/// The file that is named, open as by `open`, or the input if none is.
 pub fn open_or<R: Files + Eprint, I: Drop>(
     rt: &R,
     path: Option<&str>,

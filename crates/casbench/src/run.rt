@@ -35,7 +35,7 @@ use std::sync::Wait;
 use std::thread::Threads;
 use workload::Target;
 
-// A number of workers from 1 to 16: the nearest one where the number is another, which words never name.
+// A number of workers from 1 to 16: the nearest one if the number is another, which no arguments give.
 fn worker_count(workers: u64) -> usize
     ensures some { 1 ≤ result }
     ensures few { result ≤ 16 }
@@ -49,7 +49,7 @@ fn worker_count(workers: u64) -> usize
     }
 }
 
-// Checks a history and tells what was found; on a page too, if one is named, which takes its place when the answer is written.
+// Checks a history and reports what was found; on a page too, if one is named, which takes its place when the answer is written.
 fn explain<F: Files + Eprint, T: Threads + Wait + Sync, R: Read, W: Write>(
     rt: &F,
     threads: &T,
@@ -97,7 +97,7 @@ fn explain<F: Files + Eprint, T: Threads + Wait + Sync, R: Read, W: Write>(
 /// Does what the words ask for: opens the files in the order in which they were named, then reads, and writes the
 /// answer. Workers run on `threads`; ids and pairs are found by hashes with these keys.
 ///
-/// A file that can't be opened is told on standard error by its name, and is a read fault: then nothing was read, nor
+/// A file that can't be opened is named on standard error, and is a read fault: then nothing was read, nor
 /// written to the writer.
 pub fn run<R: Files + Eprint, T: Threads + Wait + Sync, I: Read + Drop, W: Write>(
     alloc: Global,
@@ -117,7 +117,7 @@ pub fn run<R: Files + Eprint, T: Threads + Wait + Sync, I: Read + Drop, W: Write
     ensures witnessed { (conflicts : Reading) (ruling : Ruling) → words.entry ≡ Words.Witness None conflicts ruling
         → IfOk result (λ status. HasAnswer (WitnessesInput ruling conflicts (I.remaining input) status)
         (W.contents writer.old) (W.contents writer.new)) }
-    // A check of the input that is told begins with its answer, whether a page is written too or not.
+    // A check of the input that is reported begins with its answer, whether a page is written too or not.
     ensures explained { (conflicts : Reading) (workers : ℕ) (ruling : Ruling) (page : Option (Bor (List ℕ)))
         → words.entry ≡ Words.Explain None conflicts workers ruling page
         → IfOk result (λ status. HasAnswer (ExplainsInput ruling conflicts (I.remaining input) status)

@@ -2,6 +2,7 @@ use crate::forward::failed::Failed;
 use crate::forward::moves::{Turn, is_lost, next_write};
 use crate::forward::standing::Standing;
 use crate::forward::walk::{Placed, Walk};
+use crate::limit::Limit;
 use crate::rules::link::Link;
 use crate::rules::numbers::places_with_pairs;
 use doc_register::Conflicts;
@@ -12,6 +13,7 @@ use witness::Place;
 
 pub mod failed;
 pub mod free;
+pub mod inserted_pair;
 pub mod kind;
 pub mod known;
 pub mod lines;
@@ -126,21 +128,25 @@ fn chain_and_stretches(
                 pair: walk.known.get(at).map(|known| known.pair),
                 rec,
             })?,
-            Placed::Inserted(rec) => links.push(Link { pair: None, rec })?,
-            Placed::Turned(rec) => {
+            Placed::Inserted(rec, pair) => links.push(Link { pair, rec })?,
+            Placed::Turned(rec, pair) => {
                 if let Some(stretch) = given.get_mut(rec) {
                     *stretch = None;
                 }
-                links.push(Link { pair: None, rec })?;
+                links.push(Link { pair, rec })?;
             }
         }
     }
     Ok((links, given))
 }
 
-// How many steps a search of so many records may take.
-fn most_steps(records: usize) -> usize {
-    records.saturating_mul(2).saturating_add(100_000)
+// How many steps a search of so many records may take; one that is limited may have nothing to find, and takes fewer.
+fn most_steps(records: usize, limits: &[Limit]) -> usize {
+    if limits.is_empty() {
+        records.saturating_mul(2).saturating_add(100_000)
+    } else {
+        records.saturating_add(20_000)
+    }
 }
 
 // The chain of an order that the search finds, and of each record that is not in it the stretch.
@@ -149,8 +155,9 @@ fn found_chain(
     records: &[Rec],
     conflicts: Conflicts,
     used: &[Pair],
+    limits: &[Limit],
 ) -> Result<Option<(Vec<Link>, Vec<Option<usize>>)>, NoMemory> {
-    let Some(walk) = Walk::of(alloc, records, conflicts, used)? else {
+    let Some(walk) = Walk::of(alloc, records, conflicts, used, limits)? else {
         return Ok(None);
     };
     let mut search = Search {
@@ -159,7 +166,7 @@ fn found_chain(
         failed: Failed::of(alloc, records.len())?,
     };
     search.arrive()?;
-    let most = most_steps(records.len());
+    let most = most_steps(records.len(), limits);
     for _ in 0..most {
         match search.step()? {
             Step::Done => return Ok(Some(chain_and_stretches(alloc, &search.walk)?)),
@@ -171,17 +178,18 @@ fn found_chain(
 }
 
 /// An order that completes unanswered writes, by a search forward in time, with room for an invented pair only where a
-/// number is left that none of the pairs in use has. `None` where none is found in a number of steps in proportion to
-/// the records. What is found is a guess, to be checked.
+/// number is left that none of the pairs in use has, and within the limits. `None` if none is found in a number of steps in
+/// proportion to the records. What is found is a guess, to be checked.
 pub fn search_forward(
     alloc: Global,
     records: &[Rec],
     seen: Seen,
     conflicts: Conflicts,
     used: &[Pair],
+    limits: &[Limit],
 ) -> Result<Option<Vec<Place>>, NoMemory> {
     // (What the search keeps is given up before the places are made, so that memory holds one of the two.)
-    match found_chain(alloc, records, conflicts, used)? {
+    match found_chain(alloc, records, conflicts, used, limits)? {
         Some((links, given)) => places_with_pairs(alloc, records, &links, &given, seen),
         None => Ok(None),
     }

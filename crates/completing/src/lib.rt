@@ -3,14 +3,16 @@
 //!
 //! ```text
 //! let places = complete_by_rules(alloc, &records, seen, conflicts)?; // Option<Vec<Place>>
-//! let places = search_forward(alloc, &records, seen, conflicts, &used)?;
+//! let places = search_forward(alloc, &records, seen, conflicts, &used, &limits)?;
 //! ```
 #![tactic(auto)]
 
 mod earlier;
 mod forward;
+mod limit;
 mod near;
 mod rules;
 
 pub use forward::search_forward;
+pub use limit::Limit;
 pub use rules::complete_by_rules;

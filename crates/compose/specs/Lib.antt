@@ -7,3 +7,4 @@ pub mod Checked
 pub mod aids
 pub mod Shards
 pub mod Offences
+pub mod Certainties

@@ -1,10 +1,11 @@
-//! How much an answer says to a history for which no order was found.
+//! How much an answer says of a history for which no order was found.
 
-ghost use Rattle.std.specs.Prelude.{◌≡◌, ◌≢◌, ◌<◌, ◌↔◌, IfOk, IfSome, IsTrue, Some, length, slice_get};
+ghost use Rattle.std.specs.Prelude.{◌≡◌, ◌≢◌, ◌<◌, ◌↔◌, ℕ, IfOk, IfSome, IsTrue, Some as Just, length, slice_get};
 ghost use Rattle.history.specs.declared.event.Event.{Event as Happening};
 ghost use Rattle.history.specs.Events.{IsHistory, documents_of};
 ghost use Rattle.history.specs.Order.{IsLinearizable};
 ghost use Rattle.evidence.specs.Evidence.{Holds};
+ghost use Rattle.compose.specs.Certainties.{IsCallRuledOut, IsCallWithoutOrder, IsDocumentOf, IsWithoutOrder, Says, SaysOfCall};
 ghost use Rattle.compose.specs.Laws.{IsSettled};
 ghost use Rattle.compose.specs.aids.Settled.{IsSettledEvent};
 
@@ -14,7 +15,7 @@ use doc_check::laws::settled_have_none;
 use doc_check::{DocAnswer, answer, is_settled};
 use doc_register::Conflicts;
 use evidence::laws::evidence_refutes;
-use evidence::{Certainty, Refuted, rule_out_document};
+use evidence::{Certainty, Refuted, is_document_ruled_out};
 use history::{Event, History, Rec};
 use std::alloc::Global;
 use version_pair::NoMemory;
@@ -22,7 +23,7 @@ use version_pair::NoMemory;
 // Whether what stands at the place is no write; or the write has a reply, under Maybe one other than a conflict.
 fn is_settled_at(history: &History, place: usize, conflicts: Conflicts) -> bool
     requires { place < length history.now }
-    ensures { (event : Happening) → slice_get history.now place ≡ Some event
+    ensures { (event : Happening) → slice_get history.now place ≡ Just event
         → (IsTrue result ↔ IsSettledEvent conflicts history.now event) }
 {
     match history.event(place) {
@@ -52,31 +53,29 @@ fn is_settled_history(history: &History, conflicts: Conflicts) -> bool
     true
 }
 
-// The number of the document of a call.
-fn document_of(history: &History, no: u64) -> Option<usize>
-    ensures { IfSome result (λ doc. doc < length (documents_of history.now)) }
+// The number of the document of a call, if the history has that call.
+fn document_of(history: &History, call: u64) -> Option<usize>
+    requires { IsHistory history.now }
+    ensures { (doc : ℕ) → result ≡ Just doc ↔ IsDocumentOf history.now call doc }
 {
-    let Event::Call { id, .. } = history.event(history.call(no)?) else {
-        return None;
-    };
-    let doc = history.doc_of(id)?;
-    if doc < history.docs() {
-        Some(doc)
-    } else {
-        None
+    match history.call(call) {
+        Some(place) => match history.event(place) {
+            Event::Call { id, .. } => history.doc_of(id),
+            Event::Reply { .. } | Event::Lost { .. } => None,
+        },
+        None => None,
     }
 }
 
-// Whether each write of the document was answered, and no order of its calls explains them.
-fn has_no_order(
+// Whether each write of the document was answered, and no order of its calls explains their replies.
+fn is_without_order(
     alloc: Global,
     history: &History,
     doc: usize,
     conflicts: Conflicts,
 ) -> Result<bool, NoMemory>
-    requires history { IsHistory history.now }
-    requires within { doc < length (documents_of history.now) }
-    ensures { IfOk result (λ none. IsTrue none → ¬ IsLinearizable conflicts history.now) }
+    requires { doc < length (documents_of history.now) }
+    ensures { IfOk result (λ without. IsTrue without ↔ IsWithoutOrder conflicts history.now doc) }
 {
     let records = history.records(doc)?;
     if !is_settled(&records, conflicts) {
@@ -91,52 +90,77 @@ fn has_no_order(
     }
 }
 
-// How much the replies say by themselves, without evidence of two calls or one.
-fn certainty_without_evidence(alloc: Global, case: &Case, call: u64) -> Result<Certainty, NoMemory>
-    ensures proved { IfOk result (λ told. told ≢ Certainty.Undecided
-        → ¬ IsLinearizable case.now.conflicts case.now.events) }
-    ensures settled { IsSettled case.now.conflicts case.now.events
-        → IfOk result (λ told. told ≢ Certainty.Undecided) }
+// Whether the document of the call is ruled out.
+fn is_call_ruled_out(
+    alloc: Global,
+    history: &History,
+    call: u64,
+    conflicts: Conflicts,
+) -> Result<bool, NoMemory>
+    requires { IsHistory history.now }
+    ensures { IfOk result (λ ruled_out. IsTrue ruled_out ↔ IsCallRuledOut conflicts history.now call) }
 {
-    let history = case.history();
-    let conflicts = case.conflicts();
-    let doc = document_of(history, call);
-    if let Some(doc) = doc {
-        // What evidence says of a history is known from here on.
-        evidence_refutes();
-        if rule_out_document(alloc, history, doc, conflicts)?.is_some() {
-            return Ok(Certainty::RuledOut);
-        }
+    match document_of(history, call) {
+        Some(doc) => is_document_ruled_out(alloc, history, doc, conflicts),
+        None => Ok(false),
+    }
+}
+
+// Whether each write of the call's document was answered, and no order of its calls explains their replies.
+fn is_call_without_order(
+    alloc: Global,
+    history: &History,
+    call: u64,
+    conflicts: Conflicts,
+) -> Result<bool, NoMemory>
+    requires { IsHistory history.now }
+    ensures { IfOk result (λ without. IsTrue without ↔ IsCallWithoutOrder conflicts history.now call) }
+{
+    match document_of(history, call) {
+        Some(doc) => is_without_order(alloc, history, doc, conflicts),
+        None => Ok(false),
+    }
+}
+
+// How much the replies say by themselves, without evidence, at the call of the offence.
+fn certainty_without_evidence(
+    alloc: Global,
+    history: &History,
+    call: u64,
+    conflicts: Conflicts,
+) -> Result<Certainty, NoMemory>
+    requires { IsHistory history.now }
+    ensures { IfOk result (SaysOfCall conflicts history.now call) }
+{
+    if is_call_ruled_out(alloc, history, call, conflicts)? {
+        return Ok(Certainty::RuledOut);
     }
     if is_settled_history(history, conflicts) {
         return Ok(Certainty::Answered);
     }
-    let Some(doc) = doc else {
-        return Ok(Certainty::Undecided);
-    };
-    if has_no_order(alloc, history, doc, conflicts)? {
+    if is_call_without_order(alloc, history, call, conflicts)? {
         return Ok(Certainty::DocumentAnswered);
     }
     Ok(Certainty::Undecided)
 }
 
-/// How much the answer says to the history of the case, with the evidence that was found, if any was, and the offence.
+/// How much the answer says of the history of the case, with the evidence that was found, if any was, and the offence.
+#[tactic(auto, using(crate::proofs::CertaintyLemmas::said_is_proved))]
 pub fn certainty_of(alloc: Global, case: &Case, failing: &Failing) -> Result<Certainty, NoMemory>
     requires { IfSome failing.now.evidence (Holds case.now.conflicts case.now.events) }
+    ensures says { IfOk result
+        (Says case.now.conflicts case.now.events failing.now.evidence failing.now.offence.call) }
     // All but `Undecided` say that no order explains the history.
-    ensures proved { IfOk result (λ told. told ≢ Certainty.Undecided
+    ensures proved { IfOk result (λ certainty. certainty ≢ Certainty.Undecided
         → ¬ IsLinearizable case.now.conflicts case.now.events) }
-    // With evidence it isn't undecided, nor if each write was answered.
-    ensures evident { IfSome failing.now.evidence (λ _. IfOk result (λ told. told ≢ Certainty.Undecided)) }
-    ensures settled { IsSettled case.now.conflicts case.now.events
-        → IfOk result (λ told. told ≢ Certainty.Undecided) }
 {
-    // What evidence says of a history is known from here on, and that the case has one.
+    // What evidence and settled records say is known from here on, and that the case has a history.
     evidence_refutes();
-    let _ = case.history();
+    settled_have_none();
+    let history = case.history();
     match failing.evidence {
         Some(Refuted::RuledOut(_)) => Ok(Certainty::ToldRuledOut),
         Some(_) => Ok(Certainty::Evident),
-        None => certainty_without_evidence(alloc, case, failing.offence.call),
+        None => certainty_without_evidence(alloc, history, failing.offence.call, case.conflicts()),
     }
 }

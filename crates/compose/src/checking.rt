@@ -11,6 +11,7 @@ use crate::found::answers_found;
 use crate::joined::{Joined, join_answers};
 use crate::proof::Proof;
 use crate::second_look::looked_again;
+use crate::third_look::cover_with_fewer;
 use crate::workers::answers_of_workers;
 use check_pool::{Gate, PoolFault, check_workers};
 use doc_check::DocAnswer;
@@ -44,7 +45,7 @@ pub enum CheckFault {
     NoMemory(History),
 }
 
-// Witnesses that cover the history, where the answers of the search are such, or a second look at some documents finds them.
+// Witnesses that cover the history, if the answers of the search are such, or a second or a third look at some documents finds them.
 fn covering(
     alloc: Global,
     history: &Front<'_>,
@@ -64,7 +65,8 @@ fn covering(
     };
     match join_answers(alloc, history, others)? {
         Joined::Cover(witnesses) => Ok(Some(witnesses)),
-        Joined::Open(_) | Joined::Spent => Ok(None),
+        Joined::Open(answers) => cover_with_fewer(alloc, history, answers),
+        Joined::Spent => Ok(None),
     }
 }
 

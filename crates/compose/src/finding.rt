@@ -3,10 +3,10 @@ use crate::offence::Offence;
 use crate::proof::Proof;
 use evidence::Refuted;
 
-/// What is told of a history for which no order was found.
+/// What is reported of a history for which no order was found.
 #[derive(Clone, Copy, Debug, PartialEq, Eq)]
 pub struct Failing {
-    /// The evidence that there is none, where some was found.
+    /// The evidence that there is none, if some was found.
     pub evidence: Option<Refuted>,
     /// The reply at which the search first fails.
     pub offence: Offence,

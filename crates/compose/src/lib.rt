@@ -23,6 +23,7 @@ mod refutation;
 mod renumbered;
 mod second_look;
 mod taken;
+mod third_look;
 mod verification;
 mod verify_fault;
 mod workers;

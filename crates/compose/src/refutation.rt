@@ -10,8 +10,8 @@ use version_pair::NoMemory;
 /// the order of `Refuted`, and of that kind the one with the least call numbers, the first number counting first.
 /// `None` where no kind holds; documents that are ruled out are not looked for.
 pub fn refute(alloc: Global, case: &Case) -> Result<Option<Refuted>, NoMemory>
-    ensures holds { IfOk result (λ told. IfSome told (Holds case.now.conflicts case.now.events)) }
-    ensures of_calls { IfOk result (λ told. IfSome told IsOfCalls) }
+    ensures holds { IfOk result (λ found. IfSome found (Holds case.now.conflicts case.now.events)) }
+    ensures of_calls { IfOk result (λ found. IfSome found IsOfCalls) }
 {
     find_evidence(alloc, case.history(), case.conflicts())
 }
@@ -19,9 +19,9 @@ pub fn refute(alloc: Global, case: &Case) -> Result<Option<Refuted>, NoMemory>
 /// The evidence that a document of the case's history is ruled out, with conflicts read as the case reads them: the least call
 /// at which one is. `None` where none is. Only those documents are walked for which no order was found: the others have one.
 pub fn rule_out(alloc: Global, case: &Case) -> Result<Option<Refuted>, NoMemory>
-    ensures holds { IfOk result (λ told. IfSome told (Holds case.now.conflicts case.now.events)) }
-    ensures least { IfOk result (λ told. IfSome told (IsReported RulingOut.On case.now.conflicts case.now.events)) }
-    ensures none { IfOk result (λ told. told ≡ Nothing
+    ensures holds { IfOk result (λ found. IfSome found (Holds case.now.conflicts case.now.events)) }
+    ensures least { IfOk result (λ found. IfSome found (IsReported RulingOut.On case.now.conflicts case.now.events)) }
+    ensures none { IfOk result (λ found. found ≡ Nothing
         → IsWithoutRuledOut case.now.conflicts case.now.events) }
 {
     evidence::rule_out(alloc, case.history(), case.conflicts(), case.unordered())

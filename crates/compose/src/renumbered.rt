@@ -3,13 +3,15 @@ ghost use Rattle.compose.specs.aids.Searched.{AreAlike, IsAlike};
 
 use crate::renumbered::free_numbers::FreeNumbers;
 use crate::renumbered::gaps::{Gap, Gaps, Wanting};
-use history::Front;
+use crate::renumbered::tight::{Filled, tight_set};
+use history::{Front, HashKeys};
 use std::alloc::{AllocError, Global};
 use version_pair::{NoMemory, Pair};
 use witness::{Broken, DocWitness};
 
 pub mod free_numbers;
 pub mod gaps;
+mod tight;
 
 /// Another pair for a place: the number of the witness, that of the place, the pair.
 pub type Change = (usize, usize, Pair);
@@ -33,66 +35,103 @@ fn free_pairs(
     Ok(Some(pairs))
 }
 
-// Free pairs for the places of a gap that no call of the document names, where there are enough; else any that the places may
-// take.
+// Free pairs for the places of a gap. If named pairs are avoided, those that a call of the document names are taken only where
+// there are too few others.
 fn pairs_for(
     alloc: Global,
     gaps: &Gaps,
     gap: &Gap,
     free: &mut FreeNumbers,
+    avoids: bool,
 ) -> Result<Option<Vec<Pair>>, NoMemory> {
-    for avoids in [true, false] {
+    if avoids {
         if let Some(pairs) = free_pairs(alloc, Wanting { gaps, gap, avoids }, free)? {
             return Ok(Some(pairs));
         }
     }
-    Ok(None)
-}
-
-// Gives the places of a gap other pairs. False where there are too few.
-fn fill(
-    alloc: Global,
-    gaps: &Gaps,
-    gap: &Gap,
-    free: &mut FreeNumbers,
-    changes: &mut Vec<Change>,
-) -> Result<bool, NoMemory> {
-    let Some(pairs) = pairs_for(alloc, gaps, gap, free)? else {
-        return Ok(false);
+    let wanting = Wanting {
+        gaps,
+        gap,
+        avoids: false,
     };
-    for i in 0..pairs.len() {
-        free.take(gap.shard, pairs[i])?;
-        if let Some(place) = gap.places.get(i) {
-            changes.push((gap.witness, *place, pairs[i]))?;
-        }
-    }
-    Ok(true)
+    free_pairs(alloc, wanting, free)
 }
 
-// Other pairs for all gaps, the one with the least upper end first; `None` where a gap has too few numbers.
-fn changes_in(
-    alloc: Global,
-    gaps: &Gaps,
-    free: FreeNumbers,
-) -> Result<Option<Vec<Change>>, NoMemory> {
-    let mut order = Vec::new(alloc);
-    for k in 0..gaps.list.len() {
-        order.push((gaps.list[k].shard, gaps.list[k].upper, k))?;
+// The gaps, by shard and then by rising upper end.
+fn gaps_by_end(alloc: Global, gaps: &Gaps) -> Result<Vec<usize>, NoMemory> {
+    let mut ends = Vec::with_capacity(alloc, gaps.list.len())?;
+    for gap in 0..gaps.list.len() {
+        ends.push((gaps.list[gap].shard, gaps.list[gap].upper, gap))?;
     }
-    order.sort_unstable();
-    let mut free = free;
+    ends.sort_unstable();
+    let mut order = Vec::with_capacity(alloc, ends.len())?;
+    for (_, _, gap) in &ends {
+        order.push(*gap)?;
+    }
+    Ok(order)
+}
+
+// The changes that give the gaps their pairs, in the order of witnesses and places.
+fn changes_to(alloc: Global, gaps: &Gaps, filled: &[Filled]) -> Result<Vec<Change>, NoMemory> {
     let mut changes = Vec::new(alloc);
-    for i in 0..order.len() {
-        let (_, _, k) = order[i];
-        let Some(gap) = gaps.list.get(k) else {
-            return Ok(None);
-        };
-        if !fill(alloc, gaps, gap, &mut free, &mut changes)? {
-            return Ok(None);
+    for entry in filled {
+        if let Some(gap) = gaps.list.get(entry.gap) {
+            for i in 0..entry.pairs.len() {
+                if let Some(place) = gap.places.get(i) {
+                    changes.push((gap.witness, *place, entry.pairs[i]))?;
+                }
+            }
         }
     }
     changes.sort_unstable();
-    Ok(Some(changes))
+    Ok(changes)
+}
+
+/// What giving numbers to gaps comes to.
+#[derive(Drop)]
+pub enum Numbers {
+    /// Other pairs for their places, in the order of witnesses and places.
+    Given(Vec<Change>),
+    /// Too few numbers are free for these gaps, by their positions in the list.
+    Short(Vec<usize>),
+}
+
+// Numbers for all gaps, the one with the least upper end first: as each takes the least numbers that are free and that it may
+// take, there are enough for all exactly if each finds some.
+fn numbers_in(
+    alloc: Global,
+    gaps: &Gaps,
+    keys: HashKeys,
+    avoids: bool,
+) -> Result<Numbers, NoMemory> {
+    let mut free = FreeNumbers::without(alloc, keys, &gaps.kept)?;
+    let mut filled = Vec::new(alloc);
+    for number in &gaps_by_end(alloc, gaps)? {
+        let Some(gap) = gaps.list.get(*number) else {
+            continue;
+        };
+        let Some(pairs) = pairs_for(alloc, gaps, gap, &mut free, avoids)? else {
+            return Ok(Numbers::Short(tight_set(alloc, gaps, &filled, *number)?));
+        };
+        for pair in &pairs {
+            free.take(gap.shard, *pair)?;
+        }
+        filled.push(Filled {
+            gap: *number,
+            pairs,
+        })?;
+    }
+    Ok(Numbers::Given(changes_to(alloc, gaps, &filled)?))
+}
+
+/// Numbers for all gaps: over all documents of a shard, the gap with the least upper end first, each takes the least number that is
+/// free in the shard, one that a call of its document names only where too few others are. If there are too few so, named numbers
+/// aren't avoided.
+pub fn numbers_of(alloc: Global, gaps: &Gaps, keys: HashKeys) -> Result<Numbers, NoMemory> {
+    match numbers_in(alloc, gaps, keys, true)? {
+        Numbers::Given(changes) => Ok(Numbers::Given(changes)),
+        Numbers::Short(_) => numbers_in(alloc, gaps, keys, false),
+    }
 }
 
 // The witness with its changes, where they leave it valid.
@@ -174,11 +213,9 @@ pub fn with_all(
     Ok(Some(others))
 }
 
-/// Other pairs for those that were invented between two pairs of one term: over all documents of a shard, the gap with the
-/// least upper end first, each takes the least number that is free in the shard, one that a call of its document names only where
-/// too few others are. `None` where a gap has too few.
+/// Other pairs for those that were invented between two pairs of one term, as `numbers_of` finds them. `None` if a gap has too few.
 ///
-/// Nothing is promised of the numbers: whether they are distinct is looked at again.
+/// Nothing is promised of the numbers: whether they are distinct is checked again.
 pub fn changes_of(
     alloc: Global,
     history: &Front<'_>,
@@ -188,6 +225,8 @@ pub fn changes_of(
     for i in 0..witnesses.len() {
         gaps.note(alloc, i, history, &witnesses[i])?;
     }
-    let free = FreeNumbers::without(alloc, history.keys(), &gaps.kept)?;
-    changes_in(alloc, &gaps, free)
+    match numbers_of(alloc, &gaps, history.keys())? {
+        Numbers::Given(changes) => Ok(Some(changes)),
+        Numbers::Short(_) => Ok(None),
+    }
 }

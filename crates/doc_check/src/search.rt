@@ -12,7 +12,7 @@ use crate::reply_order::reply_order;
 use crate::settled::is_settled;
 use crate::stretches::Stretches;
 use crate::sweep::sweep;
-use completing::{complete_by_rules, search_forward};
+use completing::{Limit, complete_by_rules, search_forward};
 use doc_register::Conflicts;
 use history::{Rec, Seen};
 use std::alloc::{AllocError, Global};
@@ -123,7 +123,7 @@ fn answer_forward(
     if is_settled(&recs, conflicts) {
         return Ok(DocAnswer::NotFound(NoOrder::of(id, recs, conflicts)));
     }
-    match search_forward(alloc, &recs, seen, conflicts, &[])? {
+    match search_forward(alloc, &recs, seen, conflicts, &[], &[])? {
         Some(places) => match check_places(alloc, id, recs, places, conflicts)? {
             Checked::Valid(witness) => Ok(DocAnswer::Found(witness)),
             Checked::Invalid(id, recs) => {
@@ -200,7 +200,7 @@ pub fn answer(
 
 /// An order of a document's calls that explains them, where the search forward in time finds one that knows which pairs
 /// the documents of the shard use, by rising pair; the document's own may be among them. It invents pairs only where one
-/// is left.
+/// is left, and within the limits.
 ///
 /// That nothing is found says nothing. `NoMemory` gives up the id and the records.
 pub fn answer_among(
@@ -210,6 +210,7 @@ pub fn answer_among(
     seen: Seen,
     conflicts: Conflicts,
     used: &[Pair],
+    limits: &[Limit],
 ) -> Result<Option<DocWitness>, NoMemory>
     ensures { IfOk result (λ found. IfSome found (λ w. (w.doc ≡ id) × (w.records ≡ recs.items)
         × (w.conflicts ≡ conflicts) × AreValid conflicts recs.items w.places)) }
@@ -217,7 +218,7 @@ pub fn answer_among(
     if is_settled(&recs, conflicts) {
         return Ok(None);
     }
-    match search_forward(alloc, &recs, seen, conflicts, used)? {
+    match search_forward(alloc, &recs, seen, conflicts, used, limits)? {
         Some(places) => match check_places(alloc, id, recs, places, conflicts)? {
             Checked::Valid(witness) => Ok(Some(witness)),
             Checked::Invalid(..) => Ok(None),

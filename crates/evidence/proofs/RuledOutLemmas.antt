@@ -1,6 +1,6 @@
 -- Documents that are ruled out, by their numbers.
-use Rattle.std.proofs.Common.{ℕ, ◌≡◌, ◌<◌, ◌≤◌, ◌+◌, ◌⊎◌, inl, inr, List, [], length, refl, sym, ap, subst, ◌∙◌, arith, Option, Some, None, option_map, slice_get, slice_index_or}
-use Rattle.std.specs.Prelude.{IfSome, MatchOption}
+use Rattle.std.proofs.Common.{ℕ, ◌≡◌, ◌<◌, ◌≤◌, ◌+◌, ◌⊎◌, inl, inr, List, [], length, refl, sym, ap, subst, ◌∙◌, arith, Option, Some, None, option_map, slice_get, slice_index_or, true≢false}
+use Rattle.std.specs.Prelude.{◌↔◌, IfSome, IsTrue, MatchOption, is_some}
 use Rattle.std.proofs.lemmas.Bool.{cases_lt}
 use Rattle.std.proofs.lemmas.Option.{slice_get-get_or, slice_get_within}
 use Rattle.doc_register.specs.declared.state.Conflicts.{Conflicts}
@@ -12,7 +12,7 @@ use Rattle.ruled_out.specs.Told.{told}
 use Rattle.ruled_out.specs.Placings.{AreInOrder, IsRuledOutAt}
 use Rattle.ruled_out.proofs.RecordOrder.{records_in_order}
 use Rattle.ruled_out.proofs.WalkLemmas.{ruled_out_once}
-use Rattle.evidence.specs.Evidence.{IsRuledOutIn, ListsRuledOut}
+use Rattle.evidence.specs.Evidence.{IsDocumentRuledOut, IsRuledOutIn, ListsRuledOut}
 use Rattle.evidence.specs.aids.RuledOutCalls.{IsRuledOutBefore, IsRuledOutCall, IsRuledOutDocument}
 
 -- the records of the document of a number
@@ -58,6 +58,16 @@ found_call conflicts events doc n within at =
     let document : List ℕ × ℕ = slice_index_or (documents_of events) doc ([], 0) in
     let listed : slice_get (documents_of events) doc ≡ Some document = slice_get-get_or (documents_of events) doc ([], 0) within in
     record { doc = doc; document = document; listed = listed; ruled_out = at document listed }
+
+-- a document is ruled out if a call was found at which it is
+pub found_ruled_out : (conflicts : Conflicts) (events : List Event) (doc : ℕ) (found : Option ℕ) → IsHistory events → doc < length (documents_of events) → IsRuledOutDocument conflicts events doc found
+    → IsTrue (is_some found) ↔ IsDocumentRuledOut conflicts events doc
+unfolding found_call
+found_ruled_out conflicts events doc None history within none = (
+  λ never. absurd (true≢false (sym never)),
+  λ is. absurd (none_is_not_some is.0 (only_call conflicts events is.0 None history is.1 (subst (λ d. IsRuledOutDocument conflicts events d None) (sym is.2) none))),
+)
+found_ruled_out conflicts events doc (Some n) history within at = (λ _. (n, found_call conflicts events doc n within at, refl), λ _. refl)
 
 -- a document is among the history's
 pub doc_within : (conflicts : Conflicts) (events : List Event) (n : ℕ) (is : IsRuledOutIn conflicts events n) → is.doc < length (documents_of events)

@@ -117,9 +117,9 @@ pub record IsRuledOutIn (conflicts : Conflicts) (events : List Event) (n : ℕ) 
   pub listed : slice_get (documents_of events) doc ≡ Some document
   pub ruled_out : IsRuledOut (told conflicts (records_of events document.0)) n
 
--- the document of this number is ruled out at no call
-abbrev pub IsNotRuledOut : Conflicts → List Event → ℕ → Type 0
-IsNotRuledOut conflicts events doc = (n : ℕ) (is : IsRuledOutIn conflicts events n) → is.doc ≢ doc
+-- the document of this number is ruled out
+abbrev pub IsDocumentRuledOut : Conflicts → List Event → ℕ → Type 0
+IsDocumentRuledOut conflicts events doc = (n : ℕ) × (is : IsRuledOutIn conflicts events n) × (is.doc ≡ doc)
 
 -- none of its documents is ruled out
 abbrev pub IsWithoutRuledOut : Conflicts → List Event → Type 0
@@ -133,7 +133,7 @@ ListsRuledOut conflicts events docs = (n : ℕ) (is : IsRuledOutIn conflicts eve
 abbrev pub AreDocuments : List Event → List ℕ → Type 0
 AreDocuments events docs = (i doc : ℕ) → slice_get docs i ≡ Some doc → doc < length (documents_of events)
 
--- the evidence holds in the history, with conflicts read as told
+-- the evidence holds in the history, in this reading of conflicts
 abbrev pub Holds : Conflicts → List Event → Refuted → Type 0
 Holds conflicts events (evidence.PairTwice a b) = IsPairTwice events a b
 Holds conflicts events (evidence.NoWriter g) = HasNoWriter conflicts events g
@@ -165,7 +165,7 @@ IsReported ruling conflicts events (evidence.RuledOut n) = (ruling ≡ On) × Is
 
 -- ---- the law
 
--- where evidence holds in a history, no order of its calls explains it, however its pending calls are completed
+-- if evidence holds in a history, no order of its calls explains it, however its pending calls are completed
 abbrev pub EvidenceRefutes : Type 0
 EvidenceRefutes = (conflicts : Conflicts) (events : List Event) (evidence : Refuted) → IsHistory events → Holds conflicts events evidence
     → ¬ IsLinearizable conflicts events

@@ -157,7 +157,7 @@ fn is_stale_swap(history: &History, one: u64, two: u64) -> bool
     asks_too_little(first, second) && are_of_one_document(history, first.called, second.called)
 }
 
-/// Whether the evidence holds in the history, with conflicts read as told. A call number that the history doesn't have
+/// Whether the evidence holds in the history, in this reading of conflicts. A call number that the history doesn't have
 /// is no evidence.
 ///
 /// Evidence of two calls or one takes one walk over the events at most and no memory. That a document is ruled out takes a walk

@@ -18,6 +18,6 @@ mod search;
 pub use certainty::Certainty;
 pub use holding::refutes;
 pub use refuted::Refuted;
-pub use ruled_out_calls::rule_out_document;
+pub use ruled_out_calls::is_document_ruled_out;
 pub use ruling_out::RulingOut;
 pub use search::{find_evidence, rule_out};

@@ -2,10 +2,9 @@
 
 ghost use Rattle.std.specs.Prelude.{◌≡◌, ◌<◌, ◌≤◌, ◌⊎◌, ◌↔◌, IfOk, IfSome, IsTrue, MatchOption, None as Nothing, Some as Just, length};
 ghost use Rattle.history.specs.Events.{IsHistory, documents_of};
-ghost use Rattle.evidence.specs.Evidence.{AreDocuments, Holds, IsNotRuledOut, IsRuledOutIn, ListsRuledOut};
+ghost use Rattle.evidence.specs.Evidence.{AreDocuments, IsDocumentRuledOut, IsRuledOutIn, ListsRuledOut};
 ghost use Rattle.evidence.specs.aids.RuledOutCalls.{IsRuledOutCall, IsRuledOutDocument};
 
-use crate::refuted::Refuted;
 use doc_register::Conflicts;
 use history::History;
 use ruled_out::ruled_out_at;
@@ -27,27 +26,24 @@ fn ruled_out_call(
     ruled_out_at(alloc, &records, conflicts)
 }
 
-/// The evidence that the document of this number is ruled out, with conflicts read as told, if it is. It takes one walk over its
-/// calls, which sorts their pairs.
-pub fn rule_out_document(
+/// Whether the document of this number is ruled out, in this reading of conflicts. It takes one walk over its calls, which sorts
+/// their pairs.
+pub fn is_document_ruled_out(
     alloc: Global,
     history: &History,
     doc: usize,
     conflicts: Conflicts,
-) -> Result<Option<Refuted>, NoMemory>
+) -> Result<bool, NoMemory>
     requires { doc < length (documents_of history.now) }
-    ensures holds { IfOk result (λ told. IfSome told (Holds conflicts history.now)) }
-    ensures none { IfOk result (λ told. told ≡ Nothing → IsNotRuledOut conflicts history.now doc) }
+    ensures { IfOk result (λ ruled_out. IsTrue ruled_out ↔ IsDocumentRuledOut conflicts history.now doc) }
 {
     // A look at the history: that it is one is known from here on.
     let _ = history.len();
-    match ruled_out_call(alloc, history, doc, conflicts)? {
-        Some(call) => Ok(Some(Refuted::RuledOut(call))),
-        None => Ok(None),
-    }
+    let call = ruled_out_call(alloc, history, doc, conflicts)?;
+    Ok(call.is_some())
 }
 
-// The lesser of two numbers of calls, where there are two.
+// The lesser of two numbers of calls, if there are two.
 fn lesser(one: Option<u64>, two: Option<u64>) -> Option<u64>
     ensures { MatchOption result ((one ≡ Nothing) × (two ≡ Nothing))
         (λ n. ((one ≡ Just n) ⊎ (two ≡ Just n)) × IfSome one (λ a. n ≤ a) × IfSome two (λ b. n ≤ b)) }
@@ -67,7 +63,7 @@ pub fn is_ruled_out(
     conflicts: Conflicts,
 ) -> Result<bool, NoMemory>
     requires { IsHistory history.now }
-    ensures { IfOk result (λ told. IsTrue told ↔ IsRuledOutIn conflicts history.now call) }
+    ensures { IfOk result (λ ruled_out. IsTrue ruled_out ↔ IsRuledOutIn conflicts history.now call) }
 {
     for doc in 0..history.docs() {
         if ruled_out_call(alloc, history, doc, conflicts)? == Some(call) {
@@ -77,7 +73,7 @@ pub fn is_ruled_out(
     Ok(false)
 }
 
-/// The least call at which a document of the history is ruled out, where these are the numbers of all that may be.
+/// The least call at which a document of the history is ruled out. These are the numbers of all documents that may be.
 pub fn least_ruled_out(
     alloc: Global,
     history: &History,

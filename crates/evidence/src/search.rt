@@ -1,4 +1,4 @@
-//! The search for evidence: what is found is looked at again before it is told, so that only evidence which holds is.
+//! The search for evidence: what is found is checked again before it is returned, so that only evidence which holds is.
 
 mod answered_calls;
 mod lost_updates;
@@ -31,8 +31,8 @@ fn confirm(
     conflicts: Conflicts,
 ) -> Result<Option<Refuted>, NoMemory>
     requires { IfSome found IsOfCalls }
-    ensures holds { IfOk result (λ told. IfSome told (Holds conflicts history.now)) }
-    ensures of_calls { IfOk result (λ told. IfSome told IsOfCalls) }
+    ensures holds { IfOk result (λ found. IfSome found (Holds conflicts history.now)) }
+    ensures of_calls { IfOk result (λ found. IfSome found IsOfCalls) }
 {
     match found {
         Some(evidence) => {
@@ -46,7 +46,7 @@ fn confirm(
     }
 }
 
-/// Evidence that holds in the history, with conflicts read as told: of the first kind that does, in the order of `Refuted`,
+/// Evidence that holds in the history, in this reading of conflicts: of the first kind that does, in the order of `Refuted`,
 /// and of that kind the one with the least call numbers, the first number counting first. `None` where no kind holds; documents
 /// that are ruled out are not looked for.
 pub fn find_evidence(
@@ -54,8 +54,8 @@ pub fn find_evidence(
     history: &History,
     conflicts: Conflicts,
 ) -> Result<Option<Refuted>, NoMemory>
-    ensures holds { IfOk result (λ told. IfSome told (Holds conflicts history.now)) }
-    ensures of_calls { IfOk result (λ told. IfSome told IsOfCalls) }
+    ensures holds { IfOk result (λ found. IfSome found (Holds conflicts history.now)) }
+    ensures of_calls { IfOk result (λ found. IfSome found IsOfCalls) }
 {
     let calls = AnsweredCalls::of(alloc, history)?;
     let twice = least_pair_twice(alloc, &calls.writes)?;
@@ -74,7 +74,7 @@ pub fn find_evidence(
     confirm(alloc, history, swap, conflicts)
 }
 
-/// The evidence that a document of the history is ruled out, with conflicts read as told: the least call at which one is.
+/// The evidence that a document of the history is ruled out, in this reading of conflicts: the least call at which one is.
 /// `None` where none is. Only documents of these numbers are looked at, and no other may be ruled out.
 pub fn rule_out(
     alloc: Global,
@@ -84,9 +84,9 @@ pub fn rule_out(
 ) -> Result<Option<Refuted>, NoMemory>
     requires within { AreDocuments history.now docs.now }
     requires listed { ListsRuledOut conflicts history.now docs.now }
-    ensures holds { IfOk result (λ told. IfSome told (Holds conflicts history.now)) }
-    ensures least { IfOk result (λ told. IfSome told (IsReported RulingOut.On conflicts history.now)) }
-    ensures none { IfOk result (λ told. told ≡ Nothing → IsWithoutRuledOut conflicts history.now) }
+    ensures holds { IfOk result (λ found. IfSome found (Holds conflicts history.now)) }
+    ensures least { IfOk result (λ found. IfSome found (IsReported RulingOut.On conflicts history.now)) }
+    ensures none { IfOk result (λ found. found ≡ Nothing → IsWithoutRuledOut conflicts history.now) }
 {
     // A look at the history: that it is one is known from here on.
     let _ = history.len();

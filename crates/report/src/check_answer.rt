@@ -29,16 +29,16 @@ use std::thread::Threads;
 use stream_io::{Answer, Status, StreamFault, read_history};
 use version_pair::NoMemory;
 
-// The evidence that no order explains the case's history, where some is found; documents that are ruled out are looked for
-// last, where that is asked for.
+// The evidence that no order explains the case's history, if some is found; documents that are ruled out are looked for
+// last, if that is asked for.
 fn evidence_against(
     alloc: Global,
     case: &Case,
     ruling_out: RulingOut,
 ) -> Result<Option<Refuted>, NoMemory>
-    ensures holds { IfOk result (λ told. IfSome told (Holds case.now.conflicts case.now.events)) }
-    ensures reported { IfOk result (λ told. IfSome told (IsReported ruling_out case.now.conflicts case.now.events)) }
-    ensures none { IfOk result (λ told. told ≡ Nothing → ruling_out ≡ RulingOut.On
+    ensures holds { IfOk result (λ found. IfSome found (Holds case.now.conflicts case.now.events)) }
+    ensures reported { IfOk result (λ found. IfSome found (IsReported ruling_out case.now.conflicts case.now.events)) }
+    ensures none { IfOk result (λ found. found ≡ Nothing → ruling_out ≡ RulingOut.On
         → IsWithoutRuledOut case.now.conflicts case.now.events) }
 {
     if let Some(evidence) = refute(alloc, case)? {
@@ -50,18 +50,18 @@ fn evidence_against(
     }
 }
 
-/// The answer to a text of a history for which no order was found: with the evidence that there is none, where some is found;
-/// and what it tells.
+/// The answer to a text of a history for which no order was found: with the evidence that there is none, if some is found;
+/// and what it reports.
 pub fn case_answer(
     alloc: Global,
     case: &Case,
     ruling_out: RulingOut,
 ) -> Result<(Answer, Failing), NoMemory>
-    ensures answers { IfOk result (λ told. (input : List ℕ) → IsHistoryText input case.now.events
-        → IsAnswer ruling_out case.now.conflicts input told.0.status told.0.text.items
-        × IsWitnessAnswer ruling_out case.now.conflicts input told.0.status told.0.text.items) }
-    ensures failing { IfOk result (λ told. SaysFailing ruling_out case.now.conflicts case.now.events told.0.status
-        told.0.text.items told.1.offence told.1.evidence) }
+    ensures answers { IfOk result (λ made. (input : List ℕ) → IsHistoryText input case.now.events
+        → IsAnswer ruling_out case.now.conflicts input made.0.status made.0.text.items
+        × IsWitnessAnswer ruling_out case.now.conflicts input made.0.status made.0.text.items) }
+    ensures failing { IfOk result (λ made. SaysFailing ruling_out case.now.conflicts case.now.events made.0.status
+        made.0.text.items made.1.offence made.1.evidence) }
 {
     // A look at the history: that no order was found for it is known from here on.
     let _ = case.history();
@@ -132,7 +132,7 @@ fn verdict_by<R: Threads + Wait + Sync>(
 
 /// The answer to a text that was read as this history, and what was found of it: the line that `check_stream` writes for it.
 ///
-/// `NoMemory` where a growth was refused; `Worker` where a worker was lost, which one worker never is.
+/// `NoMemory` if a growth was refused; `Worker` if a worker was lost, which one worker never is.
 pub fn history_answer<R: Threads + Wait + Sync>(
     rt: &R,
     alloc: Global,
@@ -143,11 +143,11 @@ pub fn history_answer<R: Threads + Wait + Sync>(
 ) -> Result<(Answer, Finding), StreamFault>
     requires some { 1 ≤ workers }
     requires few { workers ≤ 16 }
-    ensures answer { IfOk result (λ told. (input : List ℕ) → IsHistoryText input history
-        → IsAnswer ruling_out conflicts input told.0.status told.0.text.items) }
+    ensures answer { IfOk result (λ made. (input : List ℕ) → IsHistoryText input history
+        → IsAnswer ruling_out conflicts input made.0.status made.0.text.items) }
     // What was found is what the line says.
-    ensures found { IfOk result (λ told. IsFindingOf ruling_out conflicts history told.0.status told.0.text.items
-        told.1) }
+    ensures found { IfOk result (λ made. IsFindingOf ruling_out conflicts history made.0.status made.0.text.items
+        made.1) }
     ensures told { IfErr result IsCheckFault }
     // Nothing is read, and one worker is the caller's thread, which isn't lost.
     ensures unread { IfErr result (λ fault. fault ≢ StreamFault.Read) }

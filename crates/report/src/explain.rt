@@ -3,6 +3,7 @@
 ghost use Rattle.std.specs.Prelude.{◌≡◌, ◌≢◌, ◌≤◌, ◌++◌, ℕ, List, IfErr, IfOk, IfSome};
 ghost use Rattle.evidence.specs.Evidence.{Holds};
 ghost use Rattle.history.specs.Order.{IsLinearizable};
+ghost use Rattle.compose.specs.Certainties.{Says};
 ghost use Rattle.page.specs.Pages.{IsPage};
 ghost use Rattle.stream_io.specs.Faults.{IsCheckFault, IsReadingFault};
 ghost use Rattle.stream_io.specs.Taken.{TakesHistory};
@@ -27,19 +28,20 @@ use story::{
 use stream_io::{Answer, StreamFault};
 use version_pair::NoMemory;
 
-// What a story tells of a history for which no order was found: how much the answer says is decided here.
+// What a story says of a history for which no order was found.
 fn unexplained_of<'h>(
     alloc: Global,
     case: &'h Case,
     failing: &Failing,
 ) -> Result<Unexplained<'h>, NoMemory>
     requires { IfSome failing.now.evidence (Holds case.now.conflicts case.now.events) }
-    ensures history { IfOk result (λ told. told.history.now ≡ case.now.events) }
-    ensures evidence { IfOk result (λ told. told.evidence ≡ failing.now.evidence) }
-    // It says that there is no order only if there is none, and with evidence it says so.
-    ensures proved { IfOk result (λ told. told.certainty ≢ Certainty.Undecided
+    ensures history { IfOk result (λ unexplained. unexplained.history.now ≡ case.now.events) }
+    ensures evidence { IfOk result (λ unexplained. unexplained.evidence ≡ failing.now.evidence) }
+    // It says that there is no order only if there is none.
+    ensures proved { IfOk result (λ unexplained. unexplained.certainty ≢ Certainty.Undecided
         → ¬ IsLinearizable case.now.conflicts case.now.events) }
-    ensures evident { IfSome failing.now.evidence (λ _. IfOk result (λ told. told.certainty ≢ Certainty.Undecided)) }
+    ensures says { IfOk result (λ unexplained. Says case.now.conflicts case.now.events failing.now.evidence
+        failing.now.offence.call unexplained.certainty) }
 {
     let certainty = certainty_of(alloc, case, failing)?;
     Ok(Unexplained {
@@ -53,7 +55,7 @@ fn unexplained_of<'h>(
     })
 }
 
-// What is told of a history.
+// The story of a history.
 fn story_of(alloc: Global, finding: &Finding, lines: &EventLines) -> Result<Story, NoMemory>
     requires { HasItsEvidence finding.now }
 {
@@ -87,8 +89,8 @@ fn explain<T: Threads + Wait + Sync, R: Read>(
 ) -> Result<(Answer, Story), StreamFault>
     requires some { 1 ≤ workers }
     requires few { workers ≤ 16 }
-    ensures answer { IfOk result (λ told. AnswersInput ruling_out conflicts (R.remaining reader.old) told.0.status
-        told.0.text.items) }
+    ensures answer { IfOk result (λ found. AnswersInput ruling_out conflicts (R.remaining reader.old) found.0.status
+        found.0.text.items) }
     ensures told { IfErr result IsCheckFault }
     ensures alone { workers ≡ 1 → IfErr result IsReadingFault }
     ensures named { IfErr result (NamesOwnDocument (R.remaining reader.old)) }
@@ -121,8 +123,8 @@ fn line_of(answer: &Answer) -> &str {
 
 // The answer with the story behind its line.
 fn with_story(alloc: Global, answer: Answer, story: &Story) -> Result<Answer, NoMemory>
-    ensures status { IfOk result (λ told. told.status ≡ answer.status) }
-    ensures line { IfOk result (λ told. (rest : List ℕ) × (told.text.items ≡ answer.text.items ++ rest)) }
+    ensures status { IfOk result (λ made. made.status ≡ answer.status) }
+    ensures line { IfOk result (λ made. (rest : List ℕ) × (made.text.items ≡ answer.text.items ++ rest)) }
 {
     let plain = plain_text(alloc, story)?;
     answer.followed_by(plain.as_bytes())
@@ -140,8 +142,8 @@ pub fn explained_text<T: Threads + Wait + Sync, R: Read>(
 ) -> Result<Answer, StreamFault>
     requires some { 1 ≤ workers }
     requires few { workers ≤ 16 }
-    ensures answer { IfOk result (λ told. ExplainsInput ruling_out conflicts (R.remaining reader.old) told.status
-        told.text.items) }
+    ensures answer { IfOk result (λ made. ExplainsInput ruling_out conflicts (R.remaining reader.old) made.status
+        made.text.items) }
     ensures told { IfErr result IsCheckFault }
     ensures alone { workers ≡ 1 → IfErr result IsReadingFault }
     ensures named { IfErr result (NamesOwnDocument (R.remaining reader.old)) }
@@ -165,10 +167,10 @@ pub fn explained_page<T: Threads + Wait + Sync, R: Read>(
     requires some { 1 ≤ workers }
     requires few { workers ≤ 16 }
     // The text of the answer begins with a line that answers the bytes of the reader as the line of `check_stream` does.
-    ensures text { IfOk result (λ told. ExplainsInput ruling_out conflicts (R.remaining reader.old) told.0.status
-        told.0.text.items) }
+    ensures text { IfOk result (λ made. ExplainsInput ruling_out conflicts (R.remaining reader.old) made.0.status
+        made.0.text.items) }
     // The page is made of markup of the crate `page`, numbers, and escaped texts.
-    ensures page { IfOk result (λ told. IsPage told.1.items) }
+    ensures page { IfOk result (λ made. IsPage made.1.items) }
     ensures told { IfErr result IsCheckFault }
     ensures alone { workers ≡ 1 → IfErr result IsReadingFault }
     ensures named { IfErr result (NamesOwnDocument (R.remaining reader.old)) }
@@ -176,6 +178,6 @@ pub fn explained_page<T: Threads + Wait + Sync, R: Read>(
 {
     let (answer, story) = explain(rt, alloc, keys, reader, workers, conflicts, ruling_out)?;
     let page = page_of(alloc, line_of(&answer), &story)?;
-    let told = with_story(alloc, answer, &story)?;
-    Ok((told, page))
+    let made = with_story(alloc, answer, &story)?;
+    Ok((made, page))
 }

@@ -5,7 +5,8 @@ use history::Rec;
 use std::alloc::Global;
 use version_pair::{NoMemory, Pair};
 
-/// What a record waits for, or which lost write it is. Known pairs are told by their places.
+/// What a record waits for, or which lost write it is. Known pairs, and those that only conditions name, are given by their
+/// positions in `KnownPairs`.
 #[derive(Clone, Copy, PartialEq, Eq)]
 pub enum Kind {
     /// A get that found nothing.
@@ -16,8 +17,8 @@ pub enum Kind {
     CreateConflict,
     /// A conflict on condition of the known pair.
     ConflictOn(usize),
-    /// A conflict on condition of a pair that no write is known to have.
-    ConflictElsewhere,
+    /// A conflict on condition of a pair that no write is known to have, by its place among those that conditions name.
+    ConflictOnNamed(usize),
     /// A conflict without a condition.
     FreeConflict,
     /// An unanswered delete without a condition.
@@ -30,42 +31,73 @@ pub enum Kind {
     LostDeleteOn(usize),
     /// An unanswered index on condition of the known pair.
     LostIndexOn(usize),
+    /// An unanswered delete on condition of a pair that no write is known to have.
+    LostDeleteOnNamed(usize),
+    /// An unanswered index on condition of a pair that no write is known to have.
+    LostIndexOnNamed(usize),
+}
+
+// The number of the line of a known pair's kind.
+fn line_of_pair(at: usize, kind: usize) -> usize {
+    at.saturating_mul(Kind::OF_PAIR)
+        .saturating_add(Kind::ALONE)
+        .saturating_add(kind)
+}
+
+// The number of the line of a kind of a pair that conditions name and no write is known to have.
+fn line_of_named(known: usize, at: usize, kind: usize) -> usize {
+    line_of_pair(known, 0)
+        .saturating_add(at.saturating_mul(Kind::OF_NAMED))
+        .saturating_add(kind)
 }
 
 impl Kind {
-    /// How many kinds are not of a known pair.
-    pub const ALONE: usize = 7;
+    /// How many kinds are not of a pair.
+    pub const ALONE: usize = 6;
 
     /// How many kinds are of each known pair.
     pub const OF_PAIR: usize = 4;
 
-    /// The number of the kind's line.
-    pub fn line(self) -> usize {
-        let (at, kind) = match self {
-            Kind::Missing => return 0,
-            Kind::CreateConflict => return 1,
-            Kind::ConflictElsewhere => return 2,
-            Kind::FreeConflict => return 3,
-            Kind::LostDelete => return 4,
-            Kind::LostIndex => return 5,
-            Kind::LostCreate => return 6,
-            Kind::Found(at) => (at, 0),
-            Kind::ConflictOn(at) => (at, 1),
-            Kind::LostDeleteOn(at) => (at, 2),
-            Kind::LostIndexOn(at) => (at, 3),
-        };
-        at.saturating_mul(Kind::OF_PAIR)
-            .saturating_add(Kind::ALONE)
-            .saturating_add(kind)
+    /// How many kinds are of each pair that conditions name and no write is known to have.
+    pub const OF_NAMED: usize = 3;
+
+    /// The number of the kind's line, with so many known pairs.
+    pub fn line(self, known: usize) -> usize {
+        match self {
+            Kind::Missing => 0,
+            Kind::CreateConflict => 1,
+            Kind::FreeConflict => 2,
+            Kind::LostDelete => 3,
+            Kind::LostIndex => 4,
+            Kind::LostCreate => 5,
+            Kind::Found(at) => line_of_pair(at, 0),
+            Kind::ConflictOn(at) => line_of_pair(at, 1),
+            Kind::LostDeleteOn(at) => line_of_pair(at, 2),
+            Kind::LostIndexOn(at) => line_of_pair(at, 3),
+            Kind::ConflictOnNamed(at) => line_of_named(known, at, 0),
+            Kind::LostDeleteOnNamed(at) => line_of_named(known, at, 1),
+            Kind::LostIndexOnNamed(at) => line_of_named(known, at, 2),
+        }
+    }
+
+    /// Whether it is an unanswered write on condition of a pair.
+    pub fn is_lost_on_pair(self) -> bool {
+        matches!(
+            self,
+            Kind::LostDeleteOn(_)
+                | Kind::LostIndexOn(_)
+                | Kind::LostDeleteOnNamed(_)
+                | Kind::LostIndexOnNamed(_)
+        )
     }
 
     /// Whether a conflict on a pair is answered.
     pub fn is_conflict_on_pair(self) -> bool {
-        matches!(self, Kind::ConflictOn(_) | Kind::ConflictElsewhere)
+        matches!(self, Kind::ConflictOn(_) | Kind::ConflictOnNamed(_))
     }
 }
 
-// The kind of an unanswered record; a write on condition of a pair that no write is known to have has none.
+// The kind of an unanswered record.
 fn lost_kind(op: Op, known: &KnownPairs) -> Option<Kind> {
     match op {
         Op::Get => None,
@@ -75,16 +107,22 @@ fn lost_kind(op: Op, known: &KnownPairs) -> Option<Kind> {
         Op::Index {
             cond: Some(pair),
             ..
-        } => Some(Kind::LostIndexOn(known.place_of(pair)?)),
-        Op::Delete { cond: Some(pair) } => Some(Kind::LostDeleteOn(known.place_of(pair)?)),
+        } => Some(match known.place_of(pair) {
+            Some(at) => Kind::LostIndexOn(at),
+            None => Kind::LostIndexOnNamed(known.named_place(pair)?),
+        }),
+        Op::Delete { cond: Some(pair) } => Some(match known.place_of(pair) {
+            Some(at) => Kind::LostDeleteOn(at),
+            None => Kind::LostDeleteOnNamed(known.named_place(pair)?),
+        }),
     }
 }
 
 // The kind of a conflict on condition of a pair.
-fn kind_on(pair: Pair, known: &KnownPairs) -> Kind {
+fn kind_on(pair: Pair, known: &KnownPairs) -> Option<Kind> {
     match known.place_of(pair) {
-        Some(at) => Kind::ConflictOn(at),
-        None => Kind::ConflictElsewhere,
+        Some(at) => Some(Kind::ConflictOn(at)),
+        None => Some(Kind::ConflictOnNamed(known.named_place(pair)?)),
     }
 }
 
@@ -94,7 +132,7 @@ fn conflict_kind(op: Op, known: &KnownPairs) -> Option<Kind> {
         Op::Get => None,
         Op::Create { .. } => Some(Kind::CreateConflict),
         Op::Index { .. } | Op::Delete { .. } => match op.condition() {
-            Some(pair) => Some(kind_on(pair, known)),
+            Some(pair) => kind_on(pair, known),
             None => Some(Kind::FreeConflict),
         },
     }

@@ -16,10 +16,12 @@ pub struct Known {
 }
 
 /// The pairs of the performed answered writes, those that their conditions or gets name, and those that unanswered writes ask
-/// for which have to be performed, by rising pair.
+/// for which have to be performed, by rising pair; and the pairs that other conditions name.
 #[derive(Drop)]
 pub struct KnownPairs {
     entries: Vec<Known>,
+    // The pairs that conditions name and that no write is known to have, rising.
+    named: Vec<Pair>,
 }
 
 // Adds the pairs that the record makes known.
@@ -75,6 +77,7 @@ impl KnownPairs {
     ) -> Result<Option<KnownPairs>, NoMemory> {
         let mut known = KnownPairs {
             entries: Vec::with_capacity(alloc, pairs.len())?,
+            named: Vec::new(alloc),
         };
         for pair in pairs {
             known.entries.push(Known {
@@ -84,6 +87,7 @@ impl KnownPairs {
             })?;
         }
         if known.note_writers(records) && known.note_numbers(records) {
+            known.note_named(records)?;
             Ok(Some(known))
         } else {
             Ok(None)
@@ -107,6 +111,20 @@ impl KnownPairs {
             }
         }
         Ok(is_new)
+    }
+
+    // Notes the pairs that conditions name and no write is known to have.
+    fn note_named(&mut self, records: &[Rec]) -> Result<(), NoMemory> {
+        for found in records {
+            if let Some(pair) = found.op.condition() {
+                if self.place_of(pair).is_none() {
+                    self.named.push(pair)?;
+                }
+            }
+        }
+        self.named.sort_unstable();
+        self.named.dedup();
+        Ok(())
     }
 
     // Notes the answered writes. False where two have one pair.
@@ -173,6 +191,16 @@ impl KnownPairs {
     /// The known pair at a place of their order.
     pub fn get(&self, at: usize) -> Option<Known> {
         self.entries.get(at).copied()
+    }
+
+    /// How many pairs that no write is known to have are named by conditions.
+    pub fn named_len(&self) -> usize {
+        self.named.len()
+    }
+
+    /// The place of a pair among those that conditions name and no write is known to have.
+    pub fn named_place(&self, pair: Pair) -> Option<usize> {
+        self.named.binary_search(&pair).ok()
     }
 
     /// The place of a pair, where it is known.

@@ -13,6 +13,8 @@ pub struct Lines {
     starts: Vec<usize>,
     // Of each line the entry before which none is left.
     firsts: Vec<usize>,
+    // How many known pairs there are.
+    known: usize,
 }
 
 // The records that have a kind, by line and then by call.
@@ -20,11 +22,12 @@ fn records_by_line(
     alloc: Global,
     records: &[Rec],
     kinds: &[Option<Kind>],
+    known: usize,
 ) -> Result<Vec<(usize, usize, usize)>, NoMemory> {
     let mut listed = Vec::with_capacity(alloc, records.len())?;
     for rec in 0..records.len() {
         if let Some(Some(kind)) = kinds.get(rec) {
-            listed.push((kind.line(), records[rec].call_at, rec))?;
+            listed.push((kind.line(known), records[rec].call_at, rec))?;
         }
     }
     listed.sort_unstable();
@@ -38,15 +41,15 @@ impl Lines {
         records: &[Rec],
         kinds: &[Option<Kind>],
         known: usize,
+        named: usize,
     ) -> Result<Lines, NoMemory> {
-        let count = known
-            .saturating_mul(Kind::OF_PAIR)
-            .saturating_add(Kind::ALONE);
-        let listed = records_by_line(alloc, records, kinds)?;
+        let count = Kind::ConflictOnNamed(named).line(known);
+        let listed = records_by_line(alloc, records, kinds, known)?;
         let mut lines = Lines {
             entries: Vec::with_capacity(alloc, listed.len())?,
             starts: Vec::with_capacity(alloc, count.saturating_add(1))?,
             firsts: Vec::with_capacity(alloc, count.saturating_add(1))?,
+            known,
         };
         for (line, call_at, rec) in &listed {
             lines.begin_to(*line)?;
@@ -81,7 +84,7 @@ impl Lines {
 
     /// The first of the kind that is left, where it is called before the place.
     pub fn first(&mut self, kind: Kind, placed: &[bool], limit: usize) -> Option<usize> {
-        let line = kind.line();
+        let line = kind.line(self.known);
         let (_, end) = self.bounds(line)?;
         for i in *self.firsts.get(line)?..end {
             let (call_at, rec) = *self.entries.get(i)?;
@@ -96,7 +99,7 @@ impl Lines {
 
     /// Puts a record back that was taken.
     pub fn put_back(&mut self, kind: Kind, call_at: usize, rec: usize) {
-        let line = kind.line();
+        let line = kind.line(self.known);
         let Some((start, end)) = self.bounds(line) else {
             return;
         };
@@ -110,7 +113,7 @@ impl Lines {
 
     /// The records of the kind that may be left.
     pub fn waiting(&self, kind: Kind) -> &[(usize, usize)] {
-        let line = kind.line();
+        let line = kind.line(self.known);
         match (self.bounds(line), self.firsts.get(line)) {
             (Some((_, end)), Some(first)) => self.entries.get(*first..end).unwrap_or(&[]),
             _ => &[],

@@ -1,5 +1,6 @@
 use crate::earlier::earlier;
 use crate::forward::kind::Kind;
+use crate::forward::known::Known;
 use crate::forward::standing::Document;
 use crate::forward::walk::{Placed, Walk};
 use crate::rules::link::{leaves_it, needs};
@@ -40,7 +41,8 @@ fn fits(walk: &Walk, found: Rec) -> bool {
                 Some(present) => present.pair == pair,
                 None => false,
             },
-            _ => false,
+            Document::Invented(Some(at)) => walk.known.named_place(pair) == Some(at),
+            Document::Invented(None) | Document::Absent => false,
         },
         None => true,
     }
@@ -67,10 +69,37 @@ fn first_of_number(walk: &Walk, number: u64, from: usize) -> Option<(usize, usiz
     None
 }
 
+// The kind of the unanswered deletes on condition of the present pair.
+fn delete_on_present(document: Document) -> Option<Kind> {
+    match document {
+        Document::Known(at) => Some(Kind::LostDeleteOn(at)),
+        Document::Invented(Some(at)) => Some(Kind::LostDeleteOnNamed(at)),
+        Document::Invented(None) | Document::Absent => None,
+    }
+}
+
+// The kind of the unanswered indexes on condition of the present pair.
+fn index_on_present(document: Document) -> Option<Kind> {
+    match document {
+        Document::Known(at) => Some(Kind::LostIndexOn(at)),
+        Document::Invented(Some(at)) => Some(Kind::LostIndexOnNamed(at)),
+        Document::Invented(None) | Document::Absent => None,
+    }
+}
+
+// The kind of the conflicts on condition of the present pair.
+fn conflict_on_present(document: Document) -> Option<Kind> {
+    match document {
+        Document::Known(at) => Some(Kind::ConflictOn(at)),
+        Document::Invented(Some(at)) => Some(Kind::ConflictOnNamed(at)),
+        Document::Invented(None) | Document::Absent => None,
+    }
+}
+
 // The unanswered delete that would be performed, one on condition of the present pair first.
 fn lost_delete(walk: &mut Walk) -> Option<usize> {
-    if let Document::Known(at) = walk.standing.document {
-        if let Some(rec) = walk.first(Kind::LostDeleteOn(at)) {
+    if let Some(kind) = delete_on_present(walk.standing.document) {
+        if let Some(rec) = walk.first(kind) {
             return Some(rec);
         }
     }
@@ -79,8 +108,8 @@ fn lost_delete(walk: &mut Walk) -> Option<usize> {
 
 // The unanswered write of the document that would be performed, one on condition of the present pair first.
 fn lost_index(walk: &mut Walk) -> Option<usize> {
-    if let Document::Known(at) = walk.standing.document {
-        if let Some(rec) = walk.first(Kind::LostIndexOn(at)) {
+    if let Some(kind) = index_on_present(walk.standing.document) {
+        if let Some(rec) = walk.first(kind) {
             return Some(rec);
         }
     }
@@ -129,8 +158,10 @@ fn conflict(walk: &mut Walk, from: usize, deletes: bool) -> Option<(usize, usize
     let free = first_conflict(walk, Kind::FreeConflict, from, deletes);
     let other = match walk.standing.document {
         Document::Absent => first_conflict(walk, Kind::CreateConflict, from, deletes),
-        Document::Known(at) => first_conflict(walk, Kind::ConflictOn(at), from, deletes),
-        Document::Invented => None,
+        present => match conflict_on_present(present) {
+            Some(kind) => first_conflict(walk, kind, from, deletes),
+            None => None,
+        },
     };
     earlier(free, other)
 }
@@ -202,8 +233,8 @@ fn next_misses(walk: &Walk) -> bool {
 // Whether an inserted delete serves something, or an inserted write of the document.
 fn serves(walk: &mut Walk, delete: bool) -> bool {
     let document = walk.standing.document;
-    if let Document::Known(at) = document {
-        if walk.first(Kind::ConflictOn(at)).is_some() {
+    if let Some(kind) = conflict_on_present(document) {
+        if walk.first(kind).is_some() {
             return true;
         }
     }
@@ -215,7 +246,43 @@ fn serves(walk: &mut Walk, delete: bool) -> bool {
     } else {
         Kind::CreateConflict
     };
-    walk.first(waiting).is_some() || next_misses(walk)
+    walk.first(waiting).is_some() || next_misses(walk) || (delete && next_may_create(walk))
+}
+
+// Whether an unanswered create, which needs the document to be absent, can have the next known pair.
+fn next_may_create(walk: &mut Walk) -> bool {
+    match walk.known.get(walk.standing.passed) {
+        Some(
+            Known {
+                writer: None,
+                number: Some(number),
+                ..
+            },
+        ) => {
+            walk.numbers.pass(number, &walk.placed);
+            has_create(walk, number)
+        }
+        Some(
+            Known {
+                writer: None,
+                number: None,
+                ..
+            },
+        ) => walk.first(Kind::LostCreate).is_some(),
+        _ => false,
+    }
+}
+
+// Whether a create of the number may be placed.
+fn has_create(walk: &Walk, number: u64) -> bool {
+    for (_, rec) in walk.numbers.waiting(number, 0).iter().take(MOST_WAITING) {
+        if let Some(found) = walk.record(*rec) {
+            if needs(found) == Some(false) && walk.may_be_placed(*rec) {
+                return true;
+            }
+        }
+    }
+    false
 }
 
 // Whether a write may be inserted before the next known pair: there is a number for it, and the next write does not ask
@@ -255,6 +322,11 @@ fn turn_back(walk: &mut Walk, from: usize) -> Option<(usize, usize)> {
     }
 }
 
+// The record as an inserted write, whose pair isn't chosen yet.
+fn inserted(rec: Option<usize>) -> Option<Placed> {
+    Some(Placed::Inserted(rec?, None))
+}
+
 // The write that is tried at a turn, where there is one, and the next turn.
 fn write_at_turn(walk: &mut Walk, turn: Turn) -> (Option<Placed>, Turn) {
     match turn {
@@ -265,23 +337,17 @@ fn write_at_turn(walk: &mut Walk, turn: Turn) -> (Option<Placed>, Turn) {
             ),
             None => (None, Turn::Delete),
         },
-        Turn::Delete => (
-            write_to_insert(walk, true).map(Placed::Inserted),
-            Turn::Index,
-        ),
-        Turn::Index => (
-            write_to_insert(walk, false).map(Placed::Inserted),
-            Turn::Conflict(0),
-        ),
+        Turn::Delete => (inserted(write_to_insert(walk, true)), Turn::Index),
+        Turn::Index => (inserted(write_to_insert(walk, false)), Turn::Conflict(0)),
         Turn::Conflict(from) => match conflict(walk, from, true) {
             Some((reply_at, rec)) if may_insert(walk) => (
-                Some(Placed::Inserted(rec)),
+                Some(Placed::Inserted(rec, None)),
                 Turn::Conflict(reply_at.saturating_add(1)),
             ),
             _ => (None, Turn::Turned(0)),
         },
         Turn::Turned(from) => match turn_back(walk, from) {
-            Some((rec, next)) => (Some(Placed::Turned(rec)), Turn::Turned(next)),
+            Some((rec, next)) => (Some(Placed::Turned(rec, None)), Turn::Turned(next)),
             None => (None, Turn::Done),
         },
         Turn::Done => (None, Turn::Done),

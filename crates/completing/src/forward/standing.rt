@@ -5,8 +5,9 @@ pub enum Document {
     Absent,
     /// It is there with the known pair.
     Known(usize),
-    /// It is there with a pair that nothing names.
-    Invented,
+    /// It is there with an invented pair. If a condition names the pair, its position among those that conditions name and no
+    /// write is known to have.
+    Invented(Option<usize>),
 }
 
 impl Document {
@@ -19,7 +20,8 @@ impl Document {
     fn number(self) -> u64 {
         match self {
             Document::Absent => 0,
-            Document::Invented => 1,
+            Document::Invented(None) => 1,
+            Document::Invented(Some(at)) => mix(u64::try_from(at).unwrap_or(u64::MAX)),
             Document::Known(at) => u64::try_from(at).unwrap_or(u64::MAX).saturating_add(2),
         }
     }
@@ -35,6 +37,8 @@ pub struct Standing {
     pub inserted: u64,
     /// How many are to be inserted before the next known pair.
     pub budget: u64,
+    /// The least sequence number that an inserted write may take, if the pairs before and after are of one term.
+    pub from: u64,
     /// Of the answered records by reply, how many are surely placed.
     pub replies: usize,
     /// Of the conflicts on pairs by call, how many were met.
@@ -45,9 +49,30 @@ pub struct Standing {
     pub mark: u64,
 }
 
-// How many insertions before a known pair are counted: first none is tried, then one, and so on up to this many, and then any
-// number. Few are tried first since each takes a number that another document may not be able to do without.
-const MOST_COUNTED: u64 = 3;
+// How many writes may be inserted before a known pair: each budget is tried with more insertions than the one before it allows.
+// Few are tried first since each takes a number that another document may not be able to do without.
+const BUDGETS: [u64; 9] = [0, 1, 2, 3, 4, 6, 9, 14, u64::MAX];
+
+// The least number of insertions that are tried under this budget.
+fn least_under(budget: u64) -> u64 {
+    let mut least = 0;
+    for lesser in BUDGETS {
+        if lesser < budget {
+            least = lesser.saturating_add(1);
+        }
+    }
+    least
+}
+
+// The budget that is tried after this one.
+fn budget_after(budget: u64) -> Option<u64> {
+    for greater in BUDGETS {
+        if greater > budget {
+            return Some(greater);
+        }
+    }
+    None
+}
 
 /// A number drawn from another one, so that they seldom go together.
 pub fn mix(number: u64) -> u64 {
@@ -70,6 +95,7 @@ impl Standing {
             passed: 0,
             inserted: 0,
             budget: 0,
+            from: 0,
             replies: 0,
             conflicts_met: 0,
             latest: 0,
@@ -79,25 +105,24 @@ impl Standing {
 
     /// Whether as many writes were inserted as are to be.
     pub fn has_inserted(self) -> bool {
-        if self.budget <= MOST_COUNTED {
-            self.inserted == self.budget
-        } else {
-            self.inserted > MOST_COUNTED
-        }
+        self.inserted >= least_under(self.budget)
+    }
+
+    /// How many more have to be inserted before the next known pair, after the next one.
+    pub fn behind(self) -> u64 {
+        least_under(self.budget)
+            .saturating_sub(self.inserted)
+            .saturating_sub(1)
     }
 
     /// The same with more writes to be inserted, where there is room for so many; `None` where it isn't at the beginning of
     /// its stretch, or all were tried.
     pub fn with_more(self, room: u64) -> Option<Standing> {
-        if self.inserted != 0 || self.budget >= room || self.budget > MOST_COUNTED {
+        if self.inserted != 0 || self.budget >= room {
             return None;
         }
         let mut more = self;
-        more.budget = if self.budget < MOST_COUNTED {
-            self.budget.saturating_add(1)
-        } else {
-            u64::MAX
-        };
+        more.budget = budget_after(self.budget)?;
         Some(more)
     }
 
@@ -106,6 +131,6 @@ impl Standing {
         let passed = u64::try_from(self.passed).unwrap_or(u64::MAX);
         let place = mix(mix(passed) ^ self.document.number());
         let budget = if self.inserted == 0 { 0 } else { self.budget };
-        mix(mix(place ^ self.inserted) ^ budget) ^ self.mark
+        mix(mix(mix(place ^ self.inserted) ^ budget) ^ self.from) ^ self.mark
     }
 }

@@ -1,9 +1,10 @@
-use crate::forward::free::rooms;
+use crate::forward::free::{Free, rooms};
 use crate::forward::kind::{Kind, kinds_of};
 use crate::forward::known::KnownPairs;
 use crate::forward::lines::Lines;
 use crate::forward::numbers::Numbers;
 use crate::forward::standing::{Document, Standing, mark_of, mix};
+use crate::limit::Limit;
 use crate::rules::by_number::number_of;
 use crate::rules::link::leaves_it;
 use crate::rules::queue::is_left;
@@ -19,10 +20,10 @@ pub enum Placed {
     Read(usize),
     /// A write with the known pair.
     Known(usize, usize),
-    /// A write with a pair that nothing names.
-    Inserted(usize),
+    /// A write with an invented pair: the pair, if it lies between two pairs of one term.
+    Inserted(usize, Option<Pair>),
     /// Such a write, which was placed before as one that is refused.
-    Turned(usize),
+    Turned(usize, Option<Pair>),
 }
 
 impl Placed {
@@ -31,8 +32,8 @@ impl Placed {
         match self {
             Placed::Read(rec)
             | Placed::Known(rec, _)
-            | Placed::Inserted(rec)
-            | Placed::Turned(rec) => rec,
+            | Placed::Inserted(rec, _)
+            | Placed::Turned(rec, _) => rec,
         }
     }
 }
@@ -48,6 +49,8 @@ pub struct Walk<'a> {
     kinds: Vec<Option<Kind>>,
     // Before each known pair how many writes may be inserted.
     rooms: Vec<u64>,
+    /// The pairs that no document of the shard is known to use.
+    pub free: Free<'a>,
     // The answered records by place of reply.
     replies: Vec<(usize, usize)>,
     // The conflicts on pairs by place of call.
@@ -105,18 +108,19 @@ impl Walk<'_> {
         alloc: Global,
         records: &'a [Rec],
         conflicts: Conflicts,
-        used: &[Pair],
+        used: &'a [Pair],
+        limits: &[Limit],
     ) -> Result<Option<Walk<'a>>, NoMemory> {
         let numbers = Numbers::of(alloc, records, conflicts)?;
         let Some(known) = KnownPairs::of(alloc, records, &numbers)? else {
             return Ok(None);
         };
         let kinds = kinds_of(alloc, records, &known, &numbers)?;
-        let rooms = rooms(alloc, &known, used)?;
+        let rooms = rooms(alloc, &known, used, limits)?;
         Ok(Some(Walk {
             records,
             conflicts,
-            lines: Lines::of(alloc, records, &kinds, known.len())?,
+            lines: Lines::of(alloc, records, &kinds, known.len(), known.named_len())?,
             replies: by_reply(alloc, records)?,
             conflicts_by_call: conflicts_by_call(alloc, records, &kinds)?,
             placed: vec![in alloc; false; records.len()]?,
@@ -128,6 +132,7 @@ impl Walk<'_> {
             numbers,
             kinds,
             rooms,
+            free: Free::among(used),
         }))
     }
 
@@ -165,9 +170,13 @@ impl Walk<'_> {
 
     /// How many writes may be inserted before the next known pair.
     pub fn room(&self) -> u64 {
-        match self.rooms.get(self.standing.passed) {
+        let room = match self.rooms.get(self.standing.passed) {
             Some(room) => room.saturating_sub(self.standing.inserted),
             None => 0,
+        };
+        match self.gap() {
+            Some(gap) => room.min(self.free.count(gap.from, gap.upper)),
+            None => room,
         }
     }
 
@@ -200,15 +209,15 @@ impl Walk<'_> {
     fn mark(&self, placed: Placed) -> u64 {
         let rec = placed.rec();
         match (placed, self.kinds.get(rec)) {
-            (Placed::Turned(_), _) => mix(mark_of(rec)),
-            (_, Some(Some(Kind::LostDeleteOn(_) | Kind::LostIndexOn(_)))) => 0,
+            (Placed::Turned(..), _) => mix(mark_of(rec)),
+            (_, Some(Some(kind))) if kind.is_lost_on_pair() => 0,
             _ => mark_of(rec),
         }
     }
 
     // Notes that a record is placed, or is not.
     fn set(&mut self, placed: Placed, is_placed: bool) {
-        if let Placed::Turned(rec) = placed {
+        if let Placed::Turned(rec, _) = placed {
             set(&mut self.turned, rec, is_placed);
         } else {
             set(&mut self.placed, placed.rec(), is_placed);
@@ -230,6 +239,9 @@ impl Walk<'_> {
     fn is_on_present(&self, rec: usize) -> bool {
         match (self.kinds.get(rec), self.standing.document) {
             (Some(Some(Kind::ConflictOn(at))), Document::Known(present)) => *at == present,
+            (Some(Some(Kind::ConflictOnNamed(at))), Document::Invented(present)) => {
+                Some(*at) == present
+            }
             _ => false,
         }
     }
@@ -260,7 +272,7 @@ impl Walk<'_> {
                 self.place_all(Kind::Found(at))?;
                 self.place_all(Kind::CreateConflict)?;
             }
-            Document::Invented => self.place_all(Kind::CreateConflict)?,
+            Document::Invented(_) => self.place_all(Kind::CreateConflict)?,
         }
         self.place_conflicts()
     }
@@ -277,20 +289,40 @@ impl Walk<'_> {
         Ok(())
     }
 
+    // The document with an invented pair.
+    fn invented(&self, pair: Option<Pair>) -> Document {
+        match pair {
+            Some(pair) => Document::Invented(self.known.named_place(pair)),
+            None => Document::Invented(None),
+        }
+    }
+
     // The document after the write.
     fn after(&self, write: Placed) -> Document {
-        match (self.record(write.rec()), write) {
-            (Some(found), Placed::Known(_, at)) if leaves_it(found.op) => Document::Known(at),
-            (Some(found), Placed::Inserted(_) | Placed::Turned(_)) if leaves_it(found.op) => {
-                Document::Invented
-            }
+        let leaves_it = match self.record(write.rec()) {
+            Some(found) => leaves_it(found.op),
+            None => false,
+        };
+        match write {
+            Placed::Known(_, at) if leaves_it => Document::Known(at),
+            Placed::Inserted(_, pair) | Placed::Turned(_, pair) if leaves_it => self.invented(pair),
             _ => Document::Absent,
+        }
+    }
+
+    // The write with the pair that it takes, if it has to be told here.
+    fn with_pair(&self, write: Placed) -> Placed {
+        match write {
+            Placed::Inserted(rec, _) => Placed::Inserted(rec, self.pair_to_insert()),
+            Placed::Turned(rec, _) => Placed::Turned(rec, self.pair_to_insert()),
+            other => other,
         }
     }
 
     /// Performs a write, and places what waits for the end of the pair before it.
     pub fn perform(&mut self, write: Placed) -> Result<(), NoMemory> {
         let before = self.standing.document;
+        let write = self.with_pair(write);
         self.place(write)?;
         self.standing.document = self.after(write);
         match write {
@@ -298,14 +330,24 @@ impl Walk<'_> {
                 self.standing.passed = at.saturating_add(1);
                 self.standing.inserted = 0;
                 self.standing.budget = 0;
+                if let Some(known) = self.known.get(at) {
+                    self.standing.from = known.pair.seq().saturating_add(1);
+                }
             }
-            _ => self.standing.inserted = self.standing.inserted.saturating_add(1),
+            Placed::Inserted(_, pair) | Placed::Turned(_, pair) => {
+                self.standing.inserted = self.standing.inserted.saturating_add(1);
+                if let Some(pair) = pair {
+                    self.standing.from = pair.seq().saturating_add(1);
+                }
+            }
+            Placed::Read(_) => {}
         }
         self.pass_replies();
-        if let Document::Known(at) = before {
-            self.place_all(Kind::ConflictOn(at))?;
+        match before {
+            Document::Known(at) => self.place_all(Kind::ConflictOn(at)),
+            Document::Invented(Some(at)) => self.place_all(Kind::ConflictOnNamed(at)),
+            Document::Invented(None) | Document::Absent => Ok(()),
         }
-        Ok(())
     }
 
     /// Takes back what was placed since: the standing then, and how many records were placed.

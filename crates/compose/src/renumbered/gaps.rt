@@ -27,6 +27,8 @@ pub struct Gaps {
     pub kept: Vec<(u32, Pair)>,
     // The pairs that conditions and gets of a document name, each with the number of its witness.
     named: IndexSet<(usize, Pair), HashKeys>,
+    // The pairs that gets found and that the conditions of performed writes name, each with the number of its witness.
+    shown: IndexSet<(usize, Pair), HashKeys>,
     // The pairs that no write may take since a write on that condition is refused directly behind it, each with the numbers
     // of its witness and of its place.
     refused: IndexSet<(usize, usize, Pair), HashKeys>,
@@ -62,6 +64,11 @@ fn named_by(found: Rec) -> Option<Pair> {
     }
 }
 
+// The pair that the condition of a place's call names.
+fn condition_of(records: &[Rec], place: Place) -> Option<Pair> {
+    records.get(place.rec)?.op.condition()
+}
+
 // The least number above the pair, where the upper end is of its term. Before the first pair the term counts as 1.
 fn from_above(lower: Option<Pair>, upper: Pair) -> Option<u64> {
     match lower {
@@ -83,6 +90,7 @@ impl Gaps {
             list: Vec::new(alloc),
             kept: Vec::new(alloc),
             named: IndexSet::with_hasher(alloc, keys),
+            shown: IndexSet::with_hasher(alloc, keys),
             refused: IndexSet::with_hasher(alloc, keys),
         }
     }
@@ -114,7 +122,7 @@ impl Gaps {
         Ok(())
     }
 
-    // Notes the pairs that the calls of a document name, where some place of it gives a pair.
+    // Notes the pairs that the calls of a document name, if some place of it gives a pair.
     fn note_names(&mut self, number: usize, witness: &DocWitness) -> Result<(), NoMemory> {
         if !witness.places().iter().any(|place| place.pair.is_some()) {
             return Ok(());
@@ -122,15 +130,31 @@ impl Gaps {
         for found in witness.records() {
             if let Some(pair) = named_by(*found) {
                 self.named.insert((number, pair))?;
+                if found.op == Op::Get {
+                    self.shown.insert((number, pair))?;
+                }
             }
         }
+        self.note_asked(number, witness)?;
         self.note_refused(number, witness)
+    }
+
+    // Notes the pairs that the conditions of performed writes name.
+    fn note_asked(&mut self, number: usize, witness: &DocWitness) -> Result<(), NoMemory> {
+        for place in witness.places() {
+            if pair_of_place(witness.records(), *place).is_some() {
+                if let Some(pair) = condition_of(witness.records(), *place) {
+                    self.shown.insert((number, pair))?;
+                }
+            }
+        }
+        Ok(())
     }
 
     // Whether the place gives a pair that was invented.
     fn is_invented(&self, number: usize, place: Place) -> bool {
         match place.pair {
-            Some(pair) => !self.named.contains(&(number, pair)),
+            Some(pair) => !self.shown.contains(&(number, pair)),
             None => false,
         }
     }

@@ -1,0 +1,55 @@
+-- How much an answer says of a history for which no order was found.
+use Rattle.std.specs.Prelude.{◌≡◌, ℕ, List, Option, Some, None, slice_get}
+use Rattle.doc_register.specs.declared.op.Op.{Op}
+use Rattle.doc_register.specs.declared.state.Conflicts.{Conflicts}
+use Rattle.history.specs.declared.event.Event.{Event}
+use Rattle.history.specs.Events.{IsCallAt, documents_of, records_of}
+use Rattle.doc_check.specs.NoOrders.{AreSettled, HasNoOrder}
+use Rattle.evidence.specs.Evidence.{IsDocumentRuledOut}
+use Rattle.evidence.specs.declared.certainty.Certainty.{Certainty}
+use Rattle.evidence.specs.declared.certainty.Certainty.TheVariants as certainty
+use Rattle.evidence.specs.declared.refuted.Refuted.{Refuted}
+use Rattle.evidence.specs.declared.refuted.Refuted.TheVariants as evidence
+use Rattle.compose.specs.Laws.{IsSettled}
+
+-- The document of the call numbered n has this number.
+pub record IsDocumentOf (events : List Event) (n doc : ℕ) : Type 0 where
+  pub called : ℕ
+  pub shard : ℕ
+  pub op : Op
+  pub document : List ℕ × ℕ
+  pub call : IsCallAt events called n shard document.0 op
+  pub listed : slice_get (documents_of events) doc ≡ Some document
+
+-- each write of the document of this number is settled, and no order of its calls explains their replies
+abbrev pub IsWithoutOrder : Conflicts → List Event → ℕ → Type 0
+IsWithoutOrder conflicts events doc = (document : List ℕ × ℕ) × (slice_get (documents_of events) doc ≡ Some document)
+    × AreSettled conflicts (records_of events document.0) × HasNoOrder conflicts (records_of events document.0)
+
+-- the document of the call numbered n is ruled out
+abbrev pub IsCallRuledOut : Conflicts → List Event → ℕ → Type 0
+IsCallRuledOut conflicts events n = (doc : ℕ) × IsDocumentOf events n doc × IsDocumentRuledOut conflicts events doc
+
+-- the document of the call numbered n is settled and has no order
+abbrev pub IsCallWithoutOrder : Conflicts → List Event → ℕ → Type 0
+IsCallWithoutOrder conflicts events n = (doc : ℕ) × IsDocumentOf events n doc × IsWithoutOrder conflicts events doc
+
+-- What is said without evidence, if n is the number of the call at which the search first fails: the first of these that holds.
+abbrev pub SaysOfCall : Conflicts → List Event → ℕ → Certainty → Type 0
+SaysOfCall conflicts events n certainty.Evident = ⊥
+SaysOfCall conflicts events n certainty.ToldRuledOut = ⊥
+SaysOfCall conflicts events n certainty.RuledOut = IsCallRuledOut conflicts events n
+SaysOfCall conflicts events n certainty.Answered = (¬ IsCallRuledOut conflicts events n) × IsSettled conflicts events
+SaysOfCall conflicts events n certainty.DocumentAnswered =
+    (¬ IsCallRuledOut conflicts events n) × (¬ IsSettled conflicts events) × IsCallWithoutOrder conflicts events n
+SaysOfCall conflicts events n certainty.Undecided =
+    (¬ IsCallRuledOut conflicts events n) × (¬ IsSettled conflicts events) × (¬ IsCallWithoutOrder conflicts events n)
+
+-- what is said with this evidence, if there is any
+abbrev pub Says : Conflicts → List Event → Option Refuted → ℕ → Certainty → Type 0
+Says conflicts events (Some (evidence.PairTwice a b)) n said = said ≡ certainty.Evident
+Says conflicts events (Some (evidence.NoWriter g)) n said = said ≡ certainty.Evident
+Says conflicts events (Some (evidence.StaleGet g w)) n said = said ≡ certainty.Evident
+Says conflicts events (Some (evidence.StaleSwap a b)) n said = said ≡ certainty.Evident
+Says conflicts events (Some (evidence.RuledOut m)) n said = said ≡ certainty.ToldRuledOut
+Says conflicts events None n said = SaysOfCall conflicts events n said

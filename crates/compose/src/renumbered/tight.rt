@@ -1,0 +1,77 @@
+use crate::renumbered::gaps::{Gap, Gaps};
+use std::alloc::Global;
+use version_pair::{NoMemory, Pair};
+
+/// The pairs that a gap was given.
+#[derive(Drop)]
+pub struct Filled {
+    /// The position of the gap in the list.
+    pub gap: usize,
+    pub pairs: Vec<Pair>,
+}
+
+// How often the span is widened at most.
+const MOST_ROUNDS: usize = 64;
+
+// Numbers of a shard between two ends of one term.
+#[derive(Clone, Copy)]
+struct Span {
+    shard: u32,
+    from: u64,
+    upper: Pair,
+}
+
+impl Span {
+    // Whether one of the pairs that the gap was given lies in it.
+    fn touches(self, gap: &Gap, pairs: &[Pair]) -> bool {
+        gap.shard == self.shard
+            && gap.upper.term() == self.upper.term()
+            && pairs.iter().any(|pair| self.from <= pair.seq() && pair.seq() < self.upper.seq())
+    }
+
+    // The span with that of the gap.
+    fn with(self, gap: &Gap) -> Span {
+        Span {
+            shard: self.shard,
+            from: self.from.min(gap.from),
+            upper: self.upper.max(gap.upper),
+        }
+    }
+}
+
+/// The gaps that together want more numbers than are free between their ends: the one that found none, and those that were given
+/// numbers between its ends, between the ends of these, and so on.
+pub fn tight_set(
+    alloc: Global,
+    gaps: &Gaps,
+    filled: &[Filled],
+    failed: usize,
+) -> Result<Vec<usize>, NoMemory> {
+    let mut tight = Vec::new(alloc);
+    let Some(gap) = gaps.list.get(failed) else {
+        return Ok(tight);
+    };
+    tight.push(failed)?;
+    let mut span = Span {
+        shard: gap.shard,
+        from: gap.from,
+        upper: gap.upper,
+    };
+    let mut is_in = vec![in alloc; false; filled.len()]?;
+    for _ in 0..MOST_ROUNDS {
+        let before = tight.len();
+        for i in 0..filled.len() {
+            if let (Some(other), Some(flag)) = (gaps.list.get(filled[i].gap), is_in.get_mut(i)) {
+                if !*flag && span.touches(other, &filled[i].pairs) {
+                    *flag = true;
+                    tight.push(filled[i].gap)?;
+                    span = span.with(other);
+                }
+            }
+        }
+        if tight.len() == before {
+            break;
+        }
+    }
+    Ok(tight)
+}
