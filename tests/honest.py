@@ -13,7 +13,7 @@ import argparse
 import random
 import sys
 from concurrent.futures import ProcessPoolExecutor
-from typing import NamedTuple
+from typing import NamedTuple, Optional
 
 import texts
 from program import built_program
@@ -22,24 +22,25 @@ from trials import Trial, Wrong, tell, try_all
 
 
 class Set(NamedTuple):
-    """Recordings that are drawn alike: how many, on how many shards, how a conflict is read, whether they are long, and how many of
-    them get `no`."""
+    """Recordings that are drawn alike: how many, on how many shards, how a conflict is read, how many calls each has (a few hundred if
+    none are given), and how many of them get `no`."""
 
     count: int
     shards: int
     reading: str
-    is_long: bool
+    calls: Optional[int]
     no: int
 
 
 # How many get `no` is no promise: these numbers are what the program of this checkout answers. A change of the search may lessen them,
 # and then they are renewed with it; where one grows, or changes without a change of the search, orders are missed that were found.
 SETS = {
-    "plain": Set(200, 1, "plain", False, 0),
-    "plain, three shards": Set(200, 3, "plain", False, 3),
-    "maybe": Set(600, 1, "maybe", False, 6),
-    "maybe, three shards": Set(600, 3, "maybe", False, 8),
-    "long": Set(20, 1, "plain", True, 0),
+    "plain": Set(200, 1, "plain", None, 0),
+    "plain, three shards": Set(200, 3, "plain", None, 1),
+    "maybe": Set(600, 1, "maybe", None, 3),
+    "maybe, three shards": Set(600, 3, "maybe", None, 2),
+    "long": Set(20, 1, "plain", 50_000, 0),
+    "longer": Set(6, 1, "plain", 200_000, 0),
 }
 
 
@@ -188,15 +189,15 @@ def short_settings(seed, kind):
     }
 
 
-def long_settings(seed):
+def long_settings(seed, calls):
     """The settings of a long recording."""
     draw = random.Random(f"settings {seed} long")
-    return {"docs": draw.choice([1, 4, 16, 64]), "clients": draw.choice([8, 32]), "calls": 50_000, "loss": draw.choice([0.01, 0.05])}
+    return {"docs": draw.choice([1, 4, 16, 64]), "clients": draw.choice([8, 32]), "calls": calls, "loss": draw.choice([0.01, 0.05])}
 
 
 def judged(program, kind, seed):
     """Judges a recording: tells `yes` where it is verified by its own witness, and else what is answered."""
-    settings = long_settings(seed) if kind.is_long else short_settings(seed, kind)
+    settings = long_settings(seed, kind.calls) if kind.calls else short_settings(seed, kind)
     history = "".join(Recording(seed, **settings).lines())
     status, order = asked(program, "witness", history, conflicts=kind.reading)
     if status == 1 and order.startswith("no "):
@@ -224,7 +225,7 @@ def main():
     program = built_program(words)
     trials = [(name, Trial(f"{name}, {seed}", judged, (program, kind, seed))) for name, kind in SETS.items() for seed in range(kind.count)]
     # (the long ones first, so that none of them is left for the end)
-    trials.sort(key=lambda it: not SETS[it[0]].is_long)
+    trials.sort(key=lambda it: -(SETS[it[0]].calls or 0))
     with ProcessPoolExecutor() as pool:
         told, wrong = try_all([trial for _, trial in trials], pool)
     passed = len(told) - len(wrong)
