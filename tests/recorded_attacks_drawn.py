@@ -18,7 +18,7 @@ import time
 from concurrent.futures import ThreadPoolExecutor
 from types import SimpleNamespace
 
-from attacks import AttackTest, Client, Cluster, answer_of, descriptors, megabytes, request_of, threads
+from attacks import AttackTest, Client, Cluster, answer_of, descriptors, end_of, megabytes, request_of, threads
 from recordings import run_tests
 
 from casbench_recording.http1 import BadMessage
@@ -188,8 +188,9 @@ class Attacked(AttackTest):
             else:
                 self.made += sum(it.result() for it in runs)
                 left = self.left(proxy, before)
-            seconds, status = self.end(proxy)
+            seconds, taken, status = end_of(proxy)
         self.assertEqual(status, 0)
+        self.assertLess(taken, 1.0)
         return self.check() if os.path.exists(self.file) else "no call was made", left, seconds
 
     def left(self, proxy, before):
@@ -200,13 +201,6 @@ class Attacked(AttackTest):
                 break
             time.sleep(0.1)
         return left
-
-    def end(self, proxy):
-        """Ends the proxy; how long that took, and its status."""
-        began = time.monotonic()
-        proxy.process.terminate()
-        status = proxy.process.wait(30)
-        return time.monotonic() - began, status
 
     def hold(self, told, wanted):
         """Holds what runs came to."""

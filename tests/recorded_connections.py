@@ -24,13 +24,13 @@ from unittest import mock
 from program import TOP
 from recordings import FolderTest, run_tests
 
+from casbench_recording.client_side import ClientSide
 from casbench_recording.connecting import Addresses, Connecting
 from casbench_recording.documents import digest_of, digest_of_object, digest_of_text, object_of
 from casbench_recording.history import History, counting_members
 from casbench_recording.inspection import Shape
 from casbench_recording.judge import Judge
 from casbench_recording.loop import Loop, Stream
-from casbench_recording.sides import ClientSide
 from casbench_recording.routes import Names
 from casbench_recording.tls import TlsStream
 from casbench_recording.unjudged import Unjudged
@@ -324,9 +324,10 @@ class Pieces(FolderTest):
     def setUp(self):
         super().setUp()
         self.draw = random.Random(2)
-        patch = mock.patch("casbench_recording.sides.Stream", Noted)
-        patch.start()
-        self.addCleanup(patch.stop)
+        for module in ("client_side", "cluster_side"):
+            patch = mock.patch(f"casbench_recording.{module}.Stream", Noted)
+            patch.start()
+            self.addCleanup(patch.stop)
 
     def sides(self, path):
         """The two sides of a proxy that writes a history, and its judge."""

@@ -14,6 +14,8 @@ from unittest import mock
 
 from recordings import FolderTest, run_tests
 
+from casbench_recording.answering import Answering
+from casbench_recording.asking import Asking
 from casbench_recording.cluster import Answer, ClusterError
 from casbench_recording.documents import State
 from casbench_recording.history import History, HistoryError
@@ -529,10 +531,10 @@ class NotJudged(JudgeTest):
             self.tidy()
 
     def test_a_fault_of_the_recorder_ends_the_recording(self):
-        for at, name in enumerate(("_operation", "_reply")):
+        for at, (where, name) in enumerate(((Asking, "operation"), (Answering, "_reply"))):
             judge = self.judge()
             get = self.ask(judge, "GET", "/carts/_doc/d")
-            with mock.patch.object(Judge, name, side_effect=KeyError("x")):
+            with mock.patch.object(where, name, side_effect=KeyError("x")):
                 self.talk(judge, ("GET /carts/_doc/e", None, missing("e")))
             self.answer(judge, get, missing())
             self.assertEqual([it for it in self.ended(judge) if it[2:5] != "get"], ["0 lost", "1 lost"][: at + 1])
@@ -559,7 +561,7 @@ class NotJudged(JudgeTest):
         self.ask(judge, "GET", "/carts/_doc/d")
         for at in range(20):
             self.assertIsNone(self.ask(judge, "POST", "/carts/_mget", {"ids": [f"{at}-{it}" for it in range(3)]}))
-        self.assertEqual(list(judge._documents), ["d"])
+        self.assertEqual(list(judge.ledger.documents), ["d"])
         self.assertEqual(len(self.ask(judge, "POST", "/carts/_mget", {"ids": ["d", "e"]}).parts), 2)
         self.assertFalse(judge.has_ended)
 

@@ -36,6 +36,12 @@ TAKES_A_CONDITION = ("index", "delete")
 
 CONFLICT = "version_conflict_engine_exception"
 
+LOST = '{"e":"lost","n":'
+"""What stands before the number in the line of a lost call."""
+
+MOST_LOST_AT_ONCE = 65_536
+"""How many calls are written as lost together."""
+
 compact = json.JSONEncoder(separators=(",", ":")).encode
 """The JSON text of a value, without spaces."""
 
@@ -279,18 +285,20 @@ class History:
                 self._end_calls([it for it in rests if it[0] in self._open])
 
     def lose(self, calls: Sequence[Call]) -> None:
-        """Writes those of the calls as lost that are open."""
-        self.end_all([(it, None) for it in calls])
+        """Writes those of the calls as lost that are open. At the end of the history there is nothing to write."""
+        with self._lock:
+            if not self.has_ended:
+                self._lose([it.number for it in calls if it.number in self._open])
 
     def end(self) -> None:
-        """Writes the calls that are open as lost, all at once, and closes the file; later calls and endings raise Ended.
+        """Writes the calls that are open as lost, and closes the file; later calls and endings raise Ended.
 
         A file without a call is removed: an empty text would be a history, and a right one.
         """
         with self._lock:
             try:
                 if not self.has_ended:
-                    self._end_calls([(number, None) for number in sorted(self._open)])
+                    self._lose(sorted(self._open))
             finally:
                 self._close()
 
@@ -323,7 +331,7 @@ class History:
         now, lines, replies = self._now(), [], 0
         for number, rest in endings:
             if rest is None:
-                lines.append(f'{{"e":"lost","n":{number},"t":{now}}}\n')
+                lines.append(f'{LOST}{number},"t":{now}}}\n')
             else:
                 lines.append(f'{{"e":"reply","n":{number},"t":{now}{rest}}}\n')
                 replies += 1
@@ -332,10 +340,19 @@ class History:
         self.replies += replies
         self.lost += len(endings) - replies
 
+    def _lose(self, numbers: Sequence[int]) -> None:
+        """Writes the lines of lost calls, many of them together; counts them."""
+        behind = f',"t":{self._now()}}}\n'
+        for at in range(0, len(numbers), MOST_LOST_AT_ONCE):
+            some = numbers[at : at + MOST_LOST_AT_ONCE]
+            self._write(LOST + (behind + LOST).join(map(str, some)) + behind)
+            self._open.difference_update(some)
+            self.lost += len(some)
+
     def _end_call(self, number: int, rest: Optional[str]) -> None:
         """Writes the line of one ending."""
         if rest is None:
-            self._write(f'{{"e":"lost","n":{number},"t":{self._now()}}}\n')
+            self._write(f'{LOST}{number},"t":{self._now()}}}\n')
             self.lost += 1
         else:
             self._write(f'{{"e":"reply","n":{number},"t":{self._now()}{rest}}}\n')

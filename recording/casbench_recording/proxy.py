@@ -21,6 +21,7 @@ import socket
 import sys
 from typing import Callable, Iterator, Optional, Sequence, Set, Tuple, Union
 
+from .client_side import ClientSide
 from .cluster import Cluster, ClusterError, Connection, credentials_of, number_from, port_of, trust_of, url_of
 from .connecting import Addresses, Connecting, Made
 from .console import open_standard_files, tell, tell_last, tell_line
@@ -32,7 +33,7 @@ from .judge import Judge
 from .loop import Loop, Stream
 from .parts import Parts
 from .progress import Progress
-from .sides import ClientSide, refusal
+from .refusal import refusal
 from .tls import NO_RENEGOTIATION
 from .unjudged import Unjudged
 
@@ -296,4 +297,5 @@ def tell_end(setting: argparse.Namespace, judge: Judge) -> None:
 
 
 if __name__ == "__main__":
-    sys.exit(main(sys.argv[1:]))
+    # (at once: to take down what is known of half a million calls would take longer than to write them as lost)
+    os._exit(main(sys.argv[1:]))

@@ -1,0 +1,104 @@
+"""The lines of a recording that watches, and its end: at its time, or before it, where what is written can't be told any more."""
+
+from typing import Optional, Sequence, Tuple, Union
+
+from .asked import Part
+from .bulk import Untellable
+from .history import Call, Ended, History, HistoryError, Operation
+from .parts import Parts
+from .unjudged import Unjudged
+
+Reply = Tuple[int, str]
+"""The status and the text of the body of a reply."""
+
+Ending = Tuple[Call, Optional[Reply]]
+"""A call that ends, with its reply, or None if it is lost."""
+
+
+class Recording:
+    """The history, or one for each shard, and the list beside it. One thread uses it."""
+
+    def __init__(self, history: Union[History, Parts], unjudged: Unjudged) -> None:
+        self.history = history
+        self.unjudged = unjudged
+        self.has_ended = False
+
+    def end(self, why: str) -> None:
+        """Ends the recording before its time: all calls that are open are lost, and no more are written."""
+        if not self.has_ended:
+            self.has_ended = True
+            self.unjudged.ends(why)
+            self.end_histories()
+
+    def end_by(self, fault: Exception) -> None:
+        """Ends the recording: the application goes on, and nothing stands in the history behind what wasn't understood."""
+        self.end(str(fault) if isinstance(fault, Untellable) else f"a fault of the recorder: {fault!r}")
+
+    def end_histories(self) -> None:
+        """Ends each history."""
+        for history in self.history.histories:
+            try:
+                history.end()
+            except HistoryError as fault:
+                self.unjudged.ends(str(fault))
+
+    def end_part(self, history: History, why: str) -> None:
+        """Ends the history of a shard, or the one of all."""
+        if why not in self.unjudged.ended:
+            self.unjudged.ends(why)
+        history.end()
+        self.has_ended = self.has_ended or isinstance(self.history, History)
+
+    def write_calls(self, made: Sequence[Tuple[Part, Operation]]) -> None:
+        """Writes the lines of calls, those of one shard together. A history that is full ends, and with it what is open."""
+        shards = {operation.shard for _, operation in made}
+        for shard in shards:
+            its = made if len(shards) == 1 else [it for it in made if it[1].shard == shard]
+            self.write_calls_of(self.history.of_shard(shard), its)
+
+    def write_calls_of(self, history: History, made: Sequence[Tuple[Part, Operation]]) -> None:
+        """Writes the lines of calls to a history."""
+        if self.has_ended:
+            return
+        try:
+            calls = [history.call_one(made[0][1])] if len(made) == 1 else history.call_all([it for _, it in made])
+        except Ended:
+            self.end_part(history, f"{history.path} is full")
+            return
+        except HistoryError as fault:
+            self.end_part(history, str(fault))
+            return
+        for (part, _), call in zip(made, calls):
+            part.call = call
+            if part.document is not None:
+                part.document.open[call] = None
+
+    def write_ending(self, call: Call, reply: Optional[Reply]) -> None:
+        """Writes the ending of a call. If the history ended in the meantime the call is lost by that."""
+        try:
+            if reply is None:
+                call.lost()
+            else:
+                call.tell(*reply)
+        except Ended:
+            pass
+        except HistoryError as fault:
+            self.end_part(call.history, str(fault))
+
+    def write_endings(self, endings: Sequence[Ending]) -> None:
+        """Writes the lines of endings, those of one history together."""
+        for history in {call.history for call, _ in endings}:
+            try:
+                history.end_all([it for it in endings if it[0].history is history])
+            except HistoryError as fault:
+                self.end_part(history, str(fault))
+
+    def lose(self, calls: Sequence[Call]) -> None:
+        """Writes calls as lost, those of one history together."""
+        histories = {it.history for it in calls}
+        for history in histories:
+            its = calls if len(histories) == 1 else [it for it in calls if it.history is history]
+            try:
+                history.lose(its)
+            except HistoryError as fault:
+                self.end_part(history, str(fault))
