@@ -24,6 +24,7 @@ from recordings import run_tests
 from casbench_recording.http1 import BadMessage
 from casbench_recording.http1 import request_of as head_of
 from casbench_recording.stand_in import Server, read_request
+from casbench_recording.stand_in_store import Faults, Store
 
 CLIENTS = 8
 DOCUMENTS = 6
@@ -61,7 +62,7 @@ class Honest(Cluster):
 
     def __init__(self):
         super().__init__(self.act)
-        self.server = Server(SimpleNamespace(fault="none", every=1, product=None, certificate=None))
+        self.server = Server(SimpleNamespace(product=None, certificate=None), Store(Faults("none", 1)), 0)
         self.server.store.make("carts", {})
         self.lock = threading.Lock()
 

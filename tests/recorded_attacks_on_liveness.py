@@ -45,7 +45,7 @@ class Told(AttackTest):
                     more = client.more()
                     self.assertNotEqual(more, b"", "the answer never came")
                     head += more
-            self.assertRegex(proxy.ended(), "^recorded 1 calls in .*, 0 of them without a reply$")
+            self.assertRegex(proxy.ended(), "^recorded 1 call in .*, 0 of them without a reply\n")
 
     def test_standard_error_that_nobody_reads(self):
         reads, writes = os.pipe()

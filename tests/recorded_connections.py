@@ -334,10 +334,10 @@ class Pieces(FolderTest):
         shape = Shape("carts", Names(["carts"], []), 1, 512, True)
         judge = Judge(shape, "carts", History(path, clock=lambda: 0.0), Unjudged(path))
         soon = []
-        proxy = SimpleNamespace(loop=SimpleNamespace(soon=soon.append, now=0.0), judge=judge, clients=set(), cluster=SimpleNamespace(trust=None))
+        proxy = SimpleNamespace(loop=SimpleNamespace(soon=soon.append, now=0.0), judge=judge, clients=set())
         proxy.finding, proxy.has_room, proxy.hold = None, lambda: True, lambda count: None
-        proxy.connect = lambda made: SimpleNamespace(cancel=lambda: None)
-        client = ClientSide(proxy, None)
+        proxy.connect = lambda node, made: SimpleNamespace(cancel=lambda: None)
+        client = ClientSide(proxy, SimpleNamespace(cluster=SimpleNamespace(trust=None)), None)
         client.received(b"")
         client.connection_made(None)
         soon.pop()()

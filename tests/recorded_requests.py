@@ -24,7 +24,7 @@ from casbench_recording.judge import Judge
 from casbench_recording.parts import Parts
 from casbench_recording.routes import Kind, Names, route_of
 from casbench_recording.routing import hash_of, shard_of
-from casbench_recording.stand_in import Faults, Index
+from casbench_recording.stand_in_store import Faults, Index
 from casbench_recording.unjudged import Unjudged
 
 MADE = "AAAAAAAAAAAAAAAAAAA"  # (with one letter more it is an id as a cluster makes one)

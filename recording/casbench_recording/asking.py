@@ -5,7 +5,7 @@ from typing import Any, Dict, Iterator, List, Mapping, Optional, Sequence
 from .asked import Asked, AskedInPieces, Part, condition_of
 from .bodies import MOST_READ, texts_of
 from .bulk import Item, Untellable
-from .documents import NOT_JUDGED, digest_of_text, object_of
+from .documents import NOT_JUDGED, Document, digest_of_text, object_of
 from .history import Operation
 from .ledger import Ledger
 from .routes import BULK, CALL, OF_A_GET, OF_AN_UPDATE, SWEEP, Kind, Route
@@ -97,7 +97,7 @@ class Asking:
                 pass
             return asked
         if kind is Kind.UNTOLD:
-            self._ledger.untold(route.id, route.why)
+            self._left_out(route.id, route.why)
             if route.op == "new":
                 self._ledger.untold("", route.why)
         elif kind is Kind.END or kind is Kind.LOOK and not is_harmless(route, content):
@@ -108,7 +108,7 @@ class Asking:
 
     def _made_one(self, kind: Kind, part: Part, is_head: bool = False) -> Asked:
         """Writes the call of a request that makes one, before the request is passed on."""
-        if self.is_ready(part) and part.document is not None:
+        if self._is_ready(part) and part.document is not None:
             history = self._recording.history.of_shard(part.document.shard)
             self._recording.write_calls_of(history, [(part, self.operation(part))])
         return Asked(kind, (part,), is_head)
@@ -121,35 +121,39 @@ class Asking:
 
     def _write_parts(self, parts: Sequence[Optional[Part]]) -> None:
         """Writes the calls of the parts."""
-        ready = [it for it in parts if it is not None and self.is_ready(it)]
+        ready = [it for it in parts if it is not None and self._is_ready(it)]
         # (another part of the request may have ended the judgement of a document)
         judged = [it for it in ready if it.document is not None and it.document.state is not NOT_JUDGED]
         self._recording.write_calls([(it, self.operation(it)) for it in judged])
 
     def write_part(self, part: Part) -> bool:
         """Writes the call of a part, if it is one of a document that is judged; tells whether it is."""
-        if not self.is_ready(part):
+        if not self._is_ready(part):
             return False
         self._recording.write_calls([(part, self.operation(part))])
         return True
 
-    def is_ready(self, part: Part) -> bool:
-        """Whether a part is a call of a document that is judged. A write that can't be told ends that."""
-        ledger = self._ledger
-        shape = ledger.shape
-        part.sweeps = ledger.sweeps
+    def _is_ready(self, part: Part) -> bool:
+        """Whether a part is a call of a document that is judged, or of one whose id the answer tells."""
+        part.sweeps = self._ledger.sweeps
         if not part.id:
-            ledger.unnamed += 1
+            self._ledger.unnamed += 1
             return True
+        part.document = self._document_of(part)
+        self._ledger.left_out += part.document is None
+        return part.document is not None
+
+    def _document_of(self, part: Part) -> Optional[Document]:
+        """The document of a part, if it is judged. A write that can't be told ends that."""
+        ledger, shape = self._ledger, self._ledger.shape
         is_routed = shape is not None and shape.shards > 1 and bool({"routing", "parent"} & set(part.words))
         if part.op == "get" and (is_routed or shape is None):
-            return False
+            return None
         if shape is None:
             ledger.untold(part.id, "it was written before the index was looked at")
         elif is_routed:
             ledger.untold(part.id, "it was written with a routing, in an index of several shards")
-        part.document = ledger.document(part.id)
-        return part.document is not None
+        return ledger.document(part.id)
 
     def operation(self, part: Part) -> Operation:
         """The call that a part is."""
@@ -165,10 +169,15 @@ class Asking:
 
     # What a request says of a document
 
+    def _left_out(self, id: str, why: str) -> None:
+        """Heeds a write that can't be told, and has no line."""
+        self._ledger.left_out += 1
+        self._ledger.untold(id, why)
+
     def _update(self, id: str, words: Mapping[str, Any], body: Optional[Body]) -> Optional[Part]:
         """The call that an update is: a write of a source that nobody knows, where it can't be a delete."""
         if body is None or not OF_A_PARTIAL_UPDATE.issuperset(body):
-            self._ledger.untold(id, "it was updated, perhaps by a script")
+            self._left_out(id, "it was updated, perhaps by a script")
             return None
         return Part(id, "index", {"if_seq_no": None, **words})
 
@@ -180,7 +189,7 @@ class Asking:
             raise Untellable(f"a bulk request with the action {op[:20]!r}")
         if index not in ledger.names.all:
             if ledger.names.may_be_among(index):
-                ledger.untold(id, f"it was written by a bulk request to {index[:200]}")
+                self._left_out(id, f"it was written by a bulk request to {index[:200]}")
             return None
         if index in ledger.names.routed:
             words = {"routing": index, **words}
@@ -188,7 +197,7 @@ class Asking:
             raise Untellable(f"a bulk request with pipeline={str(words['pipeline'])[:200]}")
         strange = sorted(set(words) - OF_AN_ITEM - {"pipeline"})
         if strange:
-            ledger.untold(id, f"it was written by a bulk request, with {strange[0][:200]}")
+            self._left_out(id, f"it was written by a bulk request, with {strange[0][:200]}")
             return None
         if op == "update":
             return self._update(id, words, object_of(item.source))

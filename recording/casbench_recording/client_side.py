@@ -11,10 +11,10 @@ from .exchange import Coming, ComingInPieces, Exchange
 from .http1 import LONGEST_REMEMBERED, BadMessage, decoded, head_end, read_request, remembered_request, without_empty_lines
 from .loop import Stream
 from .refusal import refusal
-from .routes import BULK, PASS, READS, SWEEP
+from .routes import BULK, NODES, PASS, READS, SWEEP
 
 if TYPE_CHECKING:
-    from .proxy import Proxy
+    from .proxy import Node, Proxy
 
 MOST_AHEAD = 65_536
 """How many bytes of later requests are taken while one is open."""
@@ -42,8 +42,9 @@ class ClientSide:
     active_at: float
     held: int
 
-    def __init__(self, proxy: "Proxy", connection: socket.socket) -> None:
+    def __init__(self, proxy: "Proxy", node: "Node", connection: socket.socket) -> None:
         self.proxy = proxy
+        self.node = node
         self.stream = Stream(proxy.loop, connection, self)
         self.data = b""
         self.exchange = None
@@ -69,7 +70,7 @@ class ClientSide:
             return
         if self.connecting is None:
             self.connected_by = self.proxy.loop.now + MOST_TO_CONNECT
-            self.connecting = self.proxy.connect(self.connection_made)
+            self.connecting = self.proxy.connect(self.node, self.connection_made)
         self.heed_flow()
 
     def connection_made(self, made: Union[socket.socket, OSError]) -> None:
@@ -182,6 +183,8 @@ class ClientSide:
             return
         if route is not PASS:
             request = exchange.request
+            if route is NODES:
+                self.proxy.warn_of_nodes(request)
             if content and (request.fields.encoding or len(content) > MOST_READ):
                 content = decoded(content, request.fields.encoding, MOST_READ)
             asked = exchange.asked = judge.ask(route, request.method, content)

@@ -27,7 +27,7 @@ class ClusterSide:
     def __init__(self, client: "ClientSide", connection: socket.socket) -> None:
         self.client = client
         self.data = b""
-        loop, cluster = client.proxy.loop, client.proxy.cluster
+        loop, cluster = client.proxy.loop, client.node.cluster
         if cluster.trust is None:
             self.stream = Stream(loop, connection, self)
             loop.soon(lambda: client.has_cluster(None))

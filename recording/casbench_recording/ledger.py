@@ -30,6 +30,8 @@ class Ledger:
         self.only = only
         # how many writes were made of documents whose ids nobody knows yet
         self.unnamed = 0
+        # how many calls were made that have no lines, since their documents aren't judged
+        self.left_out = 0
         # how many requests that change documents nobody knows were made, and how many of them may still go on
         self.sweeps = self.open_sweeps = 0
 
@@ -94,6 +96,11 @@ class Ledger:
             if self.recording.has_ended:
                 return
             self.mark_all([(id, why) for id in ids[at : at + MOST_SWEPT]])
+
+    @property
+    def judged(self) -> int:
+        """How many documents are judged."""
+        return sum(it.state is State.JUDGED for it in self.documents.values())
 
     def close(self) -> None:
         """Names the documents that were never seen created, behind the end of the recording: they aren't judged."""

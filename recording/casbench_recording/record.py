@@ -25,7 +25,8 @@ import time
 import urllib.parse
 from typing import Any, Dict, List, Optional, Sequence, Tuple, Union
 
-from .cluster import Answer, Cluster, ClusterError, Connection, NoAnswer, credentials_of, number_from, trust_of, url_of
+from .cluster import Answer, Cluster, ClusterError, Connection, NoAnswer, Url, credentials_of, number_from, trust_of, url_of
+from .console import counted
 from .history import MOST_EVENTS, Ended, History, HistoryError, Operation, Pair, pair_of
 from .parts import Indexes, OneIndex, Parts, Target
 from .progress import Progress
@@ -42,6 +43,9 @@ MIXTURE = "get=6,index=2,create=1,delete=1,index-if=6,delete-if=1,bulk=1"
 KINDS = ("get", "index", "create", "delete", "index-if", "delete-if", "bulk")
 WRITES = ("index", "create", "delete", "index-if", "delete-if")
 
+ENDED_EARLY = 3
+"""The exit status of a recording that ended before its time."""
+
 START_PATIENCE = 5.0
 """For how many seconds the first connection is tried."""
 
@@ -52,6 +56,8 @@ class Stop:
     def __init__(self) -> None:
         self.is_set = False
         self.was_asked = False
+        # whether the history was full before the time was over
+        self.is_full = False
         self.fault: Optional[BaseException] = None
 
     def ask(self, *_: object) -> None:
@@ -159,7 +165,8 @@ class Client:
         self.target = target
         self.number = number
         self.stop = stop
-        self.connection = Connection(setting.cluster)
+        # (with several addresses, one client after the other takes the next of them)
+        self.connection = Connection(setting.clusters[number % len(setting.clusters)])
         self.plan = Plan(setting, number)
         self.calls = 0
         self.writes = 0
@@ -297,8 +304,8 @@ def why_no_index(index: str, status: int, told: Dict[str, Any]) -> str:
     return f"the index {index} was not made (HTTP {status}): {json.dumps(kind)} {json.dumps(reason)}"
 
 
-def record(setting: argparse.Namespace) -> Tuple[Tuple[History, ...], bool]:
-    """Makes the index and records the clients' calls. Returns the histories, and whether somebody asked for their end."""
+def record(setting: argparse.Namespace) -> Tuple[Tuple[History, ...], Stop]:
+    """Makes the index and records the clients' calls. Returns the histories, and why the clients made no more calls."""
     stop = Stop()
     with recording_of(setting) as recording, Progress(lambda: counts_of(recording.histories)):
         target = target_of(setting, recording)
@@ -309,7 +316,9 @@ def record(setting: argparse.Namespace) -> Tuple[Tuple[History, ...], bool]:
             make_index(first, setting, target.name)
         setting.end = time.monotonic() + setting.seconds if setting.seconds is not None else None
         run_clients(clients, stop)
-    return recording.histories, stop.was_asked
+        is_over = setting.end is None or time.monotonic() >= setting.end
+        stop.is_full = not is_over and not stop.was_asked and isinstance(recording, History) and not recording.room
+    return recording.histories, stop
 
 
 def recording_of(setting: argparse.Namespace) -> Union[History, Parts]:
@@ -326,7 +335,7 @@ def target_of(setting: argparse.Namespace, recording: Union[History, Parts]) -> 
 
 def make_next_index(setting: argparse.Namespace, index: str) -> None:
     """Makes an index while clients wait for it, on a connection for that alone."""
-    with contextlib.closing(Connection(setting.cluster)) as connection:
+    with contextlib.closing(Connection(setting.clusters[0])) as connection:
         connection.open(setting.patience)
         make_index(connection, setting, index)
 
@@ -370,11 +379,16 @@ def mixture_of(text: str) -> Dict[str, int]:
     return mixture
 
 
+def urls_of(text: str) -> List[Url]:
+    """The addresses of the nodes, separated by commas."""
+    return [url_of(it) for it in text.split(",")]
+
+
 def words_of(arguments: Sequence[str]) -> argparse.Namespace:
     """Reads the words of the command."""
     parser = argparse.ArgumentParser(description="Records clients of an OpenSearch cluster as a history for casbench.")
     add = parser.add_argument
-    add("url", type=url_of, help="the cluster's address, as https://host:9200")
+    add("urls", type=urls_of, metavar="URL[,URL..]", help="the cluster's address, as https://host:9200, or those of several nodes")
     add("index", help="the index that is made, and must not be there")
     add("file", help="the file that the history is written to, and must not be there")
     add("--clients", type=number_from(1), default=4, help="how many clients ask at once (4)")
@@ -393,7 +407,7 @@ def words_of(arguments: Sequence[str]) -> argparse.Namespace:
     if setting.calls is None:
         setting.calls = 1000 if setting.seconds is None else ANY_NUMBER
     setting.index = urllib.parse.quote(setting.index, safe="")
-    if setting.ca_file is not None and setting.url.scheme != "https":
+    if setting.ca_file is not None and all(it.scheme != "https" for it in setting.urls):
         parser.error("--ca-file is for an address that begins with https")
     if setting.part is None and setting.seconds is None and setting.clients * setting.calls > MOST_CALLS:
         parser.error(f"over {MOST_CALLS} calls, the most of one history: record it in parts, by --part")
@@ -403,12 +417,12 @@ def words_of(arguments: Sequence[str]) -> argparse.Namespace:
 
 
 def main(arguments: Sequence[str]) -> int:
-    """Records by the words given, and returns the exit status: 0 recorded, 1 a named error, 130 interrupted."""
+    """Records by the words given, and returns the exit status: 0 recorded, 1 a named error, 3 the recording ended early, 130 interrupted."""
     setting = words_of(arguments)
     try:
-        trust = trust_of(setting.url, setting.ca_file)
-        setting.cluster = Cluster(setting.url, setting.timeout, credentials_of(os.environ), trust)
-        histories, was_asked = record(setting)
+        credentials = credentials_of(os.environ)
+        setting.clusters = [Cluster(it, setting.timeout, credentials, trust_of(it, setting.ca_file)) for it in setting.urls]
+        histories, stop = record(setting)
     except (ClusterError, HistoryError, OSError) as fault:
         print(f"record.py: {fault}", file=sys.stderr)
         return 1
@@ -416,10 +430,13 @@ def main(arguments: Sequence[str]) -> int:
         return 130
     calls = sum(it.calls for it in histories)
     if calls:
-        print(f"recorded {calls} calls in {setting.file}, {sum(it.unanswered for it in histories)} of them without a reply")
+        print(f"recorded {counted(calls, 'call')} in {setting.file}, {sum(it.unanswered for it in histories)} of them without a reply")
     else:
         print("no call was made, so there is no file", file=sys.stderr)
-    return 130 if was_asked else 0
+    if stop.is_full:
+        print(f"record.py: the recording ended early: {setting.file} is full; --part records more, in parts", file=sys.stderr)
+        return ENDED_EARLY
+    return 130 if stop.was_asked else 0
 
 
 if __name__ == "__main__":

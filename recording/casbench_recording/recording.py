@@ -1,6 +1,6 @@
 """The lines of a recording that watches, and its end: at its time, or before it, where what is written can't be told any more."""
 
-from typing import Optional, Sequence, Tuple, Union
+from typing import Callable, Optional, Sequence, Tuple, Union
 
 from .asked import Part
 from .bulk import Untellable
@@ -22,12 +22,14 @@ class Recording:
         self.history = history
         self.unjudged = unjudged
         self.has_ended = False
+        # is called when the recording, or the history of a shard, ends before its time, with the reason
+        self.tell_ended: Callable[[str], None] = lambda why: None
 
     def end(self, why: str) -> None:
         """Ends the recording before its time: all calls that are open are lost, and no more are written."""
         if not self.has_ended:
             self.has_ended = True
-            self.unjudged.ends(why)
+            self._ends(why)
             self.end_histories()
 
     def end_by(self, fault: Exception) -> None:
@@ -40,14 +42,19 @@ class Recording:
             try:
                 history.end()
             except HistoryError as fault:
-                self.unjudged.ends(str(fault))
+                self._ends(str(fault))
 
     def end_part(self, history: History, why: str) -> None:
         """Ends the history of a shard, or the one of all."""
-        if why not in self.unjudged.ended:
-            self.unjudged.ends(why)
-        history.end()
         self.has_ended = self.has_ended or isinstance(self.history, History)
+        if why not in self.unjudged.ended:
+            self._ends(why)
+        history.end()
+
+    def _ends(self, why: str) -> None:
+        """Reports the reason for which a history ends before its time."""
+        self.unjudged.ends(why)
+        self.tell_ended(why)
 
     def write_calls(self, made: Sequence[Tuple[Part, Operation]]) -> None:
         """Writes the lines of calls, those of one shard together. A history that is full ends, and with it what is open."""
