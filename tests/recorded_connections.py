@@ -337,7 +337,7 @@ class Pieces(FolderTest):
         proxy = SimpleNamespace(loop=SimpleNamespace(soon=soon.append, now=0.0), judge=judge, clients=set())
         proxy.finding, proxy.has_room, proxy.hold = None, lambda: True, lambda count: None
         proxy.connect = lambda node, made: SimpleNamespace(cancel=lambda: None)
-        client = ClientSide(proxy, SimpleNamespace(cluster=SimpleNamespace(trust=None)), None)
+        client = ClientSide(proxy, SimpleNamespace(cluster=SimpleNamespace(trust=None)), SimpleNamespace(getpeername=lambda: ("127.0.0.1", 40000)))
         client.received(b"")
         client.connection_made(None)
         soon.pop()()

@@ -519,7 +519,7 @@ class Begun(ProxyTest):
             os.close(its)
             with Asker(int(shown_on(terminal, rb":(\d+)\r\n")[1])) as asker:
                 asker.ask("PUT", "/carts/_doc/d", {})
-                shown_on(terminal, rb"\r\x1b\[K1 call, 0 lost, \d calls a second")
+                shown_on(terminal, rb"\r\x1b\[K1 call, 0 lost, \d calls? a second")
             proxy.ended()
 
 

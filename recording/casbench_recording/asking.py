@@ -35,17 +35,17 @@ class Asking:
         self._ledger = ledger
         self._recording = ledger.recording
 
-    def ask(self, route: Route, method: str, content: Optional[bytes]) -> Optional[Asked]:
-        """Writes the calls of a request, before it is passed on. The content is None where it can't be read."""
+    def ask(self, route: Route, method: str, content: Optional[bytes], client: str = "") -> Optional[Asked]:
+        """Writes the calls of a client's request, before it is passed on. The content is None where it can't be read."""
         try:
-            return None if self._recording.has_ended else self._ask(route, method, content)
+            return None if self._recording.has_ended else self._ask(route, method, content, client)
         except Exception as fault:
             self._recording.end_by(fault)
         return None
 
-    def ask_in_pieces(self, route: Route) -> AskedInPieces:
-        """Begins with a bulk request, whose content comes in pieces."""
-        return AskedInPieces(route.words, route.room, MOST_READ)
+    def ask_in_pieces(self, route: Route, client: str = "") -> AskedInPieces:
+        """Begins with a client's bulk request, whose content comes in pieces."""
+        return AskedInPieces(route.words, route.room, client, MOST_READ)
 
     def take_items(self, asked: AskedInPieces, content: Optional[bytes], is_last: bool, has_room: bool = True) -> None:
         """Writes the calls of the items that are whole, before they are passed on. The content is None where it can't be read.
@@ -57,7 +57,7 @@ class Asking:
                 raise Untellable("a bulk request whose body can't be read")
             if content is not None and not self._recording.has_ended:
                 parts = [self._item(it, asked) for it in asked.items.take(content, is_last)]
-                self._write_parts(parts)
+                self._write_parts(parts, asked.client)
                 asked.add(parts, has_room)
         except Exception as fault:
             self._recording.end_by(fault)
@@ -76,21 +76,21 @@ class Asking:
         except Exception as fault:
             self._recording.end_by(fault)
 
-    def _ask(self, route: Route, method: str, content: Optional[bytes]) -> Optional[Asked]:
+    def _ask(self, route: Route, method: str, content: Optional[bytes], client: str) -> Optional[Asked]:
         kind = route.kind
         if kind is CALL:
             digest = digest_of_text(content) if route.op in ("index", "create") else None
-            return self._made_one(kind, Part(route.id, route.op, route.words, digest), method == "HEAD")
+            return self._made_one(kind, Part(route.id, route.op, route.words, digest), client, method == "HEAD")
         if kind is Kind.NEW:
-            return self._made_one(kind, Part("", route.op, route.words, digest_of_text(content)))
+            return self._made_one(kind, Part("", route.op, route.words, digest_of_text(content)), client)
         if kind is Kind.UPDATE:
-            return self._made(kind, [self._update(route.id, route.words, object_of(content))])
+            return self._made(kind, [self._update(route.id, route.words, object_of(content))], client)
         if kind is BULK:
-            bulk = self.ask_in_pieces(route)
+            bulk = self.ask_in_pieces(route, client)
             self.take_items(bulk, content, True)
             return bulk if bulk.has_calls else None
         if kind is Kind.MULTIPLE_GET:
-            return self._made(kind, list(self._places(route, object_of(content))))
+            return self._made(kind, list(self._places(route, object_of(content))), client)
         if kind is SWEEP:
             asked = self.begin_sweep(route)
             for _ in self.sweeping(route):
@@ -106,21 +106,25 @@ class Asking:
 
     # The calls of a request, and their lines
 
-    def _made_one(self, kind: Kind, part: Part, is_head: bool = False) -> Asked:
+    def _made_one(self, kind: Kind, part: Part, client: str, is_head: bool = False) -> Asked:
         """Writes the call of a request that makes one, before the request is passed on."""
+        part.client = client
         if self._is_ready(part) and part.document is not None:
             history = self._recording.history.of_shard(part.document.shard)
             self._recording.write_calls_of(history, [(part, self.operation(part))])
         return Asked(kind, (part,), is_head)
 
-    def _made(self, kind: Kind, parts: List[Optional[Part]]) -> Optional[Asked]:
+    def _made(self, kind: Kind, parts: List[Optional[Part]], client: str) -> Optional[Asked]:
         """Writes the calls of the parts, all of them before the request is passed on."""
-        self._write_parts(parts)
+        self._write_parts(parts, client)
         called = [it if it is not None and it.call is not None else None for it in parts]
         return Asked(kind, called) if any(it is not None for it in called) else None
 
-    def _write_parts(self, parts: Sequence[Optional[Part]]) -> None:
+    def _write_parts(self, parts: Sequence[Optional[Part]], client: str) -> None:
         """Writes the calls of the parts."""
+        for it in parts:
+            if it is not None:
+                it.client = client
         ready = [it for it in parts if it is not None and self._is_ready(it)]
         # (another part of the request may have ended the judgement of a document)
         judged = [it for it in ready if it.document is not None and it.document.state is not NOT_JUDGED]
@@ -165,7 +169,7 @@ class Asking:
             document.writes += 1
         elif part.op == "delete":
             document.deletes += 1
-        return Operation(part.op, part.id, part.number, condition, document.shard)
+        return Operation(part.op, part.id, part.number, condition, document.shard, part.client)
 
     # What a request says of a document
 

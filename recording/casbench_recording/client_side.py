@@ -3,15 +3,16 @@
 import socket
 from typing import TYPE_CHECKING, Iterator, Optional, Union
 
-from .asked import AskedInPieces
+from .asked import AskedInPieces, Making
 from .bodies import MOST_READ
 from .cluster_side import ClusterSide
 from .connecting import Connecting
 from .exchange import Coming, ComingInPieces, Exchange
+from .finding import Finding
 from .http1 import LONGEST_REMEMBERED, BadMessage, decoded, head_end, read_request, remembered_request, without_empty_lines
 from .loop import Stream
 from .refusal import refusal
-from .routes import BULK, NODES, PASS, READS, SWEEP
+from .routes import BULK, CALL, NODES, PASS, READS, SWEEP, Kind
 
 if TYPE_CHECKING:
     from .proxy import Node, Proxy
@@ -25,10 +26,22 @@ MOST_TO_CONNECT = 10.0
 FEW_PARTS = 16
 """Of how many parts of a request it isn't counted how much memory they take."""
 
+MAKERS = (CALL, BULK, Kind.NEW, Kind.UPDATE, Kind.UNTOLD, Kind.MAKE)
+"""Requests that may make the index, unless they are gets."""
+
 HEADS = 4
 """How many times a long head is kept at most: as it is, its target, and the words that are read there."""
 
 CONTINUE = b"HTTP/1.1 100 Continue\r\n\r\n"
+
+
+def address_of(connection: socket.socket) -> str:
+    """The address of the other side, as `127.0.0.1:40000`; empty if it is gone."""
+    try:
+        host, port, *_ = connection.getpeername()
+    except (OSError, ValueError):
+        return ""
+    return f"[{host}]:{port}" if ":" in host else f"{host}:{port}"
 
 
 class ClientSide:
@@ -45,6 +58,8 @@ class ClientSide:
     def __init__(self, proxy: "Proxy", node: "Node", connection: socket.socket) -> None:
         self.proxy = proxy
         self.node = node
+        # names the client in the lines of its calls, unless it says who it is
+        self.address = address_of(connection)
         self.stream = Stream(proxy.loop, connection, self)
         self.data = b""
         self.exchange = None
@@ -160,6 +175,9 @@ class ClientSide:
         if end > LONGEST_REMEMBERED:
             exchange.weight = HEADS * end
         is_bulk = route.kind is BULK and not judge.has_ended
+        if is_bulk and self.proxy.finding is not None and length is not None and end + length <= MOST_READ and not request.fields.encoding:
+            # (it may make the index, and is read as a whole)
+            is_bulk = False
         if length is not None and len(data) >= end + length and not (is_bulk and request.fields.encoding):
             whole = end + length
             self.data = data[whole:]
@@ -167,7 +185,7 @@ class ClientSide:
             return False
         if is_bulk:
             exchange.coming = ComingInPieces(data[:end], request.body(), request.fields.encoding)
-            exchange.asked = judge.ask_in_pieces(route)
+            exchange.asked = judge.ask_in_pieces(route, request.fields.who or self.address)
         else:
             exchange.coming = Coming(data[:end], request.body(), route is not PASS)
         self.data = data[end:]
@@ -175,21 +193,52 @@ class ClientSide:
 
     def ask_and_send(self, exchange: Exchange, content: Optional[bytes], data: bytes, is_sent: bool) -> None:
         """Has the calls of a request written, and passes it on. The content is None where too much of it came to be read."""
-        route, judge = exchange.route, self.proxy.judge
+        finding = self.proxy.finding
+        if exchange.route is PASS:
+            self.send(exchange, data, is_sent)
+            return
+        fields = exchange.request.fields
+        if content and (fields.encoding or len(content) > MOST_READ):
+            content = decoded(content, fields.encoding, MOST_READ)
+        if finding is None:
+            self.ask_now(exchange, content, data, is_sent)
+        else:
+            self.is_working = True
+            exchange.weight += len(data)
+            self.account()
+            finding.turns.wait_for(lambda: self.has_turn(finding, exchange, content, data, is_sent))
+
+    def has_turn(self, finding: Finding, exchange: Exchange, content: Optional[bytes], data: bytes, is_sent: bool) -> None:
+        """Passes on a request for an index that isn't there yet. One that may make it keeps the turn until it was answered."""
+        self.is_working = False
+        exchange.weight -= len(data)
+        route, request = exchange.route, exchange.request
+        if self.stream.is_closing:
+            finding.turns.end()
+            return
+        if finding.is_over or route.kind not in MAKERS or route.op == "get":
+            finding.turns.end()
+            self.ask_now(exchange, content, data, is_sent)
+        else:
+            making = exchange.asked = Making(route, request.method, content, request.fields.who or self.address)
+            finding.makes(making, lambda: self.lose(exchange))
+            self.send(exchange, data, is_sent)
+        if not self.is_working:
+            self.worked()
+
+    def ask_now(self, exchange: Exchange, content: Optional[bytes], data: bytes, is_sent: bool) -> None:
+        """Has the calls of a request written, and passes it on."""
+        route, request, judge = exchange.route, exchange.request, self.proxy.judge
         if route.kind is SWEEP:
             exchange.asked = judge.begin_sweep(route)
             self.is_working = True
             self.proxy.work(judge.sweeping(route), lambda: self.swept(exchange, data, is_sent))
             return
-        if route is not PASS:
-            request = exchange.request
-            if route is NODES:
-                self.proxy.warn_of_nodes(request)
-            if content and (request.fields.encoding or len(content) > MOST_READ):
-                content = decoded(content, request.fields.encoding, MOST_READ)
-            asked = exchange.asked = judge.ask(route, request.method, content)
-            if asked is not None and len(asked.parts) > FEW_PARTS:
-                self.account()
+        if route is NODES:
+            self.proxy.warn_of_nodes(request)
+        asked = exchange.asked = judge.ask(route, request.method, content, request.fields.who or self.address)
+        if asked is not None and len(asked.parts) > FEW_PARTS:
+            self.account()
         self.send(exchange, data, is_sent)
 
     def swept(self, exchange: Exchange, data: bytes, is_sent: bool) -> None:
@@ -323,8 +372,14 @@ class ClientSide:
         exchange, finding = self.exchange, self.proxy.finding
         if exchange is None or exchange.is_answered:
             return
-        if exchange.asked is not None:
-            self.proxy.judge.lost(exchange.asked)
-            exchange.asked = None
+        self.lose(exchange)
         if finding is not None:
             finding.never_answered(exchange)
+
+    def lose(self, exchange: Exchange) -> None:
+        """Writes the calls of a request as lost. If it might have made the index others go on."""
+        asked, exchange.asked = exchange.asked, None
+        if asked is not None:
+            self.proxy.judge.lost(asked)
+        if isinstance(asked, Making) and self.proxy.finding is not None:
+            self.proxy.finding.has_made(False)

@@ -4,6 +4,7 @@ import socket
 from typing import TYPE_CHECKING, Callable, Optional, Union
 
 from .answering import MOST_AT_ONCE
+from .asked import Making
 from .bodies import MOST_READ
 from .exchange import Exchange
 from .http1 import LONGEST_REMEMBERED, BadMessage, Body, Response, decoded, head_end, read_response, remembered_response
@@ -112,9 +113,7 @@ class ClusterSide:
 
     def give_up_reply(self, exchange: Exchange, body: Body) -> None:
         """Writes the calls as lost whose answer can't be held back."""
-        if exchange.asked is not None:
-            self.client.proxy.judge.lost(exchange.asked)
-            exchange.asked = None
+        self.client.lose(exchange)
         body.is_kept = False
         body.kept.clear()
 
@@ -134,7 +133,9 @@ class ClusterSide:
         plain: Optional[bytes] = content
         if fields.encoding or len(content) > MOST_READ:
             plain = decoded(content, fields.encoding, MOST_OF_ITEMS if asked.kind is BULK else MOST_READ)
-        if len(asked.parts) <= MOST_AT_ONCE:
+        if isinstance(asked, Making):
+            self.look_and_tell(exchange, asked, response, plain)
+        elif len(asked.parts) <= MOST_AT_ONCE:
             proxy.judge.answered(asked, response.status, plain, fields.length)
             (self.deliver if proxy.finding is None else self.look)(exchange)
         else:
@@ -151,6 +152,20 @@ class ClusterSide:
             self.look(exchange)
 
         work(go_on)
+
+    def look_and_tell(self, exchange: Exchange, making: Making, response: Response, content: Optional[bytes]) -> None:
+        """Has the index looked at that a request may have made; then its call and its reply are written, and others go on."""
+        proxy = self.client.proxy
+        finding = proxy.finding
+        assert finding is not None
+        self.client.is_working = True
+        self.stream.pause_reading()
+
+        def go_on() -> None:
+            finding.has_made(proxy.judge.made(making, response.status, content, response.fields.length))
+            self.found(exchange)
+
+        finding.answered(exchange, go_on)
 
     def look(self, exchange: Exchange) -> None:
         """Has the index looked for, if it wasn't there and the request may have made it; then passes the answer on."""

@@ -27,6 +27,12 @@ LONGEST_LINE = 65_536
 LONGEST_ID = 512
 """The most bytes of a document's id."""
 
+LONGEST_CLIENT = 256
+"""The most bytes of what names a client."""
+
+LONGEST_NOTE = 1000
+"""The most letters of a note."""
+
 DEEPEST_BODY = 100
 """How deep arrays and objects of a body may be nested. casbench reads 127 levels, and the line around it is one."""
 
@@ -75,13 +81,15 @@ class Pair(NamedTuple):
 
 
 class Operation(NamedTuple):
-    """What a call asks: the operation, the document, the value of an index or a create, the condition of an index or a delete."""
+    """What a call asks: the operation, the document, the value of an index or a create, the condition of an index or a delete; and
+    who asks, if that is known."""
 
     op: str
     id: str
     value: Optional[int] = None
     condition: Optional[Pair] = None
     shard: int = 0
+    client: str = ""
 
 
 class Call:
@@ -169,6 +177,8 @@ class History:
         self._open: Set[int] = set()
         self._shards: Dict[str, int] = {}
         self._length = 0
+        # what the next line carries
+        self._note = ""
         try:
             # (unbuffered, at the end of the file whoever else may write there, and never over a file that is there)
             self._file = open(path, "xb", buffering=0, opener=lambda path, flags: os.open(path, flags | os.O_APPEND, 0o666))
@@ -200,11 +210,26 @@ class History:
         """How many more calls the history takes."""
         return 0 if self.has_ended else self._most_calls - self.calls
 
+    def note(self, text: str) -> None:
+        """Puts a note on the next line, such as what was done to the store. The format reads past it.
+
+        Notes before the same line stand together. What is no ASCII is escaped; a note is cut off behind 1,000 letters.
+        """
+        plain = text.encode("ascii", "backslashreplace").decode()
+        with self._lock:
+            self._note = f"{self._note}; {plain}"[:LONGEST_NOTE] if self._note else plain[:LONGEST_NOTE]
+
     def call(
-        self, op: str, id: str, value: Optional[int] = None, condition: Optional[Pair] = None, shard: int = 0
+        self,
+        op: str,
+        id: str,
+        value: Optional[int] = None,
+        condition: Optional[Pair] = None,
+        shard: int = 0,
+        client: str = "",
     ) -> Call:
         """Writes the line of a call. Raises Ended where there is room for no more, CallError where it can't be a call."""
-        return self.call_one(Operation(op, id, value, condition, shard))
+        return self.call_one(Operation(op, id, value, condition, shard, client))
 
     def call_one(self, operation: Operation) -> Call:
         """The same of an operation."""
@@ -212,7 +237,7 @@ class History:
         with self._lock:
             return self._begin(operation, members)
 
-    def write(self, op: str, id: str, condition: Optional[Pair] = None, shard: int = 0) -> Call:
+    def write(self, op: str, id: str, condition: Optional[Pair] = None, shard: int = 0, client: str = "") -> Call:
         """Writes the line of an index or a create whose value is the number of its call, and so that of no other call.
 
         So what a get shows, and a log of the store, tells which call wrote it, also where nobody was told.
@@ -220,7 +245,7 @@ class History:
         if op not in WRITES_A_VALUE:
             raise CallError(f"a {op} writes no value")
         with self._lock:
-            operation = Operation(op, id, self.calls, condition, shard)
+            operation = Operation(op, id, self.calls, condition, shard, client)
             return self._begin(operation, members_of_call(operation))
 
     def _begin(self, operation: Operation, members: str) -> Call:
@@ -366,6 +391,8 @@ class History:
     def _write(self, lines: str) -> None:
         """Puts lines at the end of the file. Where that fails, what was written of them is cut off again."""
         data = lines.encode()
+        if self._note:
+            data = self._noted(data)
         length = len(data)
         try:
             count = self._file.write(data)
@@ -376,6 +403,15 @@ class History:
             self._file.truncate(self._length)
             raise HistoryError(f"{self.path}: {fault.strerror}. The lines before are whole") from fault
         self._length += length
+
+
+    def _noted(self, data: bytes) -> bytes:
+        """The lines with the note on the first of them, if it has room for it."""
+        note = b'{"note":%s,' % compact(self._note).encode()
+        if data.index(b"\n") + len(note) > LONGEST_LINE:
+            return data
+        self._note = ""
+        return note + data[1:]
 
 
 # The text of a line
@@ -431,6 +467,10 @@ def members_of_call(it: Operation) -> str:
             raise CallError(f"a {it.op} has no condition")
         pair = checked_pair(it.condition)
         members += f',"if_seq_no":{pair.seq},"if_primary_term":{pair.term}'
+    if it.client:
+        if not isinstance(it.client, str) or not 1 <= length_of(it.client) <= LONGEST_CLIENT:
+            raise CallError(f"a client is a text of at most {LONGEST_CLIENT} bytes, and not {it.client!r}")
+        members += f',"client":{text_of_id(it.client)}'
     return f'{members},"shard":{it.shard}}}' if it.shard else members + "}"
 
 

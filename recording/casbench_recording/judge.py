@@ -8,6 +8,7 @@ told which documents are written, the recording ends. So what was recorded stays
 from typing import FrozenSet, Iterable, Optional, Tuple, Union
 
 from .answering import Answering
+from .asked import Asked, Making
 from .asking import Asking
 from .documents import UNSURE, State
 from .history import History
@@ -20,6 +21,10 @@ from .unjudged import Unjudged
 
 Passed = Tuple[str, bytes, Route]
 """A request that was passed on: its method, its target, and what it was taken for."""
+
+
+HARMLESS_KINDS = (Kind.PASS, Kind.MAKE, Kind.NODES)
+"""Requests that change no document."""
 
 
 class Judge:
@@ -44,7 +49,7 @@ class Judge:
         self.ask, self.ask_in_pieces, self.take_items = asking.ask, asking.ask_in_pieces, asking.take_items
         self.begin_sweep, self.sweeping = asking.begin_sweep, asking.sweeping
         answering = Answering(self.ledger, asking)
-        self.answered, self.answering, self.lost = answering.answered, answering.answering, answering.lost
+        self.answered, self.answering, self._lost = answering.answered, answering.answering, answering.lost
 
     @property
     def shape(self) -> Optional[Shape]:
@@ -60,8 +65,9 @@ class Judge:
         """What a request asks."""
         return PASS if self.recording.has_ended else route_of(method, target, self.ledger.names)
 
-    def found(self, shape: Shape, passed: Iterable[Passed], gone: Iterable[Passed] = ()) -> None:
-        """Takes what the index is that was not there before. If something was written to it, only what is seen created is judged.
+    def found(self, shape: Shape, passed: Iterable[Passed], gone: Iterable[Passed] = (), writes: int = 0) -> None:
+        """Takes what the index is that was not there before. If more was written to it than so many writes that are known, only what
+        is seen created is judged.
 
         It is told which requests were passed on, and not answered when the index was looked for, and which of those never will be.
         If one may write to the index by a name that wasn't known, the index isn't looked at yet, or never can be.
@@ -70,7 +76,30 @@ class Judge:
             self.end("a request that was never answered may write to the index, by a name that wasn't known")
         elif not any(may_have_written(it, shape) for it in passed):
             self.ledger.shape, self.ledger.names = shape, shape.names
-            self.ledger.first = State.JUDGED if shape.is_empty else UNSURE
+            self.ledger.first = State.JUDGED if shape.is_empty or 0 < shape.changes <= writes else UNSURE
+
+    def made(self, making: Making, status: int, content: Optional[bytes], length: Optional[int]) -> bool:
+        """Writes the call of a request that was passed on alone, and what its answer says; nothing else on the index was open.
+
+        Tells whether it is known what it wrote. If there is no index, and the request was refused, it wrote nothing.
+        """
+        if self.shape is None and 400 <= status < 500:
+            return True
+        asked = self.ask(making.route, making.method, making.content, making.client)
+        if asked is not None:
+            self.answered(asked, status, content, length)
+        return self.shape is not None
+
+    def lost(self, asked: Asked) -> None:
+        """Writes that no whole answer came."""
+        told = self.ask(asked.route, asked.method, asked.content, asked.client) if isinstance(asked, Making) else asked
+        if told is not None:
+            self._lost(told)
+
+    def note(self, text: str) -> None:
+        """Puts a note on the next line of each history."""
+        for history in self.history.histories:
+            history.note(text)
 
     def end(self, why: str) -> None:
         """Ends the recording before its time: all calls that are open are lost, and no more are written."""
@@ -89,5 +118,5 @@ class Judge:
 def may_have_written(passed: Passed, shape: Shape) -> bool:
     """Whether a request that was passed on may have written to the index, unknown by the name that it used."""
     method, target, route = passed
-    was_passed_by = route.kind is Kind.PASS and method not in READS and route_of(method, target, shape.names) is not PASS
-    return was_passed_by or route.kind is BULK
+    was_passed_by = route.kind is Kind.PASS and method not in READS
+    return was_passed_by and route_of(method, target, shape.names).kind not in HARMLESS_KINDS or route.kind is BULK

@@ -49,8 +49,8 @@ class Progress:
         while not self._is_over.wait(self._seconds):
             calls, lost = self._counts()
             remark = self._remark()
-            rate = f"{(calls - before) / self._seconds:.0f} calls a second"
-            self._write(f"{counted(calls, 'call')}, {lost} lost, {rate}{f', {remark}' if remark else ''}")
+            rate = counted(round((calls - before) / self._seconds), "call")
+            self._write(f"{counted(calls, 'call')}, {lost} lost, {rate} a second{f', {remark}' if remark else ''}")
             before = calls
 
     def _write(self, line: str) -> None:

@@ -26,6 +26,7 @@ from .client_side import ClientSide
 from .cluster import Cluster, ClusterError, Connection, Url, credentials_of, number_from, port_of, trust_of, url_of
 from .connecting import Addresses, Connecting, Made
 from .console import counted, open_standard_files, tell, tell_last, tell_line
+from .disturb import Disturber, read_plan
 from .documents import State
 from .finding import Finding
 from .history import History, HistoryError
@@ -195,7 +196,7 @@ class Proxy:
         """Looks at what takes too long, and at the files."""
         for client in list(self.clients):
             client.heed_time(now, self.setting.idle)
-        if self.finding is not None and self.finding.is_over:
+        if self.finding is not None and self.finding.is_over and not self.finding.has_turns:
             self.finding = None
         damage = next(filter(None, (it.damage() for it in self.judge.history.histories)), None)
         if damage is not None:
@@ -258,6 +259,7 @@ def words_of(arguments: Sequence[str]) -> argparse.Namespace:
     add("--documents", type=lambda text: frozenset(text.split(",")), help="the ids of new documents, which alone are judged")
     add("--created-only", action="store_true", help="judge only documents that are seen created, in an index that isn't empty")
     add("--by-shard", action="store_true", help="write a file for each shard, into a folder that is made")
+    add("--disturb", type=read_plan, metavar="PLAN", default=[], help="run the commands of this plan meanwhile, to disturb the cluster")
     add("--stop-when-ended", action="store_true", help="end the proxy too when the recording ends before its time")
     add("--ca-file", help="the certificates of who is trusted to vouch for the cluster")
     add("--idle", type=number_from(1, float), default=300.0, help="after how many seconds a connection on which nothing happens is closed (300)")
@@ -331,7 +333,8 @@ def main(arguments: Sequence[str]) -> int:
         proxy = proxy_of(setting)
         try:
             with Progress(lambda: counts_of(proxy.judge), remark=lambda: remark_of(proxy.judge)):
-                serve_until_signalled(proxy)
+                with Disturber(setting.disturb, proxy.judge.note, tell_line) as disturber:
+                    serve_until_signalled(proxy)
         finally:
             proxy.judge.close()
     except (ClusterError, HistoryError, OSError) as fault:
@@ -340,7 +343,7 @@ def main(arguments: Sequence[str]) -> int:
     except KeyboardInterrupt:
         return 130
     tell_end(setting, proxy.judge)
-    return ENDED_EARLY if proxy.judge.unjudged.ended else 0
+    return ENDED_EARLY if proxy.judge.unjudged.ended else int(disturber.has_failed)
 
 
 def tell_end(setting: argparse.Namespace, judge: Judge) -> None:

@@ -27,6 +27,7 @@ from typing import Any, Dict, List, Optional, Sequence, Tuple, Union
 
 from .cluster import Answer, Cluster, ClusterError, Connection, NoAnswer, Url, credentials_of, number_from, trust_of, url_of
 from .console import counted
+from .disturb import Disturber, read_plan
 from .history import MOST_EVENTS, Ended, History, HistoryError, Operation, Pair, pair_of
 from .parts import Indexes, OneIndex, Parts, Target
 from .progress import Progress
@@ -58,6 +59,8 @@ class Stop:
         self.was_asked = False
         # whether the history was full before the time was over
         self.is_full = False
+        # whether a command failed that was to disturb the cluster
+        self.has_failed = False
         self.fault: Optional[BaseException] = None
 
     def ask(self, *_: object) -> None:
@@ -315,7 +318,9 @@ def record(setting: argparse.Namespace) -> Tuple[Tuple[History, ...], Stop]:
         if isinstance(target, OneIndex):
             make_index(first, setting, target.name)
         setting.end = time.monotonic() + setting.seconds if setting.seconds is not None else None
-        run_clients(clients, stop)
+        with Disturber(setting.disturb, functools.partial(note_in, recording), tell_fault) as disturber:
+            run_clients(clients, stop)
+        stop.has_failed = disturber.has_failed
         is_over = setting.end is None or time.monotonic() >= setting.end
         stop.is_full = not is_over and not stop.was_asked and isinstance(recording, History) and not recording.room
     return recording.histories, stop
@@ -338,6 +343,17 @@ def make_next_index(setting: argparse.Namespace, index: str) -> None:
     with contextlib.closing(Connection(setting.clusters[0])) as connection:
         connection.open(setting.patience)
         make_index(connection, setting, index)
+
+
+def note_in(recording: Union[History, Parts], text: str) -> None:
+    """Puts a note on the next line of each history."""
+    for history in recording.histories:
+        history.note(text)
+
+
+def tell_fault(text: str) -> None:
+    """Writes a line on standard error."""
+    print(f"record.py: {text}", file=sys.stderr)
 
 
 def counts_of(histories: Sequence[History]) -> Tuple[int, int]:
@@ -401,6 +417,7 @@ def words_of(arguments: Sequence[str]) -> argparse.Namespace:
     add("--timeout", type=number_from(0.001, float), default=10.0, help="seconds to wait for an answer (10)")
     add("--patience", type=number_from(0, float), default=60.0, help="seconds to wait for a connection (60)")
     add("--part", type=number_from(1), help="FILE is a folder: so many calls go to each of INDEX-1, INDEX-2 and on, with a history each")
+    add("--disturb", type=read_plan, metavar="PLAN", default=[], help="run the commands of this plan meanwhile, to disturb the cluster")
     add("--replicas", type=number_from(0), help="how many replicas the index has (the cluster's default)")
     add("--ca-file", help="the certificates of who is trusted to vouch for the cluster")
     setting = parser.parse_args(arguments)
@@ -424,7 +441,7 @@ def main(arguments: Sequence[str]) -> int:
         setting.clusters = [Cluster(it, setting.timeout, credentials, trust_of(it, setting.ca_file)) for it in setting.urls]
         histories, stop = record(setting)
     except (ClusterError, HistoryError, OSError) as fault:
-        print(f"record.py: {fault}", file=sys.stderr)
+        tell_fault(str(fault))
         return 1
     except KeyboardInterrupt:
         return 130
@@ -434,9 +451,9 @@ def main(arguments: Sequence[str]) -> int:
     else:
         print("no call was made, so there is no file", file=sys.stderr)
     if stop.is_full:
-        print(f"record.py: the recording ended early: {setting.file} is full; --part records more, in parts", file=sys.stderr)
+        tell_fault(f"the recording ended early: {setting.file} is full; --part records more, in parts")
         return ENDED_EARLY
-    return 130 if stop.was_asked else 0
+    return 130 if stop.was_asked else int(stop.has_failed)
 
 
 if __name__ == "__main__":

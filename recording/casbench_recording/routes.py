@@ -23,6 +23,7 @@ class Kind(Enum):
     SWEEP = "judges no document that was seen before the answer"
     LOOK = "ends the recording if the body, or the query, says one of some words"
     END = "ends the recording"
+    MAKE = "takes it for one that may make the index, and changes no document"
     NODES = "warns that who asks may go around the recorder"
 
 
@@ -229,7 +230,9 @@ def route_on_index(method: str, name: str, rest: List[str], words: Dict[str, str
         return Route(Kind.SWEEP, words=words, why=request, op="" if is_answered_at_end else "goes on")
     if first in ("_settings", "_mapping", "_mappings"):
         return Route(Kind.LOOK, words=words, told=("pipeline",), whole=frozenset(("_source", "_routing")), why=request)
-    if first in HARMLESS_OF_AN_INDEX or not rest and method == "PUT":
+    if not rest and method == "PUT":
+        return Route(Kind.MAKE)
+    if first in HARMLESS_OF_AN_INDEX:
         return PASS
     if first and not first.startswith("_") and len(rest) in (2, 3):
         return Route(Kind.UNTOLD, id=rest[1], why=f"it was written by {request}")
