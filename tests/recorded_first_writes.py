@@ -78,7 +78,7 @@ class FirstWrites(AttackTest):
         is_in, is_over = threading.Event(), threading.Event()
 
         def answer(head, body):
-            if b"/other/" in head:
+            if b"/other/" in head + body:
                 return answer_of(200, {})
             if b"/first" in head:
                 is_in.set()
@@ -91,8 +91,9 @@ class FirstWrites(AttackTest):
             second.send(request_of("PUT", "/carts/_doc/second", b"{}"))
             with self.client(proxy) as third:
                 self.assertEqual(third.ask(request_of("GET", "/other/_doc/d"))[0], 200)
+                self.assertEqual(third.ask(request_of("POST", "/_bulk", b'{"delete":{"_index":"/other/","_id":"d"}}\n'))[0], 200)
             time.sleep(0.3)
-            self.assertEqual([it.split(b" ")[1] for it in cluster.seen], [b"/carts/_doc/first", b"/other/_doc/d"])
+            self.assertEqual([it.split(b" ")[1] for it in cluster.seen], [b"/carts/_doc/first", b"/other/_doc/d", b"/_bulk"])
             is_over.set()
             self.assertEqual((first.heard()[0], second.heard()[0]), (201, 201))
             said = proxy.ended()
@@ -126,6 +127,28 @@ class FirstWrites(AttackTest):
         self.assertIn("judged: 2 documents, 2 calls; not judged: 1 document, 1 call", said)
         self.assertIn("  first: it was written before the index was looked at", said)
         self.assertEqual(self.check(), "yes docs=2 calls=2 left_out=0")
+
+    def test_a_first_write_that_is_not_answered_holds_up_nobody_for_good(self):
+        is_over = threading.Event()
+
+        def answer(head, body):
+            id = head.split(b" ")[1].decode().rpartition("/")[2]
+            if id == "first":
+                is_over.wait(60)
+            return answer_of(201, cluster.performed(id))
+
+        run = "runpy.run_module('casbench_recording.proxy', run_name='__main__', alter_sys=True)"
+        start = (sys.executable, "-c", f"import casbench_recording.finding as it, runpy; it.PATIENCE = 1.0; {run}")
+        with Made(answer) as cluster, self.proxy(cluster.url, start=start) as proxy, self.client(proxy) as first, self.client(proxy) as second:
+            first.send(request_of("PUT", "/carts/_doc/first", b"{}"))
+            cluster.wait_for(1)
+            self.assertEqual(second.ask(request_of("PUT", "/carts/_doc/second", b"{}"))[0], 201)
+            is_over.set()
+            self.assertEqual(first.heard()[0], 201)
+            said = proxy.ended()
+        self.assertIn("judged: 1 document, 1 call; not judged: 1 document, 1 call", said)
+        self.assertIn("  first: it was written before the index was looked at", said)
+        self.assertEqual(self.check(), "yes docs=1 calls=1 left_out=0")
 
     def test_a_first_write_that_is_refused_is_no_fault_of_its_document(self):
         refused = []

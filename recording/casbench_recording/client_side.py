@@ -200,7 +200,7 @@ class ClientSide:
         fields = exchange.request.fields
         if content and (fields.encoding or len(content) > MOST_READ):
             content = decoded(content, fields.encoding, MOST_READ)
-        if finding is None:
+        if finding is None or not finding.concerns(exchange.route, content):
             self.ask_now(exchange, content, data, is_sent)
         else:
             self.is_working = True

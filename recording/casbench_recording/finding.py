@@ -15,6 +15,7 @@ from .cluster import ClusterError
 from .inspection import SECONDS, Inspector, Shape
 from .judge import Judge, Passed
 from .loop import Loop
+from .routes import BULK, Route
 from .turns import GoOn, Turns
 
 MOST_GONE = 1000
@@ -62,6 +63,12 @@ class Finding:
     def has_turns(self) -> bool:
         """Whether a request has the turn still, or waits for it."""
         return not self.turns.is_over
+
+    def concerns(self, route: Route, content: Optional[bytes]) -> bool:
+        """Whether a request may be for the index. A bulk request that doesn't say its name isn't."""
+        if route.kind is not BULK or route.room == self._index or content is None:
+            return True
+        return self._index.encode() in content or b"\\" in content
 
     def passes(self, exchange: object, passed: Passed) -> None:
         """Heeds that a write is passed on."""
