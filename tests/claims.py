@@ -559,6 +559,7 @@ class Citations:
         """Holds what a document cites."""
         for number, line in lines_of(page):
             for word in (it.rstrip(":,") for text in quoted(line) for it in text.split()):
+                word = re.sub(r"^(casbench_recording)\.(\w+)$", r"recording/\1/\2.py", word)  # (a module)
                 is_path = word.startswith(tuple(f"{it}/" for it in (".", *FOLDERS))) or word.endswith(ENDINGS)
                 if is_path and re.fullmatch(r"(\./)?(\w|\*|\.ci)[\w.*-]*(/[\w.*-]+)*/?", word):
                     self.tally.hold(self.is_file(word), page, number, f"there is no file {word}")

@@ -86,7 +86,7 @@ class Client(threading.Thread):
                 answer = ask(self.connection, *request_of(call, self.is_serializable()))
             except NoAnswer:
                 return self.go_on()
-            self.load.revisions[call.number], pair = tell(call, answer)
+            self.load.seen[call.number], pair = tell(call, answer)
             return pair
 
     def loses_answer(self):
@@ -143,11 +143,11 @@ class Reader(Client):
 
 
 class Load:
-    """The clients of one recording. It notes for each answered call the revision at which the store answered."""
+    """The clients of one recording. It notes for each answered call the pair of the last change at which the store answered."""
 
     def __init__(self, setting, members, history):
         self.setting, self.members, self.history = setting, members, history
-        self.revisions, self.faults, self.gate = {}, [], threading.Event()
+        self.seen, self.faults, self.gate = {}, [], threading.Event()
         self.gate.set()
         self.draw = random.Random(f"{setting.seed}/disturbance")
         self.clients = [Client(self, it) for it in range(setting.clients)]

@@ -18,9 +18,10 @@ sys.path.insert(0, str(pathlib.Path(__file__).resolve().parents[1]))
 
 from load import DISTURBANCES, Load
 from members import Members, is_installed
-from store_log import effects_in, witness_by_log
+from store_log import changes_in
 
 from casbench_recording.history import History
+from casbench_recording.witness import StoreLog, witness_by_log
 
 
 # What is said at the end: how many calls there are, how many were lost, and how many of these took effect by the store's log.
@@ -33,15 +34,18 @@ def interrupted(*_):
 
 
 def recorded(setting):
-    """Records; gives the history, its lines, by the store's log the revisions of the calls that had an effect, and the witness."""
+    """Records; gives the history, and what the store's log says of its calls."""
     with tempfile.TemporaryDirectory(prefix="casbench-etcd-") as folder, Members(folder) as members:
         with History(setting.file, most_events=2 * setting.calls) as history:
             load = Load(setting, members, history)
             load.run()
-        effects = effects_in(members.urls[members.leader()])
-    with open(setting.file, encoding="utf-8") as file:
-        lines = [json.loads(it) for it in file]
-    return history, lines, effects, witness_by_log(lines, effects, load.revisions)
+        return history, StoreLog(changes_in(members.urls[members.leader()]), load.seen)
+
+
+def lost_in(path):
+    """The numbers of the lost calls of a history."""
+    with open(path, encoding="utf-8") as lines:
+        return {it["n"] for it in map(json.loads, lines) if it["e"] == "lost"}
 
 
 def words_of(arguments):
@@ -66,14 +70,14 @@ def main(arguments):
     for kind in (signal.SIGINT, signal.SIGTERM):
         signal.signal(kind, interrupted)
     try:
-        history, lines, effects, witness = recorded(setting)
+        history, log = recorded(setting)
     except KeyboardInterrupt:
         return 130
     if setting.witness:
-        with open(setting.witness, "x", encoding="utf-8") as file:
-            file.write(witness)
-    lost = {it["n"] for it in lines if it["e"] == "lost"}
-    effects_of_lost = len(lost & set(effects))
+        with open(setting.witness, "x", encoding="utf-8") as file, open(setting.file, encoding="utf-8") as lines:
+            file.writelines(witness_by_log(lines, log))
+    lost = lost_in(setting.file)
+    effects_of_lost = len(lost & set(log.changes))
     print(f"recorded {history.calls} calls in {history.path}, {len(lost)} of them without a reply, of which {effects_of_lost} took effect")
     return 0
 

@@ -30,6 +30,8 @@ from recordings import environment, judged
 from running import SECONDS, asked, ended, started
 from trials import Trial, Wrong, tell, try_all
 
+from casbench_recording.witness import checked
+
 CALLS = 5000
 
 # How many recordings are made at once, and the commands that run now.
@@ -60,20 +62,27 @@ def recorded(folder, disturbance):
     return history, witness, tuple(int(it) for it in said.groups())
 
 
+def by_log(history, witness):
+    """What the program says of the witness by the store's own log, and the package's checker too."""
+    texts = history.read_bytes(), witness.read_bytes()
+    line, own = asked(PROGRAM, "verify", *texts)[1], checked(*texts, "plain")[1]
+    if line.strip() != own.partition("\n")[0]:
+        raise Wrong(f"{line}, and the checker says {own}")
+    return line
+
+
 def honest(folder, disturbance, least_lost, least_effects):
     """What the program says of a recording, and of the witness that the store's own log is, but for how many calls are left out."""
     history, witness, (calls, lost, effects) = recorded(folder, disturbance)
     if calls != CALLS or lost < least_lost or effects < least_effects:
         raise Wrong(f"{calls} calls, {lost} lost, {effects} of these with an effect")
-    by_log = asked(PROGRAM, "verify", history.read_bytes(), witness.read_bytes())[1]
-    return [it.partition(" left_out=")[0] for it in (judged(PROGRAM, history, "--rule-out"), by_log)]
+    return [it.partition(" left_out=")[0] for it in (judged(PROGRAM, history, "--rule-out"), by_log(history, witness))]
 
 
 def stale(folder):
     """What is found where gets are content with what a member knows that was stopped, and whether the store's log explains it."""
     history, witness, _ = recorded(folder, "stale")
-    by_log = asked(PROGRAM, "verify", history.read_bytes(), witness.read_bytes())[1]
-    return judged(PROGRAM, history).partition(" calls=")[0], by_log.split()[0]
+    return judged(PROGRAM, history).partition(" calls=")[0], by_log(history, witness).split()[0]
 
 
 # What is left behind

@@ -72,18 +72,18 @@ def checked(operation):
 
 
 def tell(call, answer):
-    """Writes the reply that an answer is; gives the revision at which the store gave it, and the pair that a later write may ask for."""
-    it, revision = call.operation, int(answer["header"]["revision"])
+    """Writes the reply that an answer is; gives the pair of the last change at which the store gave it, and that of a version that was found."""
+    it, pair = call.operation, Pair(TERM, int(answer["header"]["revision"]))
     if it.op == "get":
-        return revision, tell_get(call, answer)
-    pair, holds = Pair(TERM, revision), answer.get("succeeded", False)
+        return pair, tell_get(call, answer)
+    holds = answer.get("succeeded", False)
     if not holds and (it.op == "create" or it.condition is not None):
         call.conflict()
     elif it.op == "delete":
         call.deleted(pair, found=holds)
     else:
         call.indexed(pair, created=it.op == "create" or not holds)
-    return revision, None
+    return pair, None
 
 
 def tell_get(call, answer):
