@@ -7,9 +7,8 @@ written apart from the prover. `witness_by_log` makes the witness of a history f
 """
 
 import argparse
-import json
 import sys
-from typing import Container, Dict, Iterable, Iterator, List, Mapping, NamedTuple, Optional, Sequence, Set, Tuple
+from typing import Iterator, Mapping, NamedTuple, Optional, Sequence, Tuple
 
 from . import witness_checker
 from .history import Pair, compact
@@ -38,29 +37,21 @@ class Place(NamedTuple):
     is_given: bool
 
 
-def witness_by_log(history: Iterable[str], log: StoreLog) -> Iterator[str]:
+def witness_by_log(history: bytes, log: StoreLog) -> Iterator[str]:
     """The lines of the witness that the log is of the history: each change stands in the order of the log, each other answered call behind
     the last change that it had seen. A call of which neither the log nor `seen` says anything stands in no place."""
-    calls: Dict[str, List[int]] = {}
-    answered: Set[int] = set()
-    for line in history:
-        event = json.loads(line)
-        if event["e"] == "call":
-            calls.setdefault(event["id"], []).append(event["n"])
-        elif event["e"] == "reply":
-            answered.add(event["n"])
-    for id, numbers in calls.items():
+    for id, calls in witness_checker.Texts(history, b"").records.items():
         yield compact({"doc": id}) + "\n"
-        for place in sorted(filter(None, (place_of(*it, answered, log) for it in enumerate(numbers)))):
+        for place in sorted(filter(None, (place_of(*it, log) for it in enumerate(calls)))):
             yield text_of_place(place)
 
 
-def place_of(record: int, number: int, answered: Container[int], log: StoreLog) -> Optional[Place]:
-    """The place of a call."""
-    if number in log.changes:
-        return Place(log.changes[number], False, record, number not in answered)
-    if number in answered and number in log.seen:
-        return Place(log.seen[number], True, record, False)
+def place_of(record: int, call: witness_checker.Call, log: StoreLog) -> Optional[Place]:
+    """The place of a call. It gives the pair of a change that no reply shows."""
+    if call.number in log.changes:
+        return Place(log.changes[call.number], False, record, call.pair is None)
+    if call.answered is not None and call.number in log.seen:
+        return Place(log.seen[call.number], True, record, False)
     return None
 
 

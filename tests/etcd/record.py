@@ -74,8 +74,8 @@ def main(arguments):
     except KeyboardInterrupt:
         return 130
     if setting.witness:
-        with open(setting.witness, "x", encoding="utf-8") as file, open(setting.file, encoding="utf-8") as lines:
-            file.writelines(witness_by_log(lines, log))
+        with open(setting.witness, "x", encoding="utf-8") as file, open(setting.file, "rb") as lines:
+            file.writelines(witness_by_log(lines.read(), log))
     lost = lost_in(setting.file)
     effects_of_lost = len(lost & set(log.changes))
     print(f"recorded {history.calls} calls in {history.path}, {len(lost)} of them without a reply, of which {effects_of_lost} took effect")
