@@ -27,7 +27,14 @@ from typing import NamedTuple
 from program import TOP
 
 CRATES = TOP / "crates"
-DOCUMENTS = ["README.md", "examples/README.md", "recording/README.md", *sorted(f"docs/{it.name}" for it in (TOP / "docs").glob("*.md"))]
+STORES = [f"examples/stores/{it}README.md" for it in ("", "redis/", "postgresql/", "zookeeper/")]
+DOCUMENTS = [
+    "README.md",
+    "examples/README.md",
+    *STORES,
+    "recording/README.md",
+    *sorted(f"docs/{it.name}" for it in (TOP / "docs").glob("*.md")),
+]
 
 # The files of a folder of definitions that only name others.
 LISTS = {"Lib.antt", "aids.antt"}
