@@ -260,6 +260,19 @@ def megabytes(proxy, key="VmHWM"):
         return int(re.search(rf"{key}:\s+(\d+)", file.read())[1]) / 1024
 
 
+def end_of(proxy, patience=30):
+    """Ends the proxy by SIGTERM; how many seconds that took by the clock and of a processor, and its status."""
+    before, began = proxy.processor_time(), time.monotonic()
+    proxy.process.terminate()
+    while time.monotonic() < began + patience:
+        pid, status, usage = os.wait4(proxy.process.pid, os.WNOHANG)
+        if pid:
+            proxy.process.returncode = os.waitstatus_to_exitcode(status)
+            return time.monotonic() - began, usage.ru_utime + usage.ru_stime - before, proxy.process.returncode
+        time.sleep(0.005)
+    raise AssertionError(f"the proxy didn't end in {patience} seconds")
+
+
 def threads(proxy):
     """How many threads the proxy has."""
     return len(os.listdir(f"/proc/{proxy.process.pid}/task"))

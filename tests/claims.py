@@ -27,7 +27,14 @@ from typing import NamedTuple
 from program import TOP
 
 CRATES = TOP / "crates"
-DOCUMENTS = ["README.md", "examples/README.md", "recording/README.md", *sorted(f"docs/{it.name}" for it in (TOP / "docs").glob("*.md"))]
+STORES = [f"examples/stores/{it}README.md" for it in ("", "redis/", "postgresql/", "zookeeper/")]
+DOCUMENTS = [
+    "README.md",
+    "examples/README.md",
+    *STORES,
+    "recording/README.md",
+    *sorted(f"docs/{it.name}" for it in (TOP / "docs").glob("*.md")),
+]
 
 # The files of a folder of definitions that only name others.
 LISTS = {"Lib.antt", "aids.antt"}
@@ -559,6 +566,7 @@ class Citations:
         """Holds what a document cites."""
         for number, line in lines_of(page):
             for word in (it.rstrip(":,") for text in quoted(line) for it in text.split()):
+                word = re.sub(r"^(casbench_recording)\.(\w+)$", r"recording/\1/\2.py", word)  # (a module)
                 is_path = word.startswith(tuple(f"{it}/" for it in (".", *FOLDERS))) or word.endswith(ENDINGS)
                 if is_path and re.fullmatch(r"(\./)?(\w|\*|\.ci)[\w.*-]*(/[\w.*-]+)*/?", word):
                     self.tally.hold(self.is_file(word), page, number, f"there is no file {word}")

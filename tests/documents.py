@@ -21,7 +21,8 @@ from program import TOP, built_program
 from running import free_ports, run
 from trials import tell
 
-DOCUMENTS = ["README.md", "examples/README.md", "docs/RECORDING.md"]
+STORES = [f"examples/stores/{it}/README.md" for it in ("redis", "postgresql", "zookeeper")]
+DOCUMENTS = ["README.md", "examples/README.md", *STORES, "docs/RECORDING.md"]
 
 # The ports that the documents have a stand-in and a proxy listen on; each document gets some of its own.
 PORTS = ("9200", "9201")

@@ -18,12 +18,13 @@ import time
 from concurrent.futures import ThreadPoolExecutor
 from types import SimpleNamespace
 
-from attacks import AttackTest, Client, Cluster, answer_of, descriptors, megabytes, request_of, threads
+from attacks import AttackTest, Client, Cluster, answer_of, descriptors, end_of, megabytes, request_of, threads
 from recordings import run_tests
 
 from casbench_recording.http1 import BadMessage
 from casbench_recording.http1 import request_of as head_of
 from casbench_recording.stand_in import Server, read_request
+from casbench_recording.stand_in_store import Faults, Store
 
 CLIENTS = 8
 DOCUMENTS = 6
@@ -61,7 +62,7 @@ class Honest(Cluster):
 
     def __init__(self):
         super().__init__(self.act)
-        self.server = Server(SimpleNamespace(fault="none", every=1, product=None, certificate=None))
+        self.server = Server(SimpleNamespace(product=None, certificate=None), Store(Faults("none", 1)), 0)
         self.server.store.make("carts", {})
         self.lock = threading.Lock()
 
@@ -188,8 +189,9 @@ class Attacked(AttackTest):
             else:
                 self.made += sum(it.result() for it in runs)
                 left = self.left(proxy, before)
-            seconds, status = self.end(proxy)
+            seconds, taken, status = end_of(proxy)
         self.assertEqual(status, 0)
+        self.assertLess(taken, 1.0)
         return self.check() if os.path.exists(self.file) else "no call was made", left, seconds
 
     def left(self, proxy, before):
@@ -200,13 +202,6 @@ class Attacked(AttackTest):
                 break
             time.sleep(0.1)
         return left
-
-    def end(self, proxy):
-        """Ends the proxy; how long that took, and its status."""
-        began = time.monotonic()
-        proxy.process.terminate()
-        status = proxy.process.wait(30)
-        return time.monotonic() - began, status
 
     def hold(self, told, wanted):
         """Holds what runs came to."""

@@ -16,7 +16,7 @@ import sys
 import threading
 import time
 
-from attacks import AttackTest, Cluster, Watched, answer_of, descriptors, found, megabytes, packed, request_of, threads
+from attacks import AttackTest, Cluster, Watched, answer_of, descriptors, end_of, found, megabytes, packed, request_of, threads
 from recordings import run_tests
 
 GET = request_of("GET", "/carts/_doc/d")
@@ -45,7 +45,7 @@ class Told(AttackTest):
                     more = client.more()
                     self.assertNotEqual(more, b"", "the answer never came")
                     head += more
-            self.assertRegex(proxy.ended(), "^recorded 1 calls in .*, 0 of them without a reply$")
+            self.assertRegex(proxy.ended(), "^recorded 1 call in .*, 0 of them without a reply\n")
 
     def test_standard_error_that_nobody_reads(self):
         reads, writes = os.pipe()
@@ -218,6 +218,27 @@ class Large(AttackTest):
             is_over.set()
             self.assertLess(watched.longest, 1.5)
             self.assertIn("150000 of them without a reply", proxy.ended())
+
+    def test_an_end_with_half_a_million_open_calls(self):
+        count, is_in, is_over = 524_288, threading.Event(), threading.Event()
+
+        def answer(head, body):
+            if head[:4] == b"POST":
+                is_in.set()
+                is_over.wait(300)
+                return None
+            return answer_of(200, {})
+
+        with Cluster(answer) as cluster, self.proxy(cluster.url) as proxy, self.client(proxy, timeout=300) as client:
+            client.send(request_of("POST", "/carts/_bulk", b'{"delete":{"_id":"d"}}\n' * count))
+            self.assertTrue(is_in.wait(300))
+            seconds, taken, status = end_of(proxy)
+            is_over.set()
+        self.assertEqual(status, 0)
+        self.assertLess(taken, 1.0)
+        self.assertLess(seconds, MOST_SECONDS)
+        with open(self.file, encoding="utf-8") as lines:
+            self.assertEqual(sum(it.startswith('{"e":"lost"') for it in lines), count)
 
     def test_items_whose_ids_nobody_knows(self):
         body = packed([b'{"index":{}}\n{}\n' * 50_000] * 8)

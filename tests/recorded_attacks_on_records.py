@@ -85,7 +85,7 @@ class Unseen(AttackTest):
                 self.tidy()
                 said = self.run_of(request, told, id)
                 answer = self.check() if os.path.exists(self.file) else "no call was made"
-                self.assertRegex(answer + said, "^yes |the recording ended early|documents are not judged")
+                self.assertRegex(answer + said, "^yes |the recording ended early|not judged, from")
                 self.assertNotIn("refuted", answer)
 
     def test_bodies_are_judged_by_what_they_say(self):
@@ -109,7 +109,7 @@ class Unseen(AttackTest):
                 client.ask(request_of("PUT", "/carts/_settings", b'{"index":{"number_of_replicas":2}}'))
                 client.ask(request_of("POST", "/_reindex", b'{"source":{"index":"x"},"dest":{"index":"y"}}'))
                 client.ask(request_of("GET", "/carts/_doc/d"))
-            self.assertIn("recorded 1 calls", proxy.ended())
+            self.assertIn("recorded 1 call ", proxy.ended())
 
 
 class Heads(AttackTest):

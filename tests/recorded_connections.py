@@ -24,13 +24,13 @@ from unittest import mock
 from program import TOP
 from recordings import FolderTest, run_tests
 
+from casbench_recording.client_side import ClientSide
 from casbench_recording.connecting import Addresses, Connecting
 from casbench_recording.documents import digest_of, digest_of_object, digest_of_text, object_of
 from casbench_recording.history import History, counting_members
 from casbench_recording.inspection import Shape
 from casbench_recording.judge import Judge
 from casbench_recording.loop import Loop, Stream
-from casbench_recording.sides import ClientSide
 from casbench_recording.routes import Names
 from casbench_recording.tls import TlsStream
 from casbench_recording.unjudged import Unjudged
@@ -324,19 +324,20 @@ class Pieces(FolderTest):
     def setUp(self):
         super().setUp()
         self.draw = random.Random(2)
-        patch = mock.patch("casbench_recording.sides.Stream", Noted)
-        patch.start()
-        self.addCleanup(patch.stop)
+        for module in ("client_side", "cluster_side"):
+            patch = mock.patch(f"casbench_recording.{module}.Stream", Noted)
+            patch.start()
+            self.addCleanup(patch.stop)
 
     def sides(self, path):
         """The two sides of a proxy that writes a history, and its judge."""
         shape = Shape("carts", Names(["carts"], []), 1, 512, True)
         judge = Judge(shape, "carts", History(path, clock=lambda: 0.0), Unjudged(path))
         soon = []
-        proxy = SimpleNamespace(loop=SimpleNamespace(soon=soon.append, now=0.0), judge=judge, clients=set(), cluster=SimpleNamespace(trust=None))
+        proxy = SimpleNamespace(loop=SimpleNamespace(soon=soon.append, now=0.0), judge=judge, clients=set())
         proxy.finding, proxy.has_room, proxy.hold = None, lambda: True, lambda count: None
-        proxy.connect = lambda made: SimpleNamespace(cancel=lambda: None)
-        client = ClientSide(proxy, None)
+        proxy.connect = lambda node, made: SimpleNamespace(cancel=lambda: None)
+        client = ClientSide(proxy, SimpleNamespace(cluster=SimpleNamespace(trust=None)), SimpleNamespace(getpeername=lambda: ("127.0.0.1", 40000)))
         client.received(b"")
         client.connection_made(None)
         soon.pop()()

@@ -33,7 +33,7 @@ from recordings import FolderTest, Started, judged, run_tests
 from casbench_recording.cluster import ClusterError
 from casbench_recording.http1 import request_of, split_head
 from casbench_recording.proxy import proxy_of, words_of
-from casbench_recording.stand_in import FAULTS, Faults, Index
+from casbench_recording.stand_in_store import FAULTS, Faults, Index
 
 CERTIFICATE = str(TOP / "examples" / "record" / "loopback.pem")
 
@@ -426,7 +426,7 @@ class Broken(ProxyTest):
             if sent != signal.SIGKILL:
                 self.assertIn("lost", events)
                 self.assertEqual(events.count("call"), len(events) / 2)
-                self.assertRegex(said, r"^recorded \d+ calls in .*, \d+ of them without a reply$")
+                self.assertRegex(said, r"^recorded \d+ calls in .*, \d+ of them without a reply\njudged: ")
             os.remove(self.file)
 
     def test_a_disk_that_is_full_stops_no_client(self):
@@ -474,7 +474,7 @@ class Begun(ProxyTest):
             ids = {it["id"] for it in self.lines() if it["e"] == "call"}
             self.assertEqual(ids, {"new"} if "--documents" in words else {"new", "old"})
             if "--created-only" in words:
-                self.assertIn("1 documents are not judged", said)
+                self.assertIn("1 document is not judged", said)
                 self.assertIn("  old: it was there before", said)
             os.remove(self.file)
 
@@ -504,9 +504,11 @@ class Begun(ProxyTest):
             asker.ask("DELETE", "/carts")
             said = proxy.ended().splitlines()
         self.assertEqual(said[0], f"recorded 30 calls in {self.file}, 0 of them without a reply")
-        self.assertEqual(said[1], "the recording ended early: DELETE /carts")
-        self.assertRegex(said[2], "^30 documents are not judged, ")
-        self.assertEqual((len(said), said[-1]), (24, "  and 10 more"))
+        self.assertEqual(said[1], "judged: 0 documents, 30 calls; not judged: 30 documents, 30 calls")
+        self.assertRegex(said[2], "^casbench_recording.proxy: the recording ended early: DELETE /carts; requests are still passed on, ")
+        self.assertEqual(said[3], "the recording ended early: DELETE /carts")
+        self.assertRegex(said[4], "^30 documents are not judged, ")
+        self.assertEqual((len(said), said[-1]), (26, "  and 10 more"))
         with open(self.file + ".not-judged", encoding="utf-8") as lines:
             self.assertEqual(len([json.loads(it) for it in lines]), 31)
 
@@ -517,7 +519,7 @@ class Begun(ProxyTest):
             os.close(its)
             with Asker(int(shown_on(terminal, rb":(\d+)\r\n")[1])) as asker:
                 asker.ask("PUT", "/carts/_doc/d", {})
-                shown_on(terminal, rb"\r\x1b\[K1 calls, 0 lost, \d calls a second")
+                shown_on(terminal, rb"\r\x1b\[K1 call, 0 lost, \d calls? a second")
             proxy.ended()
 
 
@@ -527,7 +529,7 @@ class Many(ProxyTest):
     def test_a_hundred_clients(self):
         with self.stand_in() as other, self.proxy(other.url) as proxy:
             rate, _ = run_clients(proxy.port, argparse.Namespace(clients=100, seconds=1.5, rate=None))
-            self.assertRegex(proxy.ended(), "^recorded .* 0 of them without a reply$")
+            self.assertRegex(proxy.ended(), "^recorded .* 0 of them without a reply\n")
         calls = len(self.lines()) // 2
         self.assertGreater(rate, 100)
         self.assertEqual(self.check(), f"yes docs=101 calls={calls} left_out=0")

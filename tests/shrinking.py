@@ -6,7 +6,8 @@
 PROGRAM is the built casbench; where it is not named, the one that ./casbench would run. The recordings are those of tests/ruled_out.py,
 with one fault each, that get another answer than yes. What is left has to be lines of the recording as they stood, to get the same
 answer, to be few calls where evidence of two calls alone is told, and to lose that answer where any one call more is left out. None of it
-comes into the history, whatever name that has.
+comes into the history, whatever name that has. With a witness its part that is left has to be verified: honest recordings are cut down
+by a program that is made to say no of them.
 """
 
 import json
@@ -17,6 +18,7 @@ import sys
 import tempfile
 from concurrent.futures import ThreadPoolExecutor
 
+from honest import Index, Recording
 from orders import text_of
 from program import built_program
 from recordings import environment  # (for the package too)
@@ -24,10 +26,15 @@ from ruled_out import answer, evidence_of, kind_of, recording
 from texts import OFFENCE, READINGS, created, get, index, missing
 from trials import Trial, Wrong, tell, try_all
 
+from casbench_recording.history import Pair
 from casbench_recording.shrink import Program, Shrinker
+from casbench_recording.witness import StoreLog, witness_by_log
 
 # How many recordings are drawn for each reading of a conflict and each way to ask.
 RECORDINGS = 60
+
+# How many honest recordings are cut down with their witnesses.
+FALSE_ALARMS = 20
 
 # The most calls that are left by the kind of evidence. A get that is stale shows what a third call wrote.
 MOST = {"no-writer": 1, "pair-twice": 2, "stale-get": 3, "stale-swap": 2}
@@ -65,9 +72,9 @@ def told_of(program, text, reading, words):
 
 def cut_down(program, text, reading, words):
     """The text of the calls that are left."""
-    shrinker = Shrinker(text.encode().splitlines(keepends=True), Program(program, ["--conflicts", reading, *words]))
+    shrinker = Shrinker(text.encode().splitlines(keepends=True), Program(program, reading, "--rule-out" in words))
     shrinker.shrink()
-    return shrinker.text_of(shrinker.kept).decode()
+    return shrinker.recorded.text_of(shrinker.kept).decode()
 
 
 def shrunk(program, seed, reading, words):
@@ -88,6 +95,77 @@ def shrunk(program, seed, reading, words):
         if told_of(program, without(few, number), reading, words) == wanted:
             raise Wrong(f"the call {number} can be left out too, of {few}")
     return wanted[0]
+
+
+# With a witness
+
+
+class Honest(Index):
+    """An index that notes what its own log says of the calls."""
+
+    def __init__(self, *settings):
+        super().__init__(*settings)
+        self.changes, self.seen = {}, {}
+
+    def perform(self, call):
+        shard = self.shard_of(call.doc)
+        before = self.term[shard], self.seq[shard]
+        reply = super().perform(call)
+        last = Pair(self.term[shard], self.seq[shard] - 1)
+        (self.seen if before == (self.term[shard], self.seq[shard]) else self.changes)[call.number] = last
+        return reply
+
+
+class Alarmed(Program):
+    """A program that finds no order of a history as long as all of these calls are in it."""
+
+    calls = ()
+
+    def answer(self, text):
+        is_there = set(numbers_of(text.decode())) >= set(self.calls)
+        return f"no event=0 call={self.calls[-1]} before=shown\n" if is_there else "yes docs=1 calls=1 left_out=0\n"
+
+
+def false_alarm(program, seed):
+    """Cuts down an honest recording, of which the program says no as long as three calls are in it, with its witness by the index's log. Gives
+    what is said of what is left: with the witness, and without one."""
+    recording = Recording(seed, docs=2, clients=4, calls=80, loss=0.1)
+    recording.index = Honest(recording.draw, 2, 0.0, 1)
+    text = "".join(recording.lines()).encode()
+    witness = "".join(witness_by_log(text, StoreLog(recording.index.changes, recording.index.seen))).encode()
+    answered = [it["n"] for it in map(json.loads, text.splitlines()) if it["e"] == "reply" and it["status"] < 500]
+    calls = sorted(recording.draw.sample(answered, 3))
+    told = []
+    for own in (witness, None):
+        asked = Alarmed(program)
+        asked.calls = calls
+        shrinker = Shrinker(text.splitlines(keepends=True), asked, own)
+        shrinker.shrink()
+        left = shrinker.recorded.text_of(shrinker.kept)
+        if not set(calls) <= set(numbers_of(left.decode())):
+            raise Wrong(f"of {calls} not all are left: {left.decode()}")
+        told.append(asked.verified(left, shrinker.recorded.witness_of(shrinker.kept)).split()[0] if own else Program(program).answer(left).split()[0])
+    return tuple(told)
+
+
+def false_alarms(program):
+    """What is said of all false alarms that are cut down with their witness, and whether some that are cut down without one have no order."""
+    told = [false_alarm(program, seed) for seed in range(FALSE_ALARMS)]
+    return {it for it, _ in told}, any(it != "yes" for _, it in told)
+
+
+def with_bad_witness(program):
+    """How the command ends with a witness that isn't valid, and with a part of one that isn't named."""
+    with tempfile.TemporaryDirectory() as folder:
+        history, witness = (pathlib.Path(folder) / it for it in ("history", "witness"))
+        history.write_text(WROTE + MISSED)
+        witness.write_text("")
+        base = [sys.executable, "-m", "casbench_recording.shrink", "--program", program, history]
+        ends = []
+        for words in (["--witness", witness], ["--few-witness", witness]):
+            ran = subprocess.run([*base, *words], capture_output=True, text=True, env=environment())
+            ends.append((ran.returncode, ran.stdout, ran.stderr.splitlines()[-1].partition(": ")[2]))
+        return ends
 
 
 # The command.
@@ -143,6 +221,9 @@ def command_trials(program):
     nothing = "so there is nothing to cut down\n"
     for text, told in ((OTHER, "yes docs=1 calls=1 left_out=0"), ("{}", "refused line=1 cause=shape")):
         yield Trial(told, commanded, (program, text), (1, "", f"shrink.py: it gets {told}, {nothing}"))
+    yield Trial("false alarms", false_alarms, (program,), ({"verified"}, True))
+    told = ["the witness gets broken doc=0 cause=doc-missing", "error: --few-witness is a part of the witness that --witness names"]
+    yield Trial("a witness that isn't valid", with_bad_witness, (program,), [(1, "", told[0]), (2, "", told[1])])
     absent = "/dev/null/casbench"
     told = f"shrink.py: [Errno 20] Not a directory: '{absent}'\n"
     yield Trial("no program", commanded, (absent, OTHER), (1, "", told))

@@ -1,5 +1,5 @@
 #!/usr/bin/env python3
-"""Records four threads that read and write a dictionary behind a lock, as a history text.
+"""Records four clients that read and write a dictionary behind a lock, as a history text.
 
     python3 examples/harness/dictionary.py FILE [FAULT]
 
@@ -7,7 +7,6 @@ FAULT is stale-get, where a read may show what was there before the last change,
 """
 
 import pathlib
-import random
 import sys
 import threading
 import time
@@ -15,57 +14,61 @@ import time
 sys.path.insert(0, str(pathlib.Path(__file__).resolve().parents[2] / "recording"))
 
 from casbench_recording.history import History, Pair
+from casbench_recording.load import MIXTURE, Habits, Kind, Load, Outcome
 
 
-class Store:
-    """The store. Each document has its value, and the number of its last change; one number counts the changes of all."""
+class Dictionary:
+    """The store, of one node. Each document has the pair of its last change and its value; one number counts the changes of all."""
+
+    nodes = 1
 
     def __init__(self, fault):
         self.fault, self.lock, self.count, self.kept, self.before = fault, threading.Lock(), 0, {}, {}
 
-    def read(self, id):
-        """The number and the value of a document, or nothing."""
-        with self.lock:
-            return (self.before if self.fault == "stale-get" else self.kept).get(id)
+    def connect(self, node):
+        """A session of a client; nothing has to be connected here."""
+        return Session(self)
 
-    def change(self, id, value, expected=None):
-        """Gives a document a value, or deletes it where that is None; gives the number of the change, and whether it was there. Where
-        another number than its last one is expected, nothing is changed."""
+    def get(self, id):
+        """What a get answers."""
         with self.lock:
-            there = self.kept.get(id)
-            if expected is not None and (there is None or there[0] != expected) and self.fault != "lost-update":
-                return None
+            there = (self.before if self.fault == "stale-get" else self.kept).get(id)
+        return Outcome(Kind.FOUND, *there) if there else Outcome(Kind.MISSING)
+
+    def write(self, it):
+        """What a write answers: its condition is compared and it is performed in one step."""
+        with self.lock:
+            there = self.kept.get(it.id)
+            is_met = it.condition is None or there is not None and there[0] == it.condition
+            if it.op == "create" and there or not (is_met or self.fault == "lost-update"):
+                return Outcome(Kind.CONFLICT)
             self.count += 1
-            self.before[id], self.kept[id] = there, None if value is None else (self.count, value)
-            return self.count, there is not None
+            pair = Pair(1, self.count)
+            self.before[it.id], self.kept[it.id] = there, None if it.op == "delete" else (pair, it.value)
+        if it.op == "delete":
+            return Outcome(Kind.DELETED if there else Kind.NOT_FOUND, pair)
+        return Outcome(Kind.UPDATED if there else Kind.CREATED, pair)
 
 
-def record(store, history, number):
-    """Makes the calls of one thread: it reads a document, and changes it under the number that was read."""
-    draw = random.Random(number)
-    for _ in range(100):
-        id = f"d{draw.randrange(3)}"
-        with history.call("get", id) as call:
-            there = store.read(id)
-            call.found(Pair(1, there[0]), there[1]) if there else call.missing()
-        condition = Pair(1, there[0]) if there else None
-        time.sleep(draw.random() / 1000)  # (so that threads meet)
-        is_delete = draw.random() < 0.1
-        with history.call("delete", id, None, condition) if is_delete else history.write("index", id, condition) as call:
-            done = store.change(id, call.operation.value, there and there[0])
-            if done is None:
-                call.conflict()
-            elif is_delete:
-                call.deleted(Pair(1, done[0]), found=done[1])
-            else:
-                call.indexed(Pair(1, done[0]), created=not done[1])
+class Session:
+    """What one client does with the store."""
+
+    def __init__(self, store):
+        self.store = store
+
+    def send(self, call):
+        time.sleep(0.0005)  # (so that clients meet)
+
+    def outcome(self, call):
+        it = call.operation
+        return self.store.get(it.id) if it.op == "get" else self.store.write(it)
+
+    def close(self):
+        pass
 
 
 if __name__ == "__main__":
-    with History(sys.argv[1]) as history:
-        store = Store(*sys.argv[2:] or ["none"])
-        threads = [threading.Thread(target=record, args=(store, history, it)) for it in range(4)]
-        for it in threads:
-            it.start()
-        for it in threads:
-            it.join()
+    with History(sys.argv[1], most_events=2 * 800) as history:
+        load = Load(history, seed=1)
+        load.add_clients(4, Dictionary(*sys.argv[2:] or ["none"]), Habits(MIXTURE, documents=3))
+        load.run()

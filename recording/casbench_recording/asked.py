@@ -6,9 +6,12 @@ from typing import Any, List, Mapping, Optional, Sequence, Tuple
 from .bulk import Items
 from .documents import Document
 from .history import Call, Pair, is_whole
-from .routes import PARTS_OF_A_SOURCE, Kind
+from .routes import PARTS_OF_A_SOURCE, Kind, Route
 
 DIGITS = re.compile(r"[0-9]{1,19}")
+
+MANY_WRITES = 10**9
+"""How many changes a bulk request may make that can't be read."""
 
 WEIGHT_OF_A_PART = 512
 """About how many bytes a part takes that has no call yet, with its words."""
@@ -17,7 +20,7 @@ WEIGHT_OF_A_PART = 512
 class Part:
     """A call that a request makes, and how its reply is read."""
 
-    __slots__ = ("id", "op", "words", "digest", "document", "call", "number", "is_sure", "sweeps")
+    __slots__ = ("id", "op", "words", "digest", "client", "document", "call", "number", "is_sure", "sweeps")
 
     def __init__(self, id: str, op: str, words: Mapping[str, Any], digest: Optional[bytes] = None) -> None:
         # (an empty id if the answer tells it)
@@ -26,6 +29,8 @@ class Part:
         self.words = words
         # of the source that is written, if it can be known
         self.digest = digest
+        # who asks
+        self.client = ""
         self.document: Optional[Document] = None
         self.call: Optional[Call] = None
         self.number: Optional[int] = None
@@ -58,17 +63,44 @@ class Asked:
         return 8 * len(self.parts)
 
 
+class Making(Asked):
+    """A request that may make the index, and is passed on alone: what it asks is told once the index was looked at."""
+
+    __slots__ = ("route", "method", "content", "client")
+
+    def __init__(self, route: Route, method: str, content: Optional[bytes], client: str) -> None:
+        super().__init__(route.kind, ())
+        self.route = route
+        self.method = method
+        self.client = client
+        # (None where it can't be read)
+        self.content = content
+
+    @property
+    def weight(self) -> int:
+        """How many bytes are kept of it."""
+        return len(self.content or b"")
+
+    @property
+    def writes(self) -> int:
+        """How many changes of documents it makes at most."""
+        if self.kind is Kind.BULK:
+            return MANY_WRITES if self.content is None else self.content.count(b"\n") + 1
+        return int(self.kind is not Kind.MAKE)
+
+
 class AskedInPieces(Asked):
     """A bulk request, whose items are read as they come."""
 
-    __slots__ = ("items", "words", "room", "unnamed")
+    __slots__ = ("items", "words", "room", "client", "unnamed")
 
     parts: List[Optional[Part]]
 
-    def __init__(self, words: Mapping[str, str], room: str, longest: int) -> None:
+    def __init__(self, words: Mapping[str, str], room: str, client: str, longest: int) -> None:
         super().__init__(Kind.BULK, [])
         self.items = Items(longest)
         self.words = words
+        self.client = client
         # the index that the path names
         self.room = room
         # how many parts are kept whose ids the answer tells

@@ -152,13 +152,19 @@ def port_of(url: Url) -> int:
 
 def url_of(text: str) -> Url:
     """The cluster's address. It has no user and no password, since others can see the words of a command."""
+    if "," in text or " " in text:
+        raise argparse.ArgumentTypeError("it names several addresses, and one is expected")
     url = urllib.parse.urlsplit(text)
     if url.scheme not in ("http", "https") or not url.hostname or url.query or url.fragment:
         raise argparse.ArgumentTypeError("it is no address such as https://host:9200")
     if "@" in url.netloc:
         raise argparse.ArgumentTypeError("name user and password by OPENSEARCH_USER and OPENSEARCH_PASSWORD")
-    if url.port == 0:
-        raise argparse.ArgumentTypeError("there is no port 0")
+    try:
+        is_port = url.port != 0
+    except ValueError:
+        is_port = False
+    if not is_port:
+        raise argparse.ArgumentTypeError("a port is a number from 1 to 65535")
     return url
 
 

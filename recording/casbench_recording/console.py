@@ -13,8 +13,16 @@ from typing import Sequence
 MOST_AT_ONCE = 4096
 """The most bytes that a pipe takes without waiting, once it says that it takes any."""
 
+CLEARED = "\r\x1b[K"
+"""What empties the line of a terminal."""
+
 PATIENCE = 0.3
 """For how many seconds the last lines wait until they are taken."""
+
+
+def counted(count: int, what: str) -> str:
+    """So many of something, in words: `1 call`, `2 calls`."""
+    return f"{count} {what}{'' if count == 1 else 's'}"
 
 
 def escaped(text: str) -> str:
@@ -35,8 +43,9 @@ def tell(text: str, descriptor: int = 2, seconds: float = 0.0) -> bool:
 
 
 def tell_line(text: str) -> None:
-    """Writes a line of the proxy on standard error."""
-    tell(f"casbench_recording.proxy: {escaped(text)}\n")
+    """Writes a line of the proxy on standard error. On a terminal it takes the place of the line of progress."""
+    start = CLEARED if os.isatty(2) else ""
+    tell(f"{start}casbench_recording.proxy: {escaped(text)}\n")
 
 
 def tell_fault() -> None:

@@ -1,16 +1,22 @@
-"""The time in which the index isn't there yet: it is looked for after each write that may have made it, and nobody else waits.
+"""The time in which the index isn't there yet: it is looked for after each write that may have made it.
+
+Requests for the index take turns. One that may make it is passed on alone: when it was answered, and the index looked at, its call and its
+reply are written, and the others go on. Who asks for another index waits for nobody.
 
 A thread asks the cluster, one question at a time. What was passed on meanwhile may have written to the index, by a name of it
 that isn't known yet, so that is remembered.
 """
 
 import threading
-from typing import Callable, Dict, List, Optional, Union
+from typing import Dict, List, Optional, Union
 
+from .asked import Making
 from .cluster import ClusterError
 from .inspection import SECONDS, Inspector, Shape
 from .judge import Judge, Passed
 from .loop import Loop
+from .routes import BULK, Route
+from .turns import GoOn, Turns
 
 MOST_GONE = 1000
 """How many requests that will never be answered are remembered."""
@@ -20,9 +26,6 @@ LONGEST_GONE = 2048
 
 PATIENCE = SECONDS + 2.0
 """For how many seconds an answer of the cluster is waited for."""
-
-GoOn = Callable[[], None]
-
 
 class Finding:
     """Looks for an index that isn't there yet."""
@@ -42,6 +45,13 @@ class Finding:
         self._waiting: List[GoOn] = []
         self._waiting_next: List[GoOn] = []
         self._asked_at: Optional[float] = None
+        self.turns = Turns(loop)
+        # the request that may make the index, since when it is out, and what gives it up
+        self._making: Optional[Making] = None
+        self._made_since = 0.0
+        self._give_up: GoOn = turn_ended
+        # how many writes others may have made of documents that aren't judged
+        self._unknown = 0
         loop.ticks[self._tick] = None
 
     @property
@@ -49,9 +59,31 @@ class Finding:
         """Whether the index was found, or isn't looked for any more."""
         return self._judge.shape is not None or self._judge.has_ended
 
+    @property
+    def has_turns(self) -> bool:
+        """Whether a request has the turn still, or waits for it."""
+        return not self.turns.is_over
+
+    def concerns(self, route: Route, content: Optional[bytes]) -> bool:
+        """Whether a request may be for the index. A bulk request that doesn't say its name isn't."""
+        if route.kind is not BULK or route.room == self._index or content is None:
+            return True
+        return self._index.encode() in content or b"\\" in content
+
     def passes(self, exchange: object, passed: Passed) -> None:
         """Heeds that a write is passed on."""
         self._open[exchange] = passed
+
+    def makes(self, making: Making, give_up: GoOn) -> None:
+        """Heeds that a request which may make the index is passed on, and has the turn. It is given up if it takes too long."""
+        self._making, self._made_since, self._give_up = making, self._loop.now, give_up
+
+    def has_made(self, is_known: bool) -> None:
+        """Heeds that this request is over, and whether it is known what it wrote."""
+        if not is_known and self._making is not None:
+            self._unknown += self._making.writes
+        self._making = None
+        self.turns.end()
 
     def answered(self, exchange: object, go_on: GoOn) -> None:
         """Heeds that a write was answered, and looks whether the index is there now; then it goes on."""
@@ -102,7 +134,8 @@ class Finding:
         elif told is not None and self._has_forgotten:
             self._judge.end("more requests than are remembered were never answered, and may write to the index")
         elif told is not None:
-            self._judge.found(told, [*self._open.values(), *self._meanwhile], self._gone)
+            writes = self._unknown + (self._making.writes if self._making is not None else 0)
+            self._judge.found(told, [*self._open.values(), *self._meanwhile], self._gone, writes)
         self._meanwhile.clear()
         self._go_on()
         self._look()
@@ -117,3 +150,9 @@ class Finding:
         """Gives up where the answer takes too long."""
         if self._asked_at is not None and now > self._asked_at + PATIENCE:
             self._told(ClusterError(f"the cluster didn't tell within {PATIENCE:.0f} seconds whether the index is there"))
+        elif self._making is not None and now > self._made_since + PATIENCE:
+            self._give_up()
+
+
+def turn_ended() -> None:
+    """Does nothing: nobody has the turn."""

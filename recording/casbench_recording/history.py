@@ -16,7 +16,7 @@ import os
 import re
 import threading
 import time
-from typing import Any, Callable, Dict, List, NamedTuple, Optional, Sequence, Set, Tuple, Union
+from typing import Any, Callable, Dict, List, NamedTuple, Optional, Protocol, Sequence, Set, Tuple, Union
 
 MOST_EVENTS = 1_048_576
 """The most events of a history. A call takes room for two, itself and its ending."""
@@ -27,6 +27,12 @@ LONGEST_LINE = 65_536
 LONGEST_ID = 512
 """The most bytes of a document's id."""
 
+LONGEST_CLIENT = 256
+"""The most bytes of what names a client."""
+
+LONGEST_NOTE = 1000
+"""The most letters of a note."""
+
 DEEPEST_BODY = 100
 """How deep arrays and objects of a body may be nested. casbench reads 127 levels, and the line around it is one."""
 
@@ -35,6 +41,12 @@ WRITES_A_VALUE = ("index", "create")
 TAKES_A_CONDITION = ("index", "delete")
 
 CONFLICT = "version_conflict_engine_exception"
+
+LOST = '{"e":"lost","n":'
+"""What stands before the number in the line of a lost call."""
+
+MOST_LOST_AT_ONCE = 65_536
+"""How many calls are written as lost together."""
 
 compact = json.JSONEncoder(separators=(",", ":")).encode
 """The JSON text of a value, without spaces."""
@@ -69,19 +81,37 @@ class Pair(NamedTuple):
 
 
 class Operation(NamedTuple):
-    """What a call asks: the operation, the document, the value of an index or a create, the condition of an index or a delete."""
+    """What a call asks: the operation, the document, the value of an index or a create, the condition of an index or a delete; and
+    who asks, if that is known."""
 
     op: str
     id: str
     value: Optional[int] = None
     condition: Optional[Pair] = None
     shard: int = 0
+    client: str = ""
+
+
+class Endings(Protocol):
+    """What writes the endings of calls."""
+
+    def is_open(self, call: "Call") -> bool:
+        """Whether the call has no ending yet, and may be given one."""
+
+    def reply(self, call: "Call", status: int, text: Optional[str]) -> None:
+        """Writes the line of a reply, with the JSON text of its body, or without one where that is None."""
+
+    def lose_one(self, call: "Call") -> None:
+        """Writes that the outcome of a call will never be known."""
+
+    def lose(self, calls: "Sequence[Call]") -> None:
+        """Writes those of the calls as lost that are open."""
 
 
 class Call:
     """A call that was made. It is ended once: by a reply, or as lost, which the end of its block does where nothing else did."""
 
-    def __init__(self, history: "History", number: int, operation: Operation) -> None:
+    def __init__(self, history: "Endings", number: int, operation: Operation) -> None:
         self.history = history
         self.number = number
         self.operation = operation
@@ -103,7 +133,7 @@ class Call:
 
     def lost(self) -> None:
         """Writes that the outcome will never be known."""
-        self.history.end_once(self, None)
+        self.history.lose_one(self)
 
     # Replies by what they say, for a store that answers in other words than OpenSearch.
 
@@ -163,6 +193,8 @@ class History:
         self._open: Set[int] = set()
         self._shards: Dict[str, int] = {}
         self._length = 0
+        # what the next line carries
+        self._note = ""
         try:
             # (unbuffered, at the end of the file whoever else may write there, and never over a file that is there)
             self._file = open(path, "xb", buffering=0, opener=lambda path, flags: os.open(path, flags | os.O_APPEND, 0o666))
@@ -190,15 +222,35 @@ class History:
         return self.calls - self.replies
 
     @property
+    def open_calls(self) -> int:
+        """How many calls have no ending yet."""
+        return len(self._open)
+
+    @property
     def room(self) -> int:
         """How many more calls the history takes."""
         return 0 if self.has_ended else self._most_calls - self.calls
 
+    def note(self, text: str) -> None:
+        """Puts a note on the next line, such as what was done to the store. The format reads past it.
+
+        Notes before the same line stand together. What is no ASCII is escaped; a note is cut off behind 1,000 letters.
+        """
+        plain = text.encode("ascii", "backslashreplace").decode()
+        with self._lock:
+            self._note = f"{self._note}; {plain}"[:LONGEST_NOTE] if self._note else plain[:LONGEST_NOTE]
+
     def call(
-        self, op: str, id: str, value: Optional[int] = None, condition: Optional[Pair] = None, shard: int = 0
+        self,
+        op: str,
+        id: str,
+        value: Optional[int] = None,
+        condition: Optional[Pair] = None,
+        shard: int = 0,
+        client: str = "",
     ) -> Call:
         """Writes the line of a call. Raises Ended where there is room for no more, CallError where it can't be a call."""
-        return self.call_one(Operation(op, id, value, condition, shard))
+        return self.call_one(Operation(op, id, value, condition, shard, client))
 
     def call_one(self, operation: Operation) -> Call:
         """The same of an operation."""
@@ -206,7 +258,7 @@ class History:
         with self._lock:
             return self._begin(operation, members)
 
-    def write(self, op: str, id: str, condition: Optional[Pair] = None, shard: int = 0) -> Call:
+    def write(self, op: str, id: str, condition: Optional[Pair] = None, shard: int = 0, client: str = "") -> Call:
         """Writes the line of an index or a create whose value is the number of its call, and so that of no other call.
 
         So what a get shows, and a log of the store, tells which call wrote it, also where nobody was told.
@@ -214,7 +266,7 @@ class History:
         if op not in WRITES_A_VALUE:
             raise CallError(f"a {op} writes no value")
         with self._lock:
-            operation = Operation(op, id, self.calls, condition, shard)
+            operation = Operation(op, id, self.calls, condition, shard, client)
             return self._begin(operation, members_of_call(operation))
 
     def _begin(self, operation: Operation, members: str) -> Call:
@@ -259,6 +311,10 @@ class History:
             raise CallError(f"a status is a whole number up to 65535, and not {status!r}")
         self.end_once(call, rest_of_reply(status, text))
 
+    def lose_one(self, call: Call) -> None:
+        """Writes that the outcome of a call will never be known."""
+        self.end_once(call, None)
+
     def end_once(self, call: Call, rest: Optional[str]) -> None:
         """Writes the line of an ending, for a call that is open: that of a reply with this rest, or as lost where it is None."""
         with self._lock:
@@ -279,18 +335,20 @@ class History:
                 self._end_calls([it for it in rests if it[0] in self._open])
 
     def lose(self, calls: Sequence[Call]) -> None:
-        """Writes those of the calls as lost that are open."""
-        self.end_all([(it, None) for it in calls])
+        """Writes those of the calls as lost that are open. At the end of the history there is nothing to write."""
+        with self._lock:
+            if not self.has_ended:
+                self._lose([it.number for it in calls if it.number in self._open])
 
     def end(self) -> None:
-        """Writes the calls that are open as lost, all at once, and closes the file; later calls and endings raise Ended.
+        """Writes the calls that are open as lost, and closes the file; later calls and endings raise Ended.
 
         A file without a call is removed: an empty text would be a history, and a right one.
         """
         with self._lock:
             try:
                 if not self.has_ended:
-                    self._end_calls([(number, None) for number in sorted(self._open)])
+                    self._lose(sorted(self._open))
             finally:
                 self._close()
 
@@ -323,7 +381,7 @@ class History:
         now, lines, replies = self._now(), [], 0
         for number, rest in endings:
             if rest is None:
-                lines.append(f'{{"e":"lost","n":{number},"t":{now}}}\n')
+                lines.append(f'{LOST}{number},"t":{now}}}\n')
             else:
                 lines.append(f'{{"e":"reply","n":{number},"t":{now}{rest}}}\n')
                 replies += 1
@@ -332,10 +390,19 @@ class History:
         self.replies += replies
         self.lost += len(endings) - replies
 
+    def _lose(self, numbers: Sequence[int]) -> None:
+        """Writes the lines of lost calls, many of them together; counts them."""
+        behind = f',"t":{self._now()}}}\n'
+        for at in range(0, len(numbers), MOST_LOST_AT_ONCE):
+            some = numbers[at : at + MOST_LOST_AT_ONCE]
+            self._write(LOST + (behind + LOST).join(map(str, some)) + behind)
+            self._open.difference_update(some)
+            self.lost += len(some)
+
     def _end_call(self, number: int, rest: Optional[str]) -> None:
         """Writes the line of one ending."""
         if rest is None:
-            self._write(f'{{"e":"lost","n":{number},"t":{self._now()}}}\n')
+            self._write(f'{LOST}{number},"t":{self._now()}}}\n')
             self.lost += 1
         else:
             self._write(f'{{"e":"reply","n":{number},"t":{self._now()}{rest}}}\n')
@@ -349,6 +416,8 @@ class History:
     def _write(self, lines: str) -> None:
         """Puts lines at the end of the file. Where that fails, what was written of them is cut off again."""
         data = lines.encode()
+        if self._note:
+            data = self._noted(data)
         length = len(data)
         try:
             count = self._file.write(data)
@@ -359,6 +428,15 @@ class History:
             self._file.truncate(self._length)
             raise HistoryError(f"{self.path}: {fault.strerror}. The lines before are whole") from fault
         self._length += length
+
+
+    def _noted(self, data: bytes) -> bytes:
+        """The lines with the note on the first of them, if it has room for it."""
+        note = b'{"note":%s,' % compact(self._note).encode()
+        if data.index(b"\n") + len(note) > LONGEST_LINE:
+            return data
+        self._note = ""
+        return note + data[1:]
 
 
 # The text of a line
@@ -414,6 +492,10 @@ def members_of_call(it: Operation) -> str:
             raise CallError(f"a {it.op} has no condition")
         pair = checked_pair(it.condition)
         members += f',"if_seq_no":{pair.seq},"if_primary_term":{pair.term}'
+    if it.client:
+        if not isinstance(it.client, str) or not 1 <= length_of(it.client) <= LONGEST_CLIENT:
+            raise CallError(f"a client is a text of at most {LONGEST_CLIENT} bytes, and not {it.client!r}")
+        members += f',"client":{text_of_id(it.client)}'
     return f'{members},"shard":{it.shard}}}' if it.shard else members + "}"
 
 

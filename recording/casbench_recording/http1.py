@@ -20,6 +20,9 @@ MOST_REMEMBERED = 2048
 LONGEST_REMEMBERED = 1024
 """The most bytes of such a head."""
 
+LONGEST_WHO = 80
+"""The most bytes of an X-Opaque-Id that are kept."""
+
 LONGEST_CHUNK_LINE = 16_384
 """The most bytes of a line between chunks."""
 
@@ -29,7 +32,7 @@ MOST_TRAILERS = 65_536
 TOKEN = rb"[!#$%&'*+.^_`|~0-9A-Za-z-]+"
 VALUE = rb"[\t -~\x80-\xff]*"
 
-FIELD = re.compile(rb"\r\n(content-length|transfer-encoding|content-encoding|expect):[ \t]*([^\r\n]*)", re.IGNORECASE)
+FIELD = re.compile(rb"\r\n(content-length|transfer-encoding|content-encoding|expect|x-opaque-id):[ \t]*([^\r\n]*)", re.IGNORECASE)
 FIELDS = re.compile(rb"(?:\r\n" + TOKEN + rb":" + VALUE + rb")*\r\n\r\n")
 TRAILER = re.compile(TOKEN + rb":" + VALUE)
 CHUNK_LINE = re.compile(rb"([0-9a-fA-F]{1,15})[ \t]*(?:;" + VALUE + rb")?")
@@ -162,6 +165,8 @@ class Fields(NamedTuple):
     is_chunked: bool
     encoding: bytes
     expects: bool
+    # who says to ask, cut to what a history takes
+    who: str = ""
 
 
 class Request:
@@ -213,9 +218,9 @@ def fields_of(head: bytes, is_old: bool) -> Fields:
         raise BadMessage("a line of the head is no field")
     length: Optional[int] = None
     is_chunked = expects = False
-    encoding = b""
-    for name, value in FIELD.findall(head):
-        name, value = name.lower(), value.strip(b" \t").lower()
+    encoding, who = b"", ""
+    for name, text in FIELD.findall(head):
+        name, value = name.lower(), text.strip(b" \t").lower()
         if name == b"content-length":
             if not NUMBER.fullmatch(value) or length not in (None, int(value)):
                 raise BadMessage("the length of the body is told wrong")
@@ -226,11 +231,13 @@ def fields_of(head: bytes, is_old: bool) -> Fields:
             is_chunked = True
         elif name == b"content-encoding":
             encoding = encoding + b"," + value if encoding else value
+        elif name == b"x-opaque-id":
+            who = text.strip(b" \t")[:LONGEST_WHO].decode("utf-8", "replace")
         else:
             expects = value == b"100-continue"
     if is_chunked and length is not None:
         raise BadMessage("the end of the body is told twice")
-    return Fields(length, is_chunked, encoding, expects)
+    return Fields(length, is_chunked, encoding, expects, who)
 
 
 remembered_fields = functools.lru_cache(maxsize=MOST_REMEMBERED)(fields_of)

@@ -16,13 +16,15 @@ SECONDS = 10.0
 
 
 class Shape(NamedTuple):
-    """An index: its own name, all names by which it is reached, its shards, and whether nothing was ever written to it."""
+    """An index: its own name, all names by which it is reached, its shards, whether nothing was ever written to it, and how many
+    changes were made of its documents."""
 
     name: str
     names: Names
     shards: int
     routing_shards: int
     is_empty: bool
+    changes: int = 0
 
     def shard_of(self, id: str) -> int:
         """The shard that a document is on."""
@@ -60,7 +62,8 @@ class Inspector:
         shards = int(settings["number_of_shards"])
         routing_shards = self.routing_shards(index) if shards > 1 else 1
         names = names_of(name, index, described.get("aliases", {}))
-        shape = Shape(index, names, shards, routing_shards, self.is_empty(index))
+        changes = self.changes(index)
+        shape = Shape(index, names, shards, routing_shards, changes == 0, changes)
         self.compare_shards(shape)
         return shape
 
@@ -84,11 +87,11 @@ class Inspector:
         """Whether a document is there."""
         return self.ask(f"/{quoted(shape.name)}/_doc/{quoted(id)}") is not None
 
-    def is_empty(self, index: str) -> bool:
-        """Whether no shard of the index ever gave a sequence number."""
+    def changes(self, index: str) -> int:
+        """How many sequence numbers the shards of the index gave, all together."""
         told = self.ask(f"/{quoted(index)}/_stats?level=shards") or {}
         shards = told["indices"][index]["shards"]
-        return all(copy["seq_no"]["max_seq_no"] == -1 for copies in shards.values() for copy in copies)
+        return sum(max(int(copy["seq_no"]["max_seq_no"]) for copy in copies) + 1 for copies in shards.values())
 
     def routing_shards(self, index: str) -> int:
         """The number by which the cluster reckons the shard of a document."""

@@ -10,6 +10,7 @@ import functools
 import selectors
 import signal
 import socket
+import threading
 import time
 from collections import deque
 from typing import Any, Callable, Deque, Dict, List, Protocol, Union
@@ -25,7 +26,7 @@ MOST_WAITING = 65_536
 READ, WRITE = selectors.EVENT_READ, selectors.EVENT_WRITE
 
 TICK = 0.5
-"""How many seconds lie between two looks at what takes too long, or twice as many if nothing happens."""
+"""How many seconds lie between two looks at what takes too long."""
 
 LINGERING = 2.0
 """For how many seconds what comes is still taken, and thrown away, after the last of an answer."""
@@ -72,6 +73,9 @@ class Loop:
         # what is called in the next turn
         self._next: Deque[Callable[[], None]] = deque()
         self._lingering: "Deque[Stream]" = deque()
+        # whether the ticks are due, and whether there are no more of them
+        self._is_tick_due = False
+        self._has_closed = threading.Event()
         # what is called when a connection was closed
         self._waiting_for_room: List[Callable[[], None]] = []
         self._woken, self._waker = socket.socketpair()
@@ -80,12 +84,15 @@ class Loop:
         self._selector.register(self._woken, READ, self._wake)
 
     def run(self) -> None:
-        """Runs until it is stopped."""
+        """Runs until it is stopped.
+
+        A thread of its own wakes the loop for each tick: a timeout of each wait would cost more than all ticks do.
+        """
         select, calls, following, clock = self._selector.select, self._calls, self._next, time.monotonic
-        next_tick = clock() + TICK
+        threading.Thread(target=self._keep_time, daemon=True).start()
         while not self.is_over:
-            ready = select(0 if following or calls else TICK)
-            now = self.now = clock()
+            ready = select(0 if following else None)
+            self.now = clock()
             for key, events in ready:
                 key.data(events)
             if following:
@@ -93,13 +100,18 @@ class Loop:
                 following.clear()
             if calls:
                 self._make_calls()
-            if now >= next_tick:
-                next_tick = now + TICK
-                calls.extend(self.ticks_due())
 
-    def ticks_due(self) -> List[Callable[[], None]]:
-        """The calls that look at what takes too long."""
-        return [functools.partial(it, self.now) for it in self.ticks]
+    def _keep_time(self) -> None:
+        """Has the ticks called, every now and then until the loop is closed."""
+        while not self._has_closed.wait(TICK):
+            if not self._is_tick_due:
+                self._is_tick_due = True
+                self.call(self._tick)
+
+    def _tick(self) -> None:
+        """Looks at what takes too long. A look that fails keeps no other from being made."""
+        self._is_tick_due = False
+        self._calls.extend([functools.partial(it, self.now) for it in self.ticks])
 
     def _make_calls(self) -> None:
         """Makes the calls that are due. One that fails keeps no other from being made."""
@@ -111,6 +123,7 @@ class Loop:
 
     def close(self) -> None:
         """Makes the calls that are due, and gives back what the loop has of the system."""
+        self._has_closed.set()
         self._make_calls()
         if self._has_signals:
             signal.set_wakeup_fd(-1)

@@ -1,20 +1,32 @@
-"""Tells on a terminal how far a recording is: every second the calls, those that were lost, and the calls of that second."""
+"""Reports on a terminal how far a recording is: every second the calls, those that were lost, and the calls of that second."""
 
+import contextlib
+import os
 import sys
 import threading
 from typing import IO, Callable, Optional, Tuple
 
-from .console import tell
+from .console import CLEARED, counted, escaped, tell
 
 Counts = Callable[[], Tuple[int, int]]
-"""How many calls were recorded so far, and how many of them are lost."""
+"""Returns how many calls were recorded so far, and how many of them are lost."""
+
+
+WIDTH = 80
+"""The columns of a terminal that doesn't say how many it has."""
 
 
 class Progress:
-    """A line that is written again every second while the block runs. Where the stream is no terminal nothing is written."""
+    """A line that is written again every second while the block runs, with a remark at its end, if there is one.
 
-    def __init__(self, counts: Counts, stream: Optional[IO[str]] = None, seconds: float = 1.0) -> None:
+    Nothing is written if the stream is no terminal.
+    """
+
+    def __init__(
+        self, counts: Counts, stream: Optional[IO[str]] = None, seconds: float = 1.0, remark: Callable[[], str] = lambda: ""
+    ) -> None:
         self._counts = counts
+        self._remark = remark
         self._stream = stream or sys.stderr
         self._seconds = seconds
         self._is_over = threading.Event()
@@ -32,13 +44,19 @@ class Progress:
             self._write("")
 
     def _tell_on(self) -> None:
-        """Tells the counts every second, until it is over."""
+        """Reports the counts every second, until it is over."""
         before, _ = self._counts()
         while not self._is_over.wait(self._seconds):
             calls, lost = self._counts()
-            self._write(f"{calls} calls, {lost} lost, {(calls - before) / self._seconds:.0f} calls a second")
+            remark = self._remark()
+            rate = counted(round((calls - before) / self._seconds), "call")
+            self._write(f"{counted(calls, 'call')}, {lost} lost, {rate} a second{f', {remark}' if remark else ''}")
             before = calls
 
     def _write(self, line: str) -> None:
-        """Puts the line in the place of the one before, if the terminal takes it."""
-        tell(f"\r\x1b[K{line}", self._stream.fileno())
+        """Puts the line in the place of the one before, cut to the width of the terminal, if the terminal takes it."""
+        descriptor = self._stream.fileno()
+        width = 0
+        with contextlib.suppress(OSError):
+            width = os.get_terminal_size(descriptor).columns
+        tell(f"{CLEARED}{escaped(line)[: (width or WIDTH) - 1]}", descriptor)

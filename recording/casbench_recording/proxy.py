@@ -13,28 +13,40 @@ Who asks is a matter of the clients. For what the proxy asks itself, before it l
 
 import argparse
 import contextlib
+import functools
 import gc
 import os
 import resource
 import signal
 import socket
 import sys
-from typing import Callable, Iterator, Optional, Sequence, Set, Tuple, Union
+from typing import Callable, Iterator, List, NamedTuple, Optional, Sequence, Set, Tuple
 
-from .cluster import Cluster, ClusterError, Connection, credentials_of, number_from, port_of, trust_of, url_of
+from .client_side import ClientSide
+from .cluster import Cluster, ClusterError, Connection, Url, credentials_of, number_from, port_of, trust_of, url_of
 from .connecting import Addresses, Connecting, Made
-from .console import open_standard_files, tell, tell_last, tell_line
+from .console import counted, open_standard_files, tell, tell_last, tell_line
+from .continuing import Continuing, add_part_options
+from .disturb import Disturber, read_plan
 from .documents import State
 from .finding import Finding
 from .history import History, HistoryError
+from .http1 import Request
 from .inspection import Inspector, Shape
 from .judge import Judge
-from .loop import Loop, Stream
+from .loop import Listener, Loop, Stream
 from .parts import Parts
+from .past import Conflicts
 from .progress import Progress
-from .sides import ClientSide, refusal
+from .recording import Histories
+from .refusal import refusal
+from .routes import shown_request
 from .tls import NO_RENEGOTIATION
 from .unjudged import Unjudged
+from .watcher import Watcher, add_watch_options, watch_options
+
+ENDED_EARLY = 3
+"""The exit status of a recording that ended before its time."""
 
 START_PATIENCE = 5.0
 """For how many seconds the first connection to the cluster is tried."""
@@ -57,8 +69,20 @@ SPARE = 32
 LEAST_IDLE = 1.0
 """For how many seconds nothing happened on a connection that is closed to make room for another one."""
 
+ADVICE = "requests are still passed on, and no longer recorded: end the proxy, check what was recorded, and record again on an empty index"
+"""What the operator does about a recording that ended early."""
+
 SECONDS_BETWEEN = 10.0
 """How many seconds lie between two lines that tell that too many clients are there."""
+
+
+class Node(NamedTuple):
+    """A node of the cluster: where its clients ask, where it is, and its addresses."""
+
+    host: str
+    port: int
+    cluster: Cluster
+    addresses: Addresses
 
 
 class Refused:
@@ -86,27 +110,26 @@ class Refused:
 
 
 class Proxy:
-    """The proxy: its clients, and the judge of what they ask."""
+    """The proxy: its nodes, its clients, and the judge of what they ask."""
 
-    def __init__(self, setting: argparse.Namespace, cluster: Cluster, inspector: Inspector, judge: Judge) -> None:
+    def __init__(self, setting: argparse.Namespace, nodes: Sequence[Node], inspector: Inspector, judge: Judge) -> None:
         self.setting = setting
-        self.cluster = cluster
+        self.nodes = nodes
         self.inspector = inspector
         self.judge = judge
         self.clients: Set[ClientSide] = set()
         self.loop = Loop()
-        self.addresses = Addresses(str(cluster.url.hostname), port_of(cluster.url))
         # (None once the index was found, or the recording ended)
         self.finding: Optional[Finding] = None if judge.shape is not None else Finding(self.loop, inspector, setting.index, judge)
         # how many bytes of messages are kept
         self.held = 0
-        # what somebody else did to a history
-        self.damage: Optional[str] = None
         self._told_of_room = float("-inf")
+        self._has_warned_of_nodes = False
+        judge.recording.tell_ended = self._ended
         self.loop.ticks[self._tick] = None
 
-    def accept(self, connection: socket.socket) -> None:
-        """Takes a client's connection. If there are too many the one that was idle longest is closed, or this one is refused."""
+    def accept(self, node: Node, connection: socket.socket) -> None:
+        """Takes a client's connection, to a node. If there are too many the one that was idle longest is closed, or this one is refused."""
         if len(self.clients) >= self.most_clients:
             waited = self.loop.now - LEAST_IDLE
             idle = min((it for it in self.clients if it.exchange is None and it.active_at <= waited), key=lambda it: it.active_at, default=None)
@@ -116,7 +139,7 @@ class Proxy:
                 return
             idle.stream.abort()
             self.clients.discard(idle)
-        ClientSide(self, connection)
+        ClientSide(self, node, connection)
 
     @property
     def most_clients(self) -> int:
@@ -130,9 +153,16 @@ class Proxy:
             self._told_of_room = self.loop.now
             tell_line(f"{len(self.clients)} clients are connected, and more are answered with status 503")
 
-    def connect(self, made: Made) -> Connecting:
-        """Makes a connection to the cluster."""
-        return Connecting(self.loop, self.addresses, made)
+    def warn_of_nodes(self, request: Request) -> None:
+        """Warns the operator, once, that a client asks where the nodes are, and may then ask them past the proxy."""
+        if not self._has_warned_of_nodes:
+            self._has_warned_of_nodes = True
+            asked = shown_request(request.method, request.target.decode("latin-1"))
+            tell_line(f"a client asks where the nodes are ({asked}): what it asks them itself isn't recorded, so turn sniffing off")
+
+    def connect(self, node: Node, made: Made) -> Connecting:
+        """Makes a connection to a node of the cluster."""
+        return Connecting(self.loop, node.addresses, made)
 
     def work(self, steps: Iterator[None], done: Callable[[], None]) -> None:
         """Does work in steps, between which others have their turn."""
@@ -159,24 +189,32 @@ class Proxy:
             most.stream.abort()
             most.connection_lost()
 
+    def _ended(self, why: str) -> None:
+        """Says at once that the recording ended before its time, and what to do; ends the proxy too if that is asked for."""
+        if self.setting.stop_when_ended:
+            self.loop.stop()
+        advice = "the proxy ends" if self.setting.stop_when_ended else ADVICE
+        tell_line(f"the recording ended early: {why}; {advice}")
+
     def _tick(self, now: float) -> None:
         """Looks at what takes too long, and at the files."""
         for client in list(self.clients):
             client.heed_time(now, self.setting.idle)
-        if self.finding is not None and self.finding.is_over:
+        if self.finding is not None and self.finding.is_over and not self.finding.has_turns:
             self.finding = None
-        if self.damage is None:
-            self.damage = next(filter(None, (it.damage() for it in self.judge.history.histories)), None)
-            if self.damage is not None:
-                tell_line(self.damage)
-                self.judge.end(self.damage)
+        damage = next(filter(None, (it.damage() for it in self.judge.history.histories)), None)
+        if damage is not None:
+            self.judge.end(damage)
 
-    def serve(self, tell_address: Callable[[str], None]) -> None:
-        """Serves until the loop is stopped; tells its address first. What is open then is lost, and every connection is closed."""
-        host, port = self.setting.listen
-        listeners = self.loop.listen(host, port, self.accept)
-        shown = f"[{host}]" if ":" in host else host
-        tell_address(f"http://{shown}:{listeners[0].port}")
+    def serve(self, tell_address: Callable[[str], object]) -> None:
+        """Serves until the loop is stopped; reports its address first, that of each node. What is open then is lost, and every
+        connection is closed."""
+        listeners: List[Listener] = []
+        for node in self.nodes:
+            own = self.loop.listen(node.host, node.port, functools.partial(self.accept, node))
+            shown = f"[{node.host}]" if ":" in node.host else node.host
+            tell_address(f"http://{shown}:{own[0].port}")
+            listeners += own
         self.loop.run()
         for it in listeners:
             it.close()
@@ -205,22 +243,38 @@ def listened(text: str) -> Tuple[str, int]:
     return host.strip("[]"), int(port)
 
 
+def node_of(text: str) -> Tuple[Tuple[str, int], Url]:
+    """The words of --node."""
+    address, is_one, url = text.partition("=")
+    if not is_one:
+        raise argparse.ArgumentTypeError("it is nothing such as 127.0.0.1:9202=http://node-2:9200")
+    return listened(address), url_of(url)
+
+
 def words_of(arguments: Sequence[str]) -> argparse.Namespace:
     """Reads the words of the command."""
     parser = argparse.ArgumentParser(description="Records what clients ask of a cluster as a history for casbench.")
     add = parser.add_argument
     add("--listen", type=listened, default=("127.0.0.1", 9201), help="where clients ask, as 127.0.0.1:9201; port 0: one that is free")
     add("--cluster", type=url_of, required=True, help="the cluster's address, as https://host:9200")
+    node = "a node beside that of --cluster, which clients reach at another address, as 127.0.0.1:9202=http://node-2:9200"
+    add("--node", type=node_of, action="append", default=[], metavar="HOST:PORT=URL", help=node)
     add("--index", required=True, help="the index whose documents are judged, by its name or an alias")
     add("--documents", type=lambda text: frozenset(text.split(",")), help="the ids of new documents, which alone are judged")
     add("--created-only", action="store_true", help="judge only documents that are seen created, in an index that isn't empty")
     add("--by-shard", action="store_true", help="write a file for each shard, into a folder that is made")
+    add_part_options(add)
+    add_watch_options(add)
+    add("--disturb", type=read_plan, metavar="PLAN", default=[], help="run the commands of this plan meanwhile, to disturb the cluster")
+    add("--stop-when-ended", action="store_true", help="end the proxy too when the recording ends before its time")
     add("--ca-file", help="the certificates of who is trusted to vouch for the cluster")
     add("--idle", type=number_from(1, float), default=300.0, help="after how many seconds a connection on which nothing happens is closed (300)")
     add("file", metavar="OUT", help="the file that the history is written to, and must not be there")
     setting = parser.parse_args(arguments)
-    if setting.ca_file is not None and setting.cluster.scheme != "https":
+    if setting.ca_file is not None and all(it.scheme != "https" for it in (setting.cluster, *(url for _, url in setting.node))):
         parser.error("--ca-file is for an address that begins with https")
+    if setting.by_shard and setting.part is not None:
+        parser.error("--by-shard and --parts exclude each other: a part has the calls of all shards")
     return setting
 
 
@@ -239,23 +293,40 @@ def begin(setting: argparse.Namespace, inspector: Inspector) -> Tuple[Optional[S
     return shape, State.UNSURE if setting.created_only else State.JUDGED
 
 
-def proxy_of(setting: argparse.Namespace) -> Proxy:
-    """Looks at the cluster, begins the history, and gives the proxy that the words ask for."""
-    cluster = Cluster(setting.cluster, SECONDS_TO_ASK, credentials_of(os.environ), trust_of(setting.cluster, setting.ca_file))
+def served_node(setting: argparse.Namespace, listen: Tuple[str, int], url: Url) -> Node:
+    """A node of the cluster, and where its clients ask."""
+    cluster = Cluster(url, SECONDS_TO_ASK, credentials_of(os.environ), trust_of(url, setting.ca_file))
     if cluster.trust is not None:
         cluster.trust.options |= NO_RENEGOTIATION
-    inspector = Inspector(Connection(cluster))
+    return Node(*listen, cluster, Addresses(str(url.hostname), port_of(url)))
+
+
+def proxy_of(setting: argparse.Namespace) -> Proxy:
+    """Looks at the cluster, begins the history, and gives the proxy that the words ask for."""
+    nodes = [served_node(setting, *it) for it in ((setting.listen, setting.cluster), *setting.node)]
+    inspector = Inspector(Connection(nodes[0].cluster))
     shape, first = begin(setting, inspector)
     unjudged = Unjudged(setting.file)
-    history: Union[History, Parts] = Parts(setting.file) if setting.by_shard else History(setting.file)
     raise_limit()
-    return Proxy(setting, cluster, inspector, Judge(shape, setting.index, history, unjudged, first, setting.documents))
+    return Proxy(setting, nodes, inspector, Judge(shape, setting.index, history_of(setting), unjudged, first, setting.documents))
+
+
+def history_of(setting: argparse.Namespace) -> Histories:
+    """The file that is written, or the directory."""
+    if setting.part is not None:
+        return Continuing(setting.file, setting.part, Conflicts(setting.conflicts))
+    return Parts(setting.file) if setting.by_shard else History(setting.file)
 
 
 def counts_of(judge: Judge) -> Tuple[int, int]:
     """How many calls were recorded, and how many of them are lost."""
     histories = judge.history.histories
     return sum(it.calls for it in histories), sum(it.lost for it in histories)
+
+
+def remark_of(judge: Judge) -> str:
+    """What the line of progress says of a recording that ended early."""
+    return f"the recording ended early: {judge.unjudged.ended[0]}" if judge.unjudged.ended else ""
 
 
 def raise_limit() -> None:
@@ -268,32 +339,48 @@ def raise_limit() -> None:
 
 
 def main(arguments: Sequence[str]) -> int:
-    """Records by the words given, and returns the exit status: 0 recorded, 1 a named error."""
+    """Records by the words given, and returns the exit status: 0 recorded, 1 a named error, 3 the recording ended early, 130 interrupted."""
     open_standard_files()
     setting = words_of(arguments)
     gc.set_threshold(100_000, 50, 50)
     try:
         proxy = proxy_of(setting)
-        try:
-            with Progress(lambda: counts_of(proxy.judge)):
-                serve_until_signalled(proxy)
-        finally:
-            proxy.judge.close()
+        with contextlib.ExitStack() as stack:
+            stack.callback(proxy.judge.close)
+            watcher = stack.enter_context(watcher_of(setting, proxy)) if setting.watch else None
+            # (before the watch ends, so that its last check has the last line)
+            stack.callback(proxy.judge.close)
+            stack.enter_context(Progress(lambda: counts_of(proxy.judge), remark=lambda: remark_of(proxy.judge)))
+            disturber = stack.enter_context(Disturber(setting.disturb, proxy.judge.note, tell_line))
+            serve_until_signalled(proxy)
     except (ClusterError, HistoryError, OSError) as fault:
         tell_last([f"casbench_recording.proxy: {fault}"])
         return 1
+    except KeyboardInterrupt:
+        return 130
     tell_end(setting, proxy.judge)
-    return 1 if proxy.damage is not None else 0
+    if watcher is not None and watcher.status:
+        return watcher.status
+    return ENDED_EARLY if proxy.judge.unjudged.ended else int(disturber.has_failed)
+
+
+def watcher_of(setting: argparse.Namespace, proxy: Proxy) -> Watcher:
+    """The watch of the recording, which ends the proxy at the first fault that is proved."""
+    return Watcher(setting.file, watch_options(setting), lambda: proxy.loop.call(proxy.loop.stop))
 
 
 def tell_end(setting: argparse.Namespace, judge: Judge) -> None:
     """Tells what was recorded, and what isn't judged."""
     calls, _ = counts_of(judge)
-    unanswered = sum(it.unanswered for it in judge.history.histories)
+    unanswered, ledger = sum(it.unanswered for it in judge.history.histories), judge.ledger
     if calls:
-        tell_last([f"recorded {calls} calls in {setting.file}, {unanswered} of them without a reply"], 1)
+        judged = f"{counted(ledger.judged, 'document')}, {counted(calls, 'call')}"
+        left_out = f"{counted(judge.unjudged.count, 'document')}, {counted(ledger.left_out, 'call')}"
+        recorded = f"recorded {counted(calls, 'call')} in {setting.file}, {unanswered} of them without a reply"
+        tell_last([recorded, f"judged: {judged}; not judged: {left_out}"], 1)
     tell_last([*([] if calls else ["no call was made, so there is no file"]), *judge.unjudged.told()])
 
 
 if __name__ == "__main__":
-    sys.exit(main(sys.argv[1:]))
+    # (at once: to take down what is known of half a million calls would take longer than to write them as lost)
+    os._exit(main(sys.argv[1:]))

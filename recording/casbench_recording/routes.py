@@ -23,6 +23,8 @@ class Kind(Enum):
     SWEEP = "judges no document that was seen before the answer"
     LOOK = "ends the recording if the body, or the query, says one of some words"
     END = "ends the recording"
+    MAKE = "takes it for one that may make the index, and changes no document"
+    NODES = "warns that who asks may go around the recorder"
 
 
 CALL, BULK, SWEEP = Kind.CALL, Kind.BULK, Kind.SWEEP
@@ -80,6 +82,12 @@ def is_made_of(name: str, pieces: Sequence[str]) -> bool:
 
 
 PASS = Route(Kind.PASS)
+
+NODES = Route(Kind.NODES)
+"""What asks for the addresses of the nodes, and may then ask these and not the recorder."""
+
+OF_STATISTICS = {"stats", "usage", "hot_threads"}
+"""What is asked of nodes without their addresses."""
 
 LONGEST_EXPRESSION = 2048
 """The most letters of an expression of indexes that are looked at."""
@@ -163,10 +171,17 @@ def route_of_text(method: str, target: str, names: Names, faults: str) -> Route:
     if rest[-1:] in (["_bulk"], ["_mget"]) or first in ("_bulk", "_mget"):
         return route_of_several(method, first, rest, words)
     if method in READS:
-        return PASS
+        return NODES if asks_for_nodes(first, rest) else PASS
     if first.startswith("_") and first != "_all" or not first:
         return route_of_cluster(method, first, rest, words, names)
     return route_of_expression(method, first, rest) if names.may_be_among(first) else PASS
+
+
+def asks_for_nodes(first: str, rest: List[str]) -> bool:
+    """Whether a request asks for the addresses of the nodes, as clients do that look for them (sniffing)."""
+    if first == "_nodes":
+        return not OF_STATISTICS & set(rest)
+    return first == "_cat" and rest[:1] == ["nodes"] or first == "_cluster" and rest[:1] == ["state"]
 
 
 def shown_request(method: str, path: str) -> str:
@@ -215,7 +230,9 @@ def route_on_index(method: str, name: str, rest: List[str], words: Dict[str, str
         return Route(Kind.SWEEP, words=words, why=request, op="" if is_answered_at_end else "goes on")
     if first in ("_settings", "_mapping", "_mappings"):
         return Route(Kind.LOOK, words=words, told=("pipeline",), whole=frozenset(("_source", "_routing")), why=request)
-    if first in HARMLESS_OF_AN_INDEX or not rest and method == "PUT":
+    if not rest and method == "PUT":
+        return Route(Kind.MAKE)
+    if first in HARMLESS_OF_AN_INDEX:
         return PASS
     if first and not first.startswith("_") and len(rest) in (2, 3):
         return Route(Kind.UNTOLD, id=rest[1], why=f"it was written by {request}")

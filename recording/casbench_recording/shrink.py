@@ -3,32 +3,31 @@
     python3 -m casbench_recording.shrink carts.ndjson >few.ndjson
 
 The answer of casbench to what is left is the same: `no` or `refuted`, of a refutation the kind and the calls of the evidence, of a
-`no` the call at whose reply the search fails. A `no` that isn't proved, since a write of that call's document has no reply, stays one. Each
-line that is left stands as it was, in its order, and none of the calls can be left out alone. What is left is written at the end, and
-not where it would go into the history itself.
+`no` the call at whose reply the search fails. With `--witness FILE`, which shows that the `no` is a false alarm, the part of the witness
+that is of the calls that are left stays verified. Each line that is left stands as it was, in its order, and none of the calls can be
+left out alone. What is left is written at the end, and not if it would go into the history itself.
 """
 
 import argparse
-import json
 import os
 import shutil
 import stat
 import subprocess
 import sys
-from typing import Any, BinaryIO, Dict, Iterable, List, NamedTuple, Optional, Sequence, Set, Tuple
+from typing import BinaryIO, Dict, Iterable, List, NamedTuple, Optional, Sequence, Set, Tuple
 
-from .history import pair_of
+from .recorded import Beginnings, Call, Recorded, Version
 
-Version = Tuple[str, int, int]
-"""A version of a document: its id, its term and its sequence number."""
+FIRST_WINDOW, WINDOW_FACTOR = 64, 4
+"""How many calls the first window before the answer has, and how many times as many the next one."""
 
 
 class ShrinkError(Exception):
-    """Why a history can't be cut down, in words for the operator."""
+    """Why a history can't be cut down, for the operator."""
 
 
 class Answer(NamedTuple):
-    """What is asked to stay: the word, the kind of evidence, and the calls that are named. A `no` names one, and may be proved or not."""
+    """What has to stay: the word, the kind of evidence, and the calls that are named. A `no` names one, and may be proved or not."""
 
     word: str
     kind: str
@@ -36,79 +35,58 @@ class Answer(NamedTuple):
     is_proved: bool
 
 
-class Line(NamedTuple):
-    """A line: its bytes, and the call that it is of."""
-
-    text: bytes
-    number: int
-
-
-class Call:
-    """A call: its document, and the version that its reply shows or asks for."""
-
-    def __init__(self, event: Dict[str, Any]) -> None:
-        self.id: str = event["id"]
-        self.is_write: bool = event["op"] != "get"
-        self.is_answered = False
-        self.made: Optional[Version] = None
-        self.stands_on: Optional[Version] = None
-        if "if_seq_no" in event:
-            self.stands_on = (self.id, event["if_primary_term"], event["if_seq_no"])
-
-    def hear(self, event: Dict[str, Any]) -> None:
-        """Takes a reply. What a conflict asked for may be gone, so it stands on nothing."""
-        body = event.get("body")
-        pair = pair_of(body)
-        self.is_answered = pair is not None or event.get("status") in (404, 409)
-        if self.is_write:
-            self.made = (self.id, *pair) if pair else None
-            self.stands_on = self.stands_on if pair else None
-        elif pair:
-            self.stands_on = (self.id, *pair)
-
-
 class Program:
     """The program, with the words of its check."""
 
-    def __init__(self, path: str, words: Sequence[str]) -> None:
-        self.words = [path, "check", *words]
+    def __init__(self, path: str, conflicts: str = "plain", is_ruling_out: bool = False) -> None:
+        self.path = path
+        self.conflicts = ["--conflicts", conflicts]
+        self.words = [*self.conflicts, *(["--rule-out"] if is_ruling_out else [])]
         self.runs = 0
 
     def answer(self, text: bytes) -> str:
-        """The line that it writes for a text."""
+        """The line that a check writes for a text."""
+        return self.run(["check", *self.words], text)
+
+    def verified(self, text: bytes, witness: bytes) -> str:
+        """The line that a verification of the witness writes."""
+        with open(os.memfd_create("witness"), "wb") as file:
+            file.write(witness)
+            file.flush()
+            return self.run(["verify", "/dev/stdin", f"/dev/fd/{file.fileno()}", *self.conflicts], text, [file.fileno()])
+
+    def run(self, words: Sequence[str], text: bytes, files: Sequence[int] = ()) -> str:
+        """The line that a command writes."""
         self.runs += 1
-        ran = subprocess.run(self.words, input=text, stdout=subprocess.PIPE, stderr=subprocess.PIPE)
+        ran = subprocess.run([self.path, *words], input=text, stdout=subprocess.PIPE, stderr=subprocess.PIPE, pass_fds=files)
         if ran.returncode > 2:
-            raise ShrinkError(f"{self.words[0]}: {ran.stderr.decode(errors='replace').strip()}")
+            raise ShrinkError(f"{self.path}: {ran.stderr.decode(errors='replace').strip()}")
         return ran.stdout.decode()
 
 
 class Shrinker:
     """A history that is cut down."""
 
-    def __init__(self, lines: Iterable[bytes], program: Program) -> None:
+    def __init__(self, lines: Iterable[bytes], program: Program, witness: Optional[bytes] = None) -> None:
         self.program = program
-        self.lines: List[Line] = []
-        self.calls: Dict[int, Call] = {}
-        texts = [it.rstrip(b"\n") + b"\n" for it in lines if it.strip()]
-        told = program.answer(b"".join(texts))
+        self.has_witness = witness is not None
+        self.recorded = Recorded(lines)
+        text = b"".join(self.recorded.lines)
+        told = program.answer(text)
         if not told.startswith(("no ", "refuted ")):
             raise ShrinkError(f"it gets {told.strip()}, so there is nothing to cut down")
-        for text in texts:
-            self.read(text, json.loads(text))
+        self.recorded.read()
+        self.calls = self.recorded.calls
+        if witness is not None:
+            told_of_witness = program.verified(text, witness)
+            if not told_of_witness.startswith("verified "):
+                raise ShrinkError(f"the witness gets {told_of_witness.strip()}")
+            self.recorded.read_witness(witness)
         self.kept = set(self.calls)
         self.wanted = self.read_answer(told, self.kept)
         self.before = len(self.kept)
+        self.makers: Dict[Version, int] = {it.made: it.number for it in self.calls.values() if it.made}
         self.readers = self.calls_by_version()
-
-    def read(self, text: bytes, event: Dict[str, Any]) -> None:
-        """Takes a line."""
-        number = event["n"]
-        if event["e"] == "call":
-            self.calls[number] = Call(event)
-        elif event["e"] == "reply":
-            self.calls[number].hear(event)
-        self.lines.append(Line(text, number))
 
     def read_answer(self, told: str, kept: Set[int]) -> Answer:
         """What a line says of a history of these calls."""
@@ -130,55 +108,91 @@ class Shrinker:
                 readers.setdefault(it.stands_on, []).append(number)
         return readers
 
-    def text_of(self, kept: Set[int]) -> bytes:
-        """The lines of these calls."""
-        return b"".join(it.text for it in self.lines if it.number in kept)
-
     def gets_the_same(self, kept: Set[int]) -> bool:
-        """Whether the history of these calls gets the answer that is wanted."""
-        return kept.issuperset(self.wanted.calls) and self.read_answer(self.program.answer(self.text_of(kept)), kept) == self.wanted
+        """Whether the history of these calls gets the answer that is wanted, and its part of the witness is valid."""
+        if not kept.issuperset(self.wanted.calls):
+            return False
+        text = self.recorded.text_of(kept)
+        if self.has_witness and not self.program.verified(text, self.recorded.witness_of(kept)).startswith("verified "):
+            return False
+        return self.read_answer(self.program.answer(text), kept) == self.wanted
 
-    def with_readers(self, numbers: Iterable[int]) -> Set[int]:
-        """The calls with all that stand on what they made, and so on: without those these would show what nobody wrote."""
-        found: Set[int] = set()
-        left = list(numbers)
-        while left:
-            number = left.pop()
-            if number not in found:
-                found.add(number)
-                made = self.calls[number].made
-                left += self.readers.get(made, ()) if made else ()
-        return found
-
-    def leave_out(self, numbers: Iterable[int]) -> bool:
-        """Leaves out calls, where the answer is the same without them."""
-        kept = self.kept - set(numbers)
+    def keep(self, kept: Set[int]) -> bool:
+        """Keeps these calls alone, if there are fewer of them and the answer is the same."""
         if len(kept) < len(self.kept) and self.gets_the_same(kept):
             self.kept = kept
             return True
         return False
 
+    def leave_out(self, numbers: Iterable[int]) -> bool:
+        """Leaves out calls, if the answer is the same without them."""
+        return self.keep(self.kept.difference(numbers))
+
     def shrink(self) -> None:
-        """Leaves out what can be left out: documents, what came later, then calls by many and by one."""
+        """Leaves out what can be left out: all but a window, documents, what came later, then calls by many and by one."""
+        self.keep_a_window()
         named = {self.calls[it].id for it in self.wanted.calls}
-        self.leave_out(it for it in self.kept if self.calls[it].id not in named)
-        self.leave_out(it for it in self.kept if it not in self.made_before_the_last())
+        self.leave_out([it for it in self.kept if self.calls[it].id not in named])
+        last = self.last_line()
+        self.leave_out([it for it in self.kept if self.calls[it].line > last])
         size = max(1, len(self.kept) // 2)
         while self.leave_out_pieces(size) or size > 1:
             size = max(1, size // 2)
 
-    def made_before_the_last(self) -> Set[int]:
-        """The calls whose lines stand before the last line of the calls that are named."""
-        last = max(place for place, it in enumerate(self.lines) if it.number in self.wanted.calls)
-        return {it.number for it in self.lines[:last]}
+    def last_line(self) -> int:
+        """The last line of the calls that are named."""
+        named = [self.calls[it] for it in self.wanted.calls]
+        return max(it.line if it.ending is None else it.ending for it in named)
+
+    def keep_a_window(self) -> None:
+        """Keeps the named calls alone, or with a window of the calls before the last of them, the smallest that gets the same answer: of
+        their documents, or of all. So most of a long history is never looked at by the program again."""
+        named = {self.calls[it].id for it in self.wanted.calls}
+        order = [it for it in self.recorded.in_order(self.kept) if it.line <= self.last_line()]
+        own = [it for it in order if it.id in named]
+        beginnings = Beginnings(self.calls.values())
+        if self.keep(self.closed([], beginnings)):
+            return
+        size = FIRST_WINDOW
+        while size < len(order):
+            for calls in [own, order] if len(own) > size // WINDOW_FACTOR else [order]:
+                if self.keep(self.closed(calls[-size:], beginnings)):
+                    return
+            size *= WINDOW_FACTOR
+
+    def closed(self, window: Sequence[Call], beginnings: Beginnings) -> Set[int]:
+        """The named calls with the writers of what they show; and of a window the calls that stand on no write outside of it, with those
+        that made the documents which are there when it begins."""
+        makers = [self.maker_of(self.calls[it]) for it in self.wanted.calls]
+        makers += [beginnings.maker_at(id, window[0].line) for id in {it.id for it in window}]
+        kept = {*self.wanted.calls, *(it for it in makers if it is not None)}
+        inside = kept.union(it.number for it in window)
+        outside = [it.number for it in window if self.maker_of(it) not in inside and self.maker_of(it) is not None]
+        return inside.difference(self.with_readers(outside, inside) - kept)
+
+    def maker_of(self, call: Call) -> Optional[int]:
+        """The number of the call whose reply says that it made the version on which a call stands."""
+        return None if call.stands_on is None else self.makers.get(call.stands_on)
+
+    def with_readers(self, numbers: Iterable[int], among: Set[int]) -> Set[int]:
+        """The calls with all that stand on what they made, and so on: without those these would show what nobody wrote."""
+        found: Set[int] = set()
+        left = list(numbers)
+        while left:
+            number = left.pop()
+            if number not in found and number in among:
+                found.add(number)
+                made = self.calls[number].made
+                left += self.readers.get(made, ()) if made else ()
+        return found
 
     def leave_out_pieces(self, size: int) -> bool:
         """Tries to leave out each so many calls, in the order in which they stand, the last ones first; tells whether any are gone."""
         is_any_gone = False
-        order = [it for it in self.calls if it in self.kept]
+        order = [it.number for it in self.recorded.in_order(self.kept)]
         for start in range(len(order) - 1, -1, -size):
             piece = [it for it in order[max(0, start - size + 1) : start + 1] if it in self.kept]
-            is_gone = bool(piece) and (self.leave_out(self.with_readers(piece)) or size == 1 and self.leave_out(piece))
+            is_gone = bool(piece) and (self.leave_out(self.with_readers(piece, self.kept)) or size == 1 and self.leave_out(piece))
             is_any_gone = is_any_gone or is_gone
         return is_any_gone
 
@@ -206,7 +220,12 @@ def words_of(arguments: Sequence[str]) -> argparse.Namespace:
     add("--program", help="the casbench that is asked (./casbench, or that on the path)")
     add("--rule-out", action="store_true", help="as for a check")
     add("--conflicts", choices=("plain", "maybe"), default="plain", help="as for a check (plain)")
-    return parser.parse_args(arguments)
+    add("--witness", help="a witness of the history, which shows that a no is a false alarm: its part that is left stays verified")
+    add("--few-witness", help="a file that this part is written to, and must not be there")
+    setting = parser.parse_args(arguments)
+    if setting.few_witness and not setting.witness:
+        parser.error("--few-witness is a part of the witness that --witness names")
+    return setting
 
 
 def refuse_as_output(history: BinaryIO) -> None:
@@ -222,17 +241,27 @@ def write(text: bytes) -> None:
         out.write(text)
 
 
+def read_file(path: Optional[str]) -> Optional[bytes]:
+    """The bytes of a file, if one is named."""
+    if path is None:
+        return None
+    with open(path, "rb") as file:
+        return file.read()
+
+
 def main(arguments: Sequence[str]) -> int:
-    """Cuts down by the words given, and returns the exit status: 0, or 1 where there is nothing to cut down, or it can't be written."""
+    """Cuts down by the words given, and returns the exit status: 0, or 1 if there is nothing to cut down, or it can't be written."""
     setting = words_of(arguments)
     try:
-        words = ["--conflicts", setting.conflicts, *(["--rule-out"] if setting.rule_out else [])]
-        program = Program(setting.program or program_at_hand(), words)
+        program = Program(setting.program or program_at_hand(), setting.conflicts, setting.rule_out)
         with open(setting.file, "rb") as lines:
             refuse_as_output(lines)
-            shrinker = Shrinker(lines, program)
+            shrinker = Shrinker(lines, program, read_file(setting.witness))
         shrinker.shrink()
-        write(shrinker.text_of(shrinker.kept))
+        if setting.few_witness:
+            with open(setting.few_witness, "xb") as file:
+                file.write(shrinker.recorded.witness_of(shrinker.kept))
+        write(shrinker.recorded.text_of(shrinker.kept))
     except (ShrinkError, OSError) as fault:
         print(f"shrink.py: {fault}", file=sys.stderr)
         return 1

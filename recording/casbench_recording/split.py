@@ -9,6 +9,7 @@ call that is open, and that no document is on two shards. The folder has its nam
 one can't be given to a shard, or can't be written, or the split is interrupted, there is none.
 """
 
+import argparse
 import contextlib
 import errno
 import json
@@ -80,15 +81,19 @@ def named_at_last(folder: str) -> Iterator[str]:
 
 
 def main(arguments: Sequence[str]) -> int:
-    """Splits the history that the words name into files of the folder that they name, which is made."""
-    if len(arguments) != 2:
-        raise SystemExit("usage: split_by_shard.py HISTORY FOLDER")
-    history, folder = arguments
+    """Splits the history that is named into files of the folder that is named, which is made. Returns the exit status."""
+    parser = argparse.ArgumentParser(prog="split_by_shard.py", description="Splits a history by shard.")
+    parser.add_argument("history", metavar="HISTORY", help="the history, a file")
+    parser.add_argument("folder", metavar="FOLDER", help="the folder that is made, with a file for each shard")
+    setting = parser.parse_args(arguments)
     try:
-        with open(history, "rb") as lines, named_at_last(folder) as parts:
+        with open(setting.history, "rb") as lines, named_at_last(setting.folder) as parts:
             split(lines, parts)
-    except (SplitError, OSError) as fault:
+    except SplitError as fault:
         print(f"split_by_shard.py: {fault}", file=sys.stderr)
+        return 1
+    except OSError as fault:
+        print(f"split_by_shard.py: {fault.filename}: {fault.strerror}" if fault.filename else f"split_by_shard.py: {fault}", file=sys.stderr)
         return 1
     except KeyboardInterrupt:
         return 130

@@ -5,6 +5,7 @@ import json
 import os
 from typing import BinaryIO, Dict, Iterable, List, Optional, Tuple
 
+from .console import counted
 from .history import HistoryError, compact
 
 MOST_TOLD = 20
@@ -70,7 +71,8 @@ class Unjudged:
         """What is told at the end, line by line."""
         lines = [f"the recording ended early: {it}" for it in self.ended]
         if self.count:
-            lines.append(f"{self.count} documents are not judged, from some moment on or at all ({self.path}):")
+            are = "document is" if self.count == 1 else "documents are"
+            lines.append(f"{self.count} {are} not judged, from some moment on or at all ({self.path}):")
             lines += [f"  {document}: {why}" for document, why in self.reasons.items()]
             lines += [f"  and {self.count - MOST_TOLD} more"] if self.count > MOST_TOLD else []
         return lines

@@ -1,26 +1,24 @@
-"""A client's connection and the one to the cluster that it has: messages are passed on as they came, and their calls written."""
+"""A client's connection: its requests are passed on as they came, behind the lines of their calls."""
 
 import socket
 from typing import TYPE_CHECKING, Iterator, Optional, Union
 
-from .asked import AskedInPieces
+from .asked import AskedInPieces, Making
+from .bodies import MOST_READ
+from .cluster_side import ClusterSide
 from .connecting import Connecting
 from .exchange import Coming, ComingInPieces, Exchange
-from .http1 import LONGEST_REMEMBERED, BadMessage, Body, Response, decoded, head_end, without_empty_lines
-from .http1 import read_request, read_response, remembered_request, remembered_response
-from .judge import MOST_AT_ONCE, MOST_READ
+from .finding import Finding
+from .http1 import LONGEST_REMEMBERED, BadMessage, decoded, head_end, read_request, remembered_request, without_empty_lines
 from .loop import Stream
-from .routes import BULK, PASS, READS, SWEEP
-from .tls import TlsStream
+from .refusal import refusal
+from .routes import BULK, CALL, NODES, PASS, READS, SWEEP, Kind
 
 if TYPE_CHECKING:
-    from .proxy import Proxy
+    from .proxy import Node, Proxy
 
 MOST_AHEAD = 65_536
 """How many bytes of later requests are taken while one is open."""
-
-MOST_OF_ITEMS = 32 * 1024 * 1024
-"""The most bytes of an answer to a bulk request that are held back to be read, some of its items at a time."""
 
 MOST_TO_CONNECT = 10.0
 """For how many seconds a client waits until the cluster can be asked."""
@@ -28,27 +26,43 @@ MOST_TO_CONNECT = 10.0
 FEW_PARTS = 16
 """Of how many parts of a request it isn't counted how much memory they take."""
 
+MAKERS = (CALL, BULK, Kind.NEW, Kind.UPDATE, Kind.UNTOLD, Kind.MAKE)
+"""Requests that may make the index, unless they are gets."""
+
 HEADS = 4
 """How many times a long head is kept at most: as it is, its target, and the words that are read there."""
 
 CONTINUE = b"HTTP/1.1 100 Continue\r\n\r\n"
 
 
-def refusal(status: str, why: str) -> bytes:
-    """An answer of the proxy itself, after which the connection is closed."""
-    body = f"casbench_recording.proxy: {why}\n".encode()
-    head = f"HTTP/1.1 {status}\r\nContent-Type: text/plain\r\nContent-Length: {len(body)}\r\nConnection: close\r\n\r\n"
-    return head.encode() + body
+def address_of(connection: socket.socket) -> str:
+    """The address of the other side, as `127.0.0.1:40000`; empty if it is gone."""
+    try:
+        host, port, *_ = connection.getpeername()
+    except (OSError, ValueError):
+        return ""
+    return f"[{host}]:{port}" if ":" in host else f"{host}:{port}"
 
 
 class ClientSide:
     """A client's connection. It has one to the cluster of its own, which lives as long."""
 
-    def __init__(self, proxy: "Proxy", connection: socket.socket) -> None:
+    stream: Stream
+    exchange: Optional[Exchange]
+    is_tunnel: bool
+    is_working: bool
+    is_cluster_full: bool
+    active_at: float
+    held: int
+
+    def __init__(self, proxy: "Proxy", node: "Node", connection: socket.socket) -> None:
         self.proxy = proxy
+        self.node = node
+        # names the client in the lines of its calls, unless it says who it is
+        self.address = address_of(connection)
         self.stream = Stream(proxy.loop, connection, self)
         self.data = b""
-        self.exchange: Optional[Exchange] = None
+        self.exchange = None
         self.cluster: Optional[ClusterSide] = None
         self.connecting: Optional[Connecting] = None
         self.is_connected = self.is_tunnel = False
@@ -71,7 +85,7 @@ class ClientSide:
             return
         if self.connecting is None:
             self.connected_by = self.proxy.loop.now + MOST_TO_CONNECT
-            self.connecting = self.proxy.connect(self.connection_made)
+            self.connecting = self.proxy.connect(self.node, self.connection_made)
         self.heed_flow()
 
     def connection_made(self, made: Union[socket.socket, OSError]) -> None:
@@ -161,6 +175,9 @@ class ClientSide:
         if end > LONGEST_REMEMBERED:
             exchange.weight = HEADS * end
         is_bulk = route.kind is BULK and not judge.has_ended
+        if is_bulk and self.proxy.finding is not None and length is not None and end + length <= MOST_READ and not request.fields.encoding:
+            # (it may make the index, and is read as a whole)
+            is_bulk = False
         if length is not None and len(data) >= end + length and not (is_bulk and request.fields.encoding):
             whole = end + length
             self.data = data[whole:]
@@ -168,7 +185,7 @@ class ClientSide:
             return False
         if is_bulk:
             exchange.coming = ComingInPieces(data[:end], request.body(), request.fields.encoding)
-            exchange.asked = judge.ask_in_pieces(route)
+            exchange.asked = judge.ask_in_pieces(route, request.fields.who or self.address)
         else:
             exchange.coming = Coming(data[:end], request.body(), route is not PASS)
         self.data = data[end:]
@@ -176,19 +193,52 @@ class ClientSide:
 
     def ask_and_send(self, exchange: Exchange, content: Optional[bytes], data: bytes, is_sent: bool) -> None:
         """Has the calls of a request written, and passes it on. The content is None where too much of it came to be read."""
-        route, judge = exchange.route, self.proxy.judge
+        finding = self.proxy.finding
+        if exchange.route is PASS:
+            self.send(exchange, data, is_sent)
+            return
+        fields = exchange.request.fields
+        if content and (fields.encoding or len(content) > MOST_READ):
+            content = decoded(content, fields.encoding, MOST_READ)
+        if finding is None or not finding.concerns(exchange.route, content):
+            self.ask_now(exchange, content, data, is_sent)
+        else:
+            self.is_working = True
+            exchange.weight += len(data)
+            self.account()
+            finding.turns.wait_for(lambda: self.has_turn(finding, exchange, content, data, is_sent))
+
+    def has_turn(self, finding: Finding, exchange: Exchange, content: Optional[bytes], data: bytes, is_sent: bool) -> None:
+        """Passes on a request for an index that isn't there yet. One that may make it keeps the turn until it was answered."""
+        self.is_working = False
+        exchange.weight -= len(data)
+        route, request = exchange.route, exchange.request
+        if self.stream.is_closing:
+            finding.turns.end()
+            return
+        if finding.is_over or route.kind not in MAKERS or route.op == "get":
+            finding.turns.end()
+            self.ask_now(exchange, content, data, is_sent)
+        else:
+            making = exchange.asked = Making(route, request.method, content, request.fields.who or self.address)
+            finding.makes(making, lambda: self.lose(exchange))
+            self.send(exchange, data, is_sent)
+        if not self.is_working:
+            self.worked()
+
+    def ask_now(self, exchange: Exchange, content: Optional[bytes], data: bytes, is_sent: bool) -> None:
+        """Has the calls of a request written, and passes it on."""
+        route, request, judge = exchange.route, exchange.request, self.proxy.judge
         if route.kind is SWEEP:
             exchange.asked = judge.begin_sweep(route)
             self.is_working = True
             self.proxy.work(judge.sweeping(route), lambda: self.swept(exchange, data, is_sent))
             return
-        if route is not PASS:
-            request = exchange.request
-            if content and (request.fields.encoding or len(content) > MOST_READ):
-                content = decoded(content, request.fields.encoding, MOST_READ)
-            asked = exchange.asked = judge.ask(route, request.method, content)
-            if asked is not None and len(asked.parts) > FEW_PARTS:
-                self.account()
+        if route is NODES:
+            self.proxy.warn_of_nodes(request)
+        asked = exchange.asked = judge.ask(route, request.method, content, request.fields.who or self.address)
+        if asked is not None and len(asked.parts) > FEW_PARTS:
+            self.account()
         self.send(exchange, data, is_sent)
 
     def swept(self, exchange: Exchange, data: bytes, is_sent: bool) -> None:
@@ -322,208 +372,14 @@ class ClientSide:
         exchange, finding = self.exchange, self.proxy.finding
         if exchange is None or exchange.is_answered:
             return
-        if exchange.asked is not None:
-            self.proxy.judge.lost(exchange.asked)
-            exchange.asked = None
+        self.lose(exchange)
         if finding is not None:
             finding.never_answered(exchange)
 
-
-class ClusterSide:
-    """The connection to the cluster that a client's has."""
-
-    stream: Union[Stream, TlsStream]
-
-    def __init__(self, client: ClientSide, connection: socket.socket) -> None:
-        self.client = client
-        self.data = b""
-        loop, cluster = client.proxy.loop, client.proxy.cluster
-        if cluster.trust is None:
-            self.stream = Stream(loop, connection, self)
-            loop.soon(lambda: client.has_cluster(None))
-        else:
-            self.stream = TlsStream(loop, connection, self, cluster.trust, str(cluster.url.hostname), client.has_cluster)
-
-    def received(self, data: bytes) -> None:
-        """Takes what the cluster sent, and passes it on."""
-        client = self.client
-        client.active_at = client.proxy.loop.now
-        self.data = self.data + data if self.data else data
-        try:
-            while self.data and self.has_step():
-                pass
-        except BadMessage as fault:
-            self.fail(f"the answer can't be read: {fault}")
-        if self.data or client.held or client.exchange is not None and client.exchange.body is not None:
-            client.account()
-
-    def has_step(self) -> bool:
-        """Does the next step with what the cluster sent; tells whether there may be another one."""
-        client = self.client
-        exchange = client.exchange
-        if client.is_tunnel:
-            client.stream.write(self.data)
-            self.data = b""
-            return False
-        if exchange is None or exchange.is_answered:
-            self.fail("an answer came to no request")
-            return False
-        if exchange.response is None:
-            return self.has_head(exchange)
-        assert exchange.body is not None
-        self.take_piece(exchange, exchange.response, exchange.body)
-        return True
-
-    def has_head(self, exchange: Exchange) -> bool:
-        """Takes the head of an answer, and all of it where it came in one piece; tells whether there may be another step."""
-        data = self.data
-        end = head_end(data)
-        if not end:
-            return False
-        response = (remembered_response if end <= LONGEST_REMEMBERED else read_response)(data[:end])
-        method = exchange.request.method
-        if response.status < 200:
-            self.data = data[end:]
-            self.go_on(exchange, response, data[:end])
-        elif len(data) - end == response.length_for(method):
-            self.data, exchange.answer = b"", data
-            self.finish(exchange, response, data[end:])
-        else:
-            self.data = data[end:]
-            exchange.response, exchange.body = response, response.body(method)
-            exchange.body.is_kept = exchange.asked is not None
-            exchange.answer = bytearray(data[:end])
-            if exchange.body.is_done:
-                self.finish(exchange, response, b"")
-        return True
-
-    def go_on(self, exchange: Exchange, response: Response, head: bytes) -> None:
-        """Passes on by itself what goes before an answer."""
-        if response.status == 101:
-            self.client.proxy.judge.end("a client and the cluster went on in another protocol")
-            self.client.is_tunnel = True
-            self.client.stream.write(head)
-            self.client.go_on()
-        elif not exchange.was_continued or response.status != 100:
-            self.client.stream.write(head)
-
-    def take_piece(self, exchange: Exchange, response: Response, body: Body) -> None:
-        """Takes what came of the answer. That to calls is held back until their replies are written."""
-        count = body.take(self.data)
-        exchange.answer += self.data[:count]
-        self.data = self.data[count:]
-        if body.is_done:
-            self.finish(exchange, response, body.content())
-            return
-        most = MOST_OF_ITEMS if exchange.route.kind is BULK else MOST_READ
-        if exchange.asked is None or len(exchange.answer) > most or not self.client.proxy.has_room():
-            self.give_up_reply(exchange, body)
-            self.pass_on(exchange)
-
-    def give_up_reply(self, exchange: Exchange, body: Body) -> None:
-        """Writes the calls as lost whose answer can't be held back."""
-        if exchange.asked is not None:
-            self.client.proxy.judge.lost(exchange.asked)
-            exchange.asked = None
-        body.is_kept = False
-        body.kept.clear()
-
-    def pass_on(self, exchange: Exchange) -> None:
-        """Passes on what came of the answer."""
-        exchange.has_begun = True
-        answer, exchange.answer = exchange.answer, b""
-        self.client.stream.write(answer)
-
-    def finish(self, exchange: Exchange, response: Response, content: bytes) -> None:
-        """Writes what a whole answer says of calls, in steps if it says much."""
-        asked, exchange.asked, exchange.is_answered = exchange.asked, None, True
-        if asked is None:
-            self.look(exchange)
-            return
-        fields, proxy = response.fields, self.client.proxy
-        plain: Optional[bytes] = content
-        if fields.encoding or len(content) > MOST_READ:
-            plain = decoded(content, fields.encoding, MOST_OF_ITEMS if asked.kind is BULK else MOST_READ)
-        if len(asked.parts) <= MOST_AT_ONCE:
-            proxy.judge.answered(asked, response.status, plain, fields.length)
-            (self.deliver if proxy.finding is None else self.look)(exchange)
-        else:
-            self.wait(lambda go_on: proxy.work(proxy.judge.answering(asked, response.status, plain), go_on), exchange)
-
-    def wait(self, work: "Callable[[Callable[[], None]], None]", exchange: Exchange) -> None:
-        """Does what takes a while, and then goes on with the answer. Nothing more is taken meanwhile."""
-        self.client.is_working = True
-        self.stream.pause_reading()
-
-        def go_on() -> None:
-            self.client.is_working = False
-            self.client.resume_writing()
-            self.look(exchange)
-
-        work(go_on)
-
-    def look(self, exchange: Exchange) -> None:
-        """Has the index looked for, if it wasn't there and the request may have made it; then passes the answer on."""
-        finding = self.client.proxy.finding
-        if finding is None or exchange.request.method in READS:
-            self.deliver(exchange)
-            return
-        self.client.is_working = True
-        self.stream.pause_reading()
-        finding.answered(exchange, lambda: self.found(exchange))
-
-    def found(self, exchange: Exchange) -> None:
-        """Goes on after the index was looked for."""
-        self.client.is_working = False
-        self.client.resume_writing()
-        self.deliver(exchange)
-
-    def deliver(self, exchange: Exchange) -> None:
-        """Passes on an answer, or the last of it, and goes on with the next request."""
-        client = self.client
-        self.pass_on(exchange)
-        if self.data:
-            self.fail("more than an answer came")
-        elif exchange.is_sent and not self.stream.is_closing:
-            client.answered()
-        else:
-            # (the cluster is gone, or didn't want the rest of the request, and the client's next one can't be told from it)
-            client.close()
-        if client.held:
-            client.account()
-
-    def fail(self, why: str) -> None:
-        """Gives up: what was asked is lost, and the client is told, unless it has a part of an answer."""
-        client = self.client
-        client.give_up()
-        is_told = client.exchange is not None and not client.exchange.has_begun
-        client.exchange = None
-        client.close(refusal("502 Bad Gateway", why) if is_told else b"")
-
-    def pause_writing(self) -> None:
-        """Takes no more from the client while the cluster is slow to take it."""
-        self.client.is_cluster_full = True
-        self.client.heed_flow()
-
-    def resume_writing(self) -> None:
-        """Takes from the client again."""
-        self.client.is_cluster_full = False
-        self.client.heed_flow()
-
-    def ended(self) -> None:
-        """Hears that the cluster sends no more."""
-        self.stream.close()
-
-    def connection_lost(self) -> None:
-        """Ends the client's connection too: with the end of an answer that ends so, or with word that there is none."""
-        client = self.client
-        exchange = client.exchange
-        if client.stream.is_closing or exchange is not None and exchange.is_answered:
-            return
-        if exchange is not None and exchange.body is not None and exchange.body.at_close() and self.stream.is_at_end:
-            assert exchange.response is not None
-            self.finish(exchange, exchange.response, exchange.body.content())
-        elif exchange is not None and not client.is_tunnel:
-            self.fail("the cluster closed the connection and gave no whole answer")
-        else:
-            client.close()
+    def lose(self, exchange: Exchange) -> None:
+        """Writes the calls of a request as lost. If it might have made the index others go on."""
+        asked, exchange.asked = exchange.asked, None
+        if asked is not None:
+            self.proxy.judge.lost(asked)
+        if isinstance(asked, Making) and self.proxy.finding is not None:
+            self.proxy.finding.has_made(False)

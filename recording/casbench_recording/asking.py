@@ -1,0 +1,237 @@
+"""Which calls a request makes. Their lines are written before the request is passed on."""
+
+from typing import Any, Dict, Iterator, List, Mapping, Optional, Sequence
+
+from .asked import Asked, AskedInPieces, Part, condition_of
+from .bodies import MOST_READ, texts_of
+from .bulk import Item, Untellable
+from .documents import NOT_JUDGED, Document, digest_of_text, object_of
+from .history import Operation
+from .ledger import Ledger
+from .routes import BULK, CALL, OF_A_GET, OF_AN_UPDATE, SWEEP, Kind, Route
+
+MOST_LOOKED_AT = 512 * 1024
+"""The most bytes of a body of settings, mappings or aliases that is looked at."""
+
+MOST_PLACES = 5000
+"""The most documents of a get of several that is recorded."""
+
+OF_AN_ITEM = {"_index", "_type", "_id", "op_type", *OF_AN_UPDATE}
+"""What may stand in the action of a bulk request's item."""
+
+OF_A_PLACE = {"_index", "_type", "_id", *OF_A_GET}
+"""What may stand in a place of a get of several."""
+
+OF_A_PARTIAL_UPDATE = {"doc", "doc_as_upsert", "upsert", "detect_noop", "_source"}
+"""What may stand in the body of an update that writes a document and can't delete it."""
+
+Body = Dict[str, Any]
+
+
+class Asking:
+    """Tells what each request asks, and writes the lines of its calls."""
+
+    def __init__(self, ledger: Ledger) -> None:
+        self._ledger = ledger
+        self._recording = ledger.recording
+
+    def ask(self, route: Route, method: str, content: Optional[bytes], client: str = "") -> Optional[Asked]:
+        """Writes the calls of a client's request, before it is passed on. The content is None where it can't be read."""
+        try:
+            return None if self._recording.has_ended else self._ask(route, method, content, client)
+        except Exception as fault:
+            self._recording.end_by(fault)
+        return None
+
+    def ask_in_pieces(self, route: Route, client: str = "") -> AskedInPieces:
+        """Begins with a client's bulk request, whose content comes in pieces."""
+        return AskedInPieces(route.words, route.room, client, MOST_READ)
+
+    def take_items(self, asked: AskedInPieces, content: Optional[bytes], is_last: bool, has_room: bool = True) -> None:
+        """Writes the calls of the items that are whole, before they are passed on. The content is None where it can't be read.
+
+        If there is no room the answer isn't asked for the ids of those that have none.
+        """
+        try:
+            if content is None and not self._recording.has_ended:
+                raise Untellable("a bulk request whose body can't be read")
+            if content is not None and not self._recording.has_ended:
+                parts = [self._item(it, asked) for it in asked.items.take(content, is_last)]
+                self._write_parts(parts, asked.client)
+                asked.add(parts, has_room)
+        except Exception as fault:
+            self._recording.end_by(fault)
+
+    def begin_sweep(self, route: Route) -> Optional[Asked]:
+        """Heeds that a request may change every document that is there, those of now and those that are seen before its answer."""
+        if self._recording.has_ended:
+            return None
+        self._ledger.begin_sweep()
+        return Asked(route.kind, (), is_over_at_answer=not route.op)
+
+    def sweeping(self, route: Route) -> Iterator[None]:
+        """Judges those no longer that are there, before the request is passed on, in steps between which others have their turn."""
+        try:
+            yield from self._ledger.sweep(f"{route.why} may have changed it")
+        except Exception as fault:
+            self._recording.end_by(fault)
+
+    def _ask(self, route: Route, method: str, content: Optional[bytes], client: str) -> Optional[Asked]:
+        kind = route.kind
+        if kind is CALL:
+            digest = digest_of_text(content) if route.op in ("index", "create") else None
+            return self._made_one(kind, Part(route.id, route.op, route.words, digest), client, method == "HEAD")
+        if kind is Kind.NEW:
+            return self._made_one(kind, Part("", route.op, route.words, digest_of_text(content)), client)
+        if kind is Kind.UPDATE:
+            return self._made(kind, [self._update(route.id, route.words, object_of(content))], client)
+        if kind is BULK:
+            bulk = self.ask_in_pieces(route, client)
+            self.take_items(bulk, content, True)
+            return bulk if bulk.has_calls else None
+        if kind is Kind.MULTIPLE_GET:
+            return self._made(kind, list(self._places(route, object_of(content))), client)
+        if kind is SWEEP:
+            asked = self.begin_sweep(route)
+            for _ in self.sweeping(route):
+                pass
+            return asked
+        if kind is Kind.UNTOLD:
+            self._left_out(route.id, route.why)
+            if route.op == "new":
+                self._ledger.untold("", route.why)
+        elif kind is Kind.END or kind is Kind.LOOK and not is_harmless(route, content):
+            raise Untellable(route.why)
+        return None
+
+    # The calls of a request, and their lines
+
+    def _made_one(self, kind: Kind, part: Part, client: str, is_head: bool = False) -> Asked:
+        """Writes the call of a request that makes one, before the request is passed on."""
+        part.client = client
+        if self._is_ready(part) and part.document is not None:
+            history = self._recording.history.of_shard(part.document.shard)
+            self._recording.write_calls_of(history, [(part, self.operation(part))])
+        return Asked(kind, (part,), is_head)
+
+    def _made(self, kind: Kind, parts: List[Optional[Part]], client: str) -> Optional[Asked]:
+        """Writes the calls of the parts, all of them before the request is passed on."""
+        self._write_parts(parts, client)
+        called = [it if it is not None and it.call is not None else None for it in parts]
+        return Asked(kind, called) if any(it is not None for it in called) else None
+
+    def _write_parts(self, parts: Sequence[Optional[Part]], client: str) -> None:
+        """Writes the calls of the parts."""
+        for it in parts:
+            if it is not None:
+                it.client = client
+        ready = [it for it in parts if it is not None and self._is_ready(it)]
+        # (another part of the request may have ended the judgement of a document)
+        judged = [it for it in ready if it.document is not None and it.document.state is not NOT_JUDGED]
+        self._recording.write_calls([(it, self.operation(it)) for it in judged])
+
+    def write_part(self, part: Part) -> bool:
+        """Writes the call of a part, if it is one of a document that is judged; tells whether it is."""
+        if not self._is_ready(part):
+            return False
+        self._recording.write_calls([(part, self.operation(part))])
+        return True
+
+    def _is_ready(self, part: Part) -> bool:
+        """Whether a part is a call of a document that is judged, or of one whose id the answer tells."""
+        part.sweeps = self._ledger.sweeps
+        if not part.id:
+            self._ledger.unnamed += 1
+            return True
+        part.document = self._document_of(part)
+        self._ledger.left_out += part.document is None
+        return part.document is not None
+
+    def _document_of(self, part: Part) -> Optional[Document]:
+        """The document of a part, if it is judged. A write that can't be told ends that."""
+        ledger, shape = self._ledger, self._ledger.shape
+        is_routed = shape is not None and shape.shards > 1 and bool({"routing", "parent"} & set(part.words))
+        if part.op == "get" and (is_routed or shape is None):
+            return None
+        if shape is None:
+            ledger.untold(part.id, "it was written before the index was looked at")
+        elif is_routed:
+            ledger.untold(part.id, "it was written with a routing, in an index of several shards")
+        return ledger.document(part.id)
+
+    def operation(self, part: Part) -> Operation:
+        """The call that a part is."""
+        document = part.document
+        assert document is not None
+        condition, part.is_sure = condition_of(part.op, part.words)
+        if part.op in ("index", "create"):
+            part.number = document.number_to_write(part.digest)
+            document.writes += 1
+        elif part.op == "delete":
+            document.deletes += 1
+        return Operation(part.op, part.id, part.number, condition, document.shard, part.client)
+
+    # What a request says of a document
+
+    def _left_out(self, id: str, why: str) -> None:
+        """Heeds a write that can't be told, and has no line."""
+        self._ledger.left_out += 1
+        self._ledger.untold(id, why)
+
+    def _update(self, id: str, words: Mapping[str, Any], body: Optional[Body]) -> Optional[Part]:
+        """The call that an update is: a write of a source that nobody knows, where it can't be a delete."""
+        if body is None or not OF_A_PARTIAL_UPDATE.issuperset(body):
+            self._left_out(id, "it was updated, perhaps by a script")
+            return None
+        return Part(id, "index", {"if_seq_no": None, **words})
+
+    def _item(self, item: Item, asked: AskedInPieces) -> Optional[Part]:
+        """The call of an item of a bulk request, or None where it is none of the index, or can't be told."""
+        op, words, ledger = item.op, {**asked.words, **item.words}, self._ledger
+        index, id = words.get("_index", asked.room), words.get("_id", "")
+        if op not in ("index", "create", "delete", "update") or not isinstance(index, str) or not isinstance(id, str):
+            raise Untellable(f"a bulk request with the action {op[:20]!r}")
+        if index not in ledger.names.all:
+            if ledger.names.may_be_among(index):
+                self._left_out(id, f"it was written by a bulk request to {index[:200]}")
+            return None
+        if index in ledger.names.routed:
+            words = {"routing": index, **words}
+        if words.get("pipeline", "_none") != "_none":
+            raise Untellable(f"a bulk request with pipeline={str(words['pipeline'])[:200]}")
+        strange = sorted(set(words) - OF_AN_ITEM - {"pipeline"})
+        if strange:
+            self._left_out(id, f"it was written by a bulk request, with {strange[0][:200]}")
+            return None
+        if op == "update":
+            return self._update(id, words, object_of(item.source))
+        op = "create" if op == "index" and words.get("op_type") == "create" else op
+        return Part(id, op, words, digest_of_text(item.source))
+
+    def _places(self, route: Route, body: Optional[Body]) -> Iterator[Optional[Part]]:
+        """The calls of a get of several documents."""
+        names = self._ledger.names
+        places = (body or {}).get("docs")
+        ids = (body or {}).get("ids")
+        if not isinstance(places, list):
+            places = [{"_id": it} for it in ids] if isinstance(ids, list) else []
+        # (those for which there is no room leave what was recorded, and no document is kept of them)
+        room = min((it.room for it in self._recording.history.histories if not it.has_ended), default=MOST_PLACES)
+        for place in places if len(places) <= min(room, MOST_PLACES) else ():
+            words = {**route.words, **place} if isinstance(place, dict) else {}
+            index, id = words.get("_index", route.room), words.get("_id")
+            is_plain = OF_A_PLACE.issuperset(words) and words.get("realtime", True) in (True, "true")
+            if not isinstance(id, str) or not id or index not in names.all or not is_plain:
+                yield None
+            else:
+                yield Part(id, "get", {"routing": index, **words} if index in names.routed else words)
+
+
+def is_harmless(route: Route, content: Optional[bytes]) -> bool:
+    """Whether neither the body nor the query of a request says one of the words that count."""
+    texts = texts_of(content) if content is not None and len(content) <= MOST_LOOKED_AT else None
+    if texts is None:
+        return False
+    texts.update(route.words, route.words.values())
+    together = "\n".join(texts)
+    return not route.whole & texts and not any(it in together for it in route.told)

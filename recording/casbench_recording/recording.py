@@ -1,0 +1,134 @@
+"""The lines of a recording that watches, and its end: at its time, or before it, where what is written can't be told any more."""
+
+from typing import Callable, Dict, Optional, Sequence, Tuple, Union
+
+from .asked import Part
+from .bulk import Untellable
+from .continuing import Continuing, TooManyLost
+from .history import Call, Ended, History, HistoryError, Operation
+from .parts import Parts
+from .past import Beginning
+from .unjudged import Unjudged
+
+Reply = Tuple[int, str]
+"""The status and the text of the body of a reply."""
+
+Ending = Tuple[Call, Optional[Reply]]
+"""A call that ends, with its reply, or None if it is lost."""
+
+Histories = Union[History, Parts, Continuing]
+"""Where the lines of a recording go."""
+
+
+class Recording:
+    """The history, or one for each shard, or one without end, and the list beside it. One thread uses it."""
+
+    def __init__(self, history: Histories, unjudged: Unjudged) -> None:
+        self.history = history
+        self.unjudged = unjudged
+        self.has_ended = False
+        # is called when the recording, or the history of a shard, ends before its time, with the reason
+        self.tell_ended: Callable[[str], None] = lambda why: None
+        # has a document judged no longer, for a reason
+        self.leave: Callable[[str, str], None] = lambda id, why: None
+        # of the documents that moved to another part, with the calls that are written, what that begins with
+        self._moved: Dict[str, Beginning] = {}
+        if isinstance(history, Continuing):
+            history.heed_move = self._moved.__setitem__
+
+    def end(self, why: str) -> None:
+        """Ends the recording before its time: all calls that are open are lost, and no more are written."""
+        if not self.has_ended:
+            self.has_ended = True
+            self._ends(why)
+            self.end_histories()
+
+    def end_by(self, fault: Exception) -> None:
+        """Ends the recording: the application goes on, and nothing stands in the history behind what wasn't understood."""
+        self.end(str(fault) if isinstance(fault, Untellable) else f"a fault of the recorder: {fault!r}")
+
+    def end_histories(self) -> None:
+        """Ends each history."""
+        for history in self.history.histories:
+            try:
+                history.end()
+            except HistoryError as fault:
+                self._ends(str(fault))
+
+    def end_part(self, history: Union[History, Continuing], why: str) -> None:
+        """Ends the history of a shard, or the one of all."""
+        self.has_ended = self.has_ended or not isinstance(self.history, Parts)
+        if why not in self.unjudged.ended:
+            self._ends(why)
+        history.end()
+
+    def _ends(self, why: str) -> None:
+        """Reports the reason for which a history ends before its time."""
+        self.unjudged.ends(why)
+        self.tell_ended(why)
+
+    def write_calls(self, made: Sequence[Tuple[Part, Operation]]) -> None:
+        """Writes the lines of calls, those of one shard together. A history that is full ends, and with it what is open."""
+        shards = {operation.shard for _, operation in made}
+        for shard in shards:
+            its = made if len(shards) == 1 else [it for it in made if it[1].shard == shard]
+            self.write_calls_of(self.history.of_shard(shard), its)
+
+    def write_calls_of(self, history: Union[History, Continuing], made: Sequence[Tuple[Part, Operation]]) -> None:
+        """Writes the lines of calls to a history. A document that it can't go on with is judged no longer."""
+        while made and not self.has_ended:
+            try:
+                calls = [history.call_one(made[0][1])] if len(made) == 1 else history.call_all([it for _, it in made])
+            except TooManyLost as fault:
+                self.leave(fault.id, str(fault))
+                made = [it for it in made if it[1].id != fault.id]
+            except Ended:
+                self.end_part(history, f"{history.path} is full")
+                return
+            except HistoryError as fault:
+                self.end_part(history, str(fault))
+                return
+            else:
+                self._called([part for part, _ in made], calls)
+                return
+
+    def _called(self, parts: Sequence[Part], calls: Sequence[Call]) -> None:
+        """Keeps the calls whose lines are written. A document that begins another part forgets what that has nothing of."""
+        for part, call in zip(parts, calls):
+            part.call = call
+            if part.document is not None:
+                part.document.open[call] = None
+        if self._moved:
+            for document in {it.document for it in parts if it.document is not None and it.document.id in self._moved}:
+                document.goes_on(self._moved[document.id])
+            self._moved.clear()
+
+    def write_ending(self, call: Call, reply: Optional[Reply]) -> None:
+        """Writes the ending of a call. If the history ended in the meantime the call is lost by that."""
+        try:
+            if reply is None:
+                call.lost()
+            else:
+                call.tell(*reply)
+        except Ended:
+            pass
+        except HistoryError as fault:
+            self.end_part(call.history, str(fault))
+
+    def write_endings(self, endings: Sequence[Ending]) -> None:
+        """Writes the lines of endings, those of one history together."""
+        for history in {call.history for call, _ in endings}:
+            try:
+                history.end_all([it for it in endings if it[0].history is history])
+            except HistoryError as fault:
+                self.end_part(history, str(fault))
+
+    def lose(self, calls: Sequence[Call]) -> None:
+        """Writes calls as lost, those of one history together."""
+        histories = {it.history for it in calls}
+        for history in histories:
+            its = calls if len(histories) == 1 else [it for it in calls if it.history is history]
+            try:
+                history.lose(its)
+            except HistoryError as fault:
+                self.end_part(history, str(fault))

@@ -1,0 +1,184 @@
+"""Checks a witness against a history, by the definitions of docs/MODEL.md and docs/FORMATS.md alone.
+
+It shares nothing with casbench, its tests or the rest of this package, so that it can be read and trusted by itself."""
+
+import json
+from contextlib import suppress
+from dataclasses import dataclass
+from typing import Any, Callable, Dict, Iterator, List, Optional, Set, Tuple
+
+Members = Dict[str, Any]
+Pair = Tuple[int, int]  # primary term and sequence number, compared in this order
+Place = Tuple[int, Optional[Pair]]  # the number of a record, and the pair that is given
+Version = Tuple[Optional[Pair], Optional[int]]  # of a document the pair of its last change, and its number, None if it isn't there
+
+EVENTS, WRITES_K = ("call", "reply", "lost"), {"get": False, "index": True, "create": True, "delete": False}
+ROWS: Dict[Tuple[str, int, str], Tuple[str, Optional[bool]]] = {  # operation, status, what the body says: the reply, whether it was there
+    **{("get", 200, "true"): ("found", True), ("get", 404, "false"): ("missing", False), ("index", 201, '"created"'): ("created", False)},
+    **{("index", 200, '"updated"'): ("updated", True), ("create", 201, '"created"'): ("created", False)},
+    **{("delete", 200, '"deleted"'): ("deleted", True), ("delete", 404, '"not_found"'): ("not_found", False)},
+    **{(op, 409, '"version_conflict_engine_exception"'): ("conflict", None) for op in ("index", "create", "delete")},
+}
+
+
+class Refused(Exception):
+    """A line that the format doesn't allow: its file and its number."""
+
+
+class Broken(Exception):
+    """The first fault: where, as casbench writes it; the document; the calls that it is about; and of a place the version before it."""
+
+
+@dataclass
+class Call:
+    """A call: what it asks, and the event at which it was made; if it was answered, at which event and with what."""
+
+    number: int
+    id: str
+    shard: int
+    op: str
+    k: Optional[int]
+    condition: Optional[Pair]
+    made: int
+    answered: Optional[int] = None
+    reply: str = "no reply"
+    was_there: Optional[bool] = None
+    pair: Optional[Pair] = None
+    found: Optional[int] = None
+
+
+def number_in(members: Members, key: str, bits: int, least: int = 0) -> int:
+    """The number under the key: whole, and below 2 to the power of `bits`."""
+    if type(members[key]) is not int or not least <= members[key] < 2**bits:
+        raise ValueError(key)
+    return int(members[key])
+
+
+def pair_in(members: Members, term: str, seq: str) -> Optional[Pair]:
+    """The pair under the two keys, None if neither is there."""
+    return (number_in(members, term, 63, 1), number_in(members, seq, 63)) if term in members or seq in members else None
+
+
+def id_in(members: Members, key: str) -> str:
+    if not 1 <= len(members[key].encode()) <= 512:
+        raise ValueError(key)
+    return str(members[key])
+
+
+def call_of(line: Members, event: int) -> Call:
+    op = line["op"]
+    k = number_in(line, "k", 64) if WRITES_K[op] else None
+    condition = pair_in(line, "if_primary_term", "if_seq_no") if op in ("index", "delete") else None
+    return Call(number_in(line, "n", 64), id_in(line, "id"), number_in({"shard": 0, **line}, "shard", 10), op, k, condition, event)
+
+
+def hear(call: Call, event: int, status: int, body: Any) -> None:
+    """Notes a reply, unless no row of the table fits: then the outcome is unknown."""
+    if isinstance(body, dict) and isinstance(body.get("_id"), str) and body["_id"] != call.id:
+        raise ValueError("a reply of another document")
+    with suppress(KeyError, TypeError, ValueError):
+        says = body["error"]["type"] if status == 409 else body["found" if call.op == "get" else "result"]
+        reply, was_there = ROWS[call.op, status, json.dumps(says)]
+        pair = (number_in(body, "_primary_term", 63, 1), number_in(body, "_seq_no", 63)) if reply not in ("missing", "conflict") else None
+        call.found = number_in(body["_source"], "k", 64) if reply == "found" else None
+        call.answered, call.reply, call.was_there, call.pair = event, reply, was_there, pair
+
+
+def read(text: bytes, file: str, take: Callable[[Any], None]) -> None:
+    """Hands the value of each line that isn't blank to `take`, which raises an error for one that isn't of the format."""
+    for number, line in enumerate(text.split(b"\n"), 1):
+        try:
+            if line.strip(b" \t\r"):
+                take(json.loads(line.decode()))
+        except (AttributeError, IndexError, KeyError, TypeError, ValueError, RecursionError) as fault:
+            raise Refused(f"file={file} line={number}") from fault
+
+
+class Texts:
+    """What was read: the calls by number, the records of each document in the order of their lines, the entries of the witness."""
+
+    def __init__(self, history: bytes, witness: bytes) -> None:
+        self.calls: Dict[int, Call] = {}
+        self.ended: Set[int] = set()
+        self.records: Dict[str, List[Call]] = {}
+        self.entries: List[Tuple[str, List[Place]]] = []
+        read(history, "history", self.take_event)
+        read(witness, "witness", self.take_place)
+
+    def take_event(self, line: Members) -> None:
+        event, is_call = len(self.calls) + len(self.ended), line["e"] == "call"
+        call = call_of(line, event) if is_call else self.calls[number_in(line, "n", 64)]
+        first = self.records.get(call.id, [call])[0]
+        if call.number in (self.calls if is_call else self.ended) or line["e"] not in EVENTS or call.shard != first.shard:
+            raise ValueError(line)
+        if line["e"] == "reply":
+            hear(call, event, number_in(line, "status", 16), line.get("body"))
+        if is_call:
+            self.calls[call.number] = call
+            self.records.setdefault(call.id, []).append(call)
+        else:
+            self.ended.add(call.number)
+
+    def take_place(self, line: Members) -> None:
+        if "doc" in line:
+            self.entries.append((id_in(line, "doc"), []))
+        else:
+            self.entries[-1][1].append((number_in(line, "rec", 32), pair_in(line, "term", "seq")))
+
+
+def version_after(call: Call, given: Optional[Pair], before: Version) -> Optional[Version]:
+    """The document after the call, None if the call can't be answered so in this version of it."""
+    (last, k), pair, is_there = before, given or call.pair, before[1] is not None
+    if call.op == "get":
+        return before if (call.was_there, call.pair, call.found) == (is_there, last if is_there else None, k) else None
+    is_met = not is_there if call.op == "create" else call.condition is None or is_there and call.condition == last
+    if is_met != (pair is not None) or call.was_there not in (None, is_there) or pair and last and pair <= last:
+        return None
+    return (pair, call.k) if pair else before
+
+
+def taken_in(entry: int, places: List[Place], records: List[Call], is_maybe: bool) -> Iterator[Tuple[Pair, Call]]:
+    """The pairs that the calls of an entry take, each with its call. Raises Broken at the first fault."""
+    placed: Set[int] = set()
+    latest, version = records[0], (None, None)  # type: Call, Version
+    for at, (record, given) in enumerate(places):
+        call = records[min(record, len(records) - 1)]
+        is_answered, latest = call.answered is not None, max(latest, call, key=lambda it: it.made)
+        after, pair = version_after(call, given, version), given or call.pair
+        faults = {
+            "stranger": record >= len(records) or call.op == "get" and not is_answered,
+            "twice": record in placed,
+            "pair-missing": given is None and not is_answered,
+            "pair-given": given is not None and is_answered and not (is_maybe and call.reply == "conflict"),
+            "late": call.answered is not None and call.answered < latest.made,
+            "illegal": after is None,
+        }
+        if after is None or any(faults.values()):
+            cause = next(it for it, is_so in faults.items() if is_so)
+            raise Broken(f"entry={entry} cause={cause} place={at}", call.id, [] if record >= len(records) else [call, latest], version)
+        placed.add(record)
+        if call.op != "get" and pair:
+            yield pair, call
+        version = after
+    for record, call in enumerate(records):
+        if call.answered is not None and record not in placed:
+            raise Broken(f"entry={entry} cause=absent rec={record}", call.id, [call])
+
+
+def check(texts: Texts, is_maybe: bool) -> int:
+    """Returns how many calls stand in no place, raises Broken at the first fault. `is_maybe`: a conflict may hide a performed write."""
+    seen: Set[str] = set()
+    takers: Dict[Tuple[int, Pair], List[Call]] = {}
+    for entry, (id, places) in enumerate(texts.entries):
+        if id not in texts.records or id in seen:
+            raise Broken(f"entry={entry} cause={'doc-twice' if id in seen else 'doc-stranger'}", id, [])
+        seen.add(id)
+        for pair, call in taken_in(entry, places, texts.records[id], is_maybe):
+            takers.setdefault((call.shard, pair), []).append(call)
+    for number, id in enumerate(texts.records):
+        if id not in seen:
+            raise Broken(f"doc={number} cause=doc-missing", id, texts.records[id][:1])
+    for (shard, (term, seq)), calls in sorted(takers.items(), key=lambda it: it[0]):
+        if len(calls) > 1:
+            raise Broken(f"term={term} seq={seq} cause=pair-twice{f' shard={shard}' if shard else ''}", calls[0].id, calls)
+    return len(texts.calls) - sum(len(places) for _, places in texts.entries)

@@ -1,0 +1,176 @@
+#!/usr/bin/env python3
+"""Tests the package's load, the clients that a store is recorded by, on stores in memory.
+
+    python3 tests/recorded_load.py [PROGRAM]
+
+PROGRAM is the built casbench; where it is not named, the one that ./casbench would run. The last line says how many tests passed and failed.
+"""
+
+import sys
+import threading
+import time
+from collections import Counter
+
+from program import TOP
+from recordings import FolderTest, run_tests
+
+from casbench_recording.history import History, Pair
+from casbench_recording.load import MIXTURE, Draw, Habits, Kind, Load, NoOutcome, Outcome, Unreachable
+
+sys.path.insert(0, str(TOP / "examples" / "harness"))
+
+from dictionary import Dictionary, Session
+
+MANY = Habits(MIXTURE, documents=3)
+
+
+class Nodes(Dictionary):
+    """A dictionary behind several nodes, which notes what is asked at each, and takes so many seconds for it. What the faults of a node say
+    happens there."""
+
+    def __init__(self, nodes, faults=(), pause=0.0):
+        super().__init__("none")
+        self.nodes, self.faults, self.pause = nodes, dict(faults), pause
+        self.connected, self.sent, self.closed, self.after_a_fault = Counter(), Counter(), Counter(), 0
+        self.guard = threading.Lock()
+
+    def connect(self, node):
+        with self.guard:
+            self.connected[node] += 1
+        if self.faults.get(node) == "unreachable":
+            raise Unreachable
+        return NodeSession(self, node)
+
+
+class NodeSession(Session):
+    """A session with a node. One whose answer didn't come has an answer owed, and must not be asked again."""
+
+    def __init__(self, store, node):
+        super().__init__(store)
+        self.node, self.has_failed = node, False
+
+    def send(self, call):
+        time.sleep(self.store.pause)
+        with self.store.guard:
+            self.store.sent[self.node] += 1
+            self.store.after_a_fault += self.has_failed
+
+    def outcome(self, call):
+        told = super().outcome(call)
+        if self.store.faults.get(self.node) == "silent":
+            self.has_failed = True
+            raise NoOutcome("silent")
+        return told
+
+    def close(self):
+        with self.store.guard:
+            self.store.closed[self.node] += 1
+
+
+class LoadTest(FolderTest):
+    """What the clients do."""
+
+    def run_load(self, store, calls=400, clients=4, habits=MANY, **run):
+        """Runs a load with a history of so many calls."""
+        with History(self.file, most_events=2 * calls) as history:
+            load = Load(history, seed=3)
+            load.add_clients(clients, store, habits)
+            load.run(**run)
+        return load
+
+    def test_what_an_honest_store_answers_is_recorded(self):
+        self.run_load(Nodes(2))
+        self.assertEqual(self.check(), "yes docs=3 calls=400 left_out=0")
+        rows = self.lines()
+        self.assertEqual({it["op"] for it in rows if it["e"] == "call"}, {"get", "index", "create", "delete"})
+        self.assertTrue(any("if_seq_no" in it and it["op"] == "delete" for it in rows))
+        # the value of a write is the number of its call
+        self.assertTrue(all(it["k"] == it["n"] for it in rows if "k" in it))
+
+    def test_one_client_makes_the_same_calls_by_one_seed(self):
+        texts = []
+        for name in ("one", "two"):
+            self.file = f"{self.folder}/{name}"
+            self.run_load(Nodes(1), calls=100, clients=1)
+            texts.append([{key: value for key, value in it.items() if key != "t"} for it in self.lines()])
+        self.assertEqual(*texts)
+        self.assertEqual([Draw("7/0").below(100) for _ in range(3)], [Draw("7/0").below(100)] * 3)
+
+    def test_dropped_answers_are_lost_whether_they_were_performed_or_not(self):
+        store = Nodes(1)
+        load = self.run_load(store, habits=Habits(MIXTURE, 3, dropped=200))
+        self.assertTrue(40 <= load.history.lost <= 160, load.history.lost)
+        self.assertEqual(sum(store.sent.values()), 400)
+        self.assertEqual(self.check().partition(" left_out")[0], "yes docs=3 calls=400")
+        # a client with an answer owed closes its connection
+        self.assertEqual(store.connected[0], store.closed[0])
+        self.assertGreater(store.closed[0], load.history.lost)
+
+    def test_a_call_without_an_outcome_is_lost_and_the_next_node_is_asked(self):
+        store = Nodes(2, {0: "silent"})
+        load = self.run_load(store)
+        self.assertEqual(store.sent[0], load.history.lost)
+        self.assertGreater(store.sent[1], 300)
+        self.assertEqual(store.after_a_fault, 0)
+
+    def test_a_node_that_is_not_reached_is_not_asked(self):
+        store = Nodes(2, {0: "unreachable"})
+        load = self.run_load(store)
+        self.assertEqual((store.sent[0], load.history.lost), (0, 0))
+        self.assertGreater(store.connected[0], 0)
+
+    def test_a_bound_client_stays(self):
+        store = Nodes(2, {0: "silent"})
+        with History(self.file, most_events=40) as history:
+            load = Load(history, seed=3)
+            load.add_clients(1, store, Habits({"get": 1}, is_bound=True), node=0)
+            load.run()
+        self.assertEqual((store.sent[0], store.sent[1], history.lost), (20, 0, 20))
+
+    def test_it_is_disturbed_each_time_there_are_so_many_more_calls(self):
+        at = []
+        load = self.run_load(Nodes(1, pause=0.01), disturb=lambda: at.append(None), calls_between=100)
+        self.assertTrue(1 <= len(at) <= 3, len(at))
+        self.assertEqual(load.history.calls, 400)
+
+    def test_held_clients_make_no_calls(self):
+        store = Nodes(2, pause=0.01)
+        counts = []
+        with History(self.file, most_events=1200) as history:
+            load = Load(history, seed=3)
+            load.add_clients(2, store, MANY, node=0)
+            readers = load.add_clients(2, store, Habits({"get": 1}), node=1)
+
+            def disturb():
+                load.hold(readers)
+                load.wait(0.5, 0.5)
+                counts.append(store.sent[1])
+                load.wait_for(history.calls + 50)
+                counts.append(store.sent[1])
+                load.release(readers)
+                load.wait(0.2, 0.2)
+
+            load.run(disturb, calls_between=100)
+        self.assertEqual(counts[0::2], counts[1::2])
+        self.assertGreater(counts[-1], counts[0])
+
+    def test_what_a_client_meets_is_raised(self):
+        for fault in (OSError("odd"), KeyboardInterrupt()):
+
+            def disturb():
+                raise fault
+
+            self.file = f"{self.folder}/{type(fault).__name__}"
+            self.assertRaises(type(fault), self.run_load, Nodes(1, pause=0.01), disturb=disturb, calls_between=100)
+
+    def test_an_outcome_without_a_pair_is_none(self):
+        with History(self.file) as history:
+            call = history.call("index", "d", 1)
+            self.assertRaises(NoOutcome, Outcome(Kind.CREATED).write, call)
+            self.assertTrue(call.is_open)
+            Outcome(Kind.CREATED, Pair(1, 3)).write(call)
+            self.assertFalse(call.is_open)
+
+
+if __name__ == "__main__":
+    sys.exit(run_tests())

@@ -1,0 +1,230 @@
+#!/usr/bin/env python3
+"""Tests the checker on recordings of real stores, of Debian's packages, whose nodes run on the loopback: etcd, PostgreSQL, Redis and ZooKeeper.
+
+    python3 tests/recorded_stores.py [PROGRAM]
+
+PROGRAM is the built casbench; where it is not named, the one that ./casbench would run. A line says which stores aren't installed; of these
+nothing is tested. The last line says how many tests passed and failed.
+
+Each recording is made by a command of its own (examples/stores/*/record.py). Its nodes are ended with it, however it ends; and it ends with
+this test.
+"""
+
+import contextlib
+import os
+import pathlib
+import signal
+import subprocess
+import sys
+import tempfile
+import time
+from concurrent.futures import ThreadPoolExecutor
+
+from program import TOP, built_program
+from recordings import environment, judged
+from running import SECONDS, asked, ended, started
+from trials import Trial, Wrong, tell, try_all
+
+from casbench_recording.witness import checked
+
+STORES = TOP / "examples" / "stores"
+sys.path.insert(0, str(STORES))
+
+from nodes import are_installed
+from recorder import PRINTED, interrupted
+
+# What each store is of: its programs, and its package.
+PACKAGES = {
+    "etcd": (["etcd"], "etcd-server"),
+    "postgresql": (["/usr/lib/postgresql/*/bin/postgres"], "postgresql"),
+    "redis": (["redis-server"], "redis-server"),
+    "zookeeper": (["java", "/usr/share/java/zookeeper.jar"], "zookeeper"),
+}
+
+# The most lines of a store's mapping.
+MOST_LINES = 150
+
+# How many recordings are made at once, and the commands that run now.
+AT_ONCE = 3
+RUNNING = set()
+
+
+@contextlib.contextmanager
+def reachable_folder(prefix):
+    """A folder that is removed at last, and that servers of another user reach."""
+    with tempfile.TemporaryDirectory(prefix=prefix) as folder:
+        os.chmod(folder, 0o711)
+        yield folder
+
+
+@contextlib.contextmanager
+def recording(store, folder, *words, starts=()):
+    """A recording as it runs, with what it makes in this folder; it is ended with this test."""
+    words = [*starts, "setpriv", "--pdeathsig", "TERM", sys.executable, STORES / store / "record.py", *words]
+    with started(words, stdin=subprocess.DEVNULL, env=environment(TMPDIR=str(folder))) as child:
+        RUNNING.add(child)
+        try:
+            yield child
+        finally:
+            RUNNING.remove(child)
+
+
+def recorded(store, folder, name, *words):
+    """A recording: its file, that of the witness by the store's log, and how many calls there are, were lost, and took effect of these."""
+    history, witness = folder / f"{store}-{name}.ndjson", folder / f"{store}-{name}.witness"
+    with recording(store, folder, history, "--witness", witness, *words) as child:
+        status, out, err = ended(child)
+    printed = PRINTED.fullmatch(out)
+    if status or not printed:
+        raise Wrong(f"the recording ended with {status}: {out[-500:]}{err[-1000:]}")
+    return history, witness, tuple(int(it) for it in printed.groups())
+
+
+def by_log(history, witness):
+    """What the program says of the witness by the store's own log, and the package's checker too."""
+    texts = history.read_bytes(), witness.read_bytes()
+    line, own = asked(PROGRAM, "verify", *texts)[1], checked(*texts, "plain")[1]
+    if line.strip() != own.partition("\n")[0]:
+        raise Wrong(f"{line}, and the checker says {own}")
+    return line
+
+
+def honest(store, folder, name, words, least_lost=0, least_effects=0):
+    """What the program says of a recording, and of the witness that the store's own log is, but for how many calls are left out."""
+    history, witness, (_, lost, effects) = recorded(store, folder, name, *words)
+    if lost < least_lost or effects < least_effects:
+        raise Wrong(f"{lost} calls are lost, {effects} of these with an effect")
+    return [it.partition(" left_out=")[0] for it in (judged(PROGRAM, history, "--rule-out"), by_log(history, witness))]
+
+
+def broken(store, folder, name, words):
+    """What is found in a recording of a store that broke its promise, and whether the store's log explains it."""
+    history, witness, _ = recorded(store, folder, name, *words)
+    return judged(PROGRAM, history).partition(" calls=")[0], by_log(history, witness).split()[0]
+
+
+# What is left behind
+
+
+def processes_in(folder):
+    """The processes that have this folder among their words, or work in it. (Redis replaces the words by which it was started.)"""
+    for it in pathlib.Path("/proc").glob("[0-9]*"):
+        try:
+            if os.fsencode(folder) in (it / "cmdline").read_bytes() or os.readlink(it / "cwd").startswith(str(folder)):
+                yield int(it.name)
+        except OSError:
+            pass  # (it has ended)
+
+
+def wait_until(holds, why):
+    """Waits until it holds."""
+    last = time.monotonic() + SECONDS
+    while not holds():
+        if time.monotonic() > last:
+            raise Wrong(why)
+        time.sleep(0.05)
+
+
+def left_behind(store, scenario, starts, sent, nodes):
+    """What the history says of a recording that gets this signal, or what started it does, in the midst of its work. No process is left,
+    and no folder."""
+    with reachable_folder("casbench-interrupted-") as folder:
+        history = pathlib.Path(folder) / "history.ndjson"
+        with recording(store, folder, history, "--scenario", scenario, "--calls", "500000", starts=starts) as child:
+            wait_until(lambda: history.exists() and history.stat().st_size > 200_000, "nothing was recorded")
+            if len(set(processes_in(folder)) - {child.pid}) < nodes:
+                raise Wrong("no nodes run")
+            child.send_signal(sent)
+            ended(child)
+        wait_until(lambda: not set(processes_in(folder)), "a process was left")
+        if os.listdir(folder) != [history.name]:
+            raise Wrong(f"a folder was left: {os.listdir(folder)}")
+        return judged(PROGRAM, history).split()[0]
+
+
+# The words that run others, and wait for them.
+A_SHELL = ["sh", "-c", '"$@"; exit', "sh"]
+
+PROGRAM = built_program(sys.argv[1:])
+
+
+def right(calls):
+    """What has to be said of a recording with so many calls."""
+    return [f"yes docs=8 calls={calls}", f"verified docs=8 calls={calls}"]
+
+
+def etcd_trials(folder):
+    """Recordings of etcd. What takes longest comes first."""
+    longer = ["--calls", "5000"]
+    yield Trial("etcd, the leader stopped", honest, ("etcd", folder, "stopped", [*longer, "--scenario", "stopped"], 1), right(5000))
+    yield Trial("etcd, members killed", honest, ("etcd", folder, "killed", [*longer, "--scenario", "killed"], 1), right(5000))
+    yield Trial("etcd, answers dropped", honest, ("etcd", folder, "dropped", [*longer, "--dropped", "40"], 1, 1), right(5000))
+    yield Trial("etcd", honest, ("etcd", folder, "healthy", longer), right(5000))
+    yield Trial("etcd, stale gets", broken, ("etcd", folder, "stale", ["--scenario", "stale"]), ("refuted kind=stale-get", "broken"))
+    yield Trial("etcd, Ctrl-C", left_behind, ("etcd", "killed", [], signal.SIGINT, 1), "yes")
+    yield Trial("etcd, ended", left_behind, ("etcd", "stopped", [], signal.SIGTERM, 3), "yes")
+    yield Trial("etcd, its parent killed", left_behind, ("etcd", "healthy", A_SHELL, signal.SIGKILL, 3), "yes")
+
+
+def redis_trials(folder):
+    """Recordings of Redis."""
+    yield Trial("Redis", honest, ("redis", folder, "healthy", ["--dropped", "20"], 1, 1), right(3000))
+    yield Trial("Redis, restarted", honest, ("redis", folder, "restarted", ["--scenario", "restarted"], 1), right(3000))
+    failover = ["--scenario", "failover"]
+    yield Trial("Redis, a failover", broken, ("redis", folder, "failover", failover), ("refuted kind=pair-twice", "broken"))
+    yield Trial("Redis, Ctrl-C", left_behind, ("redis", "paused", [], signal.SIGINT, 1), "yes")
+    yield Trial("Redis, its parent killed", left_behind, ("redis", "restarted", A_SHELL, signal.SIGKILL, 1), "yes")
+
+
+def postgresql_trials(folder):
+    """Recordings of PostgreSQL."""
+    yield Trial("PostgreSQL", honest, ("postgresql", folder, "healthy", ["--dropped", "20"], 1, 1), right(3000))
+    yield Trial("PostgreSQL, restarted", honest, ("postgresql", folder, "restarted", ["--scenario", "restarted"], 1), right(3000))
+    failover = ["--scenario", "failover"]
+    yield Trial("PostgreSQL, a failover", broken, ("postgresql", folder, "failover", failover), ("refuted kind=pair-twice", "broken"))
+    yield Trial("PostgreSQL, Ctrl-C", left_behind, ("postgresql", "restarted", [], signal.SIGINT, 1), "yes")
+    yield Trial("PostgreSQL, its parent killed", left_behind, ("postgresql", "healthy", A_SHELL, signal.SIGKILL, 1), "yes")
+
+
+def zookeeper_trials(folder):
+    """Recordings of ZooKeeper."""
+    yield Trial("ZooKeeper", honest, ("zookeeper", folder, "healthy", ["--dropped", "20"], 1), right(3000))
+    yield Trial("ZooKeeper, members killed", honest, ("zookeeper", folder, "killed", ["--scenario", "killed"], 1), right(3000))
+    unsynced = ["--scenario", "unsynced"]
+    yield Trial("ZooKeeper, gets without sync", broken, ("zookeeper", folder, "unsynced", unsynced), ("refuted kind=stale-get", "broken"))
+    yield Trial("ZooKeeper, Ctrl-C", left_behind, ("zookeeper", "killed", [], signal.SIGINT, 2), "yes")
+    yield Trial("ZooKeeper, its parent killed", left_behind, ("zookeeper", "healthy", A_SHELL, signal.SIGKILL, 3), "yes")
+
+
+def lines_of_mapping(store):
+    """How many lines the mapping of a store has."""
+    return len((STORES / store / "store.py").read_text(encoding="utf-8").splitlines())
+
+
+TRIALS = {"etcd": etcd_trials, "postgresql": postgresql_trials, "redis": redis_trials, "zookeeper": zookeeper_trials}
+
+
+def main():
+    for kind in (signal.SIGINT, signal.SIGTERM):
+        signal.signal(kind, interrupted)
+    installed = [it for it, (programs, _) in PACKAGES.items() if are_installed(programs)]
+    for it in sorted(PACKAGES.keys() - installed):
+        print(f"SKIPPED: {it} isn't installed here (Debian's package {PACKAGES[it][1]}), so nothing was recorded of it")
+    with reachable_folder("casbench-stores-test-") as folder, ThreadPoolExecutor(AT_ONCE) as pool:
+        try:
+            trials = [it for store in installed for it in TRIALS[store](pathlib.Path(folder))]
+            answers, wrong = try_all(trials, pool)
+        except KeyboardInterrupt:
+            for child in list(RUNNING):
+                child.terminate()
+            raise
+    passed = len(answers) - len(wrong)
+    long = [f"the mapping of {it} has more than {MOST_LINES} lines" for it in PACKAGES if lines_of_mapping(it) > MOST_LINES]
+    return tell(passed + len(PACKAGES) - len(long), wrong + long)
+
+
+if __name__ == "__main__":
+    try:
+        sys.exit(main())
+    except KeyboardInterrupt:
+        sys.exit(130)
