@@ -16,7 +16,6 @@ import argparse
 import contextlib
 import json
 import os
-import random
 import signal
 import sys
 import threading
@@ -29,6 +28,7 @@ from .console import counted
 from .continuing import Continuing, add_part_options
 from .disturb import Disturber, read_plan
 from .history import MOST_EVENTS, Ended, History, HistoryError, Operation, Pair, pair_of
+from .load import Draw
 from .past import Conflicts
 from .progress import Progress
 from .watcher import Watcher, add_watch_options, watch_options
@@ -131,32 +131,20 @@ def told_by(item: Any, action: str) -> Optional[Dict[str, Any]]:
 
 
 class Plan:
-    """What one client does, turn by turn, drawn from a seed. It asks nothing of the replies.
-
-    `random()` alone is called: its numbers are the same in every release of Python.
-    """
+    """What one client does, turn by turn, drawn from a seed. It asks nothing of the replies."""
 
     def __init__(self, setting: argparse.Namespace, client: int) -> None:
-        self.random = random.Random(f"{setting.seed}/{client}").random
+        self.draw = Draw(f"{setting.seed}/{client}")
         self.setting = setting
-
-    def below(self, count: int) -> int:
-        """A number from 0 up to the one before count."""
-        return int(self.random() * count)
 
     def document(self) -> str:
         """The id of some document."""
-        return f"d{self.below(self.setting.documents)}"
+        return f"d{self.draw.below(self.setting.documents)}"
 
     def kind(self, kinds: Sequence[str]) -> str:
-        """One of the kinds, as often as the mixture says; index where it has none of them."""
-        weights = [self.setting.mixture[kind] for kind in kinds]
-        left = self.below(sum(weights))
-        for kind, weight in zip(kinds, weights):
-            if left < weight:
-                return kind
-            left -= weight
-        return "index"
+        """One of the kinds, as often as the mixture says; index if it has none of them."""
+        weights = {kind: self.setting.mixture[kind] for kind in kinds}
+        return self.draw.one_of(weights) if any(weights.values()) else "index"
 
     def turn(self) -> Tuple[str, str, List[Tuple[str, str]]]:
         """The next turn: its kind with a document, and the items where it is a bulk request."""

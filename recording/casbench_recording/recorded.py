@@ -61,8 +61,9 @@ class Recorded:
 
     def read(self) -> None:
         """Reads the calls. The text is one that casbench takes."""
+        decode = json.JSONDecoder().decode
         for line, text in enumerate(self.lines):
-            event = json.loads(text)
+            event = decode(text.decode())
             if event["e"] == "call":
                 self.calls[event["n"]] = Call(event, line)
             else:

@@ -145,27 +145,28 @@ class Shrinker:
         return max(it.line if it.ending is None else it.ending for it in named)
 
     def keep_a_window(self) -> None:
-        """Keeps the named calls alone, or with a window of the calls before the last of them, the smallest that gets the same answer: of
-        their documents, or of all. So most of a long history is never looked at by the program again."""
-        named = {self.calls[it].id for it in self.wanted.calls}
-        order = [it for it in self.recorded.in_order(self.kept) if it.line <= self.last_line()]
-        own = [it for it in order if it.id in named]
-        beginnings = Beginnings(self.calls.values())
-        if self.keep(self.closed([], beginnings)):
+        """Keeps the named calls with the writers of what they show, or these with a window of the calls before the last of them, the smallest
+        that gets the same answer: of their documents, or of all. So the program never reads most of a long history again."""
+        makers = [self.maker_of(self.calls[it]) for it in self.wanted.calls]
+        base = {*self.wanted.calls, *(it for it in makers if it is not None)}
+        if self.keep(base):
             return
+        named, last = {self.calls[it].id for it in self.wanted.calls}, self.last_line()
+        order = [it for it in self.calls.values() if it.line <= last]
+        own = [it for it in order if it.id in named]
+        beginnings = Beginnings(order)
         size = FIRST_WINDOW
         while size < len(order):
             for calls in [own, order] if len(own) > size // WINDOW_FACTOR else [order]:
-                if self.keep(self.closed(calls[-size:], beginnings)):
+                if self.keep(self.closed(base, calls[-size:], beginnings)):
                     return
             size *= WINDOW_FACTOR
 
-    def closed(self, window: Sequence[Call], beginnings: Beginnings) -> Set[int]:
-        """The named calls with the writers of what they show; and of a window the calls that stand on no write outside of it, with those
-        that made the documents which are there when it begins."""
-        makers = [self.maker_of(self.calls[it]) for it in self.wanted.calls]
-        makers += [beginnings.maker_at(id, window[0].line) for id in {it.id for it in window}]
-        kept = {*self.wanted.calls, *(it for it in makers if it is not None)}
+    def closed(self, base: Set[int], window: Sequence[Call], beginnings: Beginnings) -> Set[int]:
+        """The calls of the base, those that made the documents which are there when a window begins, and the calls of the window that stand on
+        no write outside of these."""
+        makers = (beginnings.maker_at(id, window[0].line) for id in {it.id for it in window})
+        kept = base.union(it for it in makers if it is not None)
         inside = kept.union(it.number for it in window)
         outside = [it.number for it in window if self.maker_of(it) not in inside and self.maker_of(it) is not None]
         return inside.difference(self.with_readers(outside, inside) - kept)
