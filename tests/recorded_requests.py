@@ -23,7 +23,7 @@ from casbench_recording.history import History, HistoryError
 from casbench_recording.inspection import Inspector, Shape
 from casbench_recording.judge import Judge
 from casbench_recording.parts import Parts
-from casbench_recording.routes import Kind, Names, route_of
+from casbench_recording.routes import Kind, Names
 from casbench_recording.routing import hash_of, shard_of
 from casbench_recording.stand_in_store import Faults, Index
 from casbench_recording.unjudged import Unjudged

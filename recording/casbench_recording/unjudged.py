@@ -5,7 +5,6 @@ import json
 import os
 from typing import BinaryIO, Dict, Iterable, List, Optional, Tuple
 
-from .console import counted
 from .history import HistoryError, compact
 
 MOST_TOLD = 20

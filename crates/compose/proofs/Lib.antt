@@ -33,3 +33,4 @@ mod ShardMerge
 mod ShardLocality
 mod OffenceLemmas
 mod CertaintyLemmas
+mod CoveringLemmas
