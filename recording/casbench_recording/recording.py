@@ -4,7 +4,7 @@ from typing import Callable, Optional, Sequence, Tuple, Union
 
 from .asked import Part
 from .bulk import Untellable
-from .history import Call, Ended, History, HistoryError, Operation
+from .history import Call, Ended, History, HistoryError, Operation, rest_of_reply
 from .parts import Parts
 from .unjudged import Unjudged
 
@@ -83,10 +83,7 @@ class Recording:
     def write_ending(self, call: Call, reply: Optional[Reply]) -> None:
         """Writes the ending of a call. If the history ended in the meantime the call is lost by that."""
         try:
-            if reply is None:
-                call.lost()
-            else:
-                call.tell(*reply)
+            call.history.end_once(call, rest_of_reply(*reply) if reply is not None else None)
         except Ended:
             pass
         except HistoryError as fault:
