@@ -19,7 +19,7 @@ import unittest
 from recordings import PACKAGE, FolderTest, environment, judged, run_tests
 
 from casbench_recording.history import LONGEST_LINE, CallError, Ended, History, HistoryError, Operation, Pair
-from casbench_recording.parts import Indexes, Parts
+from casbench_recording.parts import Parts
 
 CREATED = {"_id": "d", "result": "created", "_seq_no": 0, "_primary_term": 1}
 
@@ -258,19 +258,6 @@ class InParts(FolderTest):
         for name in os.listdir(folder):
             self.assertEqual(judged(self.program, os.path.join(folder, name)), "yes docs=1 calls=1 left_out=0")
         self.assertRaisesRegex(HistoryError, "File exists", Parts, folder)
-
-    def test_indexes_follow_one_another_where_one_is_full(self):
-        folder, made = os.path.join(self.folder, "parts"), []
-        with Parts(folder, most_events=4) as parts:
-            indexes = Indexes(parts, "carts", made.append)
-            for k in range(5):
-                index, call = indexes.call("index", "d", k)
-                self.assertEqual(index, f"carts-{k // 2 + 1}")
-                call.indexed(Pair(1, k % 2), created=k % 2 == 0)
-        self.assertEqual(made, ["carts-1", "carts-2", "carts-3"])
-        self.assertRaises(Ended, indexes.call, "get", "d")
-        answers = [judged(self.program, it.path) for it in parts.histories]
-        self.assertEqual(answers, [f"yes docs=1 calls={it} left_out=0" for it in (2, 2, 1)])
 
 
 @unittest.skipUnless(importlib.util.find_spec("pip"), "this Python has no pip")

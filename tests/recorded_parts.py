@@ -1,5 +1,5 @@
 #!/usr/bin/env python3
-"""Tests recordings in parts that are longer than one history, a history that is split, and what checks a folder of parts side by side.
+"""Tests the recorder past the limit of one history, a history that is split, and what checks a folder of parts side by side.
 
     python3 tests/recorded_parts.py [PROGRAM]
 
@@ -22,8 +22,8 @@ from program import TOP
 from recordings import FolderTest, Started, environment, judged, run_tests
 from texts import created, found, get, index, refused, refuted, updated, yes
 
-from casbench_recording.history import MOST_EVENTS, Pair
-from casbench_recording.parts import Indexes, Parts
+from casbench_recording.continuing import Continuing
+from casbench_recording.history import MOST_EVENTS, Operation, Pair, text_of_write
 
 
 def is_gnu_parallel():
@@ -42,33 +42,34 @@ def record(*words):
 
 
 class Long(FolderTest):
-    """Recordings that go on in a new index where a history is full."""
+    """Recordings that go on past the limit of one history."""
 
-    def test_the_recorder_goes_on_in_the_next_index(self):
+    def test_the_recorder_goes_on_in_the_next_part(self):
         parts = pathlib.Path(self.folder) / "parts"
         with Started("stand_in", "--port", "0") as store:
             words = [store.url, "carts", str(parts), "--calls", "500", "--part", "300"]
             ran = record(*words)
             self.assertEqual(ran.stdout, f"recorded 2000 calls in {parts}, 0 of them without a reply\n", ran.stderr)
-            # (an index that is there is refused, also where it isn't the first)
+            # (an index that is there is refused, and nothing is left)
             again = [*words[:2], os.path.join(self.folder, "again"), *words[3:]]
-            self.assertIn("the index carts-1 exists", record(*again).stderr)
+            self.assertIn("the index carts exists", record(*again).stderr)
             self.assertFalse(os.path.exists(again[2]))
         counts = []
-        for number in range(1, 8):
-            told = judged(self.program, parts / f"carts-{number}.ndjson")
-            counts.append(int(re.fullmatch(r"yes docs=8 calls=(\d+) left_out=0", told)[1]))
-        # (a bulk request that a history has no room for goes to the next one)
-        self.assertEqual((sum(counts), max(counts), min(counts[:6]) > 296), (2000, 300, True), counts)
+        for part in sorted(parts.iterdir()):
+            told = re.fullmatch(r"yes docs=8 calls=(\d+) left_out=0", judged(self.program, part))
+            counts.append(int(told[1]))
+        self.assertEqual([it.name for it in sorted(parts.iterdir())], [f"part-{it:06}.ndjson" for it in range(1, len(counts) + 1)])
+        # (2,000 calls are seven parts of 300, with those that come before a document moves; and a document begins with one more)
+        self.assertTrue(len(counts) in (6, 7) and 2000 <= sum(counts) <= 2000 + 8 * 6, counts)
 
     def test_a_folder_and_a_file_that_are_there(self):
         os.mkdir(self.file)
-        kept = pathlib.Path(self.file) / "carts-1.ndjson"
+        kept = pathlib.Path(self.file) / "part-000001.ndjson"
         kept.write_text("old")
         for words in ((), ("--part", "300")):
             ran = record("http://127.0.0.1:9", "carts", self.file, *words)
             self.assertEqual((ran.returncode, ran.stderr), (1, f"record.py: {self.file}: File exists\n"))
-            self.assertEqual((os.listdir(self.file), kept.read_text()), (["carts-1.ndjson"], "old"))
+            self.assertEqual((os.listdir(self.file), kept.read_text()), (["part-000001.ndjson"], "old"))
         link = os.path.join(self.folder, "link")
         os.symlink(kept, link)
         for file in (kept, link):
@@ -77,19 +78,25 @@ class Long(FolderTest):
             self.assertEqual(kept.read_text(), "old")
 
     def test_a_part_that_no_history_is(self):
-        for part in ("3", "524289", "0"):
+        for part in ("524289", "0", "many"):
             ran = record("http://127.0.0.1:9", "carts", self.file, "--part", part)
             self.assertEqual((ran.returncode, os.path.exists(self.file)), (2, False), ran.stderr)
+            self.assertIn("a part has 1 to 524288 calls", ran.stderr)
 
     def test_calls_past_the_most_of_a_history(self):
-        most, more = MOST_EVENTS // 2, 1000
-        with Parts(os.path.join(self.folder, "parts")) as parts:
-            indexes = Indexes(parts, "carts", lambda _: None)
-            for number in range(most + more):
-                _, call = indexes.call("index", "d", number)
-                call.indexed(Pair(1, number), created=number in (0, most))
-        answers = [judged(self.program, it.path) for it in parts.histories]
-        self.assertEqual(answers, [f"yes docs=1 calls={it} left_out=0" for it in (most, more)])
+        documents, more = [f"d{it}" for it in range(512)], 2
+        rounds = MOST_EVENTS // 2 // len(documents)
+        with Continuing(os.path.join(self.folder, "parts"), MOST_EVENTS // 2) as history:
+            for turn in range(rounds + more):
+                calls = history.call_all([Operation("index", it, turn) for it in documents])
+                told = (200, "updated") if turn else (201, "created")
+                pairs = [Pair(1, turn * len(documents) + it) for it in range(len(documents))]
+                texts = [text_of_write(it, told[1], pair) for it, pair in zip(documents, pairs)]
+                history.end_all([(call, (told[0], text)) for call, text in zip(calls, texts)])
+        answers = [judged(self.program, os.path.join(history.path, f"part-{it:06}.ndjson")) for it in (1, 2)]
+        # (each document begins the second part with one call)
+        counts = [len(documents) * it for it in (rounds, 1 + more)]
+        self.assertEqual(answers, [f"yes docs=512 calls={it} left_out=0" for it in counts])
 
 
 def limit_files():

@@ -122,7 +122,7 @@ class EarlyEnds(ReportTest):
         words = [*limited("record", 200), other.url, "carts", self.file, "--seconds", "60"]
         ran = subprocess.run(words, env=environment(), capture_output=True, text=True, timeout=60)
         self.assertEqual(ran.returncode, 3, ran.stderr)
-        self.assertEqual(ran.stderr, f"record.py: the recording ended early: {self.file} is full; --part records more, in parts\n")
+        self.assertEqual(ran.stderr, f"record.py: the recording ended early: {self.file} is full; --parts records more, in parts\n")
         self.assertRegex(self.check(), "^yes docs=[0-9]+ calls=100 ")
 
 

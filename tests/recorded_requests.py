@@ -17,6 +17,7 @@ from recordings import FolderTest, run_tests
 from casbench_recording.answering import Answering
 from casbench_recording.asking import Asking
 from casbench_recording.cluster import Answer, ClusterError
+from casbench_recording.continuing import MOST_LOST, Continuing
 from casbench_recording.documents import State
 from casbench_recording.history import History, HistoryError
 from casbench_recording.inspection import Inspector, Shape
@@ -124,6 +125,80 @@ def short(line):
     words += [f"{body['_primary_term']}/{body['_seq_no']}"] if "_primary_term" in body else []
     words += [f"k={body['_source']['k']}"] if "_source" in body else ["found"] if body.get("found") else []
     return f"{n} " + " ".join(filter(None, words))
+
+
+class WithoutEnd(JudgeTest):
+    """Recordings in parts, of so many calls each."""
+
+    def judge_in_parts(self, calls):
+        """A judge that writes parts."""
+        self.parts = os.path.join(self.folder, "parts")
+        return self.judge(history=Continuing(self.parts, calls))
+
+    def part(self, number):
+        """The lines of a finished part in short."""
+        with open(os.path.join(self.parts, f"part-{number:06}.ndjson"), encoding="utf-8") as lines:
+            return [short(json.loads(it)) for it in lines]
+
+    def test_a_source_keeps_its_number_while_the_part_has_it(self):
+        judge = self.judge_in_parts(4)
+        self.talk(
+            judge,
+            ("PUT /carts/_doc/d", {"a": 1}, written(0)),
+            ("PUT /carts/_doc/d", {"a": 2}, LOST),
+            ("PUT /carts/_doc/d", {"a": 3}, written(1, "updated")),
+            ("PUT /carts/_doc/d", {"a": 4}, written(2, "updated")),
+            # (4 and 2 came with the document, 1 is another source now, and so is 3)
+            ("GET /carts/_doc/d", None, found(2, {"a": 4})),
+            ("PUT /carts/_doc/d", {"a": 1}, written(3, "updated")),
+            ("GET /carts/_doc/d", None, found(3, {"a": 1})),
+            ("GET /carts/_doc/d", None, found(4, {"a": 2})),
+        )
+        judge.close()
+        stated = ["0 index d k=5", "0 201 created 1/2", "1 index d k=3", "1 lost"]
+        later = ["2 get d", "2 200 1/2 k=5", "3 index d k=6", "3 200 updated 1/3", "4 get d", "4 200 1/3 k=6", "5 get d", "5 200 1/4 k=3"]
+        self.assertEqual(self.part(2), stated + later)
+
+    def test_a_source_that_is_written_as_the_document_moves(self):
+        judge = self.judge_in_parts(2)
+        bulk = [{"index": {"_id": "d"}}, {"a": 1}, {"index": {"_id": "d"}}, {"a": 2}]
+        items = [{"index": {**written(2 + at, "updated")[1], "status": 200}} for at in (0, 1)]
+        self.talk(
+            judge,
+            ("PUT /carts/_doc/d", {"a": 1}, written(0)),
+            ("PUT /carts/_doc/d", {"a": 2}, written(1, "updated")),
+            ("POST /carts/_bulk", bulk, (200, {"items": items})),
+            ("GET /carts/_doc/d", None, found(3, {"a": 2})),
+        )
+        judge.close()
+        moved = ["0 index d k=3", "0 201 created 1/1", "1 index d k=2", "2 index d k=3", "1 200 updated 1/2", "2 200 updated 1/3"]
+        self.assertEqual(self.part(2), moved)
+        self.assertEqual(self.part(3), ["0 index d k=3", "0 201 created 1/3", "1 get d", "1 200 1/3 k=3"])
+
+    def test_sources_that_nobody_knows(self):
+        judge = self.judge_in_parts(2)
+        self.talk(
+            judge,
+            ("POST /carts/_update/d", {"doc": {"a": 1}, "doc_as_upsert": True}, written(0)),
+            ("POST /carts/_update/d", {"doc": {"a": 2}}, LOST),
+            # (the update that is lost may be what the get shows, or not)
+            ("GET /carts/_doc/d", None, found(0, {"a": 1})),
+            ("GET /carts/_doc/d", None, found(1, {"a": 2})),
+        )
+        judge.close()
+        self.assertEqual(self.part(2), ["0 index d k=1", "0 201 created 1/0", "1 index d k=1", "1 lost", "2 get d", "2 200 1/0 k=1", "3 get d", "3 lost"])
+
+    def test_a_document_with_too_many_lost_writes(self):
+        judge = self.judge_in_parts(MOST_LOST + 1)
+        for number in range(MOST_LOST + 1):
+            self.talk(judge, ("PUT /carts/_doc/d", {"a": number}, LOST))
+        bulk = [{"index": {"_id": "e"}}, {"a": 1}, {"index": {"_id": "d"}}, {"a": 2}]
+        items = [{"index": {**written(at, id=id)[1], "status": 201}} for at, id in enumerate("ed")]
+        self.talk(judge, ("POST /carts/_bulk", bulk, (200, {"items": items})), ("GET /carts/_doc/d", None, found(1, {"a": 2})))
+        judge.close()
+        self.assertEqual(self.part(2), ["0 index e k=2", "0 201 created 1/0"])
+        self.assertEqual(list(self.names()), ["d"])
+        self.assertIn("more lost writes", self.names()["d"])
 
 
 class Calls(JudgeTest):

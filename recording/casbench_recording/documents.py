@@ -11,6 +11,7 @@ from enum import Enum
 from typing import Any, Dict, Optional
 
 from .history import LONGEST_ID, Call, Pair, length_of
+from .past import Beginning
 
 
 canonical = json.JSONEncoder(sort_keys=True, separators=(",", ":")).encode
@@ -48,7 +49,7 @@ UNSURE, NOT_JUDGED = State.UNSURE, State.NOT_JUDGED
 class Document:
     """A document: its calls that are open, and the numbers of its sources."""
 
-    __slots__ = ("id", "shard", "state", "open", "writes", "deletes", "_numbers", "_written", "_pending")
+    __slots__ = ("id", "shard", "state", "open", "writes", "deletes", "_numbers", "_last", "_written", "_pending")
 
     def __init__(self, id: str, shard: int, state: State) -> None:
         self.id = id
@@ -59,6 +60,8 @@ class Document:
         # how many calls were made that may write the document, and that may delete it
         self.writes = self.deletes = 0
         self._numbers: Dict[bytes, int] = {}
+        # the greatest number that a source was given
+        self._last = UNKNOWN
         # the number that each pair was given to
         self._written: Dict[Pair, int] = {}
         # how many writes of a source that nobody can know have no pair that is known
@@ -66,7 +69,13 @@ class Document:
 
     def number_of(self, digest: Optional[bytes]) -> Optional[int]:
         """The number of the sources with a digest, or None where there is none."""
-        return self._numbers.setdefault(digest, len(self._numbers) + 2) if digest is not None else None
+        if digest is None:
+            return None
+        number = self._numbers.get(digest)
+        if number is None:
+            self._last += 1
+            number = self._numbers[digest] = self._last
+        return number
 
     def number_to_write(self, digest: Optional[bytes]) -> int:
         """The number of a source that is written now. Of sources that nobody can know it is one for all of them."""
@@ -99,6 +108,19 @@ class Document:
         if not is_whole or number is None and self._pending:
             return None
         return self.number_of(digest)
+
+
+    def goes_on(self, beginning: Beginning) -> None:
+        """Forgets, as the document begins another part, the numbers and pairs that nothing in that part has.
+
+        It has what it begins with, and the calls that are open. A source that is forgotten has another number when it comes again.
+        """
+        version, writes = beginning.version, [*beginning.lost, *[it.operation for it in self.open]]
+        used = {it.value for it in writes} | ({version.value} if version is not None else set())
+        self._numbers = {digest: number for digest, number in self._numbers.items() if number in used}
+        self._written = {version.pair: version.value} if version is not None and version.value is not None else {}
+        # (a write that is open, and carried over too, counts twice: then a version that no answer told is lost, and not guessed)
+        self._pending = sum(it.value == UNKNOWN for it in writes)
 
 
 NOT_LOOKED_AT = Document("", 0, NOT_JUDGED)

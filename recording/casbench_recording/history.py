@@ -16,7 +16,7 @@ import os
 import re
 import threading
 import time
-from typing import Any, Callable, Dict, List, NamedTuple, Optional, Sequence, Set, Tuple, Union
+from typing import Any, Callable, Dict, List, NamedTuple, Optional, Protocol, Sequence, Set, Tuple, Union
 
 MOST_EVENTS = 1_048_576
 """The most events of a history. A call takes room for two, itself and its ending."""
@@ -92,10 +92,26 @@ class Operation(NamedTuple):
     client: str = ""
 
 
+class Endings(Protocol):
+    """What writes the endings of calls."""
+
+    def is_open(self, call: "Call") -> bool:
+        """Whether the call has no ending yet, and may be given one."""
+
+    def reply(self, call: "Call", status: int, text: Optional[str]) -> None:
+        """Writes the line of a reply, with the JSON text of its body, or without one where that is None."""
+
+    def lose_one(self, call: "Call") -> None:
+        """Writes that the outcome of a call will never be known."""
+
+    def lose(self, calls: "Sequence[Call]") -> None:
+        """Writes those of the calls as lost that are open."""
+
+
 class Call:
     """A call that was made. It is ended once: by a reply, or as lost, which the end of its block does where nothing else did."""
 
-    def __init__(self, history: "History", number: int, operation: Operation) -> None:
+    def __init__(self, history: "Endings", number: int, operation: Operation) -> None:
         self.history = history
         self.number = number
         self.operation = operation
@@ -117,7 +133,7 @@ class Call:
 
     def lost(self) -> None:
         """Writes that the outcome will never be known."""
-        self.history.end_once(self, None)
+        self.history.lose_one(self)
 
     # Replies by what they say, for a store that answers in other words than OpenSearch.
 
@@ -206,6 +222,11 @@ class History:
         return self.calls - self.replies
 
     @property
+    def open_calls(self) -> int:
+        """How many calls have no ending yet."""
+        return len(self._open)
+
+    @property
     def room(self) -> int:
         """How many more calls the history takes."""
         return 0 if self.has_ended else self._most_calls - self.calls
@@ -289,6 +310,10 @@ class History:
         if type(status) is not int or not 0 <= status <= 65_535:
             raise CallError(f"a status is a whole number up to 65535, and not {status!r}")
         self.end_once(call, rest_of_reply(status, text))
+
+    def lose_one(self, call: Call) -> None:
+        """Writes that the outcome of a call will never be known."""
+        self.end_once(call, None)
 
     def end_once(self, call: Call, rest: Optional[str]) -> None:
         """Writes the line of an ending, for a call that is open: that of a reply with this rest, or as lost where it is None."""

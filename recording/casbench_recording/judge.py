@@ -5,17 +5,15 @@ no longer: its open calls are lost, later ones aren't recorded, and a list besid
 told which documents are written, the recording ends. So what was recorded stays right in each case.
 """
 
-from typing import FrozenSet, Iterable, Optional, Tuple, Union
+from typing import FrozenSet, Iterable, Optional, Tuple
 
 from .answering import Answering
 from .asked import Asked, Making
 from .asking import Asking
 from .documents import UNSURE, State
-from .history import History
 from .inspection import Shape
 from .ledger import Ledger
-from .parts import Parts
-from .recording import Recording
+from .recording import Histories, Recording
 from .routes import BULK, PASS, READS, Kind, Route, route_of
 from .unjudged import Unjudged
 
@@ -34,7 +32,7 @@ class Judge:
         self,
         shape: Optional[Shape],
         name: str,
-        history: Union[History, Parts],
+        history: Histories,
         unjudged: Unjudged,
         first: State = State.JUDGED,
         only: Optional[FrozenSet[str]] = None,

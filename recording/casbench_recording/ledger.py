@@ -21,6 +21,7 @@ class Ledger:
 
     def __init__(self, recording: Recording, shape: Optional[Shape], name: str, first: State, only: Optional[FrozenSet[str]]) -> None:
         self.recording = recording
+        recording.leave = self.mark
         # (None as long as the index isn't there)
         self.shape = shape
         self.names = shape.names if shape is not None else Names([name], [])

@@ -20,13 +20,14 @@ import resource
 import signal
 import socket
 import sys
-from typing import Callable, Iterator, List, NamedTuple, Optional, Sequence, Set, Tuple, Union
+from typing import Callable, Iterator, List, NamedTuple, Optional, Sequence, Set, Tuple
 
 from .client_connection import ClientConnection
 from .client_side import ClientSide
 from .cluster import Cluster, ClusterError, Connection, Url, credentials_of, number_from, port_of, trust_of, url_of
 from .connecting import Addresses, Connecting, Made
 from .console import counted, open_standard_files, tell, tell_last, tell_line
+from .continuing import Continuing, add_part_options
 from .disturb import Disturber, read_plan
 from .documents import State
 from .finding import Finding
@@ -36,11 +37,14 @@ from .inspection import Inspector, Shape
 from .judge import Judge
 from .loop import Listener, Loop, Stream
 from .parts import Parts
+from .past import Conflicts
 from .progress import Progress
+from .recording import Histories
 from .refusal import refusal
 from .routes import shown_request
 from .tls import NO_RENEGOTIATION
 from .unjudged import Unjudged
+from .watcher import Watcher, add_watch_options, watch_options
 
 ENDED_EARLY = 3
 """The exit status of a recording that ended before its time."""
@@ -260,6 +264,8 @@ def words_of(arguments: Sequence[str]) -> argparse.Namespace:
     add("--documents", type=lambda text: frozenset(text.split(",")), help="the ids of new documents, which alone are judged")
     add("--created-only", action="store_true", help="judge only documents that are seen created, in an index that isn't empty")
     add("--by-shard", action="store_true", help="write a file for each shard, into a folder that is made")
+    add_part_options(add)
+    add_watch_options(add)
     add("--disturb", type=read_plan, metavar="PLAN", default=[], help="run the commands of this plan meanwhile, to disturb the cluster")
     add("--stop-when-ended", action="store_true", help="end the proxy too when the recording ends before its time")
     add("--ca-file", help="the certificates of who is trusted to vouch for the cluster")
@@ -268,6 +274,8 @@ def words_of(arguments: Sequence[str]) -> argparse.Namespace:
     setting = parser.parse_args(arguments)
     if setting.ca_file is not None and all(it.scheme != "https" for it in (setting.cluster, *(url for _, url in setting.node))):
         parser.error("--ca-file is for an address that begins with https")
+    if setting.by_shard and setting.part is not None:
+        parser.error("--by-shard and --parts exclude each other: a part has the calls of all shards")
     return setting
 
 
@@ -300,9 +308,15 @@ def proxy_of(setting: argparse.Namespace) -> Proxy:
     inspector = Inspector(Connection(nodes[0].cluster))
     shape, first = begin(setting, inspector)
     unjudged = Unjudged(setting.file)
-    history: Union[History, Parts] = Parts(setting.file) if setting.by_shard else History(setting.file)
     raise_limit()
-    return Proxy(setting, nodes, inspector, Judge(shape, setting.index, history, unjudged, first, setting.documents))
+    return Proxy(setting, nodes, inspector, Judge(shape, setting.index, history_of(setting), unjudged, first, setting.documents))
+
+
+def history_of(setting: argparse.Namespace) -> Histories:
+    """The file that is written, or the directory."""
+    if setting.part is not None:
+        return Continuing(setting.file, setting.part, Conflicts(setting.conflicts))
+    return Parts(setting.file) if setting.by_shard else History(setting.file)
 
 
 def counts_of(judge: Judge) -> Tuple[int, int]:
@@ -332,19 +346,28 @@ def main(arguments: Sequence[str]) -> int:
     gc.set_threshold(100_000, 50, 50)
     try:
         proxy = proxy_of(setting)
-        try:
-            with Progress(lambda: counts_of(proxy.judge), remark=lambda: remark_of(proxy.judge)):
-                with Disturber(setting.disturb, proxy.judge.note, tell_line) as disturber:
-                    serve_until_signalled(proxy)
-        finally:
-            proxy.judge.close()
+        with contextlib.ExitStack() as stack:
+            stack.callback(proxy.judge.close)
+            watcher = stack.enter_context(watcher_of(setting, proxy)) if setting.watch else None
+            # (before the watch ends, so that its last check has the last line)
+            stack.callback(proxy.judge.close)
+            stack.enter_context(Progress(lambda: counts_of(proxy.judge), remark=lambda: remark_of(proxy.judge)))
+            disturber = stack.enter_context(Disturber(setting.disturb, proxy.judge.note, tell_line))
+            serve_until_signalled(proxy)
     except (ClusterError, HistoryError, OSError) as fault:
         tell_last([f"casbench_recording.proxy: {fault}"])
         return 1
     except KeyboardInterrupt:
         return 130
     tell_end(setting, proxy.judge)
+    if watcher is not None and watcher.status:
+        return watcher.status
     return ENDED_EARLY if proxy.judge.unjudged.ended else int(disturber.has_failed)
+
+
+def watcher_of(setting: argparse.Namespace, proxy: Proxy) -> Watcher:
+    """The watch of the recording, which ends the proxy at the first fault that is proved."""
+    return Watcher(setting.file, watch_options(setting), lambda: proxy.loop.call(proxy.loop.stop))
 
 
 def tell_end(setting: argparse.Namespace, judge: Judge) -> None:

@@ -14,7 +14,6 @@ OPENSEARCH_HEADER, a whole header such as `Authorization: Bearer ...`. Python 3.
 
 import argparse
 import contextlib
-import functools
 import json
 import os
 import random
@@ -23,14 +22,16 @@ import sys
 import threading
 import time
 import urllib.parse
-from typing import Any, Dict, List, Optional, Sequence, Tuple, Union
+from typing import Any, Dict, List, NamedTuple, Optional, Sequence, Tuple, Union
 
 from .cluster import Answer, Cluster, ClusterError, Connection, NoAnswer, Url, credentials_of, number_from, trust_of, url_of
 from .console import counted
+from .continuing import Continuing, add_part_options
 from .disturb import Disturber, read_plan
 from .history import MOST_EVENTS, Ended, History, HistoryError, Operation, Pair, pair_of
-from .parts import Indexes, OneIndex, Parts, Target
+from .past import Conflicts
 from .progress import Progress
+from .watcher import Watcher, add_watch_options, watch_options
 
 MOST_CALLS = MOST_EVENTS // 2
 """The most calls of one history: a call with its ending is two events."""
@@ -68,6 +69,10 @@ class Stop:
         if self.was_asked:
             raise KeyboardInterrupt
         self.is_set = self.was_asked = True
+
+    def halt(self) -> None:
+        """Answers the watch, which found a fault."""
+        self.is_set = True
 
     def fail(self, fault: BaseException) -> None:
         """Keeps why a client could not go on."""
@@ -163,9 +168,9 @@ class Plan:
 class Client:
     """One client: it makes its calls one after another, and records each."""
 
-    def __init__(self, setting: argparse.Namespace, target: Target, number: int, stop: Stop) -> None:
+    def __init__(self, setting: argparse.Namespace, history: Union[History, Continuing], number: int, stop: Stop) -> None:
         self.setting = setting
-        self.target = target
+        self.history = history
         self.number = number
         self.stop = stop
         # (with several addresses, one client after the other takes the next of them)
@@ -237,11 +242,11 @@ class Client:
         Rule: what was not answered is lost, and nothing is guessed: a call without a reply is lost at its block's end.
         """
         self.get_ready()
-        index, call = self.target.call_one(operation)
+        call = self.history.call_one(operation)
         with call:
             self.calls += 1
             with contextlib.suppress(NoAnswer):
-                answer = self.connection.ask(*request_of(index, operation))
+                answer = self.connection.ask(*request_of(self.setting.index, operation))
                 call.reply(answer.status, answer.body)
                 told = answer.members
                 self.learn(operation.id, told)
@@ -251,10 +256,10 @@ class Client:
     def make_bulk(self, operations: Sequence[Operation]) -> None:
         """Makes one bulk request. Its items are calls of their own, all made before any is answered."""
         self.get_ready()
-        index, calls = self.target.call_all(operations)
+        calls = self.history.call_all(operations)
         self.calls += len(calls)
         try:
-            told = items_of(operations, self.connection.ask(*bulk_of(index, operations)))
+            told = items_of(operations, self.connection.ask(*bulk_of(self.setting.index, operations)))
         except NoAnswer:
             told = [None] * len(calls)
         for call, item in zip(calls, told):
@@ -273,6 +278,14 @@ class Client:
 
 
 # The recording
+
+
+class Recorded(NamedTuple):
+    """A recording that is over, why the clients made no more calls, and the exit status of its watch."""
+
+    recording: Union[History, Continuing]
+    stop: Stop
+    watched: int
 
 
 def make_index(connection: Connection, setting: argparse.Namespace, index: str) -> None:
@@ -307,58 +320,38 @@ def why_no_index(index: str, status: int, told: Dict[str, Any]) -> str:
     return f"the index {index} was not made (HTTP {status}): {json.dumps(kind)} {json.dumps(reason)}"
 
 
-def record(setting: argparse.Namespace) -> Tuple[Tuple[History, ...], Stop]:
-    """Makes the index and records the clients' calls. Returns the histories, and why the clients made no more calls."""
+def record(setting: argparse.Namespace) -> Recorded:
+    """Makes the index and records the clients' calls."""
     stop = Stop()
-    with recording_of(setting) as recording, Progress(lambda: counts_of(recording.histories)):
-        target = target_of(setting, recording)
-        clients = [Client(setting, target, number, stop) for number in range(setting.clients)]
+    recording = recording_of(setting)
+    with contextlib.ExitStack() as stack:
+        stack.callback(recording.end)
+        watcher = stack.enter_context(Watcher(setting.file, watch_options(setting), stop.halt)) if setting.watch else None
+        # (before the watch ends, so that its last check has the last line)
+        stack.enter_context(recording)
+        stack.enter_context(Progress(lambda: (recording.calls, recording.lost)))
+        clients = [Client(setting, recording, number, stop) for number in range(setting.clients)]
         first = clients[0].connection
         first.open(START_PATIENCE)
-        if isinstance(target, OneIndex):
-            make_index(first, setting, target.name)
+        make_index(first, setting, setting.index)
         setting.end = time.monotonic() + setting.seconds if setting.seconds is not None else None
-        with Disturber(setting.disturb, functools.partial(note_in, recording), tell_fault) as disturber:
+        with Disturber(setting.disturb, recording.note, tell_fault) as disturber:
             run_clients(clients, stop)
         stop.has_failed = disturber.has_failed
         is_over = setting.end is None or time.monotonic() >= setting.end
-        stop.is_full = not is_over and not stop.was_asked and isinstance(recording, History) and not recording.room
-    return recording.histories, stop
+        is_full = isinstance(recording, History) and not recording.room
+        stop.is_full = is_full and not is_over and not stop.was_asked and not stop.is_set
+    return Recorded(recording, stop, watcher.status if watcher is not None else 0)
 
 
-def recording_of(setting: argparse.Namespace) -> Union[History, Parts]:
-    """The file that is written, or the folder with one for each part."""
-    return History(setting.file) if setting.part is None else Parts(setting.file, 2 * setting.part)
-
-
-def target_of(setting: argparse.Namespace, recording: Union[History, Parts]) -> Target:
-    """The index, or those that follow one another, each made before its first call."""
-    if isinstance(recording, Parts):
-        return Indexes(recording, setting.index, functools.partial(make_next_index, setting))
-    return OneIndex(recording, setting.index)
-
-
-def make_next_index(setting: argparse.Namespace, index: str) -> None:
-    """Makes an index while clients wait for it, on a connection for that alone."""
-    with contextlib.closing(Connection(setting.clusters[0])) as connection:
-        connection.open(setting.patience)
-        make_index(connection, setting, index)
-
-
-def note_in(recording: Union[History, Parts], text: str) -> None:
-    """Puts a note on the next line of each history."""
-    for history in recording.histories:
-        history.note(text)
+def recording_of(setting: argparse.Namespace) -> Union[History, Continuing]:
+    """The file that is written, or the directory with one for each part."""
+    return History(setting.file) if setting.part is None else Continuing(setting.file, setting.part, Conflicts(setting.conflicts))
 
 
 def tell_fault(text: str) -> None:
     """Writes a line on standard error."""
     print(f"record.py: {text}", file=sys.stderr)
-
-
-def counts_of(histories: Sequence[History]) -> Tuple[int, int]:
-    """How many calls there are, and how many of them are lost."""
-    return sum(it.calls for it in histories), sum(it.lost for it in histories)
 
 
 def run_clients(clients: Sequence[Client], stop: Stop) -> None:
@@ -416,7 +409,8 @@ def words_of(arguments: Sequence[str]) -> argparse.Namespace:
     add("--bulk-items", type=number_from(1), default=4, help="how many items a bulk request has (4)")
     add("--timeout", type=number_from(0.001, float), default=10.0, help="seconds to wait for an answer (10)")
     add("--patience", type=number_from(0, float), default=60.0, help="seconds to wait for a connection (60)")
-    add("--part", type=number_from(1), help="FILE is a folder: so many calls go to each of INDEX-1, INDEX-2 and on, with a history each")
+    add_part_options(add)
+    add_watch_options(add)
     add("--disturb", type=read_plan, metavar="PLAN", default=[], help="run the commands of this plan meanwhile, to disturb the cluster")
     add("--replicas", type=number_from(0), help="how many replicas the index has (the cluster's default)")
     add("--ca-file", help="the certificates of who is trusted to vouch for the cluster")
@@ -427,9 +421,7 @@ def words_of(arguments: Sequence[str]) -> argparse.Namespace:
     if setting.ca_file is not None and all(it.scheme != "https" for it in setting.urls):
         parser.error("--ca-file is for an address that begins with https")
     if setting.part is None and setting.seconds is None and setting.clients * setting.calls > MOST_CALLS:
-        parser.error(f"over {MOST_CALLS} calls, the most of one history: record it in parts, by --part")
-    if setting.part is not None and not setting.bulk_items <= setting.part <= MOST_CALLS:
-        parser.error(f"a part has at least the items of one bulk request, and at most {MOST_CALLS} calls")
+        parser.error(f"over {MOST_CALLS} calls, the most of one history: record it in parts, by --parts")
     return setting
 
 
@@ -439,21 +431,20 @@ def main(arguments: Sequence[str]) -> int:
     try:
         credentials = credentials_of(os.environ)
         setting.clusters = [Cluster(it, setting.timeout, credentials, trust_of(it, setting.ca_file)) for it in setting.urls]
-        histories, stop = record(setting)
+        recorded = record(setting)
     except (ClusterError, HistoryError, OSError) as fault:
         tell_fault(str(fault))
         return 1
     except KeyboardInterrupt:
         return 130
-    calls = sum(it.calls for it in histories)
-    if calls:
-        print(f"recorded {counted(calls, 'call')} in {setting.file}, {sum(it.unanswered for it in histories)} of them without a reply")
+    recording, stop = recorded.recording, recorded.stop
+    if recording.calls:
+        print(f"recorded {counted(recording.calls, 'call')} in {setting.file}, {recording.unanswered} of them without a reply")
     else:
         print("no call was made, so there is no file", file=sys.stderr)
     if stop.is_full:
-        tell_fault(f"the recording ended early: {setting.file} is full; --part records more, in parts")
-        return ENDED_EARLY
-    return 130 if stop.was_asked else int(stop.has_failed)
+        tell_fault(f"the recording ended early: {setting.file} is full; --parts records more, in parts")
+    return recorded.watched or (ENDED_EARLY if stop.is_full else 130 if stop.was_asked else int(stop.has_failed))
 
 
 if __name__ == "__main__":

@@ -1,11 +1,13 @@
 """The lines of a recording that watches, and its end: at its time, or before it, where what is written can't be told any more."""
 
-from typing import Callable, Optional, Sequence, Tuple, Union
+from typing import Callable, Dict, Optional, Sequence, Tuple, Union
 
 from .asked import Part
 from .bulk import Untellable
-from .history import Call, Ended, History, HistoryError, Operation, rest_of_reply
+from .continuing import Continuing, TooManyLost
+from .history import Call, Ended, History, HistoryError, Operation
 from .parts import Parts
+from .past import Beginning
 from .unjudged import Unjudged
 
 Reply = Tuple[int, str]
@@ -14,16 +16,25 @@ Reply = Tuple[int, str]
 Ending = Tuple[Call, Optional[Reply]]
 """A call that ends, with its reply, or None if it is lost."""
 
+Histories = Union[History, Parts, Continuing]
+"""Where the lines of a recording go."""
+
 
 class Recording:
-    """The history, or one for each shard, and the list beside it. One thread uses it."""
+    """The history, or one for each shard, or one without end, and the list beside it. One thread uses it."""
 
-    def __init__(self, history: Union[History, Parts], unjudged: Unjudged) -> None:
+    def __init__(self, history: Histories, unjudged: Unjudged) -> None:
         self.history = history
         self.unjudged = unjudged
         self.has_ended = False
         # is called when the recording, or the history of a shard, ends before its time, with the reason
         self.tell_ended: Callable[[str], None] = lambda why: None
+        # has a document judged no longer, for a reason
+        self.leave: Callable[[str, str], None] = lambda id, why: None
+        # of the documents that moved to another part, with the calls that are written, what that begins with
+        self._moved: Dict[str, Beginning] = {}
+        if isinstance(history, Continuing):
+            history.heed_move = self._moved.__setitem__
 
     def end(self, why: str) -> None:
         """Ends the recording before its time: all calls that are open are lost, and no more are written."""
@@ -44,9 +55,9 @@ class Recording:
             except HistoryError as fault:
                 self._ends(str(fault))
 
-    def end_part(self, history: History, why: str) -> None:
+    def end_part(self, history: Union[History, Continuing], why: str) -> None:
         """Ends the history of a shard, or the one of all."""
-        self.has_ended = self.has_ended or isinstance(self.history, History)
+        self.has_ended = self.has_ended or not isinstance(self.history, Parts)
         if why not in self.unjudged.ended:
             self._ends(why)
         history.end()
@@ -63,27 +74,42 @@ class Recording:
             its = made if len(shards) == 1 else [it for it in made if it[1].shard == shard]
             self.write_calls_of(self.history.of_shard(shard), its)
 
-    def write_calls_of(self, history: History, made: Sequence[Tuple[Part, Operation]]) -> None:
-        """Writes the lines of calls to a history."""
-        if self.has_ended:
-            return
-        try:
-            calls = [history.call_one(made[0][1])] if len(made) == 1 else history.call_all([it for _, it in made])
-        except Ended:
-            self.end_part(history, f"{history.path} is full")
-            return
-        except HistoryError as fault:
-            self.end_part(history, str(fault))
-            return
-        for (part, _), call in zip(made, calls):
+    def write_calls_of(self, history: Union[History, Continuing], made: Sequence[Tuple[Part, Operation]]) -> None:
+        """Writes the lines of calls to a history. A document that it can't go on with is judged no longer."""
+        while made and not self.has_ended:
+            try:
+                calls = [history.call_one(made[0][1])] if len(made) == 1 else history.call_all([it for _, it in made])
+            except TooManyLost as fault:
+                self.leave(fault.id, str(fault))
+                made = [it for it in made if it[1].id != fault.id]
+            except Ended:
+                self.end_part(history, f"{history.path} is full")
+                return
+            except HistoryError as fault:
+                self.end_part(history, str(fault))
+                return
+            else:
+                self._called([part for part, _ in made], calls)
+                return
+
+    def _called(self, parts: Sequence[Part], calls: Sequence[Call]) -> None:
+        """Keeps the calls whose lines are written. A document that begins another part forgets what that has nothing of."""
+        for part, call in zip(parts, calls):
             part.call = call
             if part.document is not None:
                 part.document.open[call] = None
+        if self._moved:
+            for document in {it.document for it in parts if it.document is not None and it.document.id in self._moved}:
+                document.goes_on(self._moved[document.id])
+            self._moved.clear()
 
     def write_ending(self, call: Call, reply: Optional[Reply]) -> None:
         """Writes the ending of a call. If the history ended in the meantime the call is lost by that."""
         try:
-            call.history.end_once(call, rest_of_reply(*reply) if reply is not None else None)
+            if reply is None:
+                call.history.lose_one(call)
+            else:
+                call.history.reply(call, *reply)
         except Ended:
             pass
         except HistoryError as fault:

@@ -1,0 +1,198 @@
+"""What the next part of a recording states of a document's past, so that whatever is refuted of the part is true of the whole.
+
+A recording without end is cut into parts, each a history in its own right. A document moves from one part to the next at a moment of
+its own. Its next part begins with two lines that state the last version known of it, followed by its lost writes that may still take
+effect, lost again. If an order explains the whole recording, one explains each part; docs/RECORDING.md says why.
+"""
+
+import json
+from dataclasses import dataclass
+from enum import Enum
+from typing import Dict, List, NamedTuple, Optional
+
+from .history import CONFLICT, WRITES_A_VALUE, Operation, Pair, is_whole, pair_of, value_of
+
+
+class Conflicts(Enum):
+    """How a conflict is read: as a write that was not performed, or as one that may have been performed all the same."""
+
+    PLAIN = "plain"
+    MAYBE = "maybe"
+
+
+class Version(NamedTuple):
+    """A version of a document: its pair and its value, which is None if the document was deleted with this pair."""
+
+    pair: Pair
+    value: Optional[int]
+
+
+class Outcome(Enum):
+    """What a reply says became of a call."""
+
+    WRITTEN = "the write took the pair that the reply shows"
+    FOUND = "the get found the version that the reply shows"
+    MISSING = "the get found no document"
+    REFUSED = "the write was answered with a conflict"
+    UNKNOWN = "the outcome is unknown"
+
+
+class Told(NamedTuple):
+    """What a reply says of a call: the outcome, and the version that it shows, if any."""
+
+    outcome: Outcome
+    version: Optional[Version] = None
+
+
+read_json = json.JSONDecoder().decode
+"""The value of a JSON text."""
+
+MISSING, REFUSED, UNKNOWN = Told(Outcome.MISSING), Told(Outcome.REFUSED), Told(Outcome.UNKNOWN)
+
+RESULTS_OF_A_WRITE = {
+    ("index", 201, "created"),
+    ("index", 200, "updated"),
+    ("create", 201, "created"),
+    ("delete", 200, "deleted"),
+    ("delete", 404, "not_found"),
+}
+"""The operation, the status and the result of each reply to a write that was performed."""
+
+
+def told_by(operation: Operation, status: int, text: Optional[str]) -> Told:
+    """What a reply with this status says, and the JSON text of its body: the row of the reply table of docs/FORMATS.md."""
+    try:
+        # (but for a zero with a sign the JSON reader finds the same whole numbers, and is quicker without a look at each)
+        body = None if text is None else value_of(text) if "-0" in text else read_json(text)
+    except (ValueError, RecursionError):
+        return UNKNOWN
+    if not isinstance(body, dict):
+        return UNKNOWN
+    if operation.op == "get":
+        return told_by_get(status, body)
+    pair = pair_of(body)
+    if pair is not None and (operation.op, status, body.get("result")) in RESULTS_OF_A_WRITE:
+        return Told(Outcome.WRITTEN, Version(pair, operation.value))
+    error = body.get("error")
+    is_conflict = status == 409 and isinstance(error, dict) and error.get("type") == CONFLICT
+    return REFUSED if is_conflict else UNKNOWN
+
+
+def told_by_get(status: int, body: Dict[str, object]) -> Told:
+    """The same of a get."""
+    pair, source = pair_of(body), body.get("_source")
+    if status == 200 and body.get("found") is True and pair is not None and isinstance(source, dict):
+        value = source.get("k")
+        return Told(Outcome.FOUND, Version(pair, value)) if is_whole(value, 0, 2**64 - 1) else UNKNOWN
+    return MISSING if status == 404 and body.get("found") is False else UNKNOWN
+
+
+class Begun(NamedTuple):
+    """A call that is open: its operation, and how many conflicts had been answered on the document when it was made."""
+
+    operation: Operation
+    conflicts: int
+
+
+@dataclass(frozen=True)
+class Beginning:
+    """What a document's next part begins with: the last version known, and the writes that may still take effect, lost again."""
+
+    version: Optional[Version]
+    lost: List[Operation]
+
+    @property
+    def calls(self) -> int:
+        """How many calls of a history it takes."""
+        return (self.version is not None) + len(self.lost)
+
+
+class Past:
+    """What of a document's past its later calls depend on. It holds as much as may still count, and not every call."""
+
+    __slots__ = ("version", "_open", "_lost_blind", "_lost_conditional", "_refused", "_conflicts")
+
+    def __init__(self) -> None:
+        # the version with the greatest pair that a reply showed
+        self.version: Optional[Version] = None
+        self._open: Dict[int, Begun] = {}
+        # writes of unknown outcome that may still take effect: those without a condition, and those with one
+        self._lost_blind: List[Operation] = []
+        self._lost_conditional: List[Operation] = []
+        # the last of the writes that were answered with a conflict, and how many there were in all
+        self._refused: List[Operation] = []
+        self._conflicts = 0
+
+    @property
+    def is_at_rest(self) -> bool:
+        """Whether none of the document's calls is open."""
+        return not self._open
+
+    @property
+    def open_calls(self) -> List[int]:
+        """The numbers of the calls that are open."""
+        return list(self._open)
+
+    def called(self, number: int, operation: Operation) -> None:
+        """Takes a call, by a number that no other open call has."""
+        self._open[number] = Begun(operation, self._conflicts)
+
+    def ended(self, number: int, told: Told) -> None:
+        """Takes what became of an open call."""
+        begun = self._open.pop(number)
+        if told.version is not None:
+            self._shown(told, begun)
+        elif told is REFUSED:
+            self._refused.append(begun.operation)
+            self._conflicts += 1
+        elif told is UNKNOWN and begun.operation.op != "get":
+            (self._lost_blind if begun.operation.condition is None else self._lost_conditional).append(begun.operation)
+
+    def _shown(self, told: Told, begun: Begun) -> None:
+        """Takes a version that the reply to a call shows.
+
+        A write that was answered with a conflict before this call was made takes no pair past that version, so it is dropped.
+        """
+        version = told.version
+        assert version is not None
+        since = self._conflicts - begun.conflicts
+        if len(self._refused) > since:
+            del self._refused[: len(self._refused) - since]
+        if self.version is not None and version.pair <= self.version.pair:
+            return
+        if told.outcome is Outcome.FOUND:
+            self._drop_writer_of(version)
+        self.version = version
+        self._lost_conditional = [it for it in self._lost_conditional if may_follow(it, version)]
+
+    def _drop_writer_of(self, version: Version) -> None:
+        """Drops the lost write that took a version which a get found, if only one can have: it took effect, and won't again."""
+        lost = self._lost_blind + self._lost_conditional
+        others = [it.operation for it in self._open.values()] + self._refused
+        writers = [it for it in lost + others if it.op in WRITES_A_VALUE and it.value == version.value and may_precede(it, version)]
+        if len(writers) != 1:
+            return
+        for lost in (self._lost_blind, self._lost_conditional):
+            if any(it is writers[0] for it in lost):
+                lost[:] = [it for it in lost if it is not writers[0]]
+
+    def beginning(self, conflicts: Conflicts) -> Beginning:
+        """What the document's next part begins with, if the recording is to be judged in this reading of a conflict.
+
+        Calls that are open are among the lost ones: a document may also move before it is at rest. Then replies to those calls belong
+        to neither part.
+        """
+        lost = self._lost_blind + self._lost_conditional
+        lost += [it.operation for it in self._open.values() if it.operation.op != "get"]
+        lost += self._refused if conflicts is Conflicts.MAYBE else []
+        return Beginning(self.version, [it for it in lost if self.version is None or may_follow(it, self.version)])
+
+
+def may_follow(operation: Operation, version: Version) -> bool:
+    """Whether a write may take effect after a version was written. One whose condition is a lesser pair can't."""
+    return operation.condition is None or operation.condition >= version.pair
+
+
+def may_precede(operation: Operation, version: Version) -> bool:
+    """Whether a write may have taken a version's pair. One whose condition is that pair or a greater one can't."""
+    return operation.condition is None or operation.condition < version.pair

@@ -1,0 +1,312 @@
+#!/usr/bin/env python3
+"""Tests the watch, which checks a recording while it grows, and runs a command at the first fault that is proved.
+
+    python3 tests/recorded_watch.py [PROGRAM]
+
+PROGRAM is the built casbench; where it is not named, the one that ./casbench would run. The last line says how many tests passed and
+failed.
+"""
+
+import contextlib
+import itertools
+import os
+import pathlib
+import pty
+import re
+import select
+import signal
+import subprocess
+import sys
+import time
+
+from recordings import FolderTest, Started, environment, judged, run_tests
+from texts import created, found, get, index, updated
+
+from casbench_recording.snapshots import Snapshot
+
+# A history that is right, what makes it stale, and what no history is.
+RIGHT = index(0) + created(0, 1, 0) + index(1, k=2) + updated(1, 1, 1)
+STALE = get(2) + found(2, 1, 0)
+NONE = "{}\n"
+
+# A program in the place of casbench, which takes so many seconds of a processor and then answers yes. It writes when it began and ended.
+SLOW = """#!{python}
+import sys, time
+began = time.time()
+sys.stdin.buffer.read()
+while time.process_time() < {seconds}:
+    pass
+print(began, time.time(), file=open({log!r}, "a"), flush=True)
+print("yes docs=1 calls=1 left_out=0")
+"""
+
+SECONDS = 60.0
+"""How long anything may take."""
+
+
+def heeds_signals(child):
+    """Whether a program has said what it does at SIGTERM."""
+    caught = re.search(r"^SigCgt:\s*(\w+)$", pathlib.Path(f"/proc/{child.pid}/status").read_text(), re.MULTILINE)
+    return int(caught[1], 16) & 1 << signal.SIGTERM - 1
+
+
+class WatchTest(FolderTest):
+    """A test with a watch of a file or a directory."""
+
+    def append(self, text, name="carts.ndjson"):
+        with open(os.path.join(self.folder, name), "a", encoding="utf-8") as file:
+            file.write(text)
+
+    def watched(self, *words, program=None, **how):
+        """The watch as it runs; standard input is the test's."""
+        words = [sys.executable, "-m", "casbench_recording.watch", self.file, "--program", program or self.program, *words]
+        pipes = {"stdin": subprocess.PIPE, "stdout": subprocess.PIPE, "stderr": subprocess.PIPE, "text": True, **how}
+        child = subprocess.Popen(words, env=environment(), **pipes)
+        self.addCleanup(child.wait)
+        self.addCleanup(child.kill)
+        return child
+
+    def ended(self, child, sent=None):
+        """How it ends, after a signal if one is sent: its status, and what it writes on both outputs."""
+        if sent is not None:
+            child.send_signal(sent)
+        told, fault = child.communicate(timeout=SECONDS)
+        return child.returncode, told, fault
+
+    def wait_for(self, is_so):
+        """Waits until something is so."""
+        end = time.monotonic() + SECONDS
+        while not is_so():
+            self.assertLess(time.monotonic(), end)
+            time.sleep(0.02)
+
+
+class OneHistory(WatchTest):
+    """A watch of one history."""
+
+    def test_a_fault_that_comes_while_it_watches(self):
+        mark = os.path.join(self.folder, "mark")
+        self.append(RIGHT)
+        child = self.watched("--every", "0.1", "--", sys.executable, "-c", f"open({mark!r}, 'x'); raise SystemExit(3)")
+        time.sleep(0.5)
+        self.append(STALE)
+        status, told, fault = self.ended(child)
+        self.assertEqual(status, 1, fault)
+        self.assertRegex(told, r"\Arefuted kind=stale-get calls=2,1 event=5 call=2 before=shown\n\n?.*\n")
+        self.assertGreater(told.count("\n"), 5)
+        self.assertTrue(os.path.exists(mark))
+        self.assertRegex(fault, r"\Acasbench_recording\.watch: .* ended with status 3\n\Z")
+
+    def test_whole_lines_alone(self):
+        whole = RIGHT + STALE
+        for cut in range(0, len(whole) + 1, 7):
+            pathlib.Path(self.file).write_text(whole[:cut])
+            snapshot = Snapshot(self.file)
+            self.assertEqual(snapshot.length, whole[:cut].rfind("\n") + 1)
+        self.append(RIGHT[-5:])
+        snapshot = Snapshot(self.file)
+        self.append("what comes later")
+        self.assertEqual(snapshot.ask(["cat"]).text, whole[:cut] + RIGHT[-5:])
+
+    def test_half_a_line_is_not_looked_at(self):
+        self.append(RIGHT + STALE[:-20])
+        child = self.watched("--every", "0.1")
+        time.sleep(0.5)
+        self.append(STALE[-20:])
+        self.assertEqual(self.ended(child)[0], 1)
+
+    def test_the_end(self):
+        for text, status, told in (
+            (RIGHT, 0, "yes docs=1 calls=2 left_out=0\n"),
+            (NONE, 2, "refused line=1 cause=shape\n"),
+            ("", 2, ""),
+        ):
+            for sent in (signal.SIGINT, signal.SIGTERM):
+                pathlib.Path(self.file).write_text("")
+                child = self.watched("--every", "60")
+                self.wait_for(lambda child=child: heeds_signals(child))
+                pathlib.Path(self.file).write_text(text)
+                ended = self.ended(child, sent)
+                self.assertEqual(ended[:2], (status, told), ended[2])
+                self.assertEqual("there is nothing to check" in ended[2], not text)
+
+    def test_what_is_not_judged(self):
+        """It is printed with the last answer."""
+        self.append(RIGHT)
+        self.append('{"id": "d1", "why": "x"}\n{"id": "d2", "why": "x"}\n{"ended": true, "why": "the disk\\u001b is full"}\n{"id": "d', "carts.ndjson.not-judged")
+        child = self.watched()
+        self.wait_for(lambda: heeds_signals(child))
+        told = f"yes docs=1 calls=2 left_out=0\nnot judged: 2 documents, listed in {self.file}.not-judged\n"
+        told += "the recording ended early: the disk\\x1b is full\n"
+        self.assertEqual(self.ended(child, signal.SIGTERM)[:2], (0, told))
+
+    def test_the_end_of_standard_input(self):
+        child = self.watched("--every", "60", "--until-closed")
+        time.sleep(0.5)
+        self.append(RIGHT + STALE)
+        child.stdin.close()
+        child.stdin = None
+        status, told, _ = self.ended(child)
+        self.assertEqual((status, told.partition(" ")[0]), (1, "refuted"))
+
+    def test_a_program_that_is_not_there(self):
+        self.append(RIGHT)
+        status, told, fault = self.ended(self.watched(program="/dev/null/casbench"))
+        self.assertEqual((status, told), (4, ""))
+        self.assertIn("Not a directory: '/dev/null/casbench'", fault)
+
+    def test_checks_take_a_tenth_of_a_processor(self):
+        log, slow = os.path.join(self.folder, "log"), pathlib.Path(self.folder) / "slow"
+        slow.write_text(SLOW.format(python=sys.executable, log=log, seconds=0.2))
+        slow.chmod(0o755)
+        self.append(RIGHT)
+        child = self.watched("--every", "0.1", program=str(slow))
+        for number in itertools.count(10):
+            self.append(get(number))
+            time.sleep(0.1)
+            if os.path.exists(log) and pathlib.Path(log).read_text().count("\n") == 3:
+                break
+            self.assertLess(number, 10 * SECONDS)
+        self.assertEqual(self.ended(child, signal.SIGTERM)[0], 0)
+        times = [float(it) for it in pathlib.Path(log).read_text().split()]
+        # (each takes 0.2 seconds at least)
+        rests = [began - ended for ended, began in zip(times[1:5:2], times[2:5:2])]
+        self.assertGreater(min(rests), 9 * 0.2)
+
+    def test_a_terminal(self):
+        """Each check is a line, which takes the place of a line on progress."""
+        self.append(RIGHT)
+        ours, its = pty.openpty()
+        child = self.watched("--every", "0.1", stdout=its)
+        os.close(its)
+        shown = b""
+        with contextlib.closing(open(ours, "rb", 0)) as terminal:
+            while b"(" not in shown:
+                self.assertTrue(select.select([terminal], [], [], SECONDS)[0])
+                shown += terminal.read(4096)
+            self.assertEqual(self.ended(child, signal.SIGTERM)[0], 0)
+        line = rb"\r\x1b\[K\d\d:\d\d:\d\d  yes docs=1 calls=2 left_out=0  \(\d\.\d\d s\)"
+        self.assertRegex(shown, rb"\A" + line)
+
+
+class Directory(WatchTest):
+    """A watch of a directory of parts."""
+
+    def setUp(self):
+        super().setUp()
+        self.file = os.path.join(self.folder, "parts")
+        os.mkdir(self.file)
+        self.part = "parts/part-000001.ndjson"
+
+    def test_parts(self):
+        self.append(RIGHT, self.part)
+        self.append(RIGHT, "parts/part-000002.ndjson.growing")
+        self.append("old", "parts/notes")
+        child = self.watched("--every", "0.1", "--delete-parts")
+        self.wait_for(lambda: not os.path.exists(os.path.join(self.folder, self.part)))
+        time.sleep(0.5)
+        self.assertEqual(sorted(os.listdir(self.file)), ["notes", "part-000002.ndjson.growing"])
+        os.rename(os.path.join(self.folder, "parts/part-000002.ndjson.growing"), os.path.join(self.folder, "parts/part-000002.ndjson"))
+        self.append(RIGHT, "parts/shard-0.ndjson")
+        self.assertEqual(self.ended(child, signal.SIGTERM)[:2], (0, "3 parts: 3 yes, 0 no, 0 refused; 2 deleted\n"))
+        self.assertEqual(sorted(os.listdir(self.file)), ["notes", "shard-0.ndjson"])
+
+    def test_a_part_that_is_refuted(self):
+        self.append(RIGHT, self.part)
+        child = self.watched("--every", "0.1", "--delete-parts")
+        self.wait_for(lambda: not os.path.exists(os.path.join(self.folder, self.part)))
+        self.append(RIGHT + STALE, "parts/part-000002.ndjson.growing")
+        status, told, _ = self.ended(child)
+        self.assertEqual(status, 1)
+        path = os.path.join(self.file, "part-000002.ndjson.growing")
+        self.assertTrue(told.startswith(f"{path}:\nrefuted kind=stale-get calls=2,1 "), told)
+        self.assertTrue(os.path.exists(path))
+
+    def test_a_text_that_is_no_history(self):
+        self.append(NONE, self.part)
+        child = self.watched("--every", "0.1", "--delete-parts")
+        self.wait_for(lambda: heeds_signals(child))
+        told = "1 part: 0 yes, 0 no, 1 refused\nrefused line=1 cause=shape\n"
+        self.assertEqual(self.ended(child, signal.SIGTERM)[:2], (2, told))
+        self.assertEqual(os.listdir(self.file), ["part-000001.ndjson"])
+
+
+class Beside(WatchTest):
+    """A recorder with a watch of its own."""
+
+    def recorder(self, store, *words):
+        """The recorder as it runs, with a watch, in a process group of its own."""
+        words = [sys.executable, "-m", "casbench_recording.record", store.url, "carts", self.file, "--watch", "--program", self.program, *words]
+        how = {"stdout": subprocess.PIPE, "stderr": subprocess.PIPE, "text": True, "start_new_session": True}
+        child = subprocess.Popen(words, env=environment(), **how)
+        self.addCleanup(child.wait)
+        self.addCleanup(child.kill)
+        return child
+
+    def group(self, child):
+        """The processes of its group."""
+        ran = subprocess.run(["ps", "-o", "pid=", "--no-headers", "-s", str(child.pid)], capture_output=True, text=True)
+        return len(ran.stdout.split())
+
+    def test_it_stops_the_load_at_the_first_fault(self):
+        period = 3
+        with Started("stand_in", "--port", "0", "--fault", "stale-get") as store:
+            status, told, fault = self.ended(self.recorder(store, "--seconds", "600", "--every", str(period)))
+        self.assertEqual(status, 1, fault)
+        refuted = re.match(r"refuted kind=stale-get calls=\d+,\d+ event=(\d+) ", told)
+        self.assertRegex(told, r"\nrecorded \d+ calls in .*\n\Z")
+        lines = self.lines()
+        self.assertLess(lines[-1]["t"] - lines[int(refuted[1])]["t"], 2 * period * 1000)
+        self.assertEqual(self.check("--rule-out").partition(" ")[0], "refuted")
+
+    def test_the_last_check_has_the_last_line(self):
+        with Started("stand_in", "--port", "0") as store:
+            status, told, fault = self.ended(self.recorder(store, "--calls", "100", "--every", "60"))
+        self.assertEqual((status, fault), (0, ""))
+        self.assertEqual(told, f"yes docs=8 calls=400 left_out=0\nrecorded 400 calls in {self.file}, 0 of them without a reply\n")
+
+    def test_an_interruption_of_the_whole_group(self):
+        with Started("stand_in", "--port", "0") as store:
+            child = self.recorder(store, "--seconds", "600", "--every", "0.2")
+            self.wait_for(lambda: os.path.exists(self.file) and os.path.getsize(self.file) > 100_000)
+            os.killpg(child.pid, signal.SIGINT)
+            status, told, fault = self.ended(child)
+        self.assertEqual((status, fault), (130, ""))
+        calls = re.fullmatch(r"yes docs=8 calls=(\d+) left_out=0\nrecorded (\d+) calls in .*\n", told)
+        self.assertEqual(calls[1], calls[2])
+        self.assertEqual(self.check(), told.partition("\n")[0])
+
+    def test_a_recorder_that_is_killed_leaves_no_watch(self):
+        with Started("stand_in", "--port", "0") as store:
+            child = self.recorder(store, "--seconds", "600", "--every", "0.2")
+            self.wait_for(lambda: os.path.exists(self.file) and self.group(child) >= 2)
+            child.kill()
+            child.communicate(timeout=SECONDS)
+            self.wait_for(lambda: self.group(child) == 0)
+
+    def test_a_watch_that_can_not_check(self):
+        with Started("stand_in", "--port", "0") as store:
+            child = self.recorder(store, "--seconds", "600", "--program", "/dev/null/casbench", "--every", "0.2")
+            status, told, fault = self.ended(child)
+        self.assertEqual(status, 4, fault)
+        self.assertIn("Not a directory: '/dev/null/casbench'", fault)
+        self.assertTrue(judged(self.program, self.file).startswith("yes "), told)
+
+    def test_a_proxy_that_stops_the_load(self):
+        """The load can't connect any more, so it ends too."""
+        parts = os.path.join(self.folder, "parts")
+        with Started("stand_in", "--port", "0", "--fault", "stale-get") as store:
+            words = ["--listen", "127.0.0.1:0", "--cluster", store.url, "--index", "carts", "--part", "500", "--watch", "--every", "1"]
+            with Started("proxy", *words, "--program", self.program, parts) as proxy:
+                words = ["--seconds", "600", "--patience", "0", proxy.url, "carts", self.file]
+                load = [sys.executable, "-m", "casbench_recording.record", *words]
+                ran = subprocess.run(load, capture_output=True, text=True, env=environment(), timeout=SECONDS)
+                told, fault = proxy.process.communicate(timeout=SECONDS)
+        self.assertEqual((ran.returncode, proxy.process.returncode), (1, 1), ran.stderr)
+        self.assertIn("Connection refused", ran.stderr)
+        self.assertRegex(told, r"\A.*/parts/part-\d+\.ndjson(\.growing)?:\nrefuted kind=")
+        self.assertRegex(told, r"\nrecorded \d+ calls in .*\njudged: 8 documents, .*\n\Z")
+
+
+if __name__ == "__main__":
+    sys.exit(run_tests())
