@@ -40,7 +40,7 @@ REPLIES = {
 def rows_of_table():
     """The rows of the table of replies: a call, the reply where the document isn't there, and the one or two where it is."""
     page = (TOP / "docs" / "RECORDING.md").read_text(encoding="utf-8")
-    section = page[page.index("## A store of your own") :].partition("| any of them")[0]
+    section = page[page.index("## Record another store") :].partition("| any of them")[0]
     for name, absent, there in re.findall(r"^\| (\w+(?: under the pair `c`)?) \| (`.*`) \| (.*) \|$", section, re.MULTILINE):
         yield name, absent.strip("`"), [it for it in re.findall(r"`([^`]+)`", there) if it in REPLIES]
 
