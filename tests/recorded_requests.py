@@ -161,19 +161,19 @@ class WithoutEnd(JudgeTest):
 
     def test_a_source_that_is_written_as_the_document_moves(self):
         judge = self.judge_in_parts(2)
-        bulk = [{"index": {"_id": "d"}}, {"a": 1}, {"index": {"_id": "d"}}, {"a": 2}]
+        bulk = [{"index": {"_id": "d"}}, {"a": 2}, {"index": {"_id": "d"}}, {"a": 1}]
         items = [{"index": {**written(2 + at, "updated")[1], "status": 200}} for at in (0, 1)]
         self.talk(
             judge,
             ("PUT /carts/_doc/d", {"a": 1}, written(0)),
             ("PUT /carts/_doc/d", {"a": 2}, written(1, "updated")),
             ("POST /carts/_bulk", bulk, (200, {"items": items})),
-            ("GET /carts/_doc/d", None, found(3, {"a": 2})),
+            ("GET /carts/_doc/d", None, found(3, {"a": 1})),
         )
         judge.close()
-        moved = ["0 index d k=3", "0 201 created 1/1", "1 index d k=2", "2 index d k=3", "1 200 updated 1/2", "2 200 updated 1/3"]
+        moved = ["0 index d k=3", "0 201 created 1/1", "1 index d k=3", "2 index d k=2", "1 200 updated 1/2", "2 200 updated 1/3"]
         self.assertEqual(self.part(2), moved)
-        self.assertEqual(self.part(3), ["0 index d k=3", "0 201 created 1/3", "1 get d", "1 200 1/3 k=3"])
+        self.assertEqual(self.part(3), ["0 index d k=2", "0 201 created 1/3", "1 get d", "1 200 1/3 k=2"])
 
     def test_sources_that_nobody_knows(self):
         judge = self.judge_in_parts(2)
