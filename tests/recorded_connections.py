@@ -324,7 +324,7 @@ class Pieces(FolderTest):
     def setUp(self):
         super().setUp()
         self.draw = random.Random(2)
-        for module in ("client_side", "cluster_side"):
+        for module in ("client_connection", "cluster_side"):
             patch = mock.patch(f"casbench_recording.{module}.Stream", Noted)
             patch.start()
             self.addCleanup(patch.stop)

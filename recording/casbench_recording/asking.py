@@ -7,6 +7,7 @@ from .bodies import MOST_READ, texts_of
 from .bulk import Item, Untellable
 from .documents import NOT_JUDGED, Document, digest_of_text, object_of
 from .history import Operation
+from .inspection import Shape
 from .ledger import Ledger
 from .routes import BULK, CALL, OF_A_GET, OF_AN_UPDATE, SWEEP, Kind, Route
 
@@ -139,25 +140,28 @@ class Asking:
 
     def _is_ready(self, part: Part) -> bool:
         """Whether a part is a call of a document that is judged, or of one whose id the answer tells."""
-        part.sweeps = self._ledger.sweeps
+        ledger = self._ledger
+        part.sweeps = ledger.sweeps
         if not part.id:
-            self._ledger.unnamed += 1
+            ledger.unnamed += 1
             return True
-        part.document = self._document_of(part)
-        self._ledger.left_out += part.document is None
-        return part.document is not None
+        shape = ledger.shape
+        if shape is not None and shape.shards == 1 or self._is_known(part, shape):
+            part.document = ledger.document(part.id)
+        if part.document is None:
+            ledger.left_out += 1
+            return False
+        return True
 
-    def _document_of(self, part: Part) -> Optional[Document]:
-        """The document of a part, if it is judged. A write that can't be told ends that."""
-        ledger, shape = self._ledger, self._ledger.shape
-        is_routed = shape is not None and shape.shards > 1 and bool({"routing", "parent"} & set(part.words))
-        if part.op == "get" and (is_routed or shape is None):
-            return None
-        if shape is None:
-            ledger.untold(part.id, "it was written before the index was looked at")
-        elif is_routed:
-            ledger.untold(part.id, "it was written with a routing, in an index of several shards")
-        return ledger.document(part.id)
+    def _is_known(self, part: Part, shape: Optional[Shape]) -> bool:
+        """Whether the shard of a part is known, in an index that isn't there or has several. A write of which it isn't ends the judgement
+        of its document."""
+        if shape is not None and not {"routing", "parent"} & set(part.words):
+            return True
+        if part.op != "get":
+            why = "it was written before the index was looked at"
+            self._ledger.untold(part.id, why if shape is None else "it was written with a routing, in an index of several shards")
+        return False
 
     def operation(self, part: Part) -> Operation:
         """The call that a part is."""

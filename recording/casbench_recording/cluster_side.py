@@ -14,7 +14,7 @@ from .routes import BULK, READS
 from .tls import TlsStream
 
 if TYPE_CHECKING:
-    from .client_side import ClientSide
+    from .client_connection import ClientConnection
 
 MOST_OF_ITEMS = 32 * 1024 * 1024
 """The most bytes of an answer to a bulk request that are held back to be read, some of its items at a time."""
@@ -25,7 +25,7 @@ class ClusterSide:
 
     stream: Union[Stream, TlsStream]
 
-    def __init__(self, client: "ClientSide", connection: socket.socket) -> None:
+    def __init__(self, client: "ClientConnection", connection: socket.socket) -> None:
         self.client = client
         self.data = b""
         loop, cluster = client.proxy.loop, client.node.cluster

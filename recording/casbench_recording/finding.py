@@ -24,6 +24,9 @@ MOST_GONE = 1000
 LONGEST_GONE = 2048
 """The most bytes of the target of such a request."""
 
+PACKED = (b"\x1f\x8b", b"\x78")
+"""What a content begins with that is packed by gzip or deflate."""
+
 PATIENCE = SECONDS + 2.0
 """For how many seconds an answer of the cluster is waited for."""
 
@@ -65,10 +68,10 @@ class Finding:
         return not self.turns.is_over
 
     def concerns(self, route: Route, content: Optional[bytes]) -> bool:
-        """Whether a request may be for the index. A bulk request that doesn't say its name isn't."""
+        """Whether a request may be for the index. A bulk request that doesn't say its name isn't; one that is packed may be."""
         if route.kind is not BULK or route.room == self._index or content is None:
             return True
-        return self._index.encode() in content or b"\\" in content
+        return self._index.encode() in content or b"\\" in content or content.startswith(PACKED)
 
     def passes(self, exchange: object, passed: Passed) -> None:
         """Heeds that a write is passed on."""

@@ -474,15 +474,33 @@ def pair_of(body: Any) -> Optional[Pair]:
     return Pair(term, seq) if has_both else None
 
 
+@functools.lru_cache(maxsize=8192)
+def member_of_id(id: str) -> str:
+    """The member of a call's line that names its document, remembered. Raises CallError where it can't be an id."""
+    if not isinstance(id, str) or not 1 <= length_of(id) <= LONGEST_ID:
+        raise CallError(f"an id is a text of 1 to {LONGEST_ID} bytes, and not {id!r}")
+    return f'"id":{compact(id)}'
+
+
+@functools.lru_cache(maxsize=8192)
+def member_of_client(client: str) -> str:
+    """The same of who asks."""
+    if not isinstance(client, str) or not 1 <= length_of(client) <= LONGEST_CLIENT:
+        raise CallError(f"a client is a text of at most {LONGEST_CLIENT} bytes, and not {client!r}")
+    return f',"client":{compact(client)}'
+
+
 def members_of_call(it: Operation) -> str:
     """The members of a call's line behind its number, up to the line's end. Raises CallError where it can't be a call."""
     if it.op not in OPERATIONS:
         raise CallError(f"an operation is one of {', '.join(OPERATIONS)}, and not {it.op!r}")
-    if not isinstance(it.id, str) or not 1 <= length_of(it.id) <= LONGEST_ID:
-        raise CallError(f"an id is a text of 1 to {LONGEST_ID} bytes, and not {it.id!r}")
+    try:
+        id = member_of_id(it.id)
+    except TypeError as fault:
+        raise CallError(f"an id is a text, and not {it.id!r}") from fault
     if type(it.shard) is not int or not 0 <= it.shard <= 1023:
         raise CallError(f"a shard is a whole number up to 1023, and not {it.shard!r}")
-    members = f'"id":{text_of_id(it.id)},"op":"{it.op}"'
+    members = f'{id},"op":"{it.op}"'
     if it.op in WRITES_A_VALUE:
         if type(it.value) is not int or not 0 <= it.value < 2**64:
             raise CallError(f"the value of a write is a whole number below 2^64, and not {it.value!r}")
@@ -493,9 +511,7 @@ def members_of_call(it: Operation) -> str:
         pair = checked_pair(it.condition)
         members += f',"if_seq_no":{pair.seq},"if_primary_term":{pair.term}'
     if it.client:
-        if not isinstance(it.client, str) or not 1 <= length_of(it.client) <= LONGEST_CLIENT:
-            raise CallError(f"a client is a text of at most {LONGEST_CLIENT} bytes, and not {it.client!r}")
-        members += f',"client":{text_of_id(it.client)}'
+        members += member_of_client(it.client)
     return f'{members},"shard":{it.shard}}}' if it.shard else members + "}"
 
 

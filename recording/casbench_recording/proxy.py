@@ -22,6 +22,7 @@ import socket
 import sys
 from typing import Callable, Iterator, List, NamedTuple, Optional, Sequence, Set, Tuple
 
+from .client_connection import ClientConnection
 from .client_side import ClientSide
 from .cluster import Cluster, ClusterError, Connection, Url, credentials_of, number_from, port_of, trust_of, url_of
 from .connecting import Addresses, Connecting, Made
@@ -117,7 +118,7 @@ class Proxy:
         self.nodes = nodes
         self.inspector = inspector
         self.judge = judge
-        self.clients: Set[ClientSide] = set()
+        self.clients: Set[ClientConnection] = set()
         self.loop = Loop()
         # (None once the index was found, or the recording ended)
         self.finding: Optional[Finding] = None if judge.shape is not None else Finding(self.loop, inspector, setting.index, judge)
@@ -184,7 +185,7 @@ class Proxy:
     def _shed(self) -> None:
         """Gives up the client for which most waits, while too much does."""
         while self.clients and self.held + self.loop.waiting > MOST_WAITING:
-            most = max(self.clients, key=ClientSide.weight)
+            most = max(self.clients, key=ClientConnection.weight)
             most.close()
             most.stream.abort()
             most.connection_lost()

@@ -107,9 +107,9 @@ class Recording:
         """Writes the ending of a call. If the history ended in the meantime the call is lost by that."""
         try:
             if reply is None:
-                call.lost()
+                call.history.lose_one(call)
             else:
-                call.tell(*reply)
+                call.history.reply(call, *reply)
         except Ended:
             pass
         except HistoryError as fault:
