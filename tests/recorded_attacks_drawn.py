@@ -190,7 +190,9 @@ class Attacked(AttackTest):
                 self.made += sum(it.result() for it in runs)
                 left = self.left(proxy, before)
             seconds, taken, status = end_of(proxy)
-        self.assertEqual(status, 0)
+            said = proxy.process.stderr.read()
+        # (what can't be told of a request that is made up may end the recording, which is said)
+        self.assertEqual(status, 3 if "the recording ended early: " in said else 0)
         self.assertLess(taken, 1.0)
         return self.check() if os.path.exists(self.file) else "no call was made", left, seconds
 
@@ -198,7 +200,7 @@ class Attacked(AttackTest):
         """What is left behind the clients, once it is little, or after some seconds."""
         for _ in range(200):
             left = descriptors(proxy) - before[0], threads(proxy) - before[1], megabytes(proxy, "VmRSS") - before[2]
-            if left[0] <= 1 and left[1] <= 0:
+            if left[0] <= 1 and left[1] <= 1:
                 break
             time.sleep(0.1)
         return left
@@ -209,9 +211,9 @@ class Attacked(AttackTest):
             self.assertRegex(answer, wanted)
             self.assertLess(seconds, 3.0)
             if left is not None:
-                # (the list of what isn't judged is a descriptor)
+                # (the list of what isn't judged is a descriptor, and the thread that wakes the loop may have begun meanwhile)
                 self.assertLessEqual(left[0], 1)
-                self.assertLessEqual(left[1], 0)
+                self.assertLessEqual(left[1], 1)
                 self.assertLess(left[2], 40)
         self.assertLess(sorted(seconds for _, _, seconds in told)[len(told) // 2], 1.0)
 

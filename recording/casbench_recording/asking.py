@@ -5,7 +5,7 @@ from typing import Any, Dict, Iterator, List, Mapping, Optional, Sequence
 from .asked import Asked, AskedInPieces, Part, condition_of
 from .bodies import MOST_READ, texts_of
 from .bulk import Item, Untellable
-from .documents import NOT_JUDGED, Document, digest_of_text, object_of
+from .documents import NOT_JUDGED, digest_of_text, object_of
 from .history import Operation
 from .inspection import Shape
 from .ledger import Ledger
