@@ -30,6 +30,11 @@ def environment(**more):
     return {**kept, "PYTHONPATH": str(PACKAGE), **more}
 
 
+# The background jobs of a shell ignore this signal, and so would the commands that are started here.
+if signal.getsignal(signal.SIGINT) is signal.SIG_IGN:
+    signal.signal(signal.SIGINT, signal.default_int_handler)
+
+
 class Started:
     """A command of the package that listens, and runs until the block ends. The first line that it says is its address."""
 
