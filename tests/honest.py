@@ -3,10 +3,12 @@
 
     python3 tests/honest.py [PROGRAM]
     python3 tests/honest.py --seed 7 [--docs 4] [--shards 1] [--clients 8] [--calls 800] [--loss 0.05] [--maybe 0.01]    writes one
+    python3 tests/honest.py --long 200 [--sizes 20000,50000,200000] [--workers 2] [PROGRAM]    judges so many long ones
 
 PROGRAM is the built casbench; where it is not named, the one that ./casbench would run. Each recording is of an index that
-kept its promise, so each should get `yes`. Where calls were lost the search misses some orders, and so few get `no` all
-the same: SETS says how many. Each `yes` is verified by its own witness.
+kept its promise, so each should get `yes`. If calls were lost the search may miss an order, and so a few may get `no` all
+the same: SETS says how many. Each `yes` is verified by its own witness. Long ones have 1 to 1,024 documents, 8 or 32 clients,
+and 1, 5 or 20 % of their calls lost, by their seeds, from 0 on.
 """
 
 import argparse
@@ -36,9 +38,9 @@ class Set(NamedTuple):
 # and then they are renewed with it; where one grows, or changes without a change of the search, orders are missed that were found.
 SETS = {
     "plain": Set(200, 1, "plain", None, 0),
-    "plain, three shards": Set(200, 3, "plain", None, 1),
-    "maybe": Set(600, 1, "maybe", None, 3),
-    "maybe, three shards": Set(600, 3, "maybe", None, 2),
+    "plain, three shards": Set(200, 3, "plain", None, 0),
+    "maybe": Set(600, 1, "maybe", None, 0),
+    "maybe, three shards": Set(600, 3, "maybe", None, 0),
     "long": Set(20, 1, "plain", 50_000, 0),
     "longer": Set(6, 1, "plain", 200_000, 0),
 }
@@ -195,17 +197,43 @@ def long_settings(seed, calls):
     return {"docs": draw.choice([1, 4, 16, 64]), "clients": draw.choice([8, 32]), "calls": calls, "loss": draw.choice([0.01, 0.05])}
 
 
-def judged(program, kind, seed):
-    """Judges a recording: tells `yes` where it is verified by its own witness, and else what is answered."""
-    settings = long_settings(seed, kind.calls) if kind.calls else short_settings(seed, kind)
+def judged_with(program, settings, reading, seed):
+    """Judges a recording with these settings: tells `yes` if it is verified by its own witness, and else what is answered."""
     history = "".join(Recording(seed, **settings).lines())
-    status, order = asked(program, "witness", history, conflicts=kind.reading)
+    status, order = asked(program, "witness", history, conflicts=reading)
     if status == 1 and order.startswith("no "):
         return "no"
-    status, line = asked(program, "verify", history, order, conflicts=kind.reading)
+    status, line = asked(program, "verify", history, order, conflicts=reading)
     if status != 0 or not line.startswith("verified "):
         raise Wrong(f"{order[:100]}, and {line}")
     return "yes"
+
+
+def judged(program, kind, seed):
+    """Judges a recording of a set."""
+    settings = long_settings(seed, kind.calls) if kind.calls else short_settings(seed, kind)
+    return judged_with(program, settings, kind.reading, seed)
+
+
+def judge_long(words):
+    """Judges long recordings of many settings."""
+    asked_for = argparse.ArgumentParser()
+    asked_for.add_argument("--long", type=int)
+    asked_for.add_argument("--sizes", type=lambda sizes: [int(it) for it in sizes.split(",")], default=[20_000, 50_000, 200_000])
+    asked_for.add_argument("--workers", type=int, default=2)
+    asked_for.add_argument("program", nargs="*")
+    given = asked_for.parse_args(words)
+    program, trials = built_program(given.program), []
+    for seed in range(given.long):
+        draw = random.Random(f"settings {seed} of many")
+        settings = {"docs": draw.choice([1, 4, 16, 64, 1024]), "clients": draw.choice([8, 32])}
+        settings |= {"calls": draw.choice(given.sizes), "loss": draw.choice([0.01, 0.05, 0.2])}
+        trials.append(Trial(f"{seed}: {settings}", judged_with, (program, settings, "plain", seed)))
+    with ProcessPoolExecutor(given.workers) as pool:
+        told, wrong = try_all(trials, pool)
+    unfound = [trial.name for trial, it in zip(trials, told) if it == "no"]
+    print(f"{len(unfound)} of {given.long} got no", *unfound, sep="\n")
+    return tell(len(told) - len(wrong), wrong)
 
 
 def write_one(words):
@@ -219,6 +247,8 @@ def write_one(words):
 
 def main():
     words = sys.argv[1:]
+    if words and words[0] == "--long":
+        return judge_long(words)
     if words and words[0].startswith("--"):
         write_one(words)
         return 0

@@ -9,7 +9,8 @@ names the event of a reply. The text up to that event, itself with it, must then
 them no call is lost, and there the event must not stand before the changed reply.
 
 Of long recordings the reply is mostly guessed, so that it isn't looked for by some twenty searches more: in nine of ten the check
-takes less than seven times the processor time of the check of the recording before the change.
+takes less than seven times the processor time of the check of the recording before the change. So it is if each document has an order
+by itself, and a number is missing for a lost delete.
 """
 
 import os
@@ -21,7 +22,7 @@ from concurrent.futures import ProcessPoolExecutor
 from drawing import CONFLICT, MISSING, Call, Draws, Ending, Op, Reply, lines, pair_taken, performed
 from program import built_program
 from running import run, said
-from texts import OFFENCE, status_of
+from texts import OFFENCE, no, status_of
 from trials import Trial, Wrong, tell, try_all
 
 # How many recordings there are of each change and number of documents. Some changes leave an order; so that not too much is
@@ -103,6 +104,27 @@ class Clients:
             if self.draws.below(20) == 0 and self.late:
                 self.answer(self.late.pop())
         return self.events
+
+
+class ScarceClients(Clients):
+    """Clients in the midst of whose calls a document is created, deleted by a lost call, and created again two numbers later; another
+    document takes the number between."""
+
+    def operation(self, doc):
+        if self.begun == self.calls // 2:
+            self.events += self.scarce()
+            self.seq += 3
+        return super().operation(doc)
+
+    def scarce(self):
+        """The calls that leave no number for the delete."""
+        self.missing = self.seq + 1
+        first, second, third = ((1, self.seq + more) for more in range(3))
+        one, other, number = self.docs, self.docs + 1, self.calls
+        yield from (Call(number, one, Op("create", 1)), Ending(number, Reply("indexed", first, True)))
+        yield from (Call(number + 1, one, Op("delete")), Ending(number + 1, None))
+        yield from (Call(number + 2, other, Op("create", 2)), Ending(number + 2, Reply("indexed", second, True)))
+        yield from (Call(number + 3, one, Op("create", 3)), Ending(number + 3, Reply("indexed", third, True)))
 
 
 # Each of these changes the reply to an operation, and gives None where it can't; `fresh` is a pair that no write has.
@@ -223,6 +245,21 @@ def times_longer(work):
     return None if line.startswith("yes ") else after / before
 
 
+def scarce(work):
+    """What is wrong with the answer to a long recording that lacks a number, or with the time that it takes."""
+    program, docs = work
+    honest, clients = Clients(LONG_SEED, docs), ScarceClients(LONG_SEED, docs)
+    honest.calls = clients.calls = LONG_CALLS
+    before, _ = seconds_of(program, honest.recorded())
+    events = clients.recorded()
+    after, line = seconds_of(program, events)
+    last = LONG_CALLS + 3
+    wanted = no(events.index(Ending(last, Reply("indexed", (1, clients.missing + 1), True))), last)
+    if line.strip() != wanted.strip():
+        return [f"{docs} documents and a missing number: {line}, and not {wanted}"]
+    return [] if after < before * MOST_TIMES else [f"{docs} documents and a missing number take {after:.2f} s, and not {before:.2f}"]
+
+
 def guessed(program, pool):
     """What is wrong with the time that looking for the reply takes in long recordings."""
     work = [(program, change, docs) for change in CHANGES for docs in (1, 4)]
@@ -241,6 +278,7 @@ def main():
     with ProcessPoolExecutor() as pool:
         told, wrong = try_all(trials, pool, chunksize=4)
         slow = guessed(program, pool)
+        slow += [it for found in pool.map(scarce, [(program, docs) for docs in (1, 2)]) for it in found]
     count = len(told) - told.count(ORDER)
     passed = count - len(wrong) + (not slow)
     for at, kind in enumerate(kinds):

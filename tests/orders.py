@@ -258,20 +258,14 @@ class Rules:
         able = [it for it in self.outside() if is_unrefused(it) and it.op.name in kinds and latest < it.replied]
         return next((it for it in by_reply(able)[:1] if it.called < self.limit(stretch)), None)
 
-    def has_room(self, stretch):
-        """Whether a number is left in the stretch: between two pairs of one term invented ones use them up."""
-        last, invented = (1, -1), 0
-        for at, link in enumerate(self.chain):
-            if link.pair is None:
-                invented += 1
-            elif at >= stretch:
-                return link.pair[0] != last[0] or link.pair[1] - last[1] - 1 > invented
-            else:
-                last, invented = link.pair, 0
-        return True
+    def is_open(self, stretch):
+        """Whether the rules insert a write in the stretch: not between two pairs of one term."""
+        before = [it.pair for it in self.chain[:stretch] if it.pair]
+        behind = [it.pair for it in self.chain[stretch:] if it.pair]
+        return not behind or behind[0][0] != (before[-1][0] if before else 1)
 
     def insert(self, stretch, write):
-        if write is None or stretch is None or not self.has_room(stretch):
+        if write is None or stretch is None or not self.is_open(stretch):
             raise Stuck
         self.chain.insert(stretch, Link(None, write))
 
@@ -375,29 +369,13 @@ class Rules:
 
     # The pairs that are invented.
 
-    def between(self, at, low, high):
-        """The pair of an invented write between two of one term: the least number that no condition names, where there are enough
-        of these; else the least that no write asks for which is refused while the document has it."""
-        numbers = [(high[0], it) for it in range(low, high[1])]
-        named = {it.op.condition for it in self.records}
-        unnamed = [it for it in numbers if it not in named]
-        known = next(there for there, it in enumerate(self.chain) if there >= at and it.pair)
-        if known - at <= len(unnamed):
-            return next(iter(unnamed), None)
-        refused = {self.records[no].op.condition for no, stretch in self.given.items() if stretch == at + 1}
-        is_there = self.chain[at].write.op.name in WRITES
-        return next((it for it in numbers if not (is_there and it in refused)), None)
-
     def invented(self, at, last, place):
         """The pair of an invented write, after this pair and at this place of the order."""
         following = next((it.pair for it in self.chain[at:] if it.pair), None)
-        term, low = (last[0], last[1] + 1) if last else (1, 0)
         called = self.chain[at].write.called
         if following is None:
             return self.seen[0] + 1 + place, called
-        if term < following[0]:
-            return term, self.seen[1] + 1 + place * 2**20 + called
-        return self.between(at, low, following)
+        return last[0] if last else 1, self.seen[1] + 1 + place * 2**20 + called
 
     def places(self):
         """The places of the order, once nothing asks for a write."""
@@ -408,8 +386,6 @@ class Rules:
             if stretch < len(self.chain):
                 pair, write = self.chain[stretch]
                 last = pair or self.invented(stretch, last, len(places))
-                if last is None:
-                    raise Stuck
                 places.append((write.no, None if pair_taken(write.reply) else last))
         return places
 

@@ -12,13 +12,13 @@ use version_pair::{NoMemory, Pair};
 use witness::Place;
 
 pub mod failed;
-pub mod free;
 pub mod inserted_pair;
 pub mod kind;
 pub mod known;
 pub mod lines;
 pub mod moves;
 pub mod numbers;
+pub mod rooms;
 pub mod standing;
 pub mod walk;
 

@@ -9,10 +9,12 @@
 
 mod earlier;
 mod forward;
+mod free;
 mod limit;
 mod near;
 mod rules;
 
 pub use forward::search_forward;
+pub use free::{Free, Gap};
 pub use limit::Limit;
 pub use rules::complete_by_rules;

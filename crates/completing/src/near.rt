@@ -1,13 +1,25 @@
 use version_pair::Pair;
 
+/// What has a pair.
+pub trait HasPair {
+    /// The pair.
+    fn pair(&self) -> Pair;
+}
+
+impl HasPair for (Pair, usize) {
+    fn pair(&self) -> Pair {
+        self.0
+    }
+}
+
 // How many entries on either side are looked at before the whole list is searched.
 const NEAR: usize = 16;
 
 // The first place from one on whose entry is not below the pair, where it is one of the next few.
-fn place_above(entries: &[(Pair, usize)], pair: Pair, from: usize) -> Option<usize> {
+fn place_above<T: HasPair>(entries: &[T], pair: Pair, from: usize) -> Option<usize> {
     let end = from.saturating_add(NEAR).min(entries.len());
     for at in from..end {
-        if entries[at].0 >= pair {
+        if entries[at].pair() >= pair {
             return Some(at);
         }
     }
@@ -15,11 +27,11 @@ fn place_above(entries: &[(Pair, usize)], pair: Pair, from: usize) -> Option<usi
 }
 
 // The last place up to one with an entry below the pair before it, where it is one of the few before.
-fn place_below(entries: &[(Pair, usize)], pair: Pair, from: usize) -> Option<usize> {
+fn place_below<T: HasPair>(entries: &[T], pair: Pair, from: usize) -> Option<usize> {
     for back in 0..NEAR {
         let at = from.saturating_sub(back);
         match at.checked_sub(1) {
-            Some(before) if entries.get(before)?.0 < pair => return Some(at),
+            Some(before) if entries.get(before)?.pair() < pair => return Some(at),
             Some(_) => {}
             None => return Some(0),
         }
@@ -29,15 +41,15 @@ fn place_below(entries: &[(Pair, usize)], pair: Pair, from: usize) -> Option<usi
 
 /// The place of the first entry that is not below the pair, in a list by rising pair. It is looked for near another place
 /// first: pairs that are asked for one after the other mostly stand near one another.
-pub fn place_near(entries: &[(Pair, usize)], pair: Pair, near: usize) -> usize {
+pub fn place_near<T: HasPair>(entries: &[T], pair: Pair, near: usize) -> usize {
     let from = near.min(entries.len());
     let place = match entries.get(from) {
-        Some(entry) if entry.0 < pair => place_above(entries, pair, from),
+        Some(entry) if entry.pair() < pair => place_above(entries, pair, from),
         _ => place_below(entries, pair, from),
     };
     match place {
         Some(at) => at,
-        None => entries.partition_point(|entry| entry.0 < pair),
+        None => entries.partition_point(|entry| entry.pair() < pair),
     }
 }
 

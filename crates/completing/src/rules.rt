@@ -15,20 +15,20 @@ pub mod flags;
 pub mod link;
 pub mod lost;
 pub mod named;
-pub mod named_pairs;
 pub mod numbers;
+pub mod open;
 pub mod performing;
 pub mod plan;
 pub mod queue;
 pub mod refused;
-pub mod room;
 pub mod round;
 pub mod stand;
 pub mod unsettled;
 
 /// An order that completes unanswered writes, by rules: first the pairs that are named get their writes; then, in
 /// rounds, the flags that do not fit ask for writes, then the calls that find no stretch, and then the conflicts that
-/// nothing refuses become writes. `None` where a rule finds no write to take. The records stand in the order of their calls.
+/// nothing refuses become writes. `None` where a rule finds no write to take, or asks for one between two pairs of one term: there the
+/// search forward chooses its number. The records stand in the order of their calls.
 /// What is found is a guess, to be checked.
 pub fn complete_by_rules(
     alloc: Global,

@@ -18,7 +18,7 @@ use Rattle.doc_register.specs.declared.op.Op.{Op}
 use Rattle.history.specs.Events.{IsCallAt, IsHistory, IsReplyAt, documents_of, heard_of, is_call, is_same, place_of, records_of}
 use Rattle.history.proofs.HistoryLemmas.{call_passes}
 use Rattle.version_pair.proofs.ListLemmas.{none_is_not_some, same_some}
-use Rattle.evidence.proofs.CallsByNumber.{call_found, call_none, call_there}
+use Rattle.evidence.proofs.CallsByNumber.{call_none, call_there}
 use Rattle.history.specs.Heard.{IsTold}
 use Rattle.history.specs.Order.{IsLinearizable}
 use Rattle.evidence.proofs.HeardLemmas.{heard_is_reply, reply_is_heard}

@@ -1,19 +1,23 @@
--- What a third look finds covers the history.
-use Rattle.std.proofs.Common.{false, List, Option, Some, None}
-use Rattle.std.specs.Prelude.{IfSome, Vec}
-use Rattle.std.specs.declared.alloc.Global.{Global}
+-- What is found of a history over all its documents.
+use Rattle.std.proofs.Common.{◌≡◌, ◌+◌, ℕ, Bool, true, false, List}
 use Rattle.doc_register.specs.declared.state.Conflicts.{Conflicts}
 use Rattle.history.specs.declared.event.Event.{Event}
-use Rattle.history.specs.Events.{documents_of}
-use Rattle.witness.specs.Witness.{Witness}
-use Rattle.doc_check.specs.declared.search.DocAnswer.{DocAnswer}
+use Rattle.history.specs.Events.{prefix}
 use Rattle.compose.specs.Covers.{HasNoUnpairedCover}
-use Rattle.compose.specs.Verdicts.{AreWitnesses}
-use Rattle.compose.specs.aids.Searched.{AreAnswersFor, IsCovering}
+use Rattle.compose.specs.declared.checking.Looked.{Looked}
+use Rattle.compose.specs.declared.checking.Looked.TheVariants.{Found as Explained, NotFound as Unexplained}
+use Rattle.compose.specs.declared.covering.Covering.{Covering}
+use Rattle.compose.specs.declared.covering.Covering.TheVariants.{Found, NotFound}
+use Rattle.compose.specs.aids.Joined.{IsCovered, IsLookedFor}
+use Rattle.compose.specs.aids.Replies.{IsWrongUnlessFound}
 
--- witnesses that cover the history if the answers are for its documents; or none, and no entries without a given pair cover it
-pub covering_found : (conflicts : Conflicts) (events : List Event) (answers : List DocAnswer) (found : Option (Vec Witness Global)) → HasNoUnpairedCover conflicts events
-    → AreAnswersFor conflicts events false (documents_of events) answers
-    → IfSome found (λ ws. (c : Conflicts) → AreAnswersFor c events false (documents_of events) answers → AreWitnesses c events ws.items) → IsCovering conflicts events found
-covering_found conflicts events answers None none are cover = none
-covering_found conflicts events answers (Some ws) none are cover = cover conflicts are
+-- what other looks find covers the history, or nothing does
+pub covered_first : (conflicts : Conflicts) (events : List Event) (first : Bool) (found : Covering) → (first ≡ true → HasNoUnpairedCover conflicts events) → IsCovered conflicts events false found
+    → IsCovered conflicts events first found
+covered_first conflicts events first (Found ws) none is = is
+covered_first conflicts events first (NotFound place) none is = none
+
+-- events for which no order is found are not plainly right
+pub looked_wrong : (conflicts : Conflicts) (events : List Event) (p : ℕ) (found : Looked) → IsLookedFor conflicts (prefix events (p + 1)) found → IsWrongUnlessFound events p found
+looked_wrong conflicts events p Explained is = tt
+looked_wrong conflicts events p (Unexplained place) is = is.not_right

@@ -1,6 +1,7 @@
 -- What the search of one document after another finds.
-use Rattle.std.proofs.Common.{ℕ, zero, suc, Bool, true, false, refl, ◌≡◌, ◌+◌, ◌<◌, ◌≤◌, ◌++◌, List, [], ◌∷◌, sym, ap, subst, ◌∙◌, arith, Some, slice_get, map, length, take, Ok, Err, Result}
-use Rattle.std.specs.Prelude.{IfOk, option_map}
+use Rattle.std.proofs.Common.{ℕ, zero, suc, Bool, true, false, refl, ◌≡◌, ◌+◌, ◌<◌, ◌≤◌, ◌++◌, List, [], ◌∷◌, sym, ap, subst, ◌∙◌, arith, Option, Some, None, slice_get, map, length, take, Ok, Err, Result}
+use Rattle.std.specs.Prelude.{IfOk, IfSome, MatchOption, Vec, option_map}
+use Rattle.std.specs.declared.alloc.Global.{Global}
 use Rattle.std.specs.declared.alloc.AllocError.{AllocError}
 use Rattle.std.proofs.Math.Numerals.{add-one}
 use Rattle.std.proofs.lemmas.Bool.{false≢true}
@@ -88,15 +89,15 @@ found_searched conflicts events first (d ∷ ds) (w ∷ ws) are = (
   found_searched conflicts events first ds ws are.1,
 )
 
--- and witnesses of the documents are answers
-pub searched_found : (conflicts : Conflicts) (events : List Event) (first : Bool) (ds : List (List ℕ × ℕ)) (ws : List Witness) → AreSearched conflicts events first ds ws
-    → AreAnswersFor conflicts events first ds (map Found ws)
-searched_found conflicts events first [] [] are = tt
-searched_found conflicts events first [] (w ∷ ws) are = absurd are
-searched_found conflicts events first (d ∷ ds) [] are = absurd are
-searched_found conflicts events first (d ∷ ds) (w ∷ ws) are = (
-  ((are.0.doc, are.0.own, are.0.read, are.0.valid), are.0.unpaired),
-  searched_found conflicts events first ds ws are.1,
+-- the witnesses are of the documents, whether they are the first or not
+pub searched_anyway : (conflicts : Conflicts) (events : List Event) (first : Bool) (ds : List (List ℕ × ℕ)) (ws : List Witness) → AreSearched conflicts events first ds ws
+    → AreSearched conflicts events false ds ws
+searched_anyway conflicts events first [] [] are = tt
+searched_anyway conflicts events first [] (w ∷ ws) are = absurd are
+searched_anyway conflicts events first (d ∷ ds) [] are = absurd are
+searched_anyway conflicts events first (d ∷ ds) (w ∷ ws) are = (
+  record { doc = are.0.doc; own = are.0.own; read = are.0.read; valid = are.0.valid; unpaired = λ is. absurd (false≢true is) },
+  searched_anyway conflicts events first ds ws are.1,
 )
 
 -- ---- other answers about the same
@@ -117,10 +118,19 @@ kept_answers conflicts events (d ∷ ds) (y ∷ ys) [] are kept = absurd kept
 kept_answers conflicts events (d ∷ ds) (y ∷ ys) (x ∷ xs) are kept =
     ((kept.0 d.0 (records_of events d.0) conflicts are.0.0, λ is. absurd (false≢true is)), kept_answers conflicts events ds ys xs are.1 kept.1)
 
+-- orders of all documents, if those that were searched again have some
+pub orders_searched : (events : List Event) (olds news : List DocAnswer) (found : Option (Vec Witness Global)) → AreKept olds news
+    → MatchOption found (HasLost news) (λ ws. news ≡ map Found ws.items)
+    → IfSome found (λ ws. (conflicts : Conflicts) → AreAnswersFor conflicts events false (documents_of events) olds → AreSearched conflicts events false (documents_of events) ws.items)
+orders_searched events olds news None kept is = tt
+orders_searched events olds news (Some ws) kept is = λ conflicts are.
+    let docs = documents_of events in
+    found_searched conflicts events false docs ws.items (subst (AreAnswersFor conflicts events false docs) is (kept_answers conflicts events docs olds news are kept))
+
 -- ---- other places for the same records
 
 -- a witness that is alike is of the same document
-alike_searched : (conflicts : Conflicts) (events : List Event) (first : Bool) (ds : List (List ℕ × ℕ)) (olds news : List Witness) → AreSearched conflicts events first ds olds → AreAlike olds news
+pub alike_searched : (conflicts : Conflicts) (events : List Event) (first : Bool) (ds : List (List ℕ × ℕ)) (olds news : List Witness) → AreSearched conflicts events first ds olds → AreAlike olds news
     → AreSearched conflicts events false ds news
 alike_searched conflicts events first [] [] [] are alike = tt
 alike_searched conflicts events first [] [] (w ∷ ws) are alike = absurd alike

@@ -18,6 +18,8 @@ pub struct Case {
     conflicts: Conflicts,
     // The documents for which no order was found at first: no other may be ruled out.
     unordered: Vec<usize>,
+    // The place of the reply with which numbers seem to become too few, if that is why.
+    short_at: Option<usize>,
 }
 
 impl Model for Case {
@@ -36,7 +38,12 @@ impl Model for Case {
 
 impl Case {
     // The case of a history that no witnesses without a given pair cover, and of whose documents only these may be ruled out.
-    pub(crate) fn of(history: History, conflicts: Conflicts, unordered: Vec<usize>) -> Case
+    pub(crate) fn of(
+        history: History,
+        conflicts: Conflicts,
+        unordered: Vec<usize>,
+        short_at: Option<usize>,
+    ) -> Case
         requires history { IsHistory history }
         requires uncovered { HasNoUnpairedCover conflicts history }
         requires within { AreDocuments history unordered.items }
@@ -47,6 +54,7 @@ impl Case {
             history,
             conflicts,
             unordered,
+            short_at,
         }
     }
 
@@ -68,6 +76,11 @@ impl Case {
         ensures listed { ListsRuledOut self.now.conflicts self.now.events result.now }
     {
         &self.unordered
+    }
+
+    // The place of the reply with which numbers seem to become too few, if that is why no order was found: a guess.
+    pub(crate) fn short_at(&self) -> Option<usize> {
+        self.short_at
     }
 
     /// How a conflict is read.

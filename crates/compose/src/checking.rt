@@ -4,14 +4,13 @@ ghost use Rattle.history.specs.Order.{IsLinearizable, IsPlainlyRight};
 ghost use Rattle.compose.specs.Checked.{HandsBack, IsVerdictOn, IsYes, NamesDocument};
 ghost use Rattle.compose.specs.declared.checking.CheckFault.TheVariants.{NoMemory as Unchecked, Pool as Unpooled};
 ghost use Rattle.compose.specs.Verdicts.{HasNoOrderFound};
-ghost use Rattle.compose.specs.aids.Searched.{AreAnswersFor, AreUnordered, IsCovering};
+ghost use Rattle.compose.specs.aids.Joined.{IsLookedFor};
+ghost use Rattle.compose.specs.aids.Searched.{AreAnswersFor, AreUnordered};
 
 use crate::case::Case;
+use crate::covering::{Covering, cover_answers};
 use crate::found::answers_found;
-use crate::joined::{Joined, join_answers};
 use crate::proof::Proof;
-use crate::second_look::looked_again;
-use crate::third_look::cover_with_fewer;
 use crate::workers::answers_of_workers;
 use check_pool::{Gate, PoolFault, check_workers};
 use doc_check::DocAnswer;
@@ -22,7 +21,6 @@ use std::sync::Wait;
 use std::thread::Threads;
 use thiserror::Error;
 use version_pair::NoMemory;
-use witness::DocWitness;
 
 /// Whether one order of all calls was found for a history.
 #[derive(Debug, Drop)]
@@ -45,32 +43,34 @@ pub enum CheckFault {
     NoMemory(History),
 }
 
-// Witnesses that cover the history, if the answers of the search are such, or a second or a third look at some documents finds them.
-fn covering(
-    alloc: Global,
-    history: &Front<'_>,
-    answers: Vec<DocAnswer>,
-    conflicts: Conflicts,
-) -> Result<Option<Vec<DocWitness>>, NoMemory>
-    requires { AreAnswersFor conflicts history.now true (documents_of history.now) answers.items }
-    ensures { IfOk result (IsCovering conflicts history.now) }
-{
-    let answers = match join_answers(alloc, history, answers)? {
-        Joined::Cover(witnesses) => return Ok(Some(witnesses)),
-        Joined::Open(answers) => answers,
-        Joined::Spent => return Ok(None),
-    };
-    let Some(others) = looked_again(alloc, history, answers)? else {
-        return Ok(None);
-    };
-    match join_answers(alloc, history, others)? {
-        Joined::Cover(witnesses) => Ok(Some(witnesses)),
-        Joined::Open(answers) => cover_with_fewer(alloc, history, answers),
-        Joined::Spent => Ok(None),
-    }
+/// Whether one order was found for events.
+#[derive(Clone, Copy)]
+pub enum Looked {
+    /// One was.
+    Found,
+    /// None was. If it is numbers that are too few, the place of the reply with which they seem to become so.
+    NotFound(Option<usize>),
 }
 
 /// Whether one order of all calls explains these events, as `check_alone` looks for one in a history that has no others.
+pub fn looked_for(
+    alloc: Global,
+    history: &Front<'_>,
+    conflicts: Conflicts,
+) -> Result<Looked, NoMemory>
+    ensures { IfOk result (IsLookedFor conflicts history.now) }
+{
+    // A look at the events: that they are a history is known from here on.
+    let _ = history.len();
+    let answers = answers_found(alloc, history, conflicts)?;
+    match cover_answers(alloc, history, answers) {
+        Ok(Covering::Found(_)) => Ok(Looked::Found),
+        Ok(Covering::NotFound(place)) => Ok(Looked::NotFound(place)),
+        Err(refused) => Err(refused),
+    }
+}
+
+/// Whether one order of all calls explains these events.
 pub fn is_explained(
     alloc: Global,
     history: &Front<'_>,
@@ -79,13 +79,9 @@ pub fn is_explained(
     ensures found { IfOk result (λ found. found ≡ true → IsLinearizable conflicts history.now) }
     ensures none { IfOk result (λ found. found ≡ false → HasNoOrderFound conflicts history.now) }
 {
-    // A look at the events: that they are a history is known from here on.
-    let _ = history.len();
-    let answers = answers_found(alloc, history, conflicts)?;
-    match covering(alloc, history, answers, conflicts) {
-        Ok(Some(_)) => Ok(true),
-        Ok(None) => Ok(false),
-        Err(refused) => Err(refused),
+    match looked_for(alloc, history, conflicts)? {
+        Looked::Found => Ok(true),
+        Looked::NotFound(_) => Ok(false),
     }
 }
 
@@ -120,9 +116,13 @@ fn verdict_of(
     let Ok(unordered) = unordered_documents(alloc, &answers) else {
         return Err(CheckFault::NoMemory(history));
     };
-    match covering(alloc, &history.whole(), answers, conflicts) {
-        Ok(Some(witnesses)) => Ok(Verdict::Yes(Proof::of(history, witnesses, conflicts))),
-        Ok(None) => Ok(Verdict::No(Case::of(history, conflicts, unordered))),
+    match cover_answers(alloc, &history.whole(), answers) {
+        Ok(Covering::Found(witnesses)) => {
+            Ok(Verdict::Yes(Proof::of(history, witnesses, conflicts)))
+        }
+        Ok(Covering::NotFound(place)) => {
+            Ok(Verdict::No(Case::of(history, conflicts, unordered, place)))
+        }
         Err(_) => Err(CheckFault::NoMemory(history)),
     }
 }

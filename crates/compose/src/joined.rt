@@ -1,32 +1,35 @@
-ghost use Rattle.std.specs.Prelude.{◌≡◌, Bool, IfOk, MatchOption, map, true};
+ghost use Rattle.std.specs.Prelude.{◌≡◌, Bool, IfOk, MatchOption, false, map, true};
 ghost use Rattle.doc_check.specs.declared.search.DocAnswer.TheVariants.{Found as Ordered};
 ghost use Rattle.doc_register.specs.declared.state.Conflicts.{Conflicts as Reading};
 ghost use Rattle.history.specs.Events.{documents_of};
 ghost use Rattle.compose.specs.Covers.{HasNoUnpairedCover};
 ghost use Rattle.compose.specs.aids.Joined.{IsJoined};
-ghost use Rattle.compose.specs.aids.Searched.{AreAnswersFor, AreSearched, HasLost};
+ghost use Rattle.compose.specs.aids.Searched.{AreSearched, HasLost};
 
-use crate::renumbered::{Change, changes_of, with_all};
+use crate::renumbered::gaps::Gaps;
+use crate::renumbered::{Change, Numbers, numbers_of, with_all};
+use crate::shortage::Shortage;
 use crate::taken::pair_twice;
+use crate::used_pairs::UsedPairs;
 use doc_check::DocAnswer;
 use history::Front;
 use std::alloc::Global;
 use version_pair::NoMemory;
 use witness::DocWitness;
 
-/// What the answers for the documents are together.
+/// What the witnesses of all documents are together.
 #[derive(Drop)]
 pub enum Joined {
-    /// Witnesses that cover the history.
+    /// They cover the history, if need be with other numbers for invented pairs.
     Cover(Vec<DocWitness>),
-    /// The answers again: a document has no order, or too few numbers are left for pairs that two documents take.
-    Open(Vec<DocAnswer>),
+    /// The witnesses again: too few numbers are free for the pairs that they invent.
+    Short(Vec<DocWitness>, Shortage),
     /// No cover, and nothing that another look could mend.
     Spent,
 }
 
-// Whether a document has no order.
-fn has_lost(answers: &[DocAnswer]) -> bool
+/// Whether a document has no order.
+pub fn has_lost(answers: &[DocAnswer]) -> bool
     ensures { result ≡ true → HasLost answers.now }
 {
     for answer in answers {
@@ -38,8 +41,11 @@ fn has_lost(answers: &[DocAnswer]) -> bool
     false
 }
 
-// The witnesses, where each document has one.
-fn witnesses_of(alloc: Global, answers: Vec<DocAnswer>) -> Result<Option<Vec<DocWitness>>, NoMemory>
+/// The witnesses, if each document has one.
+pub fn witnesses_of(
+    alloc: Global,
+    answers: Vec<DocAnswer>,
+) -> Result<Option<Vec<DocWitness>>, NoMemory>
     ensures { IfOk result (λ found. MatchOption found (HasLost answers.items)
         (λ ws. answers.items ≡ map Ordered ws.items)) }
 {
@@ -51,17 +57,6 @@ fn witnesses_of(alloc: Global, answers: Vec<DocAnswer>) -> Result<Option<Vec<Doc
         }
     }
     Ok(Some(witnesses))
-}
-
-// The witnesses as answers.
-fn answers_of(alloc: Global, witnesses: Vec<DocWitness>) -> Result<Vec<DocAnswer>, NoMemory>
-    ensures { IfOk result (λ answers. map Ordered witnesses.items ≡ answers.items) }
-{
-    let mut answers = Vec::with_capacity(alloc, witnesses.len())?;
-    for witness in witnesses {
-        answers.push(DocAnswer::Found(witness))?;
-    }
-    Ok(answers)
 }
 
 // What the witnesses are together with other pairs for some of their places.
@@ -85,41 +80,43 @@ fn join_changed(
     }
 }
 
-// What the witnesses of all documents are together.
-fn join_witnesses(
+/// What the witnesses of all documents, which have these gaps, are together with other numbers for the pairs that they invent, given
+/// which pairs are in use.
+pub fn renumbered(
     alloc: Global,
     history: &Front<'_>,
     witnesses: Vec<DocWitness>,
+    gaps: Gaps,
+    used: &UsedPairs,
 ) -> Result<Joined, NoMemory>
     ensures { IfOk result (λ joined. (conflicts : Reading) (first : Bool)
         → AreSearched conflicts history.now first (documents_of history.now) witnesses.items
+        → (first ≡ true → HasNoUnpairedCover conflicts history.now)
         → IsJoined conflicts history.now first joined) }
 {
-    match pair_twice(alloc, history, &witnesses)? {
-        None => Ok(Joined::Cover(witnesses)),
-        Some(_) => match changes_of(alloc, history, &witnesses)? {
-            Some(changes) => join_changed(alloc, history, witnesses, &changes),
-            None => Ok(Joined::Open(answers_of(alloc, witnesses)?)),
-        },
+    match numbers_of(alloc, history.keys(), &witnesses, &gaps, used)? {
+        Numbers::Given(changes) => join_changed(alloc, history, witnesses, &changes),
+        Numbers::Short(tight) => Ok(Joined::Short(witnesses, Shortage { gaps, tight })),
     }
 }
 
-/// What the answers for all documents are together: witnesses that cover the history, where each document has one and no
-/// pair of a shard is taken twice, if need be with other numbers for invented pairs.
-pub fn join_answers(
+/// What the witnesses of all documents are together, if need be with other numbers for the pairs that they invent, given which pairs
+/// are in use.
+pub fn joined_again(
     alloc: Global,
     history: &Front<'_>,
-    answers: Vec<DocAnswer>,
+    witnesses: Vec<DocWitness>,
+    used: &UsedPairs,
 ) -> Result<Joined, NoMemory>
-    ensures { IfOk result (λ joined. (conflicts : Reading) (first : Bool)
-        → AreAnswersFor conflicts history.now first (documents_of history.now) answers.items
-        → IsJoined conflicts history.now first joined) }
+    ensures { IfOk result (λ joined. (conflicts : Reading)
+        → AreSearched conflicts history.now false (documents_of history.now) witnesses.items
+        → IsJoined conflicts history.now false joined) }
 {
-    if has_lost(&answers) {
-        return Ok(Joined::Open(answers));
-    }
-    match witnesses_of(alloc, answers)? {
-        Some(witnesses) => join_witnesses(alloc, history, witnesses),
-        None => Ok(Joined::Spent),
+    match pair_twice(alloc, history, &witnesses)? {
+        None => Ok(Joined::Cover(witnesses)),
+        Some(_) => {
+            let gaps = Gaps::of(alloc, history, &witnesses)?;
+            renumbered(alloc, history, witnesses, gaps, used)
+        }
     }
 }

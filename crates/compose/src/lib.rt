@@ -9,10 +9,12 @@
 //! ```
 #![tactic(auto)]
 
+mod asked;
 mod case;
 mod certainty;
 mod checking;
 mod counts;
+mod covering;
 mod finding;
 mod found;
 mod joined;
@@ -22,8 +24,10 @@ mod proof;
 mod refutation;
 mod renumbered;
 mod second_look;
+mod shortage;
 mod taken;
 mod third_look;
+mod used_pairs;
 mod verification;
 mod verify_fault;
 mod workers;

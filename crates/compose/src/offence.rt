@@ -1,9 +1,9 @@
-ghost use Rattle.std.specs.Prelude.{◌≡◌, ◌<◌, ◌-◌, IfOk, IfSome, OnOk, false, length};
+ghost use Rattle.std.specs.Prelude.{◌≡◌, ◌<◌, ◌≤◌, ◌-◌, IfOk, IfSome, OnOk, length};
 ghost use Rattle.compose.specs.Offences.{IsOffence};
-ghost use Rattle.compose.specs.aids.Replies.{AreReplies, IsNarrower, IsReplyPlace, IsWrongAt, IsWrongFrom, places_with};
+ghost use Rattle.compose.specs.aids.Replies.{AreReplies, IsNarrower, IsReplyPlace, IsWrongAt, IsWrongFrom, IsWrongUnlessFound, places_with};
 
 use crate::case::Case;
-use crate::checking::is_explained;
+use crate::checking::{Looked, is_explained, looked_for};
 use doc_register::Conflicts;
 use history::laws::late_calls;
 use history::{Event, History};
@@ -46,50 +46,95 @@ fn reply_places(alloc: Global, history: &History) -> Result<Vec<usize>, NoMemory
     Ok(places)
 }
 
-// Whether the search finds an order of the events up to this place, itself among them.
-fn is_explained_to(
+// What the search finds of the events up to this place, itself among them.
+fn looked_to(
     alloc: Global,
     history: &History,
     conflicts: Conflicts,
     place: usize,
-) -> Result<bool, NoMemory>
+) -> Result<Looked, NoMemory>
     requires { place < length history.now }
-    ensures { IfOk result (λ found. found ≡ false → IsWrongAt history.now place) }
+    ensures { IfOk result (IsWrongUnlessFound history.now place) }
 {
     // A look at the history: that its places are small numbers is known from here on.
     let _ = history.len();
-    is_explained(alloc, &history.front(place + 1), conflicts)
+    looked_for(alloc, &history.front(place + 1), conflicts)
 }
 
-// The half of the replies from `low` to `high` in which the search first fails, where it fails at `high`.
-fn half(
+// The reply that is tried next, of those from `low` to `high`, without the last: the one at the guessed place, or else the middle one.
+fn next_tried(places: &[usize], low: usize, high: usize, guessed: Option<usize>) -> usize
+    requires order { low < high }
+    ensures from { low ≤ result }
+    ensures below { result < high }
+{
+    if let Some(place) = guessed {
+        let at = places.partition_point(|entry| *entry < place);
+        if low <= at && at < high {
+            return at;
+        }
+    }
+    low + (high - low) / 2
+}
+
+// The guess after a reply at which the search fails, which was guessed or not: the one that this search gave, if it is earlier; else the
+// reply before, if there is reason to think that the search fails here first.
+fn guess_before(
+    places: &[usize],
+    at: usize,
+    guessed: Option<usize>,
+    found: Option<usize>,
+) -> Option<usize> {
+    let place = places.get(at).copied()?;
+    match found {
+        Some(earlier) if earlier < place => Some(earlier),
+        Some(_) => places.get(at.checked_sub(1)?).copied(),
+        None => {
+            if guessed == Some(place) {
+                places.get(at.checked_sub(1)?).copied()
+            } else {
+                None
+            }
+        }
+    }
+}
+
+// Fewer of the replies from `low` to `high`, if the search fails at `high`: those up to one at which it fails, or those behind one at
+// which it finds an order. The guess is replaced by another one.
+fn narrower(
     alloc: Global,
     history: &History,
     conflicts: Conflicts,
     places: &[usize],
     low: usize,
     high: usize,
+    guessed: &mut Option<usize>,
 ) -> Result<(usize, usize), NoMemory>
     requires order { low < high }
     requires within { high < length places.now }
     requires replies { AreReplies history.now (length history.now) places.now }
     ensures { IfOk result (IsNarrower history.now places.now low high) }
 {
-    let mid = low + (high - low) / 2;
-    if is_explained_to(alloc, history, conflicts, places[mid])? {
-        Ok((mid + 1, high))
-    } else {
-        Ok((low, mid))
+    let at = next_tried(places, low, high, *guessed);
+    match looked_to(alloc, history, conflicts, places[at])? {
+        Looked::Found => {
+            *guessed = None;
+            Ok((at + 1, high))
+        }
+        Looked::NotFound(found) => {
+            *guessed = guess_before(places, at, *guessed, found);
+            Ok((low, at))
+        }
     }
 }
 
-// Of the replies at these places the first at which the search fails, where it fails at the last: those that are left are
-// halved until one is. The search fails at a reply where it finds no order of the events up to it.
+// Of the replies at these places the first at which the search fails, if it fails at the last: those that are left become fewer until one
+// is. The search fails at a reply if it finds no order of the events up to it.
 fn first_wrong(
     alloc: Global,
     history: &History,
     conflicts: Conflicts,
     places: &[usize],
+    guessed: Option<usize>,
 ) -> Result<usize, NoMemory>
     requires some { 0 < length places.now }
     requires replies { AreReplies history.now (length history.now) places.now }
@@ -97,9 +142,18 @@ fn first_wrong(
     ensures reply { IfOk result (IsReplyPlace history.now) }
     ensures wrong { IfOk result (IsWrongAt history.now) }
 {
+    let mut guessed = guessed;
     let mut left = (0, places.len() - 1);
     while left.0 < left.1 {
-        left = half(alloc, history, conflicts, places, left.0, left.1)?;
+        left = narrower(
+            alloc,
+            history,
+            conflicts,
+            places,
+            left.0,
+            left.1,
+            &mut guessed,
+        )?;
     }
     Ok(places[left.1])
 }
@@ -126,52 +180,68 @@ fn offence_at(
     }
 }
 
-// The offence at this reply, where the search fails there and finds an order of all events before.
+// The offence at this reply, if the search fails there and finds an order of all events before. If it fails on these as well, `next` is
+// another guess, if there is one.
 fn offence_if(
     alloc: Global,
     history: &History,
     conflicts: Conflicts,
     place: usize,
+    next: &mut Option<usize>,
 ) -> Result<Option<Offence>, NoMemory>
     ensures { IfOk result (λ found. IfSome found (IsOffence conflicts history.now)) }
 {
+    *next = None;
     if place >= history.len() {
         return Ok(None);
     }
     let Event::Reply { no, .. } = history.event(place) else {
         return Ok(None);
     };
-    if is_explained_to(alloc, history, conflicts, place)? {
-        return Ok(None);
+    match looked_to(alloc, history, conflicts, place)? {
+        Looked::Found => return Ok(None),
+        Looked::NotFound(_) => {}
     }
-    if !is_explained(alloc, &history.front(place), conflicts)? {
-        return Ok(None);
+    match looked_for(alloc, &history.front(place), conflicts)? {
+        Looked::Found => Ok(Some(Offence {
+            event: place,
+            call: *no,
+            before_shown: true,
+        })),
+        Looked::NotFound(earlier) => {
+            *next = earlier;
+            Ok(None)
+        }
     }
-    Ok(Some(Offence {
-        event: place,
-        call: *no,
-        before_shown: true,
-    }))
+}
+
+// A guess at the reply at which the search first fails.
+fn first_guess(alloc: Global, case: &Case) -> Result<Option<usize>, NoMemory> {
+    match case.short_at() {
+        Some(place) => Ok(Some(place)),
+        None => guess(alloc, case.history(), case.conflicts()),
+    }
 }
 
 /// The reply at which the search first fails, its call, and whether the events before it have an order.
 ///
-/// It is found by halving the replies: where the events up to the middle one have an order that the search finds, it is after
-/// that, else it is that or before. First a reply is tried that is cheaper to guess: where the search fails there, and not on
-/// the events before, it is what halving finds too.
+/// First a reply is tried that is cheap to guess: if the search fails there, and not on the events before, it is that. Else the replies
+/// are halved: if the events up to the middle one have an order that the search finds, it is after that, else it is that or before. If
+/// it is numbers that are too few, the search tells a reply to try before the middle one.
 pub fn first_offence(alloc: Global, case: &Case) -> Result<Offence, NoMemory>
     ensures { IfOk result (IsOffence case.now.conflicts case.now.events) }
 {
     let history = case.history();
     let conflicts = case.conflicts();
-    if let Some(place) = guess(alloc, history, conflicts)? {
-        if let Some(offence) = offence_if(alloc, history, conflicts, place)? {
+    let mut next = None;
+    if let Some(place) = first_guess(alloc, case)? {
+        if let Some(offence) = offence_if(alloc, history, conflicts, place, &mut next)? {
             return Ok(offence);
         }
     }
     let places = reply_places(alloc, history)?;
     // What calls after the last reply leave as it was is known from here on.
     late_calls();
-    let place = first_wrong(alloc, history, conflicts, &places)?;
+    let place = first_wrong(alloc, history, conflicts, &places, next)?;
     offence_at(alloc, history, conflicts, place)
 }

@@ -1,67 +1,86 @@
 ghost use Rattle.std.specs.Prelude.{IfOk, IfSome};
 ghost use Rattle.compose.specs.aids.Searched.{AreAlike, IsAlike};
 
-use crate::renumbered::free_numbers::FreeNumbers;
-use crate::renumbered::gaps::{Gap, Gaps, Wanting};
+use crate::renumbered::free_numbers::{FreeNumbers, pair_after};
+use crate::renumbered::gaps::{Gap, Gaps};
+use crate::renumbered::names::Names;
 use crate::renumbered::tight::{Filled, tight_set};
-use history::{Front, HashKeys};
+use crate::used_pairs::UsedPairs;
+use history::HashKeys;
 use std::alloc::{AllocError, Global};
 use version_pair::{NoMemory, Pair};
 use witness::{Broken, DocWitness};
 
 pub mod free_numbers;
 pub mod gaps;
+mod given;
+mod names;
 mod tight;
 
 /// Another pair for a place: the number of the witness, that of the place, the pair.
 pub type Change = (usize, usize, Pair);
 
-// Free pairs for the places of a gap, in their order: each takes the least above the one before that it may take. `None` where
-// the gap has too few.
-fn free_pairs(
-    alloc: Global,
-    wanting: Wanting<'_>,
-    free: &mut FreeNumbers,
-) -> Result<Option<Vec<Pair>>, NoMemory> {
-    let mut pairs = Vec::new(alloc);
-    let mut from = wanting.gap.from;
-    for place in &wanting.gap.places {
-        let Some(pair) = free.least(wanting, *place, from)? else {
-            return Ok(None);
-        };
-        pairs.push(pair)?;
-        from = pair.seq().saturating_add(1);
-    }
-    Ok(Some(pairs))
+// What numbers are given from, and to which places.
+#[derive(Drop)]
+struct Numbering<'a> {
+    free: FreeNumbers<'a>,
+    names: &'a Names,
+    // Whether the pairs that conditions of the document name are avoided.
+    avoids: bool,
 }
 
-// Free pairs for the places of a gap. If named pairs are avoided, those that a call of the document names are taken only where
-// there are too few others.
-fn pairs_for(
-    alloc: Global,
-    gaps: &Gaps,
-    gap: &Gap,
-    free: &mut FreeNumbers,
-    avoids: bool,
-) -> Result<Option<Vec<Pair>>, NoMemory> {
-    if avoids {
-        if let Some(pairs) = free_pairs(alloc, Wanting { gaps, gap, avoids }, free)? {
-            return Ok(Some(pairs));
+impl Numbering<'_> {
+    // Free pairs for the places of a gap, in their order: each takes the least above the one before that it may take. `None` if the
+    // gap has too few.
+    fn free_pairs(
+        &mut self,
+        alloc: Global,
+        gap: &Gap,
+        avoids: bool,
+    ) -> Result<Option<Vec<Pair>>, NoMemory> {
+        let mut pairs = Vec::new(alloc);
+        let mut from = Some(gap.numbers.from);
+        for place in &gap.places {
+            let Some(least) = from else {
+                return Ok(None);
+            };
+            let Some(pair) = self.free.least(self.names, gap, *place, least, avoids)? else {
+                return Ok(None);
+            };
+            pairs.push(pair)?;
+            from = pair_after(pair);
         }
+        Ok(Some(pairs))
     }
-    let wanting = Wanting {
-        gaps,
-        gap,
-        avoids: false,
-    };
-    free_pairs(alloc, wanting, free)
+
+    // Free pairs for the places of a gap. If named pairs are avoided, those that a condition of the document names are taken only
+    // if there are too few others.
+    fn pairs_for(&mut self, alloc: Global, gap: &Gap) -> Result<Option<Vec<Pair>>, NoMemory> {
+        if self.avoids {
+            if let Some(pairs) = self.free_pairs(alloc, gap, true)? {
+                return Ok(Some(pairs));
+            }
+        }
+        self.free_pairs(alloc, gap, false)
+    }
+
+    // Gives the gap its pairs. `None` if there are too few.
+    fn fill(&mut self, alloc: Global, gap: &Gap) -> Result<Option<Vec<Pair>>, NoMemory> {
+        let Some(pairs) = self.pairs_for(alloc, gap)? else {
+            return Ok(None);
+        };
+        for pair in &pairs {
+            self.free.give(gap.shard, *pair)?;
+        }
+        Ok(Some(pairs))
+    }
 }
 
 // The gaps, by shard and then by rising upper end.
 fn gaps_by_end(alloc: Global, gaps: &Gaps) -> Result<Vec<usize>, NoMemory> {
     let mut ends = Vec::with_capacity(alloc, gaps.list.len())?;
     for gap in 0..gaps.list.len() {
-        ends.push((gaps.list[gap].shard, gaps.list[gap].upper, gap))?;
+        ends.push((gaps.list[gap].shard, gaps.list[gap].numbers.upper, gap))?;
     }
     ends.sort_unstable();
     let mut order = Vec::with_capacity(alloc, ends.len())?;
@@ -98,40 +117,53 @@ pub enum Numbers {
 
 // Numbers for all gaps, the one with the least upper end first: as each takes the least numbers that are free and that it may
 // take, there are enough for all exactly if each finds some.
-fn numbers_in(
-    alloc: Global,
-    gaps: &Gaps,
-    keys: HashKeys,
-    avoids: bool,
-) -> Result<Numbers, NoMemory> {
-    let mut free = FreeNumbers::without(alloc, keys, &gaps.kept)?;
+fn numbers_in(alloc: Global, gaps: &Gaps, numbering: Numbering<'_>) -> Result<Numbers, NoMemory> {
+    let mut numbering = numbering;
+    for (shard, pair) in &gaps.kept {
+        numbering.free.give(*shard, *pair)?;
+    }
     let mut filled = Vec::new(alloc);
     for number in &gaps_by_end(alloc, gaps)? {
         let Some(gap) = gaps.list.get(*number) else {
             continue;
         };
-        let Some(pairs) = pairs_for(alloc, gaps, gap, &mut free, avoids)? else {
-            return Ok(Numbers::Short(tight_set(alloc, gaps, &filled, *number)?));
-        };
-        for pair in &pairs {
-            free.take(gap.shard, *pair)?;
+        match numbering.fill(alloc, gap)? {
+            Some(pairs) => filled.push(Filled {
+                gap: *number,
+                pairs,
+            })?,
+            None => return Ok(Numbers::Short(tight_set(alloc, gaps, &filled, *number)?)),
         }
-        filled.push(Filled {
-            gap: *number,
-            pairs,
-        })?;
     }
     Ok(Numbers::Given(changes_to(alloc, gaps, &filled)?))
 }
 
-/// Numbers for all gaps: over all documents of a shard, the gap with the least upper end first, each takes the least number that is
-/// free in the shard, one that a call of its document names only where too few others are. If there are too few so, named numbers
-/// aren't avoided.
-pub fn numbers_of(alloc: Global, gaps: &Gaps, keys: HashKeys) -> Result<Numbers, NoMemory> {
-    match numbers_in(alloc, gaps, keys, true)? {
-        Numbers::Given(changes) => Ok(Numbers::Given(changes)),
-        Numbers::Short(_) => numbers_in(alloc, gaps, keys, false),
+/// Numbers for all gaps of the witnesses: over all documents of a shard, the gap with the least upper end first, each takes the least
+/// number that is neither in use nor given, one that a condition of its document names only if too few others are left. If there are too
+/// few so, named numbers aren't avoided.
+///
+/// Nothing is promised of the numbers: whether they are distinct is checked again.
+pub fn numbers_of(
+    alloc: Global,
+    keys: HashKeys,
+    witnesses: &[DocWitness],
+    gaps: &Gaps,
+    used: &UsedPairs,
+) -> Result<Numbers, NoMemory> {
+    let names = Names::of(alloc, keys, witnesses, gaps, used)?;
+    let mut numbers = Numbers::Short(Vec::new(alloc));
+    for avoids in [true, false] {
+        let numbering = Numbering {
+            free: FreeNumbers::without(alloc, keys, used),
+            names: &names,
+            avoids,
+        };
+        numbers = numbers_in(alloc, gaps, numbering)?;
+        if matches!(&numbers, Numbers::Given(_)) {
+            break;
+        }
     }
+    Ok(numbers)
 }
 
 // The witness with its changes, where they leave it valid.
@@ -211,22 +243,4 @@ pub fn with_all(
         number = number.saturating_add(1);
     }
     Ok(Some(others))
-}
-
-/// Other pairs for those that were invented between two pairs of one term, as `numbers_of` finds them. `None` if a gap has too few.
-///
-/// Nothing is promised of the numbers: whether they are distinct is checked again.
-pub fn changes_of(
-    alloc: Global,
-    history: &Front<'_>,
-    witnesses: &[DocWitness],
-) -> Result<Option<Vec<Change>>, NoMemory> {
-    let mut gaps = Gaps::new(alloc, history.keys());
-    for i in 0..witnesses.len() {
-        gaps.note(alloc, i, history, &witnesses[i])?;
-    }
-    match numbers_of(alloc, &gaps, history.keys())? {
-        Numbers::Given(changes) => Ok(Some(changes)),
-        Numbers::Short(_) => Ok(None),
-    }
 }

@@ -1,117 +1,197 @@
-ghost use Rattle.std.specs.Prelude.{IfOk, IfSome};
-ghost use Rattle.compose.specs.aids.Searched.{AreKept, Keeps};
+ghost use Rattle.std.specs.Prelude.{IfOk, IfSome, false};
+ghost use Rattle.doc_register.specs.declared.state.Conflicts.{Conflicts as Reading};
+ghost use Rattle.history.specs.Events.{documents_of};
+ghost use Rattle.compose.specs.aids.Searched.{AreAlike, AreAnswersFor, AreKept, AreSearched, IsAlike, Keeps};
 
+use crate::asked::Asked;
+use crate::joined::witnesses_of;
 use crate::renumbered::gaps::Gaps;
-use crate::second_look::asked::Asked;
-use crate::second_look::used_pairs::UsedPairs;
 use crate::taken::shard_of;
+use crate::used_pairs::UsedPairs;
 use completing::Limit;
 use doc_check::{DocAnswer, answer_among, is_settled};
 use history::{Front, Seen};
 use std::alloc::Global;
 use version_pair::{NoMemory, Pair};
+use witness::DocWitness;
 
-pub mod asked;
-pub mod used_pairs;
-
-// The documents that are searched again: those that have no order, and those with a pair that was invented between two of one
-// term. `None` if a document without an order leaves nothing to complete.
-fn documents_again(
-    alloc: Global,
-    history: &Front<'_>,
-    answers: &[DocAnswer],
-) -> Result<Option<Asked>, NoMemory> {
-    let mut asked = Asked::none(alloc, answers.len())?;
-    let mut gaps = Gaps::new(alloc, history.keys());
-    for doc in 0..answers.len() {
-        match &answers[doc] {
-            DocAnswer::Found(witness) => gaps.note(alloc, doc, history, witness)?,
-            DocAnswer::NotFound(none) => {
-                if is_settled(none.records(), none.conflicts()) {
-                    return Ok(None);
-                }
-                asked.ask(doc);
-            }
-        }
-    }
-    for gap in &gaps.list {
-        asked.ask(gap.witness);
-    }
-    Ok(Some(asked))
+/// What a search of a document is given beside its calls.
+#[derive(Clone, Copy)]
+pub struct Known<'a> {
+    /// What is seen in the history.
+    pub seen: Seen,
+    /// The pairs that the documents of each shard use.
+    pub used: &'a UsedPairs,
 }
 
-// What the search forward finds for the document of an answer within the limits, given which pairs the shard uses; else the answer
-// itself.
+// What the search forward finds for the document of an answer, given which pairs its shard uses; else the answer itself.
 fn second_answer(
     alloc: Global,
     answer: DocAnswer,
     seen: Seen,
     used: &[Pair],
-    limits: &[Limit],
 ) -> Result<DocAnswer, NoMemory>
     ensures { IfOk result (Keeps answer) }
 {
     let id = answer.id().copy()?;
     let records = Vec::from_slice(alloc, answer.records())?;
-    match answer_among(alloc, id, records, seen, answer.conflicts(), used, limits)? {
+    match answer_among(alloc, id, records, seen, answer.conflicts(), used, &[])? {
         Some(witness) => Ok(DocAnswer::Found(witness)),
         None => Ok(answer),
     }
 }
 
-// The answer, or if there are limits, what another search of its document within them finds.
+// The answer, or if its document has no order, what another search finds.
 fn answer_again(
     alloc: Global,
     history: &Front<'_>,
     answer: DocAnswer,
-    limits: Option<Vec<Limit>>,
-    seen: Seen,
-    used: &UsedPairs,
+    known: Known<'_>,
 ) -> Result<DocAnswer, NoMemory>
     ensures { IfOk result (Keeps answer) }
 {
-    let Some(limits) = limits else {
+    if matches!(&answer, DocAnswer::Found(_)) {
         return Ok(answer);
-    };
+    }
     match shard_of(history, answer.id()) {
-        Some(shard) => second_answer(alloc, answer, seen, used.of_shard(shard), &limits),
+        Some(shard) => second_answer(alloc, answer, known.seen, known.used.of_shard(shard)),
         None => Ok(answer),
     }
 }
 
-/// The answers, those that are asked for being searched again, given which pairs the documents of each shard use.
-pub fn answers_again(
+// The answers, each document without an order being searched again.
+fn answers_again(
     alloc: Global,
     history: &Front<'_>,
     answers: Vec<DocAnswer>,
-    asked: &Asked,
-    used: &UsedPairs,
+    known: Known<'_>,
 ) -> Result<Vec<DocAnswer>, NoMemory>
     ensures { IfOk result (λ others. AreKept answers.items others.items) }
 {
-    let seen = history.seen();
     let mut others = Vec::with_capacity(alloc, answers.len())?;
     for answer in answers {
-        let limits = asked.limits(alloc, others.len())?;
-        others.push(answer_again(alloc, history, answer, limits, seen, used)?)?;
+        others.push(answer_again(alloc, history, answer, known)?)?;
     }
     Ok(others)
 }
 
-/// What a second look finds: for each document that has no order, or a pair that was invented between two of one term, the
-/// search forward once more, given which pairs the documents of the shard use. `None` if a document without an order leaves
-/// nothing to complete.
-pub fn looked_again(
+// Whether a document without an order leaves nothing to complete.
+fn is_hopeless(answers: &[DocAnswer]) -> bool {
+    for answer in answers {
+        match answer {
+            DocAnswer::Found(_) => {}
+            DocAnswer::NotFound(none) => {
+                if is_settled(none.records(), none.conflicts()) {
+                    return true;
+                }
+            }
+        }
+    }
+    false
+}
+
+/// Orders of all documents, those without one being searched again, given which pairs the documents of their shards use. `None` if one
+/// isn't found.
+pub fn orders_again(
     alloc: Global,
     history: &Front<'_>,
     answers: Vec<DocAnswer>,
-) -> Result<Option<Vec<DocAnswer>>, NoMemory>
-    ensures { IfOk result (λ found. IfSome found (λ others. AreKept answers.items others.items)) }
+) -> Result<Option<Vec<DocWitness>>, NoMemory>
+    ensures { IfOk result (λ found. IfSome found (λ ws. (conflicts : Reading)
+        → AreAnswersFor conflicts history.now false (documents_of history.now) answers.items
+        → AreSearched conflicts history.now false (documents_of history.now) ws.items)) }
 {
-    let Some(asked) = documents_again(alloc, history, &answers)? else {
+    if is_hopeless(&answers) {
+        return Ok(None);
+    }
+    let used = UsedPairs::shown(alloc, history, &answers)?;
+    let known = Known {
+        seen: history.seen(),
+        used: &used,
+    };
+    let others = answers_again(alloc, history, answers, known)?;
+    witnesses_of(alloc, others)
+}
+
+// Another order of the same calls within the limits, given which pairs the documents of the shard use, if the search forward finds one.
+pub fn order_within(
+    alloc: Global,
+    history: &Front<'_>,
+    witness: &DocWitness,
+    known: Known<'_>,
+    limits: &[Limit],
+) -> Result<Option<DocWitness>, NoMemory>
+    ensures { IfOk result (λ found. IfSome found (IsAlike witness.now)) }
+{
+    let Some(shard) = shard_of(history, witness.id()) else {
         return Ok(None);
     };
-    let used = UsedPairs::of(alloc, history, &answers)?;
-    let others = answers_again(alloc, history, answers, &asked, &used)?;
-    Ok(Some(others))
+    let id = witness.id().copy()?;
+    let records = Vec::from_slice(alloc, witness.records())?;
+    let used = known.used.of_shard(shard);
+    answer_among(
+        alloc,
+        id,
+        records,
+        known.seen,
+        witness.conflicts(),
+        used,
+        limits,
+    )
+}
+
+// The witness, or if it is asked for, another one of its document.
+fn witness_again(
+    alloc: Global,
+    history: &Front<'_>,
+    witness: DocWitness,
+    known: Known<'_>,
+    limits: Option<Vec<Limit>>,
+) -> Result<DocWitness, NoMemory>
+    ensures { IfOk result (IsAlike witness) }
+{
+    // A look at its places: that they are valid is known from here on.
+    let _ = witness.places();
+    let Some(limits) = limits else {
+        return Ok(witness);
+    };
+    match order_within(alloc, history, &witness, known, &limits)? {
+        Some(other) => Ok(other),
+        None => Ok(witness),
+    }
+}
+
+/// The witnesses, those that are asked for being searched again.
+pub fn witnesses_again(
+    alloc: Global,
+    history: &Front<'_>,
+    witnesses: Vec<DocWitness>,
+    asked: &Asked,
+    known: Known<'_>,
+) -> Result<Vec<DocWitness>, NoMemory>
+    ensures { IfOk result (λ others. AreAlike witnesses.items others.items) }
+{
+    let mut others = Vec::with_capacity(alloc, witnesses.len())?;
+    for witness in witnesses {
+        let limits = asked.limits(alloc, others.len())?;
+        others.push(witness_again(alloc, history, witness, known, limits)?)?;
+    }
+    Ok(others)
+}
+
+/// The witnesses, those with a pair that was invented between two of one term being searched again.
+pub fn with_gaps_again(
+    alloc: Global,
+    history: &Front<'_>,
+    witnesses: Vec<DocWitness>,
+    gaps: &Gaps,
+    known: Known<'_>,
+) -> Result<Vec<DocWitness>, NoMemory>
+    ensures { IfOk result (λ others. AreAlike witnesses.items others.items) }
+{
+    let mut asked = Asked::none(alloc, witnesses.len())?;
+    for gap in &gaps.list {
+        asked.ask(gap.witness);
+    }
+    witnesses_again(alloc, history, witnesses, &asked, known)
 }

@@ -1,21 +1,19 @@
-ghost use Rattle.std.specs.Prelude.{IfOk, IfSome, false};
+ghost use Rattle.std.specs.Prelude.{IfOk, false};
 ghost use Rattle.doc_register.specs.declared.state.Conflicts.{Conflicts as Reading};
 ghost use Rattle.history.specs.Events.{documents_of};
-ghost use Rattle.compose.specs.Verdicts.{AreWitnesses};
-ghost use Rattle.compose.specs.aids.Searched.{AreAnswersFor};
+ghost use Rattle.compose.specs.aids.Joined.{IsCovered};
+ghost use Rattle.compose.specs.aids.Searched.{AreSearched};
 
-use crate::joined::{Joined, join_answers};
+use crate::asked::Asked;
+use crate::covering::Covering;
+use crate::joined::{Joined, joined_again};
 use crate::renumbered::gaps::{Gap, Gaps};
-use crate::renumbered::{Numbers, numbers_of};
-use crate::second_look::answers_again;
-use crate::second_look::asked::Asked;
-use crate::second_look::used_pairs::UsedPairs;
-use crate::taken::shard_of;
+use crate::second_look::{Known, order_within, witnesses_again};
+use crate::shortage::Shortage;
 use completing::Limit;
-use doc_check::{DocAnswer, answer_among};
 use history::Front;
 use std::alloc::Global;
-use version_pair::{NoMemory, Pair};
+use version_pair::NoMemory;
 use witness::DocWitness;
 
 // How many documents give way at most, one after the other.
@@ -24,41 +22,38 @@ const MOST_STEPS: usize = 64;
 // How many gaps are looked at for one that can do with fewer numbers.
 const MOST_TRIED: usize = 64;
 
-// The gaps of the answers. `None` if a document has no order.
-fn gaps_of(
-    alloc: Global,
-    history: &Front<'_>,
-    answers: &[DocAnswer],
-) -> Result<Option<Gaps>, NoMemory> {
-    let mut gaps = Gaps::new(alloc, history.keys());
-    for doc in 0..answers.len() {
-        match &answers[doc] {
-            DocAnswer::Found(witness) => gaps.note(alloc, doc, history, witness)?,
-            DocAnswer::NotFound(_) => return Ok(None),
-        }
-    }
-    Ok(Some(gaps))
-}
+// How many records are searched again at most, for each event of the history and in any case.
+const MOST_SEARCHED: usize = 2;
+
+const ALWAYS_SEARCHED: usize = 100_000;
 
 // One insertion fewer than the gap has.
 fn fewer_than(gap: &Gap) -> Option<Limit> {
-    let most = u64::try_from(gap.places.len()).ok()?.checked_sub(1)?;
     Some(Limit {
-        lower: Pair::new(gap.upper.term(), gap.from)?,
-        upper: gap.upper,
-        most,
+        lower: gap.numbers.from,
+        upper: gap.numbers.upper,
+        most: u64::try_from(gap.places.len()).ok()?.checked_sub(1)?,
     })
 }
 
-// How many numbers the document of these gaps wants in all.
-fn wanted(gaps: &Gaps, doc: usize) -> usize {
-    let mut wanted = 0usize;
-    for gap in &gaps.list {
-        if gap.witness == doc {
-            wanted = wanted.saturating_add(gap.places.len());
+// What documents are asked for, and how many records may still be searched.
+#[derive(Drop)]
+struct Trials {
+    asked: Asked,
+    left: usize,
+}
+
+impl Trials {
+    // Whether so many records may be searched; they are taken off.
+    fn take(&mut self, records: usize) -> bool {
+        match self.left.checked_sub(records) {
+            Some(left) => {
+                self.left = left;
+                true
+            }
+            None => false,
         }
     }
-    wanted
 }
 
 // What is asked of a document that can do with fewer numbers in a gap.
@@ -70,73 +65,69 @@ struct GivesWay {
     more: usize,
 }
 
-// How many numbers the document wants within the limits, if an order is found.
+// How many numbers the document of a witness wants within the limits, if an order is found.
 fn wanted_within(
     alloc: Global,
     history: &Front<'_>,
     doc: usize,
-    answer: &DocAnswer,
+    witness: &DocWitness,
+    known: Known<'_>,
     limits: &[Limit],
-    used: &UsedPairs,
 ) -> Result<Option<usize>, NoMemory> {
-    let Some(shard) = shard_of(history, answer.id()) else {
-        return Ok(None);
-    };
-    let id = answer.id().copy()?;
-    let records = Vec::from_slice(alloc, answer.records())?;
-    let conflicts = answer.conflicts();
-    let pairs = used.of_shard(shard);
-    match answer_among(alloc, id, records, history.seen(), conflicts, pairs, limits)? {
-        Some(witness) => {
-            let mut gaps = Gaps::new(alloc, history.keys());
-            gaps.note(alloc, doc, history, &witness)?;
-            Ok(Some(wanted(&gaps, doc)))
+    match order_within(alloc, history, witness, known, limits)? {
+        Some(other) => {
+            let mut gaps = Gaps::none(alloc);
+            gaps.note(alloc, history, doc, &other)?;
+            Ok(Some(gaps.wanted(doc)))
         }
         None => Ok(None),
     }
 }
 
-// Whether the document of a gap can do with one number fewer there.
+// Whether the document of a gap can do with one number fewer there, as far as it may be searched.
 fn gives_way(
     alloc: Global,
     history: &Front<'_>,
-    answers: &[DocAnswer],
+    witnesses: &[DocWitness],
     gaps: &Gaps,
     gap: &Gap,
-    asked: &Asked,
-    used: &UsedPairs,
+    trials: &mut Trials,
+    known: Known<'_>,
 ) -> Result<Option<GivesWay>, NoMemory> {
-    let (Some(answer), Some(limit)) = (answers.get(gap.witness), fewer_than(gap)) else {
+    let (Some(witness), Some(limit)) = (witnesses.get(gap.witness), fewer_than(gap)) else {
         return Ok(None);
     };
-    let mut limits = asked.limits_on(alloc, gap.witness)?;
+    if !trials.take(witness.records().len()) {
+        return Ok(None);
+    }
+    let mut limits = trials.asked.limits_on(alloc, gap.witness)?;
     limits.push(limit)?;
-    match wanted_within(alloc, history, gap.witness, answer, &limits, used)? {
+    match wanted_within(alloc, history, gap.witness, witness, known, &limits)? {
         Some(count) => Ok(Some(GivesWay {
             doc: gap.witness,
             limit,
-            more: count.saturating_sub(wanted(gaps, gap.witness)),
+            more: count.saturating_sub(gaps.wanted(gap.witness)),
         })),
         None => Ok(None),
     }
 }
 
-// The document of these gaps that gives way and then wants the fewest numbers more; the first that wants none more.
+// The document that gives way where numbers are short and then wants the fewest numbers more; the first that wants none more.
 fn best_of(
     alloc: Global,
     history: &Front<'_>,
-    answers: &[DocAnswer],
-    gaps: &Gaps,
-    tight: &[usize],
-    asked: &Asked,
-    used: &UsedPairs,
+    witnesses: &[DocWitness],
+    shortage: &Shortage,
+    trials: &mut Trials,
+    known: Known<'_>,
 ) -> Result<Option<GivesWay>, NoMemory> {
+    let gaps = &shortage.gaps;
     let mut best: Option<GivesWay> = None;
-    for number in tight.iter().take(MOST_TRIED) {
+    for number in shortage.tight.iter().take(MOST_TRIED) {
         let Some(gap) = gaps.list.get(*number) else {
             continue;
         };
-        if let Some(found) = gives_way(alloc, history, answers, gaps, gap, asked, used)? {
+        if let Some(found) = gives_way(alloc, history, witnesses, gaps, gap, trials, known)? {
             if found.more == 0 {
                 return Ok(Some(found));
             }
@@ -149,53 +140,40 @@ fn best_of(
     Ok(best)
 }
 
-// Asks for the document that gives way where numbers are short. False if none does, or a document has no order.
-fn ask_for_one(
-    alloc: Global,
-    history: &Front<'_>,
-    answers: &[DocAnswer],
-    asked: &mut Asked,
-    used: &UsedPairs,
-) -> Result<bool, NoMemory> {
-    let Some(gaps) = gaps_of(alloc, history, answers)? else {
-        return Ok(false);
-    };
-    let Numbers::Short(tight) = numbers_of(alloc, &gaps, history.keys())? else {
-        return Ok(false);
-    };
-    match best_of(alloc, history, answers, &gaps, &tight, asked, used)? {
-        Some(found) => {
-            asked.ask_alone(found.doc, found.limit)?;
-            Ok(true)
-        }
-        None => Ok(false),
-    }
-}
-
 /// A third look, if the documents want more numbers than are free: as long as there are too few for some gaps, one of their documents
 /// is searched again with one number fewer there. Witnesses that cover the history, if the numbers suffice in the end.
 pub fn cover_with_fewer(
     alloc: Global,
     history: &Front<'_>,
-    answers: Vec<DocAnswer>,
-) -> Result<Option<Vec<DocWitness>>, NoMemory>
-    ensures { IfOk result (λ found. IfSome found (λ ws. (conflicts : Reading)
-        → AreAnswersFor conflicts history.now false (documents_of history.now) answers.items
-        → AreWitnesses conflicts history.now ws.items)) }
+    witnesses: Vec<DocWitness>,
+    shortage: Shortage,
+    known: Known<'_>,
+) -> Result<Covering, NoMemory>
+    ensures { IfOk result (λ found. (conflicts : Reading)
+        → AreSearched conflicts history.now false (documents_of history.now) witnesses.items
+        → IsCovered conflicts history.now false found) }
 {
-    let used = UsedPairs::of(alloc, history, &answers)?;
-    let mut asked = Asked::none(alloc, answers.len())?;
-    let mut answers = answers;
+    let most = history.len().saturating_mul(MOST_SEARCHED);
+    let mut trials = Trials {
+        asked: Asked::none(alloc, witnesses.len())?,
+        left: most.saturating_add(ALWAYS_SEARCHED),
+    };
+    let mut witnesses = witnesses;
+    let mut shortage = shortage;
     for _ in 0..MOST_STEPS {
-        if !ask_for_one(alloc, history, &answers, &mut asked, &used)? {
-            return Ok(None);
-        }
-        let others = answers_again(alloc, history, answers, &asked, &used)?;
-        match join_answers(alloc, history, others)? {
-            Joined::Cover(witnesses) => return Ok(Some(witnesses)),
-            Joined::Open(again) => answers = again,
-            Joined::Spent => return Ok(None),
+        let Some(found) = best_of(alloc, history, &witnesses, &shortage, &mut trials, known)? else {
+            break;
+        };
+        trials.asked.ask_alone(found.doc, found.limit)?;
+        let others = witnesses_again(alloc, history, witnesses, &trials.asked, known)?;
+        match joined_again(alloc, history, others, known.used)? {
+            Joined::Cover(others) => return Ok(Covering::Found(others)),
+            Joined::Short(again, more) => {
+                witnesses = again;
+                shortage = more;
+            }
+            Joined::Spent => return Ok(Covering::NotFound(None)),
         }
     }
-    Ok(None)
+    Ok(Covering::NotFound(shortage.reply(alloc, history, &witnesses)?))
 }

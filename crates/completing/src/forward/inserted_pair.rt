@@ -1,29 +1,12 @@
 use crate::forward::walk::Walk;
+use crate::free::Gap;
 use version_pair::Pair;
 
-/// Numbers that an inserted write may take: from one pair on and below another of its term.
-#[derive(Clone, Copy)]
-pub struct Gap {
-    pub from: Pair,
-    pub upper: Pair,
-}
-
 impl Walk<'_> {
-    /// The numbers that are left before the next known pair, if the pair before it is of its term. Before the first pair the term
-    /// counts as 1.
+    /// The numbers that are left before the next known pair, if the pair before it is of its term.
     pub fn gap(&self) -> Option<Gap> {
         let upper = self.known.get(self.standing.passed)?.pair;
-        let term = match self.standing.passed.checked_sub(1) {
-            Some(before) => self.known.get(before)?.pair.term(),
-            None => 1,
-        };
-        if term != upper.term() {
-            return None;
-        }
-        Some(Gap {
-            from: Pair::new(term, self.standing.from)?,
-            upper,
-        })
+        Gap::between(self.standing.last, upper)
     }
 
     // The least free pair of the gap that no condition names and that leaves enough free pairs behind it.
@@ -51,5 +34,23 @@ impl Walk<'_> {
             Some(pair) => Some(pair),
             None => self.free.least(gap.from, gap.upper),
         }
+    }
+
+    /// The first of the pairs that conditions name, from a place among them on, that an inserted write may take such that one more can
+    /// be inserted behind it; and its place.
+    pub fn named_pair(&self, from: usize) -> Option<(Pair, usize)> {
+        let gap = self.gap()?;
+        for at in self.known.first_named(gap.from).max(from)..self.known.named_len() {
+            let pair = self.known.named(at)?;
+            if pair >= gap.upper {
+                return None;
+            }
+            let behind = Pair::new(pair.term(), pair.seq().saturating_add(1))?;
+            let is_free = self.free.least(pair, gap.upper) == Some(pair);
+            if is_free && self.free.count(behind, gap.upper) > 0 {
+                return Some((pair, at));
+            }
+        }
+        None
     }
 }

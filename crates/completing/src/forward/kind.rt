@@ -97,8 +97,8 @@ impl Kind {
     }
 }
 
-// The kind of an unanswered record.
-fn lost_kind(op: Op, known: &KnownPairs) -> Option<Kind> {
+// The kind of an unanswered record. Its pair is looked for near a place of the known ones.
+fn lost_kind(op: Op, known: &KnownPairs, near: &mut usize) -> Option<Kind> {
     match op {
         Op::Get => None,
         Op::Create { .. } => Some(Kind::LostCreate),
@@ -107,11 +107,11 @@ fn lost_kind(op: Op, known: &KnownPairs) -> Option<Kind> {
         Op::Index {
             cond: Some(pair),
             ..
-        } => Some(match known.place_of(pair) {
+        } => Some(match known.place_near(pair, near) {
             Some(at) => Kind::LostIndexOn(at),
             None => Kind::LostIndexOnNamed(known.named_place(pair)?),
         }),
-        Op::Delete { cond: Some(pair) } => Some(match known.place_of(pair) {
+        Op::Delete { cond: Some(pair) } => Some(match known.place_near(pair, near) {
             Some(at) => Kind::LostDeleteOn(at),
             None => Kind::LostDeleteOnNamed(known.named_place(pair)?),
         }),
@@ -119,32 +119,32 @@ fn lost_kind(op: Op, known: &KnownPairs) -> Option<Kind> {
 }
 
 // The kind of a conflict on condition of a pair.
-fn kind_on(pair: Pair, known: &KnownPairs) -> Option<Kind> {
-    match known.place_of(pair) {
+fn kind_on(pair: Pair, known: &KnownPairs, near: &mut usize) -> Option<Kind> {
+    match known.place_near(pair, near) {
         Some(at) => Some(Kind::ConflictOn(at)),
         None => Some(Kind::ConflictOnNamed(known.named_place(pair)?)),
     }
 }
 
 // The kind of a conflict.
-fn conflict_kind(op: Op, known: &KnownPairs) -> Option<Kind> {
+fn conflict_kind(op: Op, known: &KnownPairs, near: &mut usize) -> Option<Kind> {
     match op {
         Op::Get => None,
         Op::Create { .. } => Some(Kind::CreateConflict),
         Op::Index { .. } | Op::Delete { .. } => match op.condition() {
-            Some(pair) => kind_on(pair, known),
+            Some(pair) => kind_on(pair, known, near),
             None => Some(Kind::FreeConflict),
         },
     }
 }
 
 // The kind of a record. A performed answered write has none: its pair tells its place.
-fn kind_of(found: Rec, known: &KnownPairs) -> Option<Kind> {
+fn kind_of(found: Rec, known: &KnownPairs, near: &mut usize) -> Option<Kind> {
     match found.heard {
-        None => lost_kind(found.op, known),
+        None => lost_kind(found.op, known, near),
         Some((_, Reply::Missing)) => Some(Kind::Missing),
-        Some((_, Reply::Found { pair, .. })) => Some(Kind::Found(known.place_of(pair)?)),
-        Some((_, Reply::Conflict)) => conflict_kind(found.op, known),
+        Some((_, Reply::Found { pair, .. })) => Some(Kind::Found(known.place_near(pair, near)?)),
+        Some((_, Reply::Conflict)) => conflict_kind(found.op, known, near),
         Some((_, Reply::Indexed { .. } | Reply::Deleted { .. })) => None,
     }
 }
@@ -158,8 +158,9 @@ pub fn kinds_of(
     numbers: &Numbers,
 ) -> Result<Vec<Option<Kind>>, NoMemory> {
     let mut kinds = Vec::with_capacity(alloc, records.len())?;
+    let mut near = 0;
     for found in records {
-        kinds.push(kind_of(*found, known))?;
+        kinds.push(kind_of(*found, known, &mut near))?;
     }
     for at in 0..known.len() {
         if let Some(rec) = only_writer(known, numbers, at) {

@@ -1,9 +1,10 @@
 use crate::forward::numbers::Numbers;
+use crate::near::{HasPair, place_near};
 use doc_register::{Op, Reply};
 use history::Rec;
 use std::alloc::Global;
-use std::collections::BTreeSet;
 use version_pair::{NoMemory, Pair};
+use write_chain::sort_nearly_ordered;
 
 /// A pair that some write has to have.
 #[derive(Clone, Copy)]
@@ -24,27 +25,93 @@ pub struct KnownPairs {
     named: Vec<Pair>,
 }
 
-// Adds the pairs that the record makes known.
-fn note_pairs(pairs: &mut BTreeSet<Pair>, found: Rec) -> Result<(), NoMemory> {
+impl HasPair for Known {
+    fn pair(&self) -> Pair {
+        self.pair
+    }
+}
+
+// Notes that the record makes pairs known.
+fn note_pairs(shown: &mut Vec<(Pair, usize)>, rec: usize, found: Rec) -> Result<(), NoMemory> {
     if let Some(pair) = found.pair_taken() {
-        pairs.insert(pair)?;
+        shown.push((pair, rec))?;
         if let Some(named) = found.op.condition() {
-            pairs.insert(named)?;
+            shown.push((named, rec))?;
         }
     }
     if let Some((_, Reply::Found { pair, .. })) = found.heard {
-        pairs.insert(pair)?;
+        shown.push((pair, rec))?;
     }
     Ok(())
 }
 
-// The pair that the only unanswered write asks for that can have the known pair.
-fn asked_for(entry: Known, records: &[Rec], numbers: &Numbers) -> Option<Pair> {
+// The pair that the only unanswered write asks for that can have the known pair, and that write.
+fn asked_for(entry: Known, records: &[Rec], numbers: &Numbers) -> Option<(Pair, usize)> {
     if entry.writer.is_some() {
         return None;
     }
     let rec = numbers.only(entry.number?)?;
-    records.get(rec)?.op.condition()
+    Some((records.get(rec)?.op.condition()?, rec))
+}
+
+impl Known {
+    // Notes the answered write that has the pair. False if another one has it.
+    fn note_writer(&mut self, rec: usize, op: Op) -> bool {
+        if self.writer.is_some() {
+            return false;
+        }
+        self.writer = Some(rec);
+        self.number = op.value();
+        true
+    }
+
+    // Notes the number that a get found with the pair, after the answered write. False if the pair has another one, or none.
+    fn note_number(&mut self, k: u64) -> bool {
+        if self.writer.is_none() && self.number.is_none() {
+            self.number = Some(k);
+        }
+        self.number == Some(k)
+    }
+
+    // What the records of one pair, those from one place to another, show of it. `None` if they speak against each other.
+    fn of_pair(
+        records: &[Rec],
+        shown: &[(Pair, usize)],
+        start: usize,
+        end: usize,
+    ) -> Option<Known> {
+        let mut known = Known {
+            pair: shown.get(start)?.0,
+            writer: None,
+            number: None,
+        };
+        for i in start..end {
+            let (pair, rec) = *shown.get(i)?;
+            let found = *records.get(rec)?;
+            if found.pair_taken() == Some(pair) && !known.note_writer(rec, found.op) {
+                return None;
+            }
+        }
+        for i in start..end {
+            let (own, rec) = *shown.get(i)?;
+            if let Some((_, Reply::Found { pair, k })) = records.get(rec)?.heard {
+                if pair == own && !known.note_number(k) {
+                    return None;
+                }
+            }
+        }
+        Some(known)
+    }
+}
+
+// Where the entries of the pair at a place end.
+fn end_of_pair(shown: &[(Pair, usize)], start: usize) -> usize {
+    for i in start..shown.len() {
+        if shown[i].0 != shown[start].0 {
+            return i;
+        }
+    }
+    shown.len()
 }
 
 impl KnownPairs {
@@ -55,57 +122,61 @@ impl KnownPairs {
         records: &[Rec],
         numbers: &Numbers,
     ) -> Result<Option<KnownPairs>, NoMemory> {
-        let mut pairs = BTreeSet::new(alloc);
-        for found in records {
-            note_pairs(&mut pairs, *found)?;
+        let mut shown = Vec::with_capacity(alloc, records.len())?;
+        for rec in 0..records.len() {
+            note_pairs(&mut shown, rec, records[rec])?;
         }
-        let Some(known) = KnownPairs::of_pairs(alloc, records, &pairs)? else {
+        sort_nearly_ordered(&mut shown);
+        let Some(known) = KnownPairs::of_shown(alloc, records, &shown)? else {
             return Ok(None);
         };
-        if known.note_asked(&mut pairs, records, numbers)? {
-            KnownPairs::of_pairs(alloc, records, &pairs)
+        if known.note_asked(&mut shown, records, numbers)? {
+            sort_nearly_ordered(&mut shown);
+            KnownPairs::of_shown(alloc, records, &shown)
         } else {
             Ok(Some(known))
         }
     }
 
-    // The pairs with what is known of each. `None` where writes or gets speak against each other.
-    fn of_pairs(
+    // The pairs with what is known of each, by the records that show them, in order. `None` if records speak against each other.
+    fn of_shown(
         alloc: Global,
         records: &[Rec],
-        pairs: &BTreeSet<Pair>,
+        shown: &[(Pair, usize)],
     ) -> Result<Option<KnownPairs>, NoMemory> {
         let mut known = KnownPairs {
-            entries: Vec::with_capacity(alloc, pairs.len())?,
+            entries: Vec::with_capacity(alloc, shown.len())?,
             named: Vec::new(alloc),
         };
-        for pair in pairs {
-            known.entries.push(Known {
-                pair: *pair,
-                writer: None,
-                number: None,
-            })?;
+        let mut start = 0;
+        for _ in 0..shown.len() {
+            if start >= shown.len() {
+                break;
+            }
+            let end = end_of_pair(shown, start);
+            let Some(entry) = Known::of_pair(records, shown, start, end) else {
+                return Ok(None);
+            };
+            known.entries.push(entry)?;
+            start = end;
         }
-        if known.note_writers(records) && known.note_numbers(records) {
-            known.note_named(records)?;
-            Ok(Some(known))
-        } else {
-            Ok(None)
-        }
+        known.note_named(records)?;
+        Ok(Some(known))
     }
 
     // Adds the pairs that unanswered writes ask for which have to be performed: each is the only one with the number of a
     // known pair that no answered write has. Whether one was added.
     fn note_asked(
         &self,
-        pairs: &mut BTreeSet<Pair>,
+        shown: &mut Vec<(Pair, usize)>,
         records: &[Rec],
         numbers: &Numbers,
     ) -> Result<bool, NoMemory> {
         let mut is_new = false;
         for entry in &self.entries {
-            if let Some(pair) = asked_for(*entry, records, numbers) {
-                if pairs.insert(pair)? {
+            if let Some((pair, rec)) = asked_for(*entry, records, numbers) {
+                if self.place_of(pair).is_none() {
+                    shown.push((pair, rec))?;
                     is_new = true;
                 }
             }
@@ -115,9 +186,10 @@ impl KnownPairs {
 
     // Notes the pairs that conditions name and no write is known to have.
     fn note_named(&mut self, records: &[Rec]) -> Result<(), NoMemory> {
+        let mut near = 0;
         for found in records {
             if let Some(pair) = found.op.condition() {
-                if self.place_of(pair).is_none() {
+                if self.place_near(pair, &mut near).is_none() {
                     self.named.push(pair)?;
                 }
             }
@@ -125,62 +197,6 @@ impl KnownPairs {
         self.named.sort_unstable();
         self.named.dedup();
         Ok(())
-    }
-
-    // Notes the answered writes. False where two have one pair.
-    fn note_writers(&mut self, records: &[Rec]) -> bool {
-        for rec in 0..records.len() {
-            let found = records[rec];
-            if let Some(pair) = found.pair_taken() {
-                if !self.note_writer(pair, rec, found.op) {
-                    return false;
-                }
-            }
-        }
-        true
-    }
-
-    // Notes the write that has the pair.
-    fn note_writer(&mut self, pair: Pair, rec: usize, op: Op) -> bool {
-        let Some(at) = self.place_of(pair) else {
-            return false;
-        };
-        match self.entries.get_mut(at) {
-            Some(entry) if entry.writer.is_none() => {
-                entry.writer = Some(rec);
-                entry.number = op.value();
-                true
-            }
-            _ => false,
-        }
-    }
-
-    // Notes the numbers that gets found. False where the pair has another one, or none.
-    fn note_numbers(&mut self, records: &[Rec]) -> bool {
-        for found in records {
-            if let Some((_, Reply::Found { pair, k })) = found.heard {
-                if !self.note_number(pair, k) {
-                    return false;
-                }
-            }
-        }
-        true
-    }
-
-    // Notes the number that was written with the pair.
-    fn note_number(&mut self, pair: Pair, k: u64) -> bool {
-        let Some(at) = self.place_of(pair) else {
-            return false;
-        };
-        match self.entries.get_mut(at) {
-            Some(entry) => {
-                if entry.writer.is_none() && entry.number.is_none() {
-                    entry.number = Some(k);
-                }
-                entry.number == Some(k)
-            }
-            None => false,
-        }
     }
 
     /// How many there are.
@@ -193,6 +209,16 @@ impl KnownPairs {
         self.entries.get(at).copied()
     }
 
+    /// A pair that conditions name and no write is known to have, by its place among them.
+    pub fn named(&self, at: usize) -> Option<Pair> {
+        self.named.get(at).copied()
+    }
+
+    /// The place of the first of these that is not below a pair.
+    pub fn first_named(&self, from: Pair) -> usize {
+        self.named.partition_point(|pair| *pair < from)
+    }
+
     /// How many pairs that no write is known to have are named by conditions.
     pub fn named_len(&self) -> usize {
         self.named.len()
@@ -203,13 +229,26 @@ impl KnownPairs {
         self.named.binary_search(&pair).ok()
     }
 
-    /// The place of a pair, where it is known.
-    pub fn place_of(&self, pair: Pair) -> Option<usize> {
-        let at = self.entries.partition_point(|entry| entry.pair < pair);
-        if self.entries.get(at)?.pair == pair {
-            Some(at)
+    // The place, if it is that of the pair.
+    fn place_at(&self, place: usize, pair: Pair) -> Option<usize> {
+        if self.entries.get(place)?.pair == pair {
+            Some(place)
         } else {
             None
         }
+    }
+
+    /// The place of a pair, if it is known. It is looked for near another place first, which becomes that of the pair.
+    pub fn place_near(&self, pair: Pair, near: &mut usize) -> Option<usize> {
+        *near = place_near(&self.entries, pair, *near);
+        self.place_at(*near, pair)
+    }
+
+    // The place of a pair, if it is known.
+    fn place_of(&self, pair: Pair) -> Option<usize> {
+        self.place_at(
+            self.entries.partition_point(|entry| entry.pair < pair),
+            pair,
+        )
     }
 }

@@ -17,25 +17,56 @@ pub struct Lines {
     known: usize,
 }
 
-// The records that have a kind, by line and then by call.
-fn records_by_line(
+// Where each line begins that has these records, and behind the last where it ends.
+fn starts_of(
+    alloc: Global,
+    kinds: &[Option<Kind>],
+    known: usize,
+    count: usize,
+) -> Result<Vec<usize>, NoMemory> {
+    let mut starts = vec![in alloc; 0usize; count.saturating_add(1)]?;
+    for kind in kinds {
+        if let Some(kind) = kind {
+            if let Some(start) = starts.get_mut(kind.line(known).saturating_add(1)) {
+                *start = (*start).saturating_add(1);
+            }
+        }
+    }
+    let mut sum = 0usize;
+    for start in &mut starts {
+        sum = sum.saturating_add(*start);
+        *start = sum;
+    }
+    Ok(starts)
+}
+
+// The places of the calls with their records, one line after another; the records stand in the order of their calls.
+fn entries_of(
     alloc: Global,
     records: &[Rec],
     kinds: &[Option<Kind>],
     known: usize,
-) -> Result<Vec<(usize, usize, usize)>, NoMemory> {
-    let mut listed = Vec::with_capacity(alloc, records.len())?;
+    starts: &[usize],
+) -> Result<Vec<(usize, usize)>, NoMemory> {
+    let total = starts.last().copied().unwrap_or(0);
+    let mut entries = vec![in alloc; (0, 0); total]?;
+    let mut next = Vec::from_slice(alloc, starts)?;
     for rec in 0..records.len() {
-        if let Some(Some(kind)) = kinds.get(rec) {
-            listed.push((kind.line(known), records[rec].call_at, rec))?;
+        let Some(Some(kind)) = kinds.get(rec) else {
+            continue;
+        };
+        if let Some(place) = next.get_mut(kind.line(known)) {
+            if let Some(entry) = entries.get_mut(*place) {
+                *entry = (records[rec].call_at, rec);
+            }
+            *place = (*place).saturating_add(1);
         }
     }
-    listed.sort_unstable();
-    Ok(listed)
+    Ok(entries)
 }
 
 impl Lines {
-    /// The lines of the records, with so many known pairs.
+    /// The lines of the records, which stand in the order of their calls, with so many known pairs.
     pub fn of(
         alloc: Global,
         records: &[Rec],
@@ -44,28 +75,13 @@ impl Lines {
         named: usize,
     ) -> Result<Lines, NoMemory> {
         let count = Kind::ConflictOnNamed(named).line(known);
-        let listed = records_by_line(alloc, records, kinds, known)?;
-        let mut lines = Lines {
-            entries: Vec::with_capacity(alloc, listed.len())?,
-            starts: Vec::with_capacity(alloc, count.saturating_add(1))?,
-            firsts: Vec::with_capacity(alloc, count.saturating_add(1))?,
+        let starts = starts_of(alloc, kinds, known, count)?;
+        Ok(Lines {
+            entries: entries_of(alloc, records, kinds, known, &starts)?,
+            firsts: Vec::from_slice(alloc, &starts)?,
+            starts,
             known,
-        };
-        for (line, call_at, rec) in &listed {
-            lines.begin_to(*line)?;
-            lines.entries.push((*call_at, *rec))?;
-        }
-        lines.begin_to(count)?;
-        Ok(lines)
-    }
-
-    // Begins the lines up to this one that have not begun.
-    fn begin_to(&mut self, line: usize) -> Result<(), NoMemory> {
-        for _ in self.starts.len()..line.saturating_add(1) {
-            self.starts.push(self.entries.len())?;
-            self.firsts.push(self.entries.len())?;
-        }
-        Ok(())
+        })
     }
 
     // Where the line begins and ends.
@@ -108,6 +124,14 @@ impl Lines {
         let entry = start.saturating_add(at);
         if let Some(first) = self.firsts.get_mut(line) {
             *first = (*first).min(entry);
+        }
+    }
+
+    /// The records of the kind, with the places of their calls.
+    pub fn all(&self, kind: Kind) -> &[(usize, usize)] {
+        match self.bounds(kind.line(self.known)) {
+            Some((start, end)) => self.entries.get(start..end).unwrap_or(&[]),
+            None => &[],
         }
     }
 

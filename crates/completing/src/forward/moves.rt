@@ -4,8 +4,10 @@ use crate::forward::known::Known;
 use crate::forward::standing::Document;
 use crate::forward::walk::{Placed, Walk};
 use crate::rules::link::{leaves_it, needs};
+use crate::rules::queue::is_left;
 use doc_register::Conflicts;
 use history::Rec;
+use version_pair::Pair;
 
 /// What is tried next at a place.
 #[derive(Clone, Copy)]
@@ -18,9 +20,12 @@ pub enum Turn {
     Index,
     /// The conflicts whose replies stand there or behind, as performed writes.
     Conflict(usize),
-    /// The conflicts of creates that were placed as refused, as performed writes, those left out that were placed last,
-    /// so many.
+    /// The conflicts that were placed as refused, as performed writes, those left out that were placed last, so many.
     Turned(usize),
+    /// An unanswered write of the document that takes a pair which a delete asks for, from a place among the named pairs on.
+    Asked(usize),
+    /// The same with a conflict as the performed write.
+    AskedRefused(usize),
     /// Nothing.
     Done,
 }
@@ -309,17 +314,66 @@ fn write_to_insert(walk: &mut Walk, delete: bool) -> Option<usize> {
     }
 }
 
-// A create's conflict that was placed as refused, to be performed here, and how many to leave out then.
+// A conflict that was placed as refused, to be performed here, and how many to leave out then.
 fn turn_back(walk: &mut Walk, from: usize) -> Option<(usize, usize)> {
-    let is_asked = walk.conflicts == Conflicts::Maybe
-        && !walk.standing.document.is_live()
-        && may_insert(walk)
-        && serves(walk, false);
-    if is_asked {
+    let is_live = walk.standing.document.is_live();
+    if walk.conflicts == Conflicts::Maybe && may_insert(walk) && serves(walk, is_live) {
         last_turned(walk, from)
     } else {
         None
     }
+}
+
+// Whether a delete that answers a conflict on condition of the named pair may have been performed there or later.
+fn has_refused_delete(walk: &Walk, at: usize) -> bool {
+    if walk.conflicts == Conflicts::Plain {
+        return false;
+    }
+    let conflicts = walk.lines.all(Kind::ConflictOnNamed(at));
+    for (_, rec) in conflicts.iter().take(MOST_WAITING) {
+        if walk.is_delete(*rec) && (is_left(&walk.placed, *rec) || walk.can_stand(*rec)) {
+            return true;
+        }
+    }
+    false
+}
+
+// Whether a delete on condition of the named pair may be performed there or later: an unanswered one, or under Maybe one that answers a
+// conflict.
+fn has_delete(walk: &mut Walk, at: usize) -> bool {
+    walk.first_of_all(Kind::LostDeleteOnNamed(at)).is_some() || has_refused_delete(walk, at)
+}
+
+// The named pair that a write of the document may take so that a delete which asks for it can be performed behind it, from a place among
+// these pairs on; and the place after it.
+fn pair_for_delete(walk: &mut Walk, from: usize) -> Option<(Pair, usize)> {
+    let is_asked = walk.standing.document.is_live()
+        && may_insert(walk)
+        && walk.standing.inserted.saturating_add(1) < walk.standing.budget
+        && serves(walk, true);
+    if !is_asked {
+        return None;
+    }
+    let mut place = from;
+    for _ in 0..MOST_WAITING {
+        let (pair, at) = walk.named_pair(place)?;
+        place = at.saturating_add(1);
+        if has_delete(walk, at) {
+            return Some((pair, place));
+        }
+    }
+    None
+}
+
+// An unanswered write of the document, or one that answers a conflict, that takes a pair which a delete asks for; and the turn after it.
+fn asked(walk: &mut Walk, from: usize, is_refused: bool) -> Option<(Placed, usize)> {
+    let (pair, next) = pair_for_delete(walk, from)?;
+    let rec = if is_refused {
+        conflict(walk, 0, false)?.1
+    } else {
+        lost_index(walk)?
+    };
+    Some((Placed::Inserted(rec, Some(pair)), next))
 }
 
 // The record as an inserted write, whose pair isn't chosen yet.
@@ -348,6 +402,14 @@ fn write_at_turn(walk: &mut Walk, turn: Turn) -> (Option<Placed>, Turn) {
         },
         Turn::Turned(from) => match turn_back(walk, from) {
             Some((rec, next)) => (Some(Placed::Turned(rec, None)), Turn::Turned(next)),
+            None => (None, Turn::Asked(0)),
+        },
+        Turn::Asked(from) => match asked(walk, from, false) {
+            Some((write, next)) => (Some(write), Turn::Asked(next)),
+            None => (None, Turn::AskedRefused(0)),
+        },
+        Turn::AskedRefused(from) => match asked(walk, from, true) {
+            Some((write, next)) => (Some(write), Turn::AskedRefused(next)),
             None => (None, Turn::Done),
         },
         Turn::Done => (None, Turn::Done),
@@ -356,7 +418,7 @@ fn write_at_turn(walk: &mut Walk, turn: Turn) -> (Option<Placed>, Turn) {
 
 /// The next write to try at a place, where one is left. The turn goes on.
 pub fn next_write(walk: &mut Walk, turn: &mut Turn) -> Option<Placed> {
-    for _ in 0..5 {
+    for _ in 0..7 {
         let (write, next) = write_at_turn(walk, *turn);
         *turn = next;
         if write.is_some() {
@@ -370,11 +432,7 @@ pub fn next_write(walk: &mut Walk, turn: &mut Turn) -> Option<Placed> {
 /// condition of a pair that is gone.
 pub fn is_lost(walk: &mut Walk) -> bool {
     if let Document::Known(at) = walk.standing.document {
-        if walk
-            .lines
-            .first(Kind::Found(at), &walk.placed, usize::MAX)
-            .is_some()
-        {
+        if walk.first_of_all(Kind::Found(at)).is_some() {
             return true;
         }
     }

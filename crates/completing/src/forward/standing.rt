@@ -1,3 +1,5 @@
+use version_pair::Pair;
+
 /// What the document is.
 #[derive(Clone, Copy, PartialEq, Eq)]
 pub enum Document {
@@ -37,8 +39,9 @@ pub struct Standing {
     pub inserted: u64,
     /// How many are to be inserted before the next known pair.
     pub budget: u64,
-    /// The least sequence number that an inserted write may take, if the pairs before and after are of one term.
-    pub from: u64,
+    /// The greatest pair that is taken: the known one that was passed last, or one of a write inserted since between two pairs of one
+    /// term.
+    pub last: Option<Pair>,
     /// Of the answered records by reply, how many are surely placed.
     pub replies: usize,
     /// Of the conflicts on pairs by call, how many were met.
@@ -95,7 +98,7 @@ impl Standing {
             passed: 0,
             inserted: 0,
             budget: 0,
-            from: 0,
+            last: None,
             replies: 0,
             conflicts_met: 0,
             latest: 0,
@@ -131,6 +134,7 @@ impl Standing {
         let passed = u64::try_from(self.passed).unwrap_or(u64::MAX);
         let place = mix(mix(passed) ^ self.document.number());
         let budget = if self.inserted == 0 { 0 } else { self.budget };
-        mix(mix(mix(place ^ self.inserted) ^ budget) ^ self.from) ^ self.mark
+        let last = self.last.map_or(0, |pair| pair.seq().saturating_add(1));
+        mix(mix(mix(place ^ self.inserted) ^ budget) ^ last) ^ self.mark
     }
 }

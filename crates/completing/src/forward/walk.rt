@@ -1,17 +1,19 @@
-use crate::forward::free::{Free, rooms};
 use crate::forward::kind::{Kind, kinds_of};
 use crate::forward::known::KnownPairs;
 use crate::forward::lines::Lines;
 use crate::forward::numbers::Numbers;
+use crate::forward::rooms::rooms;
 use crate::forward::standing::{Document, Standing, mark_of, mix};
+use crate::free::Free;
 use crate::limit::Limit;
 use crate::rules::by_number::number_of;
 use crate::rules::link::leaves_it;
 use crate::rules::queue::is_left;
-use doc_register::Conflicts;
+use doc_register::{Conflicts, Op};
 use history::Rec;
 use std::alloc::Global;
 use version_pair::{NoMemory, Pair};
+use write_chain::sort_nearly_ordered;
 
 /// A record that was placed.
 #[derive(Clone, Copy)]
@@ -72,11 +74,11 @@ fn by_reply(alloc: Global, records: &[Rec]) -> Result<Vec<(usize, usize)>, NoMem
             replies.push((heard.0, rec))?;
         }
     }
-    replies.sort_unstable();
+    sort_nearly_ordered(&mut replies);
     Ok(replies)
 }
 
-// The conflicts on pairs by place of call.
+// The conflicts on pairs by place of call, in which the records stand.
 fn conflicts_by_call(
     alloc: Global,
     records: &[Rec],
@@ -91,7 +93,6 @@ fn conflicts_by_call(
             _ => {}
         }
     }
-    conflicts.sort_unstable();
     Ok(conflicts)
 }
 
@@ -116,7 +117,8 @@ impl Walk<'_> {
             return Ok(None);
         };
         let kinds = kinds_of(alloc, records, &known, &numbers)?;
-        let rooms = rooms(alloc, &known, used, limits)?;
+        let free = Free::among(used);
+        let rooms = rooms(alloc, &known, free, limits)?;
         Ok(Some(Walk {
             records,
             conflicts,
@@ -132,7 +134,7 @@ impl Walk<'_> {
             numbers,
             kinds,
             rooms,
-            free: Free::among(used),
+            free,
         }))
     }
 
@@ -166,6 +168,11 @@ impl Walk<'_> {
     pub fn first(&mut self, kind: Kind) -> Option<usize> {
         let limit = self.limit();
         self.lines.first(kind, &self.placed, limit)
+    }
+
+    /// The first record of the kind that is left, whether it may be placed here or not.
+    pub fn first_of_all(&mut self, kind: Kind) -> Option<usize> {
+        self.lines.first(kind, &self.placed, usize::MAX)
     }
 
     /// How many writes may be inserted before the next known pair.
@@ -310,11 +317,11 @@ impl Walk<'_> {
         }
     }
 
-    // The write with the pair that it takes, if it has to be told here.
+    // The write with the pair that it takes, if it lies between two pairs of one term.
     fn with_pair(&self, write: Placed) -> Placed {
         match write {
-            Placed::Inserted(rec, _) => Placed::Inserted(rec, self.pair_to_insert()),
-            Placed::Turned(rec, _) => Placed::Turned(rec, self.pair_to_insert()),
+            Placed::Inserted(rec, None) => Placed::Inserted(rec, self.pair_to_insert()),
+            Placed::Turned(rec, None) => Placed::Turned(rec, self.pair_to_insert()),
             other => other,
         }
     }
@@ -330,14 +337,12 @@ impl Walk<'_> {
                 self.standing.passed = at.saturating_add(1);
                 self.standing.inserted = 0;
                 self.standing.budget = 0;
-                if let Some(known) = self.known.get(at) {
-                    self.standing.from = known.pair.seq().saturating_add(1);
-                }
+                self.standing.last = self.known.get(at).map(|known| known.pair);
             }
             Placed::Inserted(_, pair) | Placed::Turned(_, pair) => {
                 self.standing.inserted = self.standing.inserted.saturating_add(1);
-                if let Some(pair) = pair {
-                    self.standing.from = pair.seq().saturating_add(1);
+                if pair.is_some() {
+                    self.standing.last = pair;
                 }
             }
             Placed::Read(_) => {}
@@ -374,16 +379,31 @@ impl Walk<'_> {
         }
     }
 
-    /// Whether the record is a create's conflict that was placed as one that is refused, and can stand here as well.
-    pub fn may_turn(&self, rec: usize) -> bool {
-        let is_create = self.kinds.get(rec) == Some(&Some(Kind::CreateConflict));
+    /// Whether the record is a conflict that was placed as one that is refused, and can stand here as well.
+    pub fn can_stand(&self, rec: usize) -> bool {
         match self.record(rec) {
             Some(found) => match found.heard {
-                Some(heard) => {
-                    is_create && is_left(&self.turned, rec) && self.standing.latest < heard.0
-                }
+                Some(heard) => is_left(&self.turned, rec) && self.standing.latest < heard.0,
                 None => false,
             },
+            None => false,
+        }
+    }
+
+    /// Whether it is one that can be performed on the document here: a create if the document is absent, a delete on condition of the
+    /// pair that it has.
+    pub fn may_turn(&self, rec: usize) -> bool {
+        let is_performed = match self.standing.document {
+            Document::Absent => self.kinds.get(rec) == Some(&Some(Kind::CreateConflict)),
+            _ => self.is_on_present(rec) && self.is_delete(rec),
+        };
+        is_performed && self.can_stand(rec)
+    }
+
+    /// Whether the record is a delete.
+    pub fn is_delete(&self, rec: usize) -> bool {
+        match self.record(rec) {
+            Some(found) => matches!(found.op, Op::Delete { .. }),
             None => false,
         }
     }

@@ -1,5 +1,4 @@
-use crate::rules::link::{Link, leaves_it};
-use crate::rules::named_pairs::{Invented, NamedPairs};
+use crate::rules::link::Link;
 use history::{Rec, Seen};
 use std::alloc::Global;
 use version_pair::{NoMemory, Pair};
@@ -33,32 +32,15 @@ fn term_pair(term: u64, seen: Seen, place: usize, call_at: usize) -> Option<Pair
     Pair::new(term, seq)
 }
 
-// What comes behind a write of the chain.
-#[derive(Clone, Copy)]
-struct Behind {
-    // The next known pair after it.
-    pair: Option<Pair>,
-    // How many are invented before that pair, from the write on.
-    invented: u64,
-}
-
-// What comes behind each invented write, from the last to the first.
-fn behind_invented(alloc: Global, links: &[Link]) -> Result<Vec<Behind>, NoMemory> {
+// The next known pair after each invented write, from the last to the first.
+fn pairs_behind(alloc: Global, links: &[Link]) -> Result<Vec<Option<Pair>>, NoMemory> {
     let mut behind = Vec::new(alloc);
-    let mut next = Behind {
-        pair: None,
-        invented: 0,
-    };
+    let mut next = None;
     for back in 0..links.len() {
         let link = links[links.len() - 1 - back];
-        if link.pair.is_none() {
-            next.invented = next.invented.saturating_add(1);
-            behind.push(next)?;
-        } else {
-            next = Behind {
-                pair: link.pair,
-                invented: 0,
-            };
+        match link.pair {
+            Some(_) => next = link.pair,
+            None => behind.push(next)?,
         }
     }
     Ok(behind)
@@ -86,50 +68,34 @@ fn reads_in_order(
 #[derive(Drop)]
 struct Numbering {
     seen: Seen,
-    named: NamedPairs,
-    // What comes behind each invented write that is left, from the last to the first.
-    behind: Vec<Behind>,
+    // The next known pair after each invented write that is left, from the last to the first.
+    behind: Vec<Option<Pair>>,
     // The next write, and the pair of the one before it.
     next: usize,
     last: Option<Pair>,
 }
 
 impl Numbering {
-    fn of(
-        alloc: Global,
-        records: &[Rec],
-        links: &[Link],
-        stretches: &[Option<usize>],
-        seen: Seen,
-    ) -> Result<Numbering, NoMemory> {
+    fn of(alloc: Global, links: &[Link], seen: Seen) -> Result<Numbering, NoMemory> {
         Ok(Numbering {
             seen,
-            named: NamedPairs::of(alloc, records, stretches)?,
-            behind: behind_invented(alloc, links)?,
+            behind: pairs_behind(alloc, links)?,
             next: 0,
             last: None,
         })
     }
 
-    // The pair of an invented write after the last pair and before the next, where there is one.
+    // The pair of an invented write after the last pair and before one of a greater term, if one comes.
     fn invented_pair(&mut self, found: Rec, place: usize) -> Option<Pair> {
-        let behind = self.behind.pop()?;
-        let Some(next) = behind.pair else {
+        let Some(next) = self.behind.pop()? else {
             return last_pair(self.seen, place, found.call_at);
         };
-        let (term, from) = match self.last {
-            Some(last) => (last.term(), last.seq().saturating_add(1)),
-            None => (1, 0),
-        };
+        let term = self.last.map_or(1, |last| last.term());
         if term < next.term() {
-            return term_pair(term, self.seen, place, found.call_at);
+            term_pair(term, self.seen, place, found.call_at)
+        } else {
+            None
         }
-        let write = Invented {
-            stretch: self.next.saturating_add(1),
-            leaves_it: leaves_it(found.op),
-            left: behind.invented,
-        };
-        self.named.least(write, Pair::new(term, from)?, next)
     }
 
     // The pair of the next write of the chain, the record that stands in this place of the order.
@@ -179,10 +145,9 @@ fn push_reads(
     Ok(reads.len())
 }
 
-/// The places of the order, by stretch, its write first, then by place of reply; the invented pairs being numbered: without a
-/// greater pair after it by a new term, before a greater term by a sequence number that was not seen, and between equal terms
-/// by the least number that is left, one that a condition names only where no other is.
-/// `None` where there is no such number.
+/// The places of the order, by stretch, its write first, then by place of reply. Writes without a pair are numbered: with no pair
+/// after them by a new term, and before a greater term by a sequence number that was not seen. `None` if there is no such number; so
+/// for a write between two pairs of one term.
 pub fn places_with_pairs(
     alloc: Global,
     records: &[Rec],
@@ -190,7 +155,7 @@ pub fn places_with_pairs(
     stretches: &[Option<usize>],
     seen: Seen,
 ) -> Result<Option<Vec<Place>>, NoMemory> {
-    let mut numbering = Numbering::of(alloc, records, links, stretches, seen)?;
+    let mut numbering = Numbering::of(alloc, links, seen)?;
     let reads = reads_in_order(alloc, records, stretches)?;
     let room = links.len().saturating_add(reads.len());
     let mut places = Vec::with_capacity(alloc, room)?;

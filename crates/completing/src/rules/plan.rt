@@ -1,6 +1,6 @@
 use crate::rules::link::{Link, leaves_it, needs};
 use crate::rules::lost::{Ask, Lost};
-use crate::rules::room::Rooms;
+use crate::rules::open::open_stretches;
 use history::Rec;
 use std::alloc::Global;
 use version_pair::{NoMemory, Pair};
@@ -17,7 +17,8 @@ pub struct Plan {
     limits: Vec<usize>,
     // Of each stretch but the first the greatest call of the writes before it.
     calls: Vec<usize>,
-    rooms: Rooms,
+    // Of each stretch whether a write may be inserted in it.
+    open: Vec<bool>,
     // Of each stretch what was inserted in it last.
     inserted: Vec<Option<usize>>,
     // The greatest call of what is inserted.
@@ -44,7 +45,7 @@ impl Plan {
             needs: Vec::with_capacity(alloc, stretches)?,
             limits: Vec::with_capacity(alloc, stretches)?,
             calls: Vec::with_capacity(alloc, stretches)?,
-            rooms: Rooms::of(alloc, &links)?,
+            open: open_stretches(alloc, &links)?,
             inserted: vec![in alloc; None; stretches]?,
             inserted_call: 0,
             news: Vec::new(alloc),
@@ -87,7 +88,7 @@ impl Plan {
         }
     }
 
-    /// Inserts the record's write in the stretch, where a number is left for it.
+    /// Inserts the record's write in the stretch, if one may be inserted there.
     pub fn insert(
         &mut self,
         records: &[Rec],
@@ -96,7 +97,7 @@ impl Plan {
         side: Side,
         rec: usize,
     ) -> Result<bool, NoMemory> {
-        if !self.rooms.take(stretch) {
+        if self.open.get(stretch) != Some(&true) {
             return Ok(false);
         }
         self.news

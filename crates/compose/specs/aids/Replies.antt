@@ -5,6 +5,8 @@ use Rattle.history.specs.declared.event.Event.{Event}
 use Rattle.history.specs.declared.event.Event.TheVariants.{Call, Reply, Lost}
 use Rattle.history.specs.Events.{IsReplyAt, prefix}
 use Rattle.history.specs.Order.{IsPlainlyRight}
+use Rattle.compose.specs.declared.checking.Looked.{Looked}
+use Rattle.compose.specs.declared.checking.Looked.TheVariants.{Found, NotFound}
 
 -- a reply stands there
 abbrev pub IsReplyPlace : List Event → ℕ → Type 0
@@ -25,6 +27,11 @@ places_with (Lost n) p places = places
 -- the events up to the place, itself among them, are not plainly right
 abbrev pub IsWrongAt : List Event → ℕ → Type 0
 IsWrongAt events p = ¬ IsPlainlyRight (prefix events (p + 1))
+
+-- the same, unless orders were found for them
+abbrev pub IsWrongUnlessFound : List Event → ℕ → Looked → Type 0
+IsWrongUnlessFound events p Found = Unit {0}
+IsWrongUnlessFound events p (NotFound place) = IsWrongAt events p
 
 -- those up to the place with this number are not
 abbrev pub IsWrongFrom : List Event → List ℕ → ℕ → Type 0

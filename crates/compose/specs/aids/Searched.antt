@@ -1,6 +1,5 @@
 -- What the search has found of the documents of a history.
-use Rattle.std.specs.Prelude.{◌≡◌, ℕ, ◌<◌, Bool, true, List, [], ◌∷◌, Option, Some, None, Vec, slice_get}
-use Rattle.std.specs.declared.alloc.Global.{Global}
+use Rattle.std.specs.Prelude.{◌≡◌, ℕ, ◌<◌, Bool, true, List, [], ◌∷◌, Some, slice_get}
 use Rattle.doc_register.specs.declared.state.Conflicts.{Conflicts}
 use Rattle.history.specs.declared.event.Event.{Event}
 use Rattle.history.specs.declared.record.Rec.{Rec}
@@ -12,8 +11,6 @@ use Rattle.doc_check.specs.NoOrders.{AreUnpaired, Unordered}
 use Rattle.doc_check.specs.Search.{FindsUnpaired, IsAbout}
 use Rattle.doc_check.specs.declared.search.DocAnswer.{DocAnswer}
 use Rattle.doc_check.specs.declared.search.DocAnswer.TheVariants.{NotFound}
-use Rattle.compose.specs.Covers.{HasNoUnpairedCover}
-use Rattle.compose.specs.Verdicts.{AreWitnesses}
 
 -- The witness is of the document: it has its records; and, where it is the first that the search gave, it gives no pair where any
 -- places without a given pair are valid for them.
@@ -68,11 +65,6 @@ AreKept [] [] = Unit {0}
 AreKept [] (x ∷ xs) = ⊥
 AreKept (y ∷ ys) [] = ⊥
 AreKept (y ∷ ys) (x ∷ xs) = Keeps y x × AreKept ys xs
-
--- the witnesses cover the history; where there are none, no entries without a given pair do
-abbrev pub IsCovering : Conflicts → List Event → Option (Vec Witness Global) → Type 0
-IsCovering conflicts events None = HasNoUnpairedCover conflicts events
-IsCovering conflicts events (Some ws) = AreWitnesses conflicts events ws.items
 
 -- ---- other places for the same records
 

@@ -1,96 +1,105 @@
-use crate::renumbered::gaps::Wanting;
+use crate::renumbered::gaps::Gap;
+use crate::renumbered::names::Names;
+use crate::used_pairs::UsedPairs;
+use completing::Free;
 use history::HashKeys;
 use indexmap::IndexMap;
 use std::alloc::Global;
 use version_pair::{NoMemory, Pair};
 
-/// Which numbers of a shard are taken, each with a number to look on from: all between are taken.
+/// The numbers of each shard that are neither in use nor given.
 #[derive(Drop)]
-pub struct FreeNumbers {
-    next: IndexMap<(u32, Pair), u64, HashKeys>,
+pub struct FreeNumbers<'u> {
+    used: &'u UsedPairs,
+    // The pairs that were given, each with a number to look on from: those between aren't free.
+    given: IndexMap<(u32, Pair), u64, HashKeys>,
 }
 
-impl FreeNumbers {
-    /// All numbers are free but these. Those that are taken are found by hashes with these keys.
-    pub fn without(
-        alloc: Global,
-        keys: HashKeys,
-        taken: &[(u32, Pair)],
-    ) -> Result<FreeNumbers, NoMemory> {
-        let mut free = FreeNumbers {
-            next: IndexMap::with_hasher(alloc, keys),
-        };
-        for (shard, pair) in taken {
-            free.take(*shard, *pair)?;
+/// The pair with the next number in the term.
+pub fn pair_after(pair: Pair) -> Option<Pair> {
+    Pair::new(pair.term(), pair.seq().saturating_add(1))
+}
+
+impl FreeNumbers<'_> {
+    /// All but those in use. Pairs that are given are found by hashes with these keys.
+    pub fn without(alloc: Global, keys: HashKeys, used: &UsedPairs) -> FreeNumbers<'_> {
+        FreeNumbers {
+            used,
+            given: IndexMap::with_hasher(alloc, keys),
         }
-        Ok(free)
     }
 
-    /// Takes the pair.
-    pub fn take(&mut self, shard: u32, pair: Pair) -> Result<(), NoMemory> {
-        self.next
+    /// Gives the pair.
+    pub fn give(&mut self, shard: u32, pair: Pair) -> Result<(), NoMemory> {
+        self.given
             .insert((shard, pair), pair.seq().saturating_add(1))?;
         Ok(())
     }
 
-    // The number to look on from, where the pair is taken.
-    fn after(&self, shard: u32, term: u64, seq: u64) -> Option<u64> {
-        let pair = Pair::new(term, seq)?;
-        self.next.get(&(shard, pair)).copied()
+    // The least pair from this one on, of its term, that is not in use.
+    fn unused(&self, shard: u32, from: Pair) -> Option<Pair> {
+        let seq = Free::among(self.used.of_shard(shard)).least_from(from);
+        Pair::new(from.term(), seq)
     }
 
-    // The least free number from this one on.
-    fn first(&self, shard: u32, term: u64, from: u64) -> u64 {
-        let mut seq = from;
-        for _ in 0..self.next.len() {
-            match self.after(shard, term, seq) {
-                Some(next) => seq = next,
-                None => return seq,
+    // Where to look on behind a pair that was given.
+    fn after(&self, shard: u32, pair: Pair) -> Option<Pair> {
+        let next = self.given.get(&(shard, pair)).copied()?;
+        self.unused(shard, Pair::new(pair.term(), next)?)
+    }
+
+    // The least free pair from this one on, of its term.
+    fn first(&self, shard: u32, from: Pair) -> Option<Pair> {
+        let mut pair = self.unused(shard, from)?;
+        for _ in 0..self.given.len() {
+            match self.after(shard, pair) {
+                Some(next) => pair = next,
+                None => return Some(pair),
             }
         }
-        seq
+        Some(pair)
     }
 
-    // Lets the taken numbers on the way from one to the free number point to it.
-    fn point(&mut self, shard: u32, term: u64, from: u64, to: u64) -> Result<(), NoMemory> {
-        let mut seq = from;
-        for _ in 0..self.next.len() {
-            let Some(next) = self.after(shard, term, seq) else {
+    // Lets the given pairs on the way from one to a free one point to it.
+    fn point(&mut self, shard: u32, from: Pair, to: Pair) -> Result<(), NoMemory> {
+        let mut pair = self.unused(shard, from);
+        for _ in 0..self.given.len() {
+            let Some(own) = pair else {
                 return Ok(());
             };
-            let Some(pair) = Pair::new(term, seq) else {
-                return Ok(());
-            };
-            self.next.insert((shard, pair), to)?;
-            seq = next;
+            pair = self.after(shard, own);
+            if pair.is_some() {
+                self.given.insert((shard, own), to.seq())?;
+            }
         }
         Ok(())
     }
 
-    /// The least pair of the gap's term from the number on, below the gap's upper end, that is free and that the place may
-    /// take.
+    /// The least pair from this one on, below the gap's upper end, that is free and that the names allow for a place of the gap.
     pub fn least(
         &mut self,
-        wanting: Wanting<'_>,
+        names: &Names,
+        gap: &Gap,
         place: usize,
-        from: u64,
+        from: Pair,
+        avoids: bool,
     ) -> Result<Option<Pair>, NoMemory> {
-        let upper = wanting.gap.upper;
-        let shard = wanting.gap.shard;
         let mut start = from;
-        for _ in 0..wanting.gaps.names().saturating_add(1) {
-            let seq = self.first(shard, upper.term(), start);
-            self.point(shard, upper.term(), start, seq)?;
-            if seq >= upper.seq() {
-                return Ok(None);
-            }
-            let Some(pair) = Pair::new(upper.term(), seq) else {
+        for _ in 0..names.len().saturating_add(1) {
+            let Some(pair) = self.first(gap.shard, start) else {
                 return Ok(None);
             };
-            if wanting.may_take(place, pair) {
+            self.point(gap.shard, start, pair)?;
+            if pair >= gap.numbers.upper {
+                return Ok(None);
+            }
+            if names.allow(gap, place, pair, avoids) {
                 return Ok(Some(pair));
             }
-            start = seq.saturating_add(1);
+            let Some(next) = pair_after(pair) else {
+                return Ok(None);
+            };
+            start = next;
         }
         Ok(None)
     }

@@ -1,4 +1,5 @@
 use crate::renumbered::gaps::{Gap, Gaps};
+use completing::Gap as Between;
 use std::alloc::Global;
 use version_pair::{NoMemory, Pair};
 
@@ -17,24 +18,24 @@ const MOST_ROUNDS: usize = 64;
 #[derive(Clone, Copy)]
 struct Span {
     shard: u32,
-    from: u64,
-    upper: Pair,
+    numbers: Between,
 }
 
 impl Span {
     // Whether one of the pairs that the gap was given lies in it.
     fn touches(self, gap: &Gap, pairs: &[Pair]) -> bool {
         gap.shard == self.shard
-            && gap.upper.term() == self.upper.term()
-            && pairs.iter().any(|pair| self.from <= pair.seq() && pair.seq() < self.upper.seq())
+            && pairs.iter().any(|pair| self.numbers.from <= *pair && *pair < self.numbers.upper)
     }
 
     // The span with that of the gap.
     fn with(self, gap: &Gap) -> Span {
         Span {
             shard: self.shard,
-            from: self.from.min(gap.from),
-            upper: self.upper.max(gap.upper),
+            numbers: Between {
+                from: self.numbers.from.min(gap.numbers.from),
+                upper: self.numbers.upper.max(gap.numbers.upper),
+            },
         }
     }
 }
@@ -54,8 +55,7 @@ pub fn tight_set(
     tight.push(failed)?;
     let mut span = Span {
         shard: gap.shard,
-        from: gap.from,
-        upper: gap.upper,
+        numbers: gap.numbers,
     };
     let mut is_in = vec![in alloc; false; filled.len()]?;
     for _ in 0..MOST_ROUNDS {

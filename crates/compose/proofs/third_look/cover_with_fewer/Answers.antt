@@ -1,7 +1,7 @@
 use Rattle.std.proofs.Common.{false, subst}
 use Rattle.history.specs.Events.{documents_of}
 use Rattle.compose.specs.aids.Joined.{IsJoined}
-use Rattle.compose.proofs.FoundLemmas.{kept_answers}
+use Rattle.compose.proofs.FoundLemmas.{alike_searched}
 use Rattle.compose.proofs.third_look.cover_with_fewer.Goals as goal
 
 pub loop-init : goal.loop-init
@@ -10,12 +10,12 @@ loop-init c = λ conflicts are. are
 pub loop-preserved : goal.loop-preserved
 loop-preserved c = λ conflicts are.
     let docs = documents_of c.args.history.now in
-    let others = kept_answers conflicts c.args.history.now docs c.loop.answers.items c.in_ok-others.others.items (c.loop.invariant conflicts are) c.in_ok-others.ensures in
-    let joined = subst (IsJoined conflicts c.args.history.now false) c.in-Open.is (c.in_ok-witnesses.ensures conflicts false others) in
+    let others = alike_searched conflicts c.args.history.now false docs c.loop.witnesses.items c.in_ok-others.others.items (c.loop.invariant conflicts are) c.in_ok-others.ensures in
+    let joined = subst (IsJoined conflicts c.args.history.now false) c.in-Short.is (c.in_ok-others-2.ensures conflicts others) in
     joined.0
 
 pub returns-in-Cover : goal.returns-in-Cover
 returns-in-Cover c = λ conflicts are.
     let docs = documents_of c.args.history.now in
-    let others = kept_answers conflicts c.args.history.now docs c.loop.answers.items c.in_ok-others.others.items (c.loop.invariant conflicts are) c.in_ok-others.ensures in
-    subst (IsJoined conflicts c.args.history.now false) c.in-Cover.is (c.in_ok-witnesses.ensures conflicts false others)
+    let others = alike_searched conflicts c.args.history.now false docs c.loop.witnesses.items c.in_ok-others.others.items (c.loop.invariant conflicts are) c.in_ok-others.ensures in
+    subst (IsJoined conflicts c.args.history.now false) c.in-Cover.is (c.in_ok-others-2.ensures conflicts others)

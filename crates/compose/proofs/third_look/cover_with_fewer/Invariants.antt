@@ -1,10 +1,10 @@
 use Rattle.std.specs.Prelude.{false}
 use Rattle.doc_register.specs.declared.state.Conflicts.{Conflicts}
 use Rattle.history.specs.Events.{documents_of}
-use Rattle.compose.specs.aids.Searched.{AreAnswersFor}
+use Rattle.compose.specs.aids.Searched.{AreSearched}
 use Rattle.compose.proofs.third_look.cover_with_fewer.Given as goal
 
 abbrev pub invariant-loop : goal.invariant-loop
 invariant-loop l =
-    (conflicts : Conflicts) → AreAnswersFor conflicts l.history false (documents_of l.history) l.fn.answers.items
-    → AreAnswersFor conflicts l.history false (documents_of l.history) l.answers.items
+    (conflicts : Conflicts) → AreSearched conflicts l.history false (documents_of l.history) l.fn.witnesses.items
+    → AreSearched conflicts l.history false (documents_of l.history) l.witnesses.items

@@ -1,0 +1,77 @@
+use crate::taken::pair_of_place;
+use doc_register::Op;
+use history::Rec;
+use std::alloc::Global;
+use version_pair::{NoMemory, Pair};
+use witness::DocWitness;
+
+/// The pairs that the places of a witness give, in their order, in which they rise.
+#[derive(Drop)]
+pub struct Given {
+    pairs: Vec<Pair>,
+    // Of each whether a get found it or the condition of a performed write names it.
+    shown: Vec<bool>,
+}
+
+// The pair that a get found.
+fn found_pair(found: Rec) -> Option<Pair> {
+    match found.op {
+        Op::Get => found.heard.and_then(|heard| heard.1.pair()),
+        _ => None,
+    }
+}
+
+impl Given {
+    /// Those of a witness.
+    pub fn of(alloc: Global, witness: &DocWitness) -> Result<Given, NoMemory> {
+        let mut given = Given {
+            pairs: Vec::new(alloc),
+            shown: Vec::new(alloc),
+        };
+        for place in witness.places() {
+            if let Some(pair) = place.pair {
+                given.pairs.push(pair)?;
+                given.shown.push(false)?;
+            }
+        }
+        if !given.pairs.is_empty() {
+            given.note_shown(witness);
+        }
+        Ok(given)
+    }
+
+    // Notes which of them other calls show.
+    fn note_shown(&mut self, witness: &DocWitness) {
+        for found in witness.records() {
+            self.show(found_pair(*found));
+        }
+        for place in witness.places() {
+            if pair_of_place(witness.records(), *place).is_some() {
+                let found = witness.records().get(place.rec);
+                self.show(found.and_then(|found| found.op.condition()));
+            }
+        }
+    }
+
+    // Notes that a pair is shown, if it is one of them.
+    fn show(&mut self, shown: Option<Pair>) {
+        let Some(pair) = shown else {
+            return;
+        };
+        if let Ok(at) = self.pairs.binary_search(&pair) {
+            if let Some(flag) = self.shown.get_mut(at) {
+                *flag = true;
+            }
+        }
+    }
+
+    /// Whether there are none.
+    pub fn is_empty(&self) -> bool {
+        self.pairs.is_empty()
+    }
+
+    /// Whether one of them was invented: no other call shows it.
+    pub fn is_invented(&self, at: usize) -> bool {
+        self.shown.get(at) == Some(&false)
+    }
+}
