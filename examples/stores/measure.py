@@ -28,13 +28,13 @@ from recorder import PRINTED
 
 
 class Row(NamedTuple):
-    """A row of the tables: a scenario of a store, what happens meanwhile, whether the store promises to survive that, and how many of a
-    thousand answers are dropped."""
+    """A row of the tables: a scenario of a store, what happens meanwhile, whether the store survives that, and how many of a thousand answers
+    are dropped."""
 
     store: str
     scenario: str
     happens: str
-    is_promised: bool = True
+    is_survived: bool = True
     dropped: int = 0
 
 
@@ -59,6 +59,7 @@ ROWS = (
     Row("zookeeper", "healthy", "nothing"),
     Row("zookeeper", "killed", "a member is killed, the leader every second time, and started again"),
     Row("zookeeper", "stopped", "the leader is stopped until another one leads, and goes on"),
+    Row("zookeeper", "recovering", "the leader is killed while another member starts again", False),
     Row("zookeeper", "unsynced", "reads without `sync` from a member that was stopped", False),
     Row("etcd", "healthy", "nothing"),
     Row("etcd", "healthy", "4 % of the answers are lost", dropped=40),
@@ -119,7 +120,7 @@ def measured(setting: argparse.Namespace, row: Row, seed: int) -> Measured:
 def faults_of(row: Row, found: Iterable[Measured]) -> List[str]:
     """What shouldn't have been found: an accusation of a store that keeps its promise, or a `yes` that the log contradicts."""
     wanted = {("yes", "verified")}
-    if not row.is_promised:
+    if not row.is_survived:
         wanted |= {(it.answer, "broken") for it in found if it.answer.startswith("refuted ")}
     return [f"{it.history}: {it.answer}, {it.by_log} by the log" for it in found if (it.answer, it.by_log) not in wanted]
 

@@ -2,12 +2,12 @@
 
 import abc
 import time
-from typing import Callable, List
+from typing import Callable, List, Tuple, Type, TypeVar
 
 from nodes import PATIENCE, NotReady
 from recorder import Changes, Recording
 
-from casbench_recording.load import Client, Store
+from casbench_recording.load import Client, Store, Unreachable
 
 COUNT = 3
 """How many members there are."""
@@ -16,10 +16,15 @@ LONG_DEADLINE = 10.0
 """How many seconds a client waits that asks a member which was stopped."""
 
 
+Answer = TypeVar("Answer")
+
+
 class Members(abc.ABC):
     """The members. A majority of them answers."""
 
     calls_between = 600
+    # what may come of asking a member that leads no longer
+    faults: Tuple[Type[Exception], ...] = (OSError, Unreachable)
 
     def __init__(self, recording: Recording) -> None:
         self.recording, self.nodes, self.load = recording, recording.nodes, recording.load
@@ -35,6 +40,10 @@ class Members(abc.ABC):
     @abc.abstractmethod
     def leads(self, member: int) -> bool:
         """Whether a member says that it leads."""
+
+    @abc.abstractmethod
+    def serves(self, member: int) -> bool:
+        """Whether a member follows the others, or leads them."""
 
     @abc.abstractmethod
     def store(self) -> Store:
@@ -64,10 +73,21 @@ class Members(abc.ABC):
             time.sleep(0.05)
         raise NotReady(f"no member leads:\n{self.nodes.end_of_log(self.name(0))}")
 
+    def asked_of_leader(self, ask: Callable[[int], Answer]) -> Answer:
+        """What the member answers that leads. One that leads no longer when it is asked may not answer, and then the next one is asked."""
+        last = time.monotonic() + PATIENCE
+        while True:
+            try:
+                return ask(self.leader())
+            except self.faults:
+                if time.monotonic() > last:
+                    raise
+                time.sleep(0.05)
+
     def run(self, disturb: Callable[[], None] = lambda: None) -> Changes:
         """Runs the clients; returns the store's log."""
         self.recording.run(self.store(), disturb, self.calls_between)
-        return self.changes_at(self.leader())
+        return self.asked_of_leader(self.changes_at)
 
     # Scenarios
 
@@ -76,7 +96,8 @@ class Members(abc.ABC):
         return self.run()
 
     def killed(self, most: int) -> Changes:
-        """One member, the leader every second time, or up to so many of them are killed, and started again after a while."""
+        """One member, the leader every second time, or up to so many of them are killed, and started again after a while. The next ones are
+        killed when these serve again."""
 
         def disturb() -> None:
             first = self.leader() if self.load.draw.below(2) else self.load.draw.below(COUNT)
@@ -87,7 +108,8 @@ class Members(abc.ABC):
             self.load.wait(0.1, 0.8)
             for member in gone:
                 self.start(member)
-            self.leader()
+            for member in gone:
+                self.nodes.wait_until(self.name(member), lambda: self.serves(member))
 
         return self.run(disturb)
 
@@ -118,4 +140,4 @@ class Members(abc.ABC):
             self.nodes.go_on(self.name(target))
 
         self.recording.run_beside_readers(self.store(), self.old_store(), disturb, target)
-        return self.changes_at(self.leader())
+        return self.asked_of_leader(self.changes_at)

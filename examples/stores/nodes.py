@@ -111,10 +111,9 @@ class Nodes:
     def stop(self, name: str) -> None:
         """Stops a process, with those that it has started: they do nothing any more, and don't know of it. They go on by `go_on`, or when
         this process ends, so that what a killed one has started ends too."""
-        words = ["sh", "-c", HOLD, "sh", str(self.processes[name].pid)]
-        pipes = {"stdin": subprocess.PIPE, "stdout": subprocess.PIPE, "stderr": subprocess.DEVNULL}
+        words, pipe = ["sh", "-c", HOLD, "sh", str(self.processes[name].pid)], subprocess.PIPE
         # (Ctrl-C isn't for it)
-        self.holds[name] = hold = subprocess.Popen(words, start_new_session=True, **pipes)
+        self.holds[name] = hold = subprocess.Popen(words, stdin=pipe, stdout=pipe, stderr=subprocess.DEVNULL, start_new_session=True)
         assert hold.stdout is not None
         hold.stdout.readline()
 

@@ -19,7 +19,8 @@ from dataclasses import dataclass
 from typing import Callable, Dict, Iterator, List, Mapping, Optional, Protocol, Sequence, Type, TypeVar, Union, cast
 
 from .continuing import Continuing
-from .history import Call, Ended, History, NoOutcome, Operation, Pair
+from .history import Call, Ended, History, Operation, Pair
+from .history import NoOutcome as NoOutcome
 
 WRITES = ("index", "create", "delete", "index-if", "delete-if")
 

@@ -9,7 +9,7 @@ docs/RECORDING.md has what each call is in the store.
 import contextlib
 import pathlib
 import sys
-from typing import Dict
+from typing import Any, Dict, Mapping
 
 HERE = pathlib.Path(__file__).resolve().parent
 sys.path[:0] = [str(HERE.parent), str(HERE.parents[2] / "recording")]
@@ -26,6 +26,8 @@ from casbench_recording.cluster import ClusterError, NoAnswer, connection_to
 class EtcdMembers(Members):
     """The members of etcd."""
 
+    faults = (OSError, NoAnswer, ClusterError, KeyError)
+
     def __init__(self, recording: Recording) -> None:
         super().__init__(recording)
         ports = free_ports(2 * COUNT)
@@ -41,13 +43,20 @@ class EtcdMembers(Members):
         words += ["--initial-cluster", cluster, "--heartbeat-interval", "50", "--election-timeout", "500"]
         self.nodes.start(self.name(member), words)
 
-    def leads(self, member: int) -> bool:
+    def status(self, member: int) -> Mapping[str, Any]:
+        """What a member says of itself, or nothing."""
         connection = connection_to(self.urls[member], 2)
         with contextlib.suppress(NoAnswer, ClusterError), contextlib.closing(connection):
             connection.open(0)
-            status = connection.ask("POST", "/v3/maintenance/status", "{}").members
-            return bool(status) and status.get("leader") == status["header"]["member_id"]
-        return False
+            return connection.ask("POST", "/v3/maintenance/status", "{}").members
+        return {}
+
+    def leads(self, member: int) -> bool:
+        status = self.status(member)
+        return "leader" in status and status["leader"] == status["header"]["member_id"]
+
+    def serves(self, member: int) -> bool:
+        return "leader" in self.status(member)
 
     def store(self) -> Etcd:
         return Etcd(self.urls)
