@@ -30,7 +30,7 @@ from .terms import TermReader, Terms
 from .watcher import EVERY
 
 REST = 9.0
-"""How many times as long as the last check took of a processor the next one waits, so that checks take a tenth of one at most."""
+"""How many times as long as the last check took of a processor the next one waits, so that they take a tenth of one at most."""
 
 PART = re.compile(r"part-[0-9]+\.ndjson")
 """The name of a finished part of a recording without end."""
@@ -120,14 +120,20 @@ class Watch:
                     self.stop.wait_until(self._rests_until)
                 watched.answer = snapshot.ask([self._program, "check", *self._options])
                 watched.length = snapshot.length
-                self._rests_until = time.monotonic() + REST * watched.answer.seconds
+                self.rest_for(watched.answer.seconds)
                 self.tell_check(path, watched.answer)
             if watched.answer is not None and watched.answer.word != "refused":
+                before = time.process_time()
                 watched.terms.read(snapshot.lines_from(watched.terms.length))
+                self.rest_for(time.process_time() - before)
                 if watched.answer.word == "refuted":
                     return snapshot
             self.delete_if_done(path, watched)
         return None
+
+    def rest_for(self, seconds: float) -> None:
+        """Has the next check wait, after what took so many seconds of a processor."""
+        self._rests_until = max(self._rests_until, time.monotonic()) + REST * seconds
 
     def watched(self, name: str) -> Watched:
         """The history of this name, which is watched from now on."""
