@@ -23,7 +23,7 @@ AnyStore = TypeVar("AnyStore", bound=PortStore)
 
 
 class Group(abc.ABC, Generic[AnyStore]):
-    """A primary, node 0, and a copy that follows it, node 1. A scenario that has no copy leaves it out."""
+    """A primary, node 0, and in scenarios that need it a copy that follows it, node 1."""
 
     calls_between = 600
 

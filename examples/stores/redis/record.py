@@ -29,7 +29,8 @@ class RedisGroup(Group[Redis]):
     def __init__(self, recording: Recording, has_replica: bool = False, copies: int = 0) -> None:
         super().__init__(recording)
         self.copies = copies
-        (self.nowhere,) = free_ports(1)  # a port at which nobody listens
+        self.ports = free_ports(3)
+        self.nowhere = self.ports.pop()  # a port at which nobody listens
         self.start(0)
         if has_replica:
             self.start(1)
