@@ -13,6 +13,7 @@ this test.
 import contextlib
 import os
 import pathlib
+import re
 import signal
 import subprocess
 import sys
@@ -30,6 +31,7 @@ from casbench_recording.witness import checked
 STORES = TOP / "examples" / "stores"
 sys.path.insert(0, str(STORES))
 
+from measure import NAMES, ROWS
 from nodes import Nodes, are_installed, processes_in
 from recorder import PRINTED, interrupted
 
@@ -278,6 +280,32 @@ def lines_of_mapping(store):
     return len((STORES / store / "store.py").read_text(encoding="utf-8").splitlines())
 
 
+# The table
+
+
+def counts_of(cell):
+    """How often each word stands in a cell."""
+    return {word: int(count) for count, word in re.findall(r"(\d+) `(\w+)", cell)}
+
+
+def is_true(row, cells):
+    """Whether a row of README's table is that of a scenario, of ten recordings or more, none of which was answered against the store's log."""
+    happens, count, answers, by_log = cells
+    told, truth = counts_of(answers), counts_of(by_log)
+    agree = told.get("yes", 0) == truth.get("verified", 0) and told.get("refuted", 0) == truth.get("broken", 0)
+    are_whole = sum(told.values()) == sum(truth.values()) == int(count) >= 10
+    return happens == row.happens and agree and are_whole and (told.keys() == {"yes"} or not row.is_survived)
+
+
+def table_trials():
+    """The rows of README's table."""
+    readme = (TOP / "README.md").read_text(encoding="utf-8")
+    told = re.findall(rf"^\| ({'|'.join(NAMES.values())}) \| (.*) \| (\d+) \| (.*) \| (.*) \|$", readme, re.MULTILINE)
+    yield Trial("rows of README's table", lambda: [it[0] for it in told], (), [NAMES[it.store] for it in ROWS])
+    for row, (store, *cells) in zip(ROWS, told):
+        yield Trial(f"{store}, {row.happens}", is_true, (row, cells), True)
+
+
 def node_trials():
     """What is done to nodes, whichever store they are of."""
     yield Trial("a node is stopped", node_that_is_stopped, ())
@@ -295,7 +323,7 @@ def main():
         print(f"SKIPPED: {it} isn't installed here (Debian's package {PACKAGES[it][1]}), so nothing was recorded of it")
     with reachable_folder("casbench-stores-test-") as folder, ThreadPoolExecutor(AT_ONCE) as pool:
         try:
-            trials = [*node_trials(), *(it for store in installed for it in TRIALS[store](pathlib.Path(folder)))]
+            trials = [*table_trials(), *node_trials(), *(it for store in installed for it in TRIALS[store](pathlib.Path(folder)))]
             answers, wrong = try_all(trials, pool)
         except KeyboardInterrupt:
             for child in list(RUNNING):
