@@ -244,6 +244,8 @@ class Placing(ContinuingTest):
             values.append(call.operation.value)
             call.indexed(Pair(1, len(values)), created=len(values) == 1)
         self.assertEqual(values, [0, 1, 2])
+        several = recording.write_all([Operation("get", "d"), Operation("create", "e"), Operation("delete", "d"), Operation("index", "d")])
+        self.assertEqual([it.operation.value for it in several], [None, 4, None, 6])
 
     def test_a_disk_that_is_full(self):
         with self.recording(1) as recording:

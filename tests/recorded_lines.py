@@ -208,6 +208,14 @@ class Ends(FolderTest):
             self.assertRaises(CallError, history.call_all, [Operation("get", "d", shard=it) for it in (0, 1)])
             self.assertEqual([it.number for it in history.call_all([get] * 3)], [0, 1, 2])
 
+    def test_several_calls_whose_values_are_their_numbers(self):
+        with History(self.file) as history:
+            history.call("get", "d").missing()
+            of = [Operation("create", "d"), Operation("get", "e"), Operation("delete", "f"), Operation("index", "e")]
+            self.assertRaises(CallError, history.write_all, [*of, Operation("create", "d", condition=Pair(1, 0))])
+            self.assertEqual([it.operation.value for it in history.write_all(of)], [1, None, None, 4])
+        self.assertEqual([it.get("k") for it in self.lines() if it["e"] == "call"], [None, 1, None, None, 4])
+
     def test_a_file_that_is_there(self):
         with History(self.file) as history:
             history.call("get", "d")

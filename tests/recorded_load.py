@@ -10,12 +10,13 @@ import sys
 import threading
 import time
 from collections import Counter
+from itertools import groupby
 
 from program import TOP
 from recordings import FolderTest, run_tests
 
 from casbench_recording.history import History, Pair
-from casbench_recording.load import MIXTURE, Draw, Habits, Kind, Load, NoOutcome, Outcome, Unreachable
+from casbench_recording.load import MIXTURE, Draw, Habits, Kind, Load, NoOutcome, Outcome, Unreachable, lost_by
 
 sys.path.insert(0, str(TOP / "examples" / "harness"))
 
@@ -31,7 +32,7 @@ class Nodes(Dictionary):
     def __init__(self, nodes, faults=(), pause=0.0):
         super().__init__("none")
         self.nodes, self.faults, self.pause = nodes, dict(faults), pause
-        self.connected, self.sent, self.closed, self.after_a_fault = Counter(), Counter(), Counter(), 0
+        self.connected, self.sent, self.closed, self.after_a_fault, self.bulks = Counter(), Counter(), Counter(), 0, 0
         self.guard = threading.Lock()
 
     def connect(self, node):
@@ -43,23 +44,32 @@ class Nodes(Dictionary):
 
 
 class NodeSession(Session):
-    """A session with a node. One whose answer didn't come has an answer owed, and must not be asked again."""
+    """A session with a node. One whose answer didn't come has an answer owed, and must not be asked again. It takes several calls by one
+    request, of which it answers none that deletes."""
 
     def __init__(self, store, node):
         super().__init__(store)
         self.node, self.has_failed = node, False
 
     def send(self, call):
+        self.send_all([call])
+
+    def send_all(self, calls):
         time.sleep(self.store.pause)
         with self.store.guard:
             self.store.sent[self.node] += 1
-            self.store.after_a_fault += self.has_failed
+            self.store.bulks += len(calls) > 1
+            self.store.after_a_fault += self.has_failed or not self.is_open
+
+    def outcomes(self, calls):
+        return [None if call.operation.op == "delete" else self.outcome(call) for call in calls]
 
     def outcome(self, call):
         told = super().outcome(call)
         if self.store.faults.get(self.node) == "silent":
             self.has_failed = True
             raise NoOutcome("silent")
+        self.is_open = self.store.faults.get(self.node) != "closes"
         return told
 
     def close(self):
@@ -119,6 +129,67 @@ class LoadTest(FolderTest):
         self.assertEqual((store.sent[0], load.history.lost), (0, 0))
         self.assertGreater(store.connected[0], 0)
 
+    def test_a_node_that_closes_a_connection_is_connected_to_again(self):
+        store = Nodes(2, {0: "closes", 1: "closes"})
+        load = self.run_load(store)
+        self.assertEqual((store.after_a_fault, load.history.lost), (0, 0))
+        # (each client stays where it is)
+        self.assertEqual(store.connected[0], store.sent[0])
+        self.assertGreater(min(store.sent[0], store.sent[1]), 50)
+
+    def test_several_calls_are_made_by_one_request(self):
+        store = Nodes(1)
+        habits = Habits({"index-if": 2, "delete-if": 1, "create": 1, "bulk": 3}, 3, calls=100, bulk_items=5)
+        load = self.run_load(store, calls=1000, habits=habits)
+        rows = self.lines()
+        self.assertEqual(self.check().partition(" left_out")[0], "yes docs=3 calls=400")
+        self.assertGreater(store.bulks, 20)
+        # what one answer says nothing of is lost, the rest of the request isn't
+        self.assertGreater(load.history.lost, 10)
+        self.assertGreater(load.history.replies, 300)
+        # all items are called before any is answered, and some under a pair that was told before
+        runs = [list(its) for kind, its in groupby(rows, key=lambda it: it["e"]) if kind == "call"]
+        self.assertTrue(any(len(it) >= 5 and any("if_seq_no" in row for row in it) for it in runs))
+        self.assertTrue(all(it["k"] == it["n"] for it in rows if "k" in it))
+
+    def test_a_client_makes_as_many_calls_as_it_is_given(self):
+        for habits in (Habits(MIXTURE, 3, calls=7), Habits({"bulk": 1}, 3, calls=7, bulk_items=3)):
+            self.file = f"{self.folder}/{habits.bulk_items}"
+            load = self.run_load(Nodes(1), habits=habits)
+            self.assertEqual([it.calls for it in load.clients], [7] * 4)
+            self.assertEqual(load.history.calls, 28)
+
+    def test_it_ends_when_it_is_told_to(self):
+        with History(self.file) as history:
+            load = Load(history, seed=3, has_ended=lambda: history.calls >= 50)
+            load.add_clients(4, Nodes(1, pause=0.001), MANY)
+            load.run()
+        # (each of four clients may be at its call, or at the second one of its turn)
+        self.assertTrue(50 <= history.calls <= 53, history.calls)
+
+    def test_an_interruption_does_not_wait_for_open_calls(self):
+        """Then the history ends, and with it the clients."""
+
+        def disturb():
+            load.wait_for(4)
+            raise KeyboardInterrupt
+
+        with History(self.file, most_events=1000) as history:
+            load = Load(history, seed=3)
+            load.add_clients(4, Nodes(1, pause=5), MANY)
+            began = time.monotonic()
+            self.assertRaises(KeyboardInterrupt, load.run, disturb, calls_between=0)
+        self.assertLess(time.monotonic() - began, 4)
+        for it in load.clients:
+            it.join()
+        self.assertEqual((history.calls, history.lost, load.faults), (4, 4, []))
+
+    def test_a_fault_that_says_nothing_of_a_call_loses_it(self):
+        with self.assertRaisesRegex(NoOutcome, "odd"), lost_by(OSError):
+            raise ConnectionError("odd")
+        with self.assertRaises(ValueError), lost_by(OSError, KeyError):
+            raise ValueError("odd")
+
     def test_a_bound_client_stays(self):
         store = Nodes(2, {0: "silent"})
         with History(self.file, most_events=40) as history:
@@ -153,6 +224,30 @@ class LoadTest(FolderTest):
             load.run(disturb, calls_between=100)
         self.assertEqual(counts[0::2], counts[1::2])
         self.assertGreater(counts[-1], counts[0])
+
+    def test_clients_are_waited_for(self):
+        store = Nodes(2, pause=0.01)
+        waited = []
+        with History(self.file, most_events=400) as history:
+            load = Load(history, seed=3)
+            load.add_clients(2, store, MANY, node=0)
+            others = load.add_clients(2, store, Habits({"get": 1}), node=1)
+
+            def disturb():
+                before = [it.calls for it in others]
+                load.wait_for_each(others, 60)
+                waited.extend(it.calls - calls for it, calls in zip(others, before))
+                load.hold(others)
+                began = time.monotonic()
+                load.wait_for_each(others, 0.2)
+                load.wait_for_each(others, 0.2)
+                self.assertLess(time.monotonic() - began, 10)
+                load.release(others)
+
+            load.run(disturb, calls_between=40)
+        self.assertGreater(len(waited), 0)
+        # (at the end of the load nobody is waited for)
+        self.assertGreater(min(waited[:-2] or waited), 0)
 
     def test_what_a_client_meets_is_raised(self):
         for fault in (OSError("odd"), KeyboardInterrupt()):

@@ -13,6 +13,7 @@ this test.
 import contextlib
 import os
 import pathlib
+import re
 import signal
 import subprocess
 import sys
@@ -22,7 +23,7 @@ from concurrent.futures import ThreadPoolExecutor
 
 from program import TOP, built_program
 from recordings import environment, judged
-from running import SECONDS, asked, ended, started
+from running import asked, ended, started
 from trials import Trial, Wrong, tell, try_all
 
 from casbench_recording.witness import checked
@@ -30,7 +31,8 @@ from casbench_recording.witness import checked
 STORES = TOP / "examples" / "stores"
 sys.path.insert(0, str(STORES))
 
-from nodes import are_installed
+from measure import NAMES, ROWS
+from nodes import Nodes, are_installed, processes_in
 from recorder import PRINTED, interrupted
 
 # What each store is of: its programs, and its package.
@@ -43,6 +45,9 @@ PACKAGES = {
 
 # The most lines of a store's mapping.
 MOST_LINES = 150
+
+# How many seconds anything may take. A machine that has too much to do starts a node in minutes.
+MOST_SECONDS = 600
 
 # How many recordings are made at once, and the commands that run now.
 AT_ONCE = 3
@@ -73,7 +78,7 @@ def recorded(store, folder, name, *words):
     """A recording: its file, that of the witness by the store's log, and how many calls there are, were lost, and took effect of these."""
     history, witness = folder / f"{store}-{name}.ndjson", folder / f"{store}-{name}.witness"
     with recording(store, folder, history, "--witness", witness, *words) as child:
-        status, out, err = ended(child)
+        status, out, err = ended(child, MOST_SECONDS)
     printed = PRINTED.fullmatch(out)
     if status or not printed:
         raise Wrong(f"the recording ended with {status}: {out[-500:]}{err[-1000:]}")
@@ -106,19 +111,19 @@ def broken(store, folder, name, words):
 # What is left behind
 
 
-def processes_in(folder):
-    """The processes that have this folder among their words, or work in it. (Redis replaces the words by which it was started.)"""
+def processes_of(folder):
+    """The processes that work in this folder, or have it among their words."""
+    found = set(processes_in(pathlib.Path(folder)))
     for it in pathlib.Path("/proc").glob("[0-9]*"):
-        try:
-            if os.fsencode(folder) in (it / "cmdline").read_bytes() or os.readlink(it / "cwd").startswith(str(folder)):
-                yield int(it.name)
-        except OSError:
-            pass  # (it has ended)
+        with contextlib.suppress(OSError):  # (it has ended)
+            if os.fsencode(folder) in (it / "cmdline").read_bytes():
+                found.add(int(it.name))
+    return found
 
 
 def wait_until(holds, why):
     """Waits until it holds."""
-    last = time.monotonic() + SECONDS
+    last = time.monotonic() + MOST_SECONDS
     while not holds():
         if time.monotonic() > last:
             raise Wrong(why)
@@ -132,14 +137,86 @@ def left_behind(store, scenario, starts, sent, nodes):
         history = pathlib.Path(folder) / "history.ndjson"
         with recording(store, folder, history, "--scenario", scenario, "--calls", "500000", starts=starts) as child:
             wait_until(lambda: history.exists() and history.stat().st_size > 200_000, "nothing was recorded")
-            if len(set(processes_in(folder)) - {child.pid}) < nodes:
-                raise Wrong("no nodes run")
+            # (a node that was killed is started again)
+            wait_until(lambda: len(list(processes_in(pathlib.Path(folder)))) >= nodes, "no nodes run")
             child.send_signal(sent)
-            ended(child)
-        wait_until(lambda: not set(processes_in(folder)), "a process was left")
+            ended(child, MOST_SECONDS)
+        wait_until(lambda: not processes_of(folder), "a process was left")
         if os.listdir(folder) != [history.name]:
             raise Wrong(f"a folder was left: {os.listdir(folder)}")
         return judged(PROGRAM, history).split()[0]
+
+
+# What is stopped
+
+# The words of a node that starts one more process, as a server of PostgreSQL does.
+A_NODE = ["sh", "-c", "sleep 600 & wait"]
+
+# A recorder that starts such a node in a folder and, when it is told to, stops it.
+A_RECORDER = """
+import pathlib, signal, sys
+from nodes import Nodes
+with Nodes(pathlib.Path(sys.argv[1])) as nodes:
+    nodes.start("node", sys.argv[2:])
+    sys.stdin.readline()
+    nodes.stop("node")
+    signal.pause()
+"""
+
+
+def state_of(process):
+    """The state of a process: T if it is stopped, S if it sleeps; nothing if it has ended."""
+    with contextlib.suppress(OSError):
+        return pathlib.Path(f"/proc/{process}/stat").read_text().rpartition(") ")[2][0]
+    return ""
+
+
+def states_in(folder):
+    """The states of the processes of a folder."""
+    return "".join(sorted(map(state_of, processes_of(folder))))
+
+
+@contextlib.contextmanager
+def folder_of_nodes():
+    """A folder, and what waits until the processes that work in it have these states. They are killed at last."""
+    with reachable_folder("casbench-stopped-") as folder:
+        try:
+            yield folder, lambda states: wait_until(lambda: states_in(folder) == states, f"the states never were {states}")
+        finally:
+            for it in processes_of(folder):
+                with contextlib.suppress(ProcessLookupError):
+                    os.kill(it, signal.SIGKILL)
+
+
+def node_that_is_stopped():
+    """A node and what it started are stopped, and go on, also if the node is killed in the meantime. Both end with the nodes."""
+    with folder_of_nodes() as (folder, wait_for):
+        with Nodes(pathlib.Path(folder)) as nodes:
+            nodes.start("node", A_NODE)
+            wait_for("SS")
+            nodes.stop("node")
+            wait_for("TT")
+            nodes.go_on("node")
+            wait_for("SS")
+            nodes.stop("node")
+            wait_for("TT")
+            nodes.kill("node")
+            wait_for("S")
+        return not processes_of(folder)
+
+
+def node_whose_recorder_is_killed():
+    """What a node has started goes on when the recorder is killed that had stopped both; the node ends with it."""
+    with folder_of_nodes() as (folder, wait_for):
+        words = [sys.executable, "-c", A_RECORDER, folder, *A_NODE]
+        with subprocess.Popen(words, stdin=subprocess.PIPE, env=environment(PYTHONPATH=str(STORES))) as recorder:
+            wait_for("SSS")
+            recorder.stdin.write(b"\n")
+            recorder.stdin.flush()
+            wait_for("STT")
+            recorder.kill()
+        wait_for("S")
+        return True
 
 
 # The words that run others, and wait for them.
@@ -179,10 +256,12 @@ def redis_trials(folder):
 def postgresql_trials(folder):
     """Recordings of PostgreSQL."""
     yield Trial("PostgreSQL", honest, ("postgresql", folder, "healthy", ["--dropped", "20"], 1, 1), right(3000))
+    paused = ["--scenario", "paused"]
+    yield Trial("PostgreSQL, paused", honest, ("postgresql", folder, "paused", paused, 1, 1), right(3000))
     yield Trial("PostgreSQL, restarted", honest, ("postgresql", folder, "restarted", ["--scenario", "restarted"], 1), right(3000))
     failover = ["--scenario", "failover"]
     yield Trial("PostgreSQL, a failover", broken, ("postgresql", folder, "failover", failover), ("refuted kind=pair-twice", "broken"))
-    yield Trial("PostgreSQL, Ctrl-C", left_behind, ("postgresql", "restarted", [], signal.SIGINT, 1), "yes")
+    yield Trial("PostgreSQL, Ctrl-C", left_behind, ("postgresql", "paused", [], signal.SIGINT, 1), "yes")
     yield Trial("PostgreSQL, its parent killed", left_behind, ("postgresql", "healthy", A_SHELL, signal.SIGKILL, 1), "yes")
 
 
@@ -201,6 +280,38 @@ def lines_of_mapping(store):
     return len((STORES / store / "store.py").read_text(encoding="utf-8").splitlines())
 
 
+# The table
+
+
+def counts_of(cell):
+    """How often each word stands in a cell."""
+    return {word: int(count) for count, word in re.findall(r"(\d+) `(\w+)", cell)}
+
+
+def is_true(row, cells):
+    """Whether a row of README's table is that of a scenario, of ten recordings or more, none of which was answered against the store's log."""
+    happens, count, answers, by_log = cells
+    told, truth = counts_of(answers), counts_of(by_log)
+    agree = told.get("yes", 0) == truth.get("verified", 0) and told.get("refuted", 0) == truth.get("broken", 0)
+    are_whole = sum(told.values()) == sum(truth.values()) == int(count) >= 10
+    return happens == row.happens and agree and are_whole and (told.keys() == {"yes"} or not row.is_survived)
+
+
+def table_trials():
+    """The rows of README's table."""
+    readme = (TOP / "README.md").read_text(encoding="utf-8")
+    told = re.findall(rf"^\| ({'|'.join(NAMES.values())}) \| (.*) \| (\d+) \| (.*) \| (.*) \|$", readme, re.MULTILINE)
+    yield Trial("rows of README's table", lambda: [it[0] for it in told], (), [NAMES[it.store] for it in ROWS])
+    for row, (store, *cells) in zip(ROWS, told):
+        yield Trial(f"{store}, {row.happens}", is_true, (row, cells), True)
+
+
+def node_trials():
+    """What is done to nodes, whichever store they are of."""
+    yield Trial("a node is stopped", node_that_is_stopped, ())
+    yield Trial("a recorder is killed that had stopped a node", node_whose_recorder_is_killed, ())
+
+
 TRIALS = {"etcd": etcd_trials, "postgresql": postgresql_trials, "redis": redis_trials, "zookeeper": zookeeper_trials}
 
 
@@ -212,7 +323,7 @@ def main():
         print(f"SKIPPED: {it} isn't installed here (Debian's package {PACKAGES[it][1]}), so nothing was recorded of it")
     with reachable_folder("casbench-stores-test-") as folder, ThreadPoolExecutor(AT_ONCE) as pool:
         try:
-            trials = [it for store in installed for it in TRIALS[store](pathlib.Path(folder))]
+            trials = [*table_trials(), *node_trials(), *(it for store in installed for it in TRIALS[store](pathlib.Path(folder)))]
             answers, wrong = try_all(trials, pool)
         except KeyboardInterrupt:
             for child in list(RUNNING):

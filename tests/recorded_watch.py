@@ -18,16 +18,25 @@ import signal
 import subprocess
 import sys
 import time
+import unittest
 
 from recordings import FolderTest, Started, environment, judged, run_tests
-from texts import created, found, get, index, updated
+from texts import created, delete, found, get, index, lost, updated
 
+from casbench_recording.history import Pair
 from casbench_recording.snapshots import Snapshot
+from casbench_recording.terms import TermReader, Terms
 
 # A history that is right, what makes it stale, and what no history is.
 RIGHT = index(0) + created(0, 1, 0) + index(1, k=2) + updated(1, 1, 1)
 STALE = get(2) + found(2, 1, 0)
 NONE = "{}\n"
+
+# A write of another document is acknowledged, and then a term starts behind it, or at its number, so that it may be lost.
+ACKNOWLEDGED = RIGHT + index(2, doc="e") + created(2, 1, 2433, doc="e")
+GOES_ON = index(3, doc="f") + created(3, 2, 2434, doc="f")
+STARTS_LOW = index(3, doc="f") + created(3, 2, 2431, doc="f")
+HINT = "hint: term 2 starts at 2431, but 1/2433 was acknowledged: it may be lost, though no reply shows that\n"
 
 # A program in the place of casbench, which takes so many seconds of a processor and then answers yes. It writes when it began and ended.
 SLOW = """#!{python}
@@ -42,6 +51,9 @@ print("yes docs=1 calls=1 left_out=0")
 
 SECONDS = 60.0
 """How long anything may take."""
+
+READ = "read"
+"""What is shown by a get, and not by the reply to a write."""
 
 
 def heeds_signals(child):
@@ -140,6 +152,26 @@ class OneHistory(WatchTest):
         told += "the recording ended early: the disk\\x1b is full\n"
         self.assertEqual(self.ended(child, signal.SIGTERM)[:2], (0, told))
 
+    def test_a_term_that_starts_too_low(self):
+        """It is reported with the last answer, which is yes all the same."""
+        for text, told in ((ACKNOWLEDGED + GOES_ON, ""), (ACKNOWLEDGED + STARTS_LOW, HINT)):
+            pathlib.Path(self.file).write_text(ACKNOWLEDGED)
+            log = os.path.join(self.folder, "log")
+            child = self.watched("--every", "0.1", "--", "touch", log)
+            self.wait_for(lambda child=child: heeds_signals(child))
+            time.sleep(0.3)
+            pathlib.Path(self.file).write_text(text)
+            status, printed, fault = self.ended(child, signal.SIGTERM)
+            self.assertEqual((status, printed), (0, f"yes docs=3 calls=4 left_out=0\n{told}"), fault)
+            # (the command is for what is proved)
+            self.assertFalse(os.path.exists(log))
+
+    def test_a_term_that_starts_too_low_beside_a_fault(self):
+        self.append(ACKNOWLEDGED + STARTS_LOW + STALE.replace('"n":2', '"n":9'))
+        status, printed, _ = self.ended(self.watched())
+        self.assertEqual((status, printed.partition(" ")[0]), (1, "refuted"))
+        self.assertTrue(printed.endswith(HINT), printed)
+
     def test_the_end_of_standard_input(self):
         child = self.watched("--every", "60", "--until-closed")
         time.sleep(0.5)
@@ -222,6 +254,20 @@ class Directory(WatchTest):
         self.assertTrue(told.startswith(f"{path}:\nrefuted kind=stale-get calls=2,1 "), told)
         self.assertTrue(os.path.exists(path))
 
+    def test_a_term_that_starts_too_low_in_a_later_part(self):
+        self.append(ACKNOWLEDGED, self.part)
+        child = self.watched("--every", "0.1", "--delete-parts")
+        self.wait_for(lambda: not os.path.exists(os.path.join(self.folder, self.part)))
+        self.append(STARTS_LOW, "parts/part-000002.ndjson.growing")
+        self.assertEqual(self.ended(child, signal.SIGTERM)[:2], (0, f"2 parts: 2 yes, 0 no, 0 refused; 1 deleted\n{HINT}"))
+
+    def test_histories_that_are_no_parts_have_terms_of_their_own(self):
+        self.append(ACKNOWLEDGED, "parts/one.ndjson")
+        self.append(STARTS_LOW, "parts/two.ndjson")
+        child = self.watched("--every", "60")
+        self.wait_for(lambda: heeds_signals(child))
+        self.assertEqual(self.ended(child, signal.SIGTERM)[:2], (0, "2 parts: 2 yes, 0 no, 0 refused\n"))
+
     def test_a_text_that_is_no_history(self):
         self.append(NONE, self.part)
         child = self.watched("--every", "0.1", "--delete-parts")
@@ -229,6 +275,49 @@ class Directory(WatchTest):
         told = "1 part: 0 yes, 0 no, 1 refused\nrefused line=1 cause=shape\n"
         self.assertEqual(self.ended(child, signal.SIGTERM)[:2], (2, told))
         self.assertEqual(os.listdir(self.file), ["part-000001.ndjson"])
+
+
+class TermsOfShards(unittest.TestCase):
+    """Which terms start too low."""
+
+    def hints(self, *shown):
+        """The hints of what replies show: each a term, a number and, for one that isn't an acknowledged write of shard 0, more."""
+        terms = Terms()
+        for term, seq, *more in shown:
+            terms.show(*more[:1] or [0], Pair(term, seq), READ not in more)
+        return [str(it) for it in terms.hints()]
+
+    def test_terms_that_go_on(self):
+        self.assertEqual(self.hints((1, 5), (1, 7), (2, 8), (4, 9), (4, 20)), [])
+        # of a write that nobody acknowledged nothing is known, nor of another shard
+        self.assertEqual(self.hints((1, 5), (1, 9, 0, READ), (2, 8)), [])
+        self.assertEqual(self.hints((1, 9), (2, 3, 1), (2, 10)), [])
+
+    def test_terms_that_start_too_low(self):
+        self.assertEqual(self.hints((1, 2433), (2, 2431)), ["term 2 starts at 2431, but 1/2433 was acknowledged"])
+        # at the same number, whichever was shown first, and by a read
+        self.assertEqual(self.hints((2, 7), (1, 7)), ["term 2 starts at 7, but 1/7 was acknowledged"])
+        self.assertEqual(self.hints((1, 7), (2, 8), (2, 6, 0, READ)), ["term 2 starts at 6, but 1/7 was acknowledged"])
+        self.assertEqual(self.hints((1, 7, 3), (2, 7, 3)), ["shard 3, term 2 starts at 7, but 1/7 was acknowledged"])
+
+    def test_a_loss_is_hinted_at_once(self):
+        told = ["term 2 starts at 50, but 1/100 was acknowledged"]
+        self.assertEqual(self.hints((1, 100), (2, 50), (2, 60), (3, 61)), told)
+        self.assertEqual(self.hints((1, 100), (2, 50), (2, 60), (3, 60)), [*told, "term 3 starts at 60, but 2/60 was acknowledged"])
+        # a term of which nothing was acknowledged hides none
+        self.assertEqual(self.hints((1, 100), (2, 101, 0, READ), (3, 90)), ["term 3 starts at 90, but 1/100 was acknowledged"])
+
+    def test_what_a_line_shows(self):
+        terms = Terms()
+        reader = TermReader(terms)
+        conflict = delete(3) + '{"e":"reply","n":3,"status":409,"body":{"error":{"type":"x"}}}\n'
+        text = index(0, ',"shard":2') + "\n" + created(0, 1, 9) + get(1, ',"shard":2') + lost(1) + conflict
+        lines = text.encode().splitlines(keepends=True)
+        reader.read(lines[:2])
+        reader.read(lines[2:])
+        self.assertEqual((reader.length, terms.hints()), (len(text), []))
+        reader.read((get(4, ',"shard":2') + found(4, 3, 9)).encode().splitlines(keepends=True))
+        self.assertEqual([str(it) for it in terms.hints()], ["shard 2, term 3 starts at 9, but 1/9 was acknowledged"])
 
 
 class Beside(WatchTest):

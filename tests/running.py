@@ -81,9 +81,9 @@ def started(words, **how):
             child.kill()
 
 
-def ended(child):
+def ended(child, seconds=SECONDS):
     """Waits for the end; tells how it ends."""
-    out, err = child.communicate(timeout=SECONDS)
+    out, err = child.communicate(timeout=seconds)
     return child.returncode, out.decode(), err.decode()
 
 

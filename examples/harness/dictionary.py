@@ -53,6 +53,8 @@ class Dictionary:
 class Session:
     """What one client does with the store."""
 
+    is_open = True
+
     def __init__(self, store):
         self.store = store
 

@@ -1,12 +1,15 @@
 #!/usr/bin/env python3
 """Measures what casbench says of many recordings of the stores, and what is true of them by the stores' own logs.
 
-    python3 examples/stores/measure.py FOLDER [--stores redis,etcd] [--scenarios failover,..] [--recordings 10] [--calls 3000]
+    python3 examples/stores/measure.py FOLDER [--stores redis,etcd] [--recordings 10] [--calls 3000]
 
-FOLDER is made. A row is printed for each scenario of a store: how many recordings there are, with the seeds 1 and on; how many calls had no
-answer, the least, the middle and the most of a recording; how many of these took effect by the log; what `check --rule-out` answers, and in
-how many seconds of a processor; and what `verify` says of the witness by the log. A recording is kept there unless it gets `yes` and
-its witness is valid.
+FOLDER is made. Two tables are printed, with a row for each fault of a store. The first has how many recordings there are, with the seeds 1
+and on; how many calls had no answer, the least, the middle and the most of a recording; how many of these took effect by the log; what
+`check --rule-out` answers, and in how many seconds of a processor; and what `verify` says of the witness by the log. The second has
+what README shows of it. A recording is kept there unless it gets `yes` and its witness is valid.
+
+The exit status is 1 if a store that keeps its promise was accused, or a recording got `yes` that its log contradicts: what nobody read
+is to be looked for there by hand.
 """
 
 import argparse
@@ -16,19 +19,56 @@ import sys
 from collections import Counter
 from concurrent.futures import ThreadPoolExecutor
 from dataclasses import dataclass
-from typing import List, Sequence, Tuple
+from typing import Iterable, List, NamedTuple, Sequence
 
 HERE = pathlib.Path(__file__).resolve().parent
 sys.path.insert(0, str(HERE.parents[1] / "recording"))
 
 from recorder import PRINTED
 
-SCENARIOS = {
-    "redis": ("healthy", "paused", "restarted", "waited", "failover", "split", "replica-reads"),
-    "postgresql": ("healthy", "restarted", "synchronous", "failover", "standby-reads"),
-    "zookeeper": ("healthy", "killed", "stopped", "unsynced"),
-    "etcd": ("healthy", "killed", "stopped", "stale"),
-}
+
+class Row(NamedTuple):
+    """A row of the tables: a scenario of a store, what happens meanwhile, whether the store survives that, and how many of a thousand answers
+    are dropped."""
+
+    store: str
+    scenario: str
+    happens: str
+    is_survived: bool = True
+    dropped: int = 0
+
+
+STOPPED, RESTARTED = "the node is stopped for a while, and goes on", "the node is killed, and started again from its log"
+FAILOVER = "a failover to a {} that had lost its link: acknowledged writes are lost"
+OLD_READS = "reads from a {} that had lost its link for a while"
+
+ROWS = (
+    Row("redis", "healthy", "nothing"),
+    Row("redis", "paused", STOPPED),
+    Row("redis", "restarted", RESTARTED),
+    Row("redis", "waited", "a failover, each answer waiting for the replica (`WAIT`)"),
+    Row("redis", "failover", FAILOVER.format("replica"), False),
+    Row("redis", "split", "a split brain: two primaries", False),
+    Row("redis", "replica-reads", OLD_READS.format("replica"), False),
+    Row("postgresql", "healthy", "nothing"),
+    Row("postgresql", "paused", STOPPED),
+    Row("postgresql", "restarted", RESTARTED),
+    Row("postgresql", "synchronous", "a failover, each change waiting for the standby"),
+    Row("postgresql", "failover", FAILOVER.format("standby"), False),
+    Row("postgresql", "standby-reads", OLD_READS.format("standby"), False),
+    Row("zookeeper", "healthy", "nothing"),
+    Row("zookeeper", "killed", "a member is killed, the leader every second time, and started again"),
+    Row("zookeeper", "stopped", "the leader is stopped until another one leads, and goes on"),
+    Row("zookeeper", "recovering", "the leader is killed while another member starts again", False),
+    Row("zookeeper", "unsynced", "reads without `sync` from a member that was stopped", False),
+    Row("etcd", "healthy", "nothing"),
+    Row("etcd", "healthy", "4 % of the answers are lost", dropped=40),
+    Row("etcd", "killed", "one or two members are killed, and started again"),
+    Row("etcd", "stopped", "the leader is stopped for 0.2 to 1.5 s, and goes on"),
+    Row("etcd", "stale", "serializable reads from a member that was stopped", False),
+)
+
+NAMES = {"redis": "Redis", "postgresql": "PostgreSQL", "zookeeper": "ZooKeeper", "etcd": "etcd"}
 
 TIMED = """
 import resource, subprocess, sys
@@ -42,6 +82,7 @@ print(sum(resource.getrusage(resource.RUSAGE_CHILDREN)[:2]))
 class Measured:
     """What was found of a recording."""
 
+    history: pathlib.Path
     lost: int
     effects: int
     answer: str
@@ -59,20 +100,32 @@ def kind_of(line: str) -> str:
     return " ".join(it for it in line.split() if "=" not in it or it.startswith("kind="))
 
 
-def measured(setting: argparse.Namespace, store: str, scenario: str, seed: int) -> Measured:
+def measured(setting: argparse.Namespace, row: Row, seed: int) -> Measured:
     """Makes a recording, and has it checked."""
-    history, witness = (setting.folder / f"{store}-{scenario}-{seed}.{it}" for it in ("ndjson", "witness"))
-    words = ["--scenario", scenario, "--calls", setting.calls, "--seed", seed, "--dropped", setting.dropped, "--witness", witness]
-    printed = PRINTED.fullmatch(printed_by(sys.executable, HERE / store / "record.py", history, *words))
+    name = f"{row.store}-{row.scenario}-{row.dropped}-{seed}"
+    history, witness = (setting.folder / f"{name}.{it}" for it in ("ndjson", "witness"))
+    words = ["--scenario", row.scenario, "--calls", setting.calls, "--seed", seed, "--dropped", row.dropped, "--witness", witness]
+    printed = PRINTED.fullmatch(printed_by(sys.executable, HERE / row.store / "record.py", history, *words))
     if not printed:
-        raise SystemExit(f"{store}, {scenario}, seed {seed} was not recorded")
+        raise SystemExit(f"{name} was not recorded")
     *answer, seconds = printed_by(sys.executable, "-c", TIMED, setting.program, "check", "--rule-out", history).splitlines()
     by_log = printed_by(setting.program, "verify", history, witness).split()[0]
-    found = Measured(int(printed[2]), int(printed[3]), kind_of("".join(answer)), float(seconds), by_log)
+    found = Measured(history, int(printed[2]), int(printed[3]), kind_of("".join(answer)), float(seconds), by_log)
     if (found.answer, by_log) == ("yes", "verified"):
         history.unlink()
         witness.unlink()
     return found
+
+
+def faults_of(row: Row, found: Iterable[Measured]) -> List[str]:
+    """What shouldn't have been found: an accusation of a store that keeps its promise, or a `yes` that the log contradicts."""
+    wanted = {("yes", "verified")}
+    if not row.is_survived:
+        wanted |= {(it.answer, "broken") for it in found if it.answer.startswith("refuted ")}
+    return [f"{it.history}: {it.answer}, {it.by_log} by the log" for it in found if (it.answer, it.by_log) not in wanted]
+
+
+# The tables
 
 
 def counted(answers: Sequence[str]) -> str:
@@ -86,19 +139,38 @@ def spread(numbers: Sequence[int]) -> str:
     return f"{row[0]}, {row[len(row) // 2]}, {row[-1]}"
 
 
-def row_of(store: str, scenario: str, found: List[Measured]) -> str:
-    """The row of a scenario."""
+def line_of(*cells: object) -> str:
+    """A line of a table."""
+    return "| " + " | ".join(map(str, cells)) + " |"
+
+
+def heads_of(row: Row, found: Sequence[Measured]) -> List[object]:
+    """The cells with which a row begins in both tables."""
+    return [NAMES[row.store], row.happens, len(found)]
+
+
+def full_line(row: Row, found: Sequence[Measured]) -> str:
+    """The line of a row in the first table."""
     seconds = [it.seconds for it in found]
-    cells: Tuple[object, ...] = (
-        f"{store}, {scenario}",
-        len(found),
-        spread([it.lost for it in found]),
-        spread([it.effects for it in found]),
-        counted([it.answer for it in found]),
-        f"{min(seconds):.2f} to {max(seconds):.2f}",
-        counted([it.by_log for it in found]),
-    )
-    return "| " + " | ".join(str(it) for it in cells) + " |"
+    lost = [spread([it.lost for it in found]), spread([it.effects for it in found])]
+    took = f"{min(seconds):.2f} to {max(seconds):.2f}"
+    return line_of(*heads_of(row, found), *lost, counted([it.answer for it in found]), took, counted([it.by_log for it in found]))
+
+
+def short_line(row: Row, found: Sequence[Measured]) -> str:
+    """The line of a row in the table that README shows."""
+    return line_of(*heads_of(row, found), counted([it.answer for it in found]), counted([it.by_log for it in found]))
+
+
+HEADS = ["store", "what happens meanwhile", "recordings"]
+FULL_HEADS = [*HEADS, "calls without an answer", "of these took effect", "`check --rule-out`", "seconds", "by the store's log"]
+SHORT_HEADS = [*HEADS, "`check --rule-out`", "by the store's log"]
+
+
+def print_heads(heads: Sequence[str]) -> None:
+    """Prints the first lines of a table."""
+    print(line_of(*heads))
+    print("|" + "---|" * len(heads), flush=True)
 
 
 def words_of(arguments: Sequence[str]) -> argparse.Namespace:
@@ -106,28 +178,33 @@ def words_of(arguments: Sequence[str]) -> argparse.Namespace:
     parser = argparse.ArgumentParser(description=__doc__.splitlines()[0])
     add = parser.add_argument
     add("folder", type=pathlib.Path)
-    add("--stores", default=",".join(SCENARIOS))
-    add("--scenarios", default="", help="these alone (all)")
+    add("--stores", default=",".join(NAMES))
     add("--recordings", type=int, default=10)
     add("--calls", type=int, default=3000)
-    add("--dropped", type=int, default=0, help="of a thousand answers so many are dropped (0)")
     add("--at-once", type=int, default=2)
     add("--program", default=str(HERE.parents[1] / "casbench"))
     return parser.parse_args(arguments)
 
 
-def main() -> None:
+def main() -> int:
     setting = words_of(sys.argv[1:])
     setting.folder.mkdir()
-    print("| store, scenario | recordings | calls without an answer | of these took effect | answer | seconds | witness by the log |")
-    print("|---|---|---|---|---|---|---|")
+    lines: List[str] = []
+    faults: List[str] = []
+    print_heads(FULL_HEADS)
     with ThreadPoolExecutor(setting.at_once) as pool:
-        for store in setting.stores.split(","):
-            for scenario in setting.scenarios.split(",") if setting.scenarios else SCENARIOS[store]:
-                seeds = range(1, setting.recordings + 1)
-                found = list(pool.map(lambda seed: measured(setting, store, scenario, seed), seeds))
-                print(row_of(store, scenario, found), flush=True)
+        for row in (it for it in ROWS if it.store in setting.stores.split(",")):
+            found = list(pool.map(lambda seed: measured(setting, row, seed), range(1, setting.recordings + 1)))
+            print(full_line(row, found), flush=True)
+            lines.append(short_line(row, found))
+            faults += faults_of(row, found)
+    print()
+    print_heads(SHORT_HEADS)
+    print("\n".join(lines))
+    for it in faults:
+        print(it, file=sys.stderr)
+    return 1 if faults else 0
 
 
 if __name__ == "__main__":
-    main()
+    sys.exit(main())

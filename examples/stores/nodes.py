@@ -3,6 +3,7 @@
 They have a directory of their own, and end with who started them, however that ends.
 """
 
+import contextlib
 import glob
 import os
 import pathlib
@@ -12,10 +13,10 @@ import signal
 import socket
 import subprocess
 import time
-from typing import Callable, Dict, List, Optional, Sequence
+from typing import Callable, Dict, Iterator, List, Optional, Sequence
 
-PATIENCE = 30.0
-"""How many seconds a node may take to get ready."""
+PATIENCE = 120.0
+"""How many seconds a node may take to get ready, or to end: on a machine that has too much to do it takes long."""
 
 
 class NotReady(Exception):
@@ -48,12 +49,27 @@ def free_ports(count: int) -> List[int]:
     raise NotReady("no free ports")
 
 
+def processes_in(folder: pathlib.Path) -> Iterator[int]:
+    """The processes that work in a folder, or in one within it."""
+    for it in pathlib.Path("/proc").glob("[0-9]*"):
+        # (one that has ended works nowhere, and one of another user can't be told)
+        with contextlib.suppress(OSError):
+            if pathlib.Path(os.readlink(it / "cwd")).is_relative_to(folder.resolve()):
+                yield int(it.name)
+
+
+HOLD = 'kill -STOP $1; all="$1 $(cat /proc/$1/task/*/children)"; kill -STOP $all; echo; read -r _; kill -CONT $all'
+"""Stops a process, which then starts no more, and those that it has started. They go on at the end of standard input."""
+
+
 class Nodes:
-    """The processes by their names. They run until the block ends."""
+    """The processes by their names. They run until the block ends, and so does what they have started."""
 
     def __init__(self, folder: pathlib.Path) -> None:
         self.folder = folder
         self.processes: Dict[str, "subprocess.Popen[bytes]"] = {}
+        # what holds those that are stopped
+        self.holds: Dict[str, "subprocess.Popen[bytes]"] = {}
 
     def __enter__(self) -> "Nodes":
         return self
@@ -61,6 +77,16 @@ class Nodes:
     def __exit__(self, *_: object) -> None:
         for name in list(self.processes):
             self.kill(name)
+        # (what a node has started ends later, and may still write here; and a node whose start was interrupted has no name)
+        last = time.monotonic() + PATIENCE
+        while time.monotonic() < last:
+            left = list(processes_in(self.folder))
+            for it in left:
+                with contextlib.suppress(ProcessLookupError):
+                    os.kill(it, signal.SIGKILL)
+            if not left:
+                return
+            time.sleep(0.01)
 
     @staticmethod
     def words_as(user: Optional[str]) -> List[str]:
@@ -70,7 +96,7 @@ class Nodes:
 
     def start(self, name: str, words: Sequence[str], user: Optional[str] = None) -> None:
         """Starts a process; what it prints goes to a log in the directory."""
-        with open(self.folder / f"{name}.log", "ab") as log:
+        with open(self.log(name), "ab") as log:
             words = [*self.words_as(user), *words]
             self.processes[name] = subprocess.Popen(words, cwd=self.folder, stdin=subprocess.DEVNULL, stdout=log, stderr=log)
 
@@ -79,20 +105,34 @@ class Nodes:
         process = self.processes.pop(name)
         os.kill(process.pid, signal.SIGKILL)
         process.wait()
+        if name in self.holds:
+            self.go_on(name)
 
     def stop(self, name: str) -> None:
-        """Stops a process: it does nothing any more, and doesn't know of it."""
-        os.kill(self.processes[name].pid, signal.SIGSTOP)
+        """Stops a process, with those that it has started: they do nothing any more, and don't know of it. They go on by `go_on`, or when
+        this process ends, so that what a killed one has started ends too."""
+        words, pipe = ["sh", "-c", HOLD, "sh", str(self.processes[name].pid)], subprocess.PIPE
+        # (Ctrl-C isn't for it)
+        self.holds[name] = hold = subprocess.Popen(words, stdin=pipe, stdout=pipe, stderr=subprocess.DEVNULL, start_new_session=True)
+        assert hold.stdout is not None
+        hold.stdout.readline()
 
     def go_on(self, name: str) -> None:
         """Has a stopped process go on where it was."""
-        os.kill(self.processes[name].pid, signal.SIGCONT)
+        self.holds.pop(name).communicate()
+
+    def log(self, name: str) -> pathlib.Path:
+        """Where a process prints to."""
+        return self.folder / f"{name}.log"
+
+    def end_of_log(self, name: str) -> str:
+        """The last that a process printed."""
+        return self.log(name).read_text(errors="replace")[-2000:]
 
     def wait_until(self, name: str, is_ready: Callable[[], bool]) -> None:
         """Waits until a node is ready. Raises NotReady."""
         last = time.monotonic() + PATIENCE
         while not is_ready():
             if time.monotonic() > last or self.processes[name].poll() is not None:
-                log = (self.folder / f"{name}.log").read_text(errors="replace")
-                raise NotReady(f"{name} isn't ready:\n{log[-1000:]}")
+                raise NotReady(f"{name} isn't ready:\n{self.end_of_log(name)}")
             time.sleep(0.02)

@@ -6,35 +6,51 @@ Neither file may be there. The nodes run on free ports of the loopback, in a dir
 """
 
 import argparse
+import dataclasses
 import pathlib
 import re
 import signal
 import sys
 import tempfile
-from dataclasses import dataclass
-from typing import Callable, Mapping, Sequence
+from typing import Callable, List, Mapping, Optional, Sequence
 
 from nodes import Nodes, are_installed
 
 from casbench_recording.history import History, Pair
-from casbench_recording.load import MIXTURE, Habits, Load
+from casbench_recording.load import MIXTURE, Client, Habits, Load, Store
 from casbench_recording.witness import StoreLog, witness_by_log
 from casbench_recording.witness_checker import Texts
 
 PRINTED = re.compile(r"recorded (\d+) calls in \S+, (\d+) of them without a reply, of which (\d+) took effect\n")
 """What the command prints: how many calls there are, how many were lost, and how many of these took effect by the store's log."""
 
-
-@dataclass(frozen=True)
-class Setting:
-    """How a store is recorded."""
-
-    clients: int
-    habits: Habits
+Changes = Mapping[int, Pair]
+"""The changes in a store's own log: by the number of the call that made it, the pair of each."""
 
 
-Scenario = Callable[[Nodes, Load, Setting], Mapping[int, Pair]]
-"""Starts the nodes, runs the load and disturbs them; returns the changes of the surviving log, by the numbers of their calls."""
+class Recording:
+    """A store as it is recorded: its nodes, the load on them, and how many clients ask, with which habits."""
+
+    def __init__(self, nodes: Nodes, load: Load, clients: int, habits: Habits) -> None:
+        self.nodes, self.load, self.clients, self.habits = nodes, load, clients, habits
+
+    def run(self, store: Store, disturb: Callable[[], None] = lambda: None, calls_between: int = 600) -> None:
+        """Runs the clients; the nodes are disturbed each time there are so many more calls."""
+        self.load.add_clients(self.clients, store, self.habits)
+        self.load.run(disturb, calls_between)
+
+    def run_beside_readers(
+        self, store: Store, others: Store, disturb: Callable[[List[Client]], None], node: Optional[int] = None
+    ) -> None:
+        """Runs half of the clients on the store. The others only read, from one node of another store, and are handed to who disturbs."""
+        self.load.add_clients(self.clients // 2, store, self.habits)
+        reads = dataclasses.replace(self.habits, mixture={"get": 1}, is_bound=True)
+        readers = self.load.add_clients(self.clients // 2, others, reads, node)
+        self.load.run(lambda: disturb(readers))
+
+
+Scenario = Callable[[Recording], Changes]
+"""Starts the nodes, runs the load and disturbs them; returns the changes of the surviving log."""
 
 
 def words_of(arguments: Sequence[str], scenarios: Mapping[str, Scenario]) -> argparse.Namespace:
@@ -59,11 +75,11 @@ def interrupted(*_: object) -> None:
 
 def recorded(words: argparse.Namespace, scenario: Scenario) -> StoreLog:
     """Records; returns what the store's log says of the calls."""
-    setting = Setting(words.clients, Habits(MIXTURE, words.documents, words.dropped))
+    habits = Habits(MIXTURE, words.documents, words.dropped)
     with tempfile.TemporaryDirectory(prefix="casbench-store-") as folder, Nodes(pathlib.Path(folder)) as nodes:
         with History(words.file, most_events=2 * words.calls) as history:
             load = Load(history, words.seed)
-            changes = scenario(nodes, load, setting)
+            changes = scenario(Recording(nodes, load, words.clients, habits))
         return StoreLog(changes, load.seen)
 
 

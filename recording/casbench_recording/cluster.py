@@ -11,7 +11,7 @@ import time
 import urllib.parse
 from typing import Any, Callable, Dict, Iterator, Mapping, NamedTuple, Optional, Union
 
-from .history import text_of, value_of
+from .history import NoOutcome, text_of, value_of
 
 Url = urllib.parse.SplitResult
 
@@ -27,7 +27,7 @@ class ClusterError(Exception):
     """Why a cluster can't be asked, in words for the operator."""
 
 
-class NoAnswer(Exception):
+class NoAnswer(NoOutcome):
     """A request was sent, or part of it, and no whole answer came: whether it was performed is not known."""
 
 
@@ -80,7 +80,7 @@ class Connection:
         This is done before a call is recorded. So a cluster that can't be reached leaves no calls that were lost.
         """
         last = time.monotonic() + patience
-        while self.http.sock is None and not is_over():
+        while not self.is_open and not is_over():
             try:
                 self.http.connect()
                 self.socket = self.http.sock
@@ -93,16 +93,36 @@ class Connection:
                     raise ClusterError(f"nobody answers at {self.http.host} port {self.http.port}: {fault}") from fault
                 time.sleep(PAUSE)
 
+    @property
+    def is_open(self) -> bool:
+        """Whether there is a connection. A cluster may close it behind an answer."""
+        return self.http.sock is not None
+
     def ask(self, method: str, path: str, body: Optional[str] = None) -> Answer:
-        """Sends one request and returns its whole answer. Raises NoAnswer where none came in time.
+        """Sends one request and returns its whole answer. Raises NoAnswer where none came in time."""
+        self.send(method, path, body)
+        return self.receive()
+
+    def send(self, method: str, path: str, body: Optional[str] = None) -> None:
+        """Sends one request. Raises NoAnswer where it may not have been sent whole.
 
         Rule: no retries. `http.client` sends a request once, follows no redirection, and asks no other host. After a
         fault the connection is closed, so that an answer that comes late is never taken for that of the next request.
         """
-        try:
+        with self._closed_by_a_fault():
             self.http.request(method, self.prefix + path, body, self.headers)
+
+    def receive(self) -> Answer:
+        """The whole answer to what was sent. Raises NoAnswer where none came in time."""
+        with self._closed_by_a_fault():
             response = self.http.getresponse()
             return Answer(response.status, body_of(response))
+
+    @contextlib.contextmanager
+    def _closed_by_a_fault(self) -> Iterator[None]:
+        """Closes the connection after a fault of the block, which is raised as NoAnswer."""
+        try:
+            yield
         except (OSError, http.client.HTTPException) as fault:
             self.http.close()
             raise NoAnswer(str(fault) or type(fault).__name__) from fault

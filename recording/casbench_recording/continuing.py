@@ -13,7 +13,7 @@ import threading
 import time
 from typing import Callable, Dict, List, NamedTuple, Optional, Sequence, Tuple
 
-from .history import MOST_EVENTS, WRITES_A_VALUE, Call, CallError, Ended, History, HistoryError, Operation, Pair, members_of_call
+from .history import MOST_EVENTS, Call, CallError, Ended, History, HistoryError, Operation, Pair, members_of_call, numbered, writing
 from .past import UNKNOWN, Beginning, Conflicts, Past, told_by
 
 PART = 400_000
@@ -224,10 +224,12 @@ class Continuing:
 
     def write(self, op: str, id: str, condition: Optional[Pair] = None, shard: int = 0, client: str = "") -> Call:
         """Writes the line of an index or a create whose value is the number of its call in the whole recording."""
-        if op not in WRITES_A_VALUE:
-            raise CallError(f"a {op} writes no value")
+        return self.write_all([writing(Operation(op, id, None, condition, shard, client))])[0]
+
+    def write_all(self, operations: Sequence[Operation]) -> List[Call]:
+        """The same of several calls; each index and each create is given the number of its call as its value."""
         with self._lock:
-            return self.call(op, id, self.calls, condition, shard, client)
+            return self.call_all(numbered(operations, self.calls))
 
     def call_all(self, operations: Sequence[Operation]) -> List[Call]:
         """Writes the lines of several calls, such as the items of a bulk request; none where CallError or TooManyLost is raised."""

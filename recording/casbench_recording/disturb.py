@@ -141,23 +141,23 @@ class Disturber:
         self._note(f"begins: {it.begin}")
         if it.undo:
             self._begun.append(it)
-        is_done = self._run(it.begin)
-        if not it.undo:
-            self._note(f"ended: {it.begin}")
-        return is_done
+        return self._run(it.begin, not it.undo)
 
     def _end(self, it: Disturbance) -> None:
         """Ends a disturbance."""
         self._begun.remove(it)
-        self._run(it.undo)
-        self._note(f"ended: {it.undo}")
+        self._run(it.undo, True)
 
-    def _run(self, command: str) -> bool:
-        """Runs a command; tells whether it succeeded. If not the operator hears of it, and the next line carries it."""
+    def _run(self, command: str, is_end: bool) -> bool:
+        """Runs a command, which may end a disturbance; tells whether it succeeded. The next line carries what was done, and if it failed
+        the operator hears of it then."""
         why = fault_of(command)
         if why:
             self.has_failed = True
             self._note(f"failed: {command}")
+        if is_end:
+            self._note(f"ended: {command}")
+        if why:
             self._report(f"the disturbance failed: {command}: {why}")
         return not why
 

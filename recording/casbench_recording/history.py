@@ -69,6 +69,10 @@ class Ended(Exception):
     """The history takes no more calls: it is full, or it was ended."""
 
 
+class NoOutcome(Exception):
+    """No whole answer came, or none that says what was done: the outcome of the call is unknown."""
+
+
 class CallError(ValueError):
     """A call, a reply or an ending that the history can't have. No line was written for it."""
 
@@ -256,42 +260,44 @@ class History:
         """The same of an operation."""
         members = members_of_call(operation)
         with self._lock:
-            return self._begin(operation, members)
+            if self.room < 1:
+                raise Ended
+            self._keep_shard(operation)
+            number = self.calls
+            self._write(f'{{"e":"call","n":{number},"t":{self._now()},{members}\n')
+            self.calls += 1
+            self._open.add(number)
+        return Call(self, number, operation)
 
     def write(self, op: str, id: str, condition: Optional[Pair] = None, shard: int = 0, client: str = "") -> Call:
         """Writes the line of an index or a create whose value is the number of its call, and so that of no other call.
 
         So what a get shows, and a log of the store, tells which call wrote it, also where nobody was told.
         """
-        if op not in WRITES_A_VALUE:
-            raise CallError(f"a {op} writes no value")
-        with self._lock:
-            operation = Operation(op, id, self.calls, condition, shard, client)
-            return self._begin(operation, members_of_call(operation))
+        return self.write_all([writing(Operation(op, id, None, condition, shard, client))])[0]
 
-    def _begin(self, operation: Operation, members: str) -> Call:
-        """Writes the line of the next call, which has these members."""
-        if self.has_ended or self.calls == self._most_calls:
-            raise Ended
-        self._keep_shard(operation)
-        number = self.calls
-        self._write(f'{{"e":"call","n":{number},"t":{self._now()},{members}\n')
-        self.calls += 1
-        self._open.add(number)
-        return Call(self, number, operation)
+    def write_all(self, operations: Sequence[Operation]) -> List[Call]:
+        """Writes the lines of several calls, all of them or none; each index and each create is given the number of its call as its value."""
+        with self._lock:
+            its = numbered(operations, self.calls)
+            return self._begin_all(its, [members_of_call(it) for it in its])
 
     def call_all(self, operations: Sequence[Operation]) -> List[Call]:
         """Writes the lines of several calls, such as the items of a bulk request: all of them or, where it raises, none."""
         members = [members_of_call(it) for it in operations]
         with self._lock:
-            if self.room < len(operations):
-                raise Ended
-            for it in operations:
-                self._keep_shard(it)
-            first, now = self.calls, self._now()
-            self._write("".join([f'{{"e":"call","n":{number},"t":{now},{it}\n' for number, it in enumerate(members, first)]))
-            self.calls += len(members)
-            self._open.update(range(first, self.calls))
+            return self._begin_all(operations, members)
+
+    def _begin_all(self, operations: Sequence[Operation], members: Sequence[str]) -> List[Call]:
+        """Writes the lines of the next calls, which have these members."""
+        if self.room < len(operations):
+            raise Ended
+        for it in operations:
+            self._keep_shard(it)
+        first, now = self.calls, self._now()
+        self._write("".join([f'{{"e":"call","n":{number},"t":{now},{it}\n' for number, it in enumerate(members, first)]))
+        self.calls += len(members)
+        self._open.update(range(first, self.calls))
         return [Call(self, number, it) for number, it in enumerate(operations, first)]
 
     def _keep_shard(self, operation: Operation) -> None:
@@ -437,6 +443,21 @@ class History:
             return data
         self._note = ""
         return note + data[1:]
+
+
+# Values
+
+
+def writing(operation: Operation) -> Operation:
+    """An operation, which is refused where it writes no value."""
+    if operation.op not in WRITES_A_VALUE:
+        raise CallError(f"a {operation.op} writes no value")
+    return operation
+
+
+def numbered(operations: Sequence[Operation], first: int) -> List[Operation]:
+    """The operations of calls that are numbered from the first one; each that writes a value has the number of its call as it."""
+    return [it._replace(value=number) if it.op in WRITES_A_VALUE else it for number, it in enumerate(operations, first)]
 
 
 # The text of a line

@@ -15,20 +15,21 @@ OPENSEARCH_HEADER, a whole header such as `Authorization: Bearer ...`. Python 3.
 import argparse
 import contextlib
 import json
+import math
 import os
 import signal
 import sys
-import threading
 import time
 import urllib.parse
-from typing import Any, Dict, List, NamedTuple, Optional, Sequence, Tuple, Union
+from dataclasses import dataclass
+from typing import Any, Callable, Dict, List, NamedTuple, Optional, Sequence, Tuple, Union
 
 from .cluster import Answer, Cluster, ClusterError, Connection, NoAnswer, Url, credentials_of, number_from, trust_of, url_of
 from .console import counted
 from .continuing import Continuing, add_part_options
 from .disturb import Disturber, read_plan
-from .history import MOST_EVENTS, Ended, History, HistoryError, Operation, Pair, pair_of
-from .load import Draw
+from .history import MOST_EVENTS, Body, Call, History, HistoryError, Operation, Pair, pair_of
+from .load import ANY_NUMBER, MIXTURE, WRITES, Habits, Load
 from .past import Conflicts
 from .progress import Progress
 from .watcher import Watcher, add_watch_options, watch_options
@@ -36,14 +37,10 @@ from .watcher import Watcher, add_watch_options, watch_options
 MOST_CALLS = MOST_EVENTS // 2
 """The most calls of one history: a call with its ending is two events."""
 
-ANY_NUMBER = 2**62
-"""The calls of a client that goes on until its time is over, or the history is full."""
-
-MIXTURE = "get=6,index=2,create=1,delete=1,index-if=6,delete-if=1,bulk=1"
+TURNS = ",".join(f"{kind}={weight}" for kind, weight in {**MIXTURE, "bulk": 1}.items())
 """How often each kind of turn is drawn, where the words don't say."""
 
-KINDS = ("get", "index", "create", "delete", "index-if", "delete-if", "bulk")
-WRITES = ("index", "create", "delete", "index-if", "delete-if")
+KINDS = ("get", *WRITES, "bulk")
 
 ENDED_EARLY = 3
 """The exit status of a recording that ended before its time."""
@@ -53,16 +50,17 @@ START_PATIENCE = 5.0
 
 
 class Stop:
-    """What tells all clients to make no more calls: somebody asked for it, or one of them met a fault."""
+    """What has all clients make no more calls: somebody asked for it, the watch found a fault, or the time is over."""
 
     def __init__(self) -> None:
         self.is_set = False
         self.was_asked = False
+        # the moment from which on no more calls are made
+        self.last = math.inf
         # whether the history was full before the time was over
         self.is_full = False
         # whether a command failed that was to disturb the cluster
         self.has_failed = False
-        self.fault: Optional[BaseException] = None
 
     def ask(self, *_: object) -> None:
         """Answers Ctrl-C, and a request to end. The second one doesn't wait any longer for calls that are open."""
@@ -74,10 +72,9 @@ class Stop:
         """Answers the watch, which found a fault."""
         self.is_set = True
 
-    def fail(self, fault: BaseException) -> None:
-        """Keeps why a client could not go on."""
-        self.fault = self.fault or fault
-        self.is_set = True
+    def is_over(self) -> bool:
+        """Whether no more calls are made."""
+        return self.is_set or time.monotonic() >= self.last
 
 
 # What is sent
@@ -127,142 +124,74 @@ def told_by(item: Any, action: str) -> Optional[Dict[str, Any]]:
     return told if type(status) is int and 0 <= status <= 65_535 else None
 
 
-# Who asks what
+# The cluster as a store
 
 
-class Plan:
-    """What one client does, turn by turn, drawn from a seed. It asks nothing of the replies."""
+@dataclass(frozen=True)
+class Reply:
+    """A reply as it came, and the members of its body."""
 
-    def __init__(self, setting: argparse.Namespace, client: int) -> None:
-        self.draw = Draw(f"{setting.seed}/{client}")
-        self.setting = setting
+    status: int
+    body: Body
+    members: Dict[str, Any]
+    seen: Optional[Pair] = None
 
-    def document(self) -> str:
-        """The id of some document."""
-        return f"d{self.draw.below(self.setting.documents)}"
+    @property
+    def there(self) -> Optional[Pair]:
+        """The pair of the document as this leaves it, if it is there."""
+        return None if self.members.get("result") in ("deleted", "not_found") else pair_of(self.members)
 
-    def kind(self, kinds: Sequence[str]) -> str:
-        """One of the kinds, as often as the mixture says; index if it has none of them."""
-        weights = {kind: self.setting.mixture[kind] for kind in kinds}
-        return self.draw.one_of(weights) if any(weights.values()) else "index"
-
-    def turn(self) -> Tuple[str, str, List[Tuple[str, str]]]:
-        """The next turn: its kind with a document, and the items where it is a bulk request."""
-        kind, document = self.kind(KINDS), self.document()
-        count = self.setting.bulk_items if kind == "bulk" else 0
-        return kind, document, [(self.kind(WRITES), self.document()) for _ in range(count)]
+    def write(self, call: Call) -> None:
+        """Writes the reply to a call."""
+        call.reply(self.status, self.body)
 
 
-class Client:
-    """One client: it makes its calls one after another, and records each."""
+class ClusterSession:
+    """A connection of a client to a node."""
 
-    def __init__(self, setting: argparse.Namespace, history: Union[History, Continuing], number: int, stop: Stop) -> None:
-        self.setting = setting
-        self.history = history
-        self.number = number
-        self.stop = stop
-        # (with several addresses, one client after the other takes the next of them)
-        self.connection = Connection(setting.clusters[number % len(setting.clusters)])
-        self.plan = Plan(setting, number)
-        self.calls = 0
-        self.writes = 0
-        # the pair that the client was last told of a document
-        self.known: Dict[str, Pair] = {}
+    def __init__(self, connection: Connection, index: str) -> None:
+        self.connection, self.index = connection, index
 
-    def run(self) -> None:
-        """Makes the calls and records them, until there are enough, the time is over, or somebody says stop."""
-        try:
-            while self.left():
-                self.take_turn(*self.plan.turn())
-        except Ended:
-            pass
-        except Exception as fault:
-            # (whatever it is, it is raised again where the clients were started)
-            self.stop.fail(fault)
-        finally:
-            self.connection.close()
+    @property
+    def is_open(self) -> bool:
+        """Whether it can be asked."""
+        return self.connection.is_open
 
-    def left(self) -> int:
-        """How many calls are left to the client."""
-        return int(self.setting.calls) - self.calls
+    def send(self, call: Call) -> None:
+        """Sends the request of a call."""
+        self.connection.send(*request_of(self.index, call.operation))
 
-    def get_ready(self) -> None:
-        """Sees to it that a call can be made now: connects. Raises Ended where no more calls are to be made."""
-        self.connection.open(self.setting.patience, lambda: self.stop.is_set)
-        is_late = self.setting.end is not None and time.monotonic() >= self.setting.end
-        if self.stop.is_set or is_late:
-            raise Ended
+    def outcome(self, call: Call) -> Reply:
+        """The reply to it."""
+        answer = self.connection.receive()
+        return Reply(answer.status, answer.body, answer.members)
 
-    def take_turn(self, kind: str, document: str, items: Sequence[Tuple[str, str]]) -> None:
-        """Makes the calls of one turn."""
-        if kind == "bulk":
-            items = items[: self.left()]
-            self.make_bulk([self.write(action, target, self.known.get(target)) for action, target in items])
-        elif kind in ("index-if", "delete-if"):
-            self.read_and_write(kind, document)
-        else:
-            self.make_call(Operation("get", document) if kind == "get" else self.write(kind, document))
+    def send_all(self, calls: Sequence[Call]) -> None:
+        """Sends a bulk request of several calls."""
+        self.connection.send(*bulk_of(self.index, [it.operation for it in calls]))
 
-    def read_and_write(self, kind: str, document: str) -> None:
-        """Reads a document, and writes it under the pair that was read, as applications do."""
-        reply = self.make_call(Operation("get", document))
-        if "found" in reply and self.left():
-            self.make_call(self.write(kind, document, pair_of(reply)))
+    def outcomes(self, calls: Sequence[Call]) -> List[Optional[Reply]]:
+        """What the answer to it says of each call."""
+        items = items_of([it.operation for it in calls], self.connection.receive())
+        return [None if it is None else Reply(it["status"], it, it) for it in items]
 
-    def write(self, kind: str, document: str, pair: Optional[Pair] = None) -> Operation:
-        """A write of the kind. One under a condition, where no pair is known, is one that needs none to be there."""
-        if kind in ("index-if", "delete-if"):
-            bare, otherwise = ("index", "create") if kind == "index-if" else ("delete", "delete")
-            kind = bare if pair else otherwise
-        else:
-            pair = None
-        if kind == "delete":
-            return Operation(kind, document, None, pair)
-        # (no number is written twice: each client has those that leave its own number when divided)
-        value = self.writes * self.setting.clients + self.number
-        self.writes += 1
-        return Operation(kind, document, value, pair)
+    def close(self) -> None:
+        """Closes the connection."""
+        self.connection.close()
 
-    def make_call(self, operation: Operation) -> Dict[str, Any]:
-        """Makes one call, and returns the members of its reply's body.
 
-        Rule: the call's line is in the file before the request leaves, and the reply's line after the whole reply came.
-        Rule: what was not answered is lost, and nothing is guessed: a call without a reply is lost at its block's end.
-        """
-        self.get_ready()
-        call = self.history.call_one(operation)
-        with call:
-            self.calls += 1
-            with contextlib.suppress(NoAnswer):
-                answer = self.connection.ask(*request_of(self.setting.index, operation))
-                call.reply(answer.status, answer.body)
-                told = answer.members
-                self.learn(operation.id, told)
-                return told
-        return {}
+class ClusterStore:
+    """The nodes of a cluster. Who connects waits for it as long as patience says, and no longer than the load lasts."""
 
-    def make_bulk(self, operations: Sequence[Operation]) -> None:
-        """Makes one bulk request. Its items are calls of their own, all made before any is answered."""
-        self.get_ready()
-        calls = self.history.call_all(operations)
-        self.calls += len(calls)
-        try:
-            told = items_of(operations, self.connection.ask(*bulk_of(self.setting.index, operations)))
-        except NoAnswer:
-            told = [None] * len(calls)
-        for call, item in zip(calls, told):
-            with call:
-                if item is not None:
-                    call.reply(item["status"], item)
-                    self.learn(call.operation.id, item)
+    def __init__(self, setting: argparse.Namespace, is_over: Callable[[], bool]) -> None:
+        self.setting, self.is_over = setting, is_over
+        self.nodes = len(setting.clusters)
 
-    def learn(self, document: str, reply: Dict[str, Any]) -> None:
-        """Keeps the pair that a reply tells of a document, for a later condition."""
-        pair = pair_of(reply)
-        if pair and reply.get("result") not in ("deleted", "not_found"):
-            self.known[document] = pair
-        else:
-            self.known.pop(document, None)
+    def connect(self, node: int) -> ClusterSession:
+        """A connection to a node. Raises ClusterError, which ends the recording."""
+        connection = Connection(self.setting.clusters[node])
+        connection.open(self.setting.patience, self.is_over)
+        return ClusterSession(connection, self.setting.index)
 
 
 # The recording
@@ -318,18 +247,27 @@ def record(setting: argparse.Namespace) -> Recorded:
         # (before the watch ends, so that its last check has the last line)
         stack.enter_context(recording)
         stack.enter_context(Progress(lambda: (recording.calls, recording.lost)))
-        clients = [Client(setting, recording, number, stop) for number in range(setting.clients)]
-        first = clients[0].connection
-        first.open(START_PATIENCE)
-        make_index(first, setting, setting.index)
-        setting.end = time.monotonic() + setting.seconds if setting.seconds is not None else None
+        with contextlib.closing(Connection(setting.clusters[0])) as first:
+            first.open(START_PATIENCE)
+            make_index(first, setting, setting.index)
+        if setting.seconds is not None:
+            stop.last = time.monotonic() + setting.seconds
+        load = load_of(setting, recording, stop)
         with Disturber(setting.disturb, recording.note, tell_fault) as disturber:
-            run_clients(clients, stop)
+            run_load(load, stop)
         stop.has_failed = disturber.has_failed
-        is_over = setting.end is None or time.monotonic() >= setting.end
-        is_full = isinstance(recording, History) and not recording.room
-        stop.is_full = is_full and not is_over and not stop.was_asked and not stop.is_set
+        is_early = setting.seconds is not None and not stop.is_over()
+        stop.is_full = is_early and isinstance(recording, History) and not recording.room
     return Recorded(recording, stop, watcher.status if watcher is not None else 0)
+
+
+def load_of(setting: argparse.Namespace, recording: Union[History, Continuing], stop: Stop) -> Load:
+    """The clients. With several addresses one after the other takes the next of them, and stays there."""
+    load = Load(recording, setting.seed, stop.is_over)
+    store = ClusterStore(setting, load.is_over)
+    habits = Habits(setting.mixture, setting.documents, is_bound=True, calls=setting.calls, bulk_items=setting.bulk_items)
+    load.add_clients(setting.clients, store, habits)
+    return load
 
 
 def recording_of(setting: argparse.Namespace) -> Union[History, Continuing]:
@@ -342,21 +280,14 @@ def tell_fault(text: str) -> None:
     print(f"record.py: {text}", file=sys.stderr)
 
 
-def run_clients(clients: Sequence[Client], stop: Stop) -> None:
-    """Runs each client on a thread of its own until all have ended. Raises what the first fault of a client was.
+def run_load(load: Load, stop: Stop) -> None:
+    """Runs the clients until all have ended. Raises what the first fault of a client was.
 
     Once stop is set, calls that are open may still be answered, and are recorded.
     """
     for kind in (signal.SIGINT, signal.SIGTERM):
         signal.signal(kind, stop.ask)
-    # (threads that the end of the program doesn't wait for)
-    threads = [threading.Thread(target=client.run, daemon=True) for client in clients]
-    for thread in threads:
-        thread.start()
-    for thread in threads:
-        thread.join()
-    if stop.fault is not None:
-        raise stop.fault
+    load.run()
 
 
 # The words
@@ -393,7 +324,7 @@ def words_of(arguments: Sequence[str]) -> argparse.Namespace:
     add("--calls", type=number_from(1), help="how many calls each client makes (1000; any number with --seconds)")
     add("--seconds", type=number_from(0, float), help="after how many seconds no more calls are made")
     add("--seed", type=int, default=1, help="what the turns are drawn from (1)")
-    add("--mixture", type=mixture_of, default=MIXTURE, help=f"how often each kind is drawn ({MIXTURE})")
+    add("--mixture", type=mixture_of, default=TURNS, help=f"how often each kind is drawn ({TURNS})")
     add("--bulk-items", type=number_from(1), default=4, help="how many items a bulk request has (4)")
     add("--timeout", type=number_from(0.001, float), default=10.0, help="seconds to wait for an answer (10)")
     add("--patience", type=number_from(0, float), default=60.0, help="seconds to wait for a connection (60)")

@@ -6,7 +6,7 @@ import signal
 import subprocess
 import time
 from dataclasses import dataclass
-from typing import BinaryIO, Sequence
+from typing import BinaryIO, Iterator, Sequence
 
 from .history import LONGEST_LINE
 
@@ -44,6 +44,16 @@ class Snapshot:
         self.path = path
         with open(path, "rb") as file:
             self.length = whole_length(file)
+
+    def lines_from(self, start: int) -> Iterator[bytes]:
+        """The lines behind so many bytes, which end with a line."""
+        with open(self.path, "rb") as file:
+            file.seek(start)
+            left = self.length - start
+            while left > 0:
+                line = file.readline()
+                left -= len(line)
+                yield line
 
     def ask(self, words: Sequence[str]) -> Answer:
         """What the program writes that is run with these words, and given the lines on standard input."""

@@ -26,10 +26,11 @@ from .console import counted, escaped
 from .continuing import GROWING
 from .shrink import ShrinkError, program_at_hand
 from .snapshots import Answer, CheckError, Snapshot
+from .terms import TermReader, Terms
 from .watcher import EVERY
 
 REST = 9.0
-"""How many times as long as the last check took of a processor the next one waits, so that checks take a tenth of one at most."""
+"""How many times as long as the last check took of a processor the next one waits, so that they take a tenth of one at most."""
 
 PART = re.compile(r"part-[0-9]+\.ndjson")
 """The name of a finished part of a recording without end."""
@@ -64,8 +65,9 @@ class Stop:
 
 @dataclass
 class Watched:
-    """A history that is watched: how many bytes of it were checked last, the answer, and whether it is deleted."""
+    """A history that is watched: what reads its terms, how many bytes of it were checked last, the answer, and whether it is deleted."""
 
+    terms: TermReader
     length: int = 0
     answer: Optional[Answer] = None
     is_deleted: bool = False
@@ -78,6 +80,8 @@ class Watch:
         self.setting = setting
         self.stop = stop
         self.histories: Dict[str, Watched] = {}
+        # by the name of a history, those of all parts together
+        self.terms: Dict[str, Terms] = {}
         self._program = setting.program or program_at_hand()
         self._options = ["--rule-out", "--conflicts", setting.conflicts]
         # (no check begins before this moment)
@@ -107,7 +111,7 @@ class Watch:
     def check(self, path: str, is_last: bool) -> Optional[Snapshot]:
         """Checks a file if it has grown; returns the lines that were checked if they are refuted."""
         name = path[: -len(GROWING)] if path.endswith(GROWING) else path
-        watched = self.histories.setdefault(name, Watched())
+        watched = self.watched(name)
         # (a part that is finished meanwhile has another name, and has its turn in the next round)
         with contextlib.suppress(FileNotFoundError):
             snapshot = Snapshot(path)
@@ -116,12 +120,27 @@ class Watch:
                     self.stop.wait_until(self._rests_until)
                 watched.answer = snapshot.ask([self._program, "check", *self._options])
                 watched.length = snapshot.length
-                self._rests_until = time.monotonic() + REST * watched.answer.seconds
+                self.rest_for(watched.answer.seconds)
                 self.tell_check(path, watched.answer)
+            if watched.answer is not None and watched.answer.word != "refused":
+                before = time.process_time()
+                watched.terms.read(snapshot.lines_from(watched.terms.length))
+                self.rest_for(time.process_time() - before)
                 if watched.answer.word == "refuted":
                     return snapshot
             self.delete_if_done(path, watched)
         return None
+
+    def rest_for(self, seconds: float) -> None:
+        """Has the next check wait, after what took so many seconds of a processor."""
+        self._rests_until = max(self._rests_until, time.monotonic()) + REST * seconds
+
+    def watched(self, name: str) -> Watched:
+        """The history of this name, which is watched from now on."""
+        if name not in self.histories:
+            of = self.setting.out if PART.fullmatch(os.path.basename(name)) else name
+            self.histories[name] = Watched(TermReader(self.terms.setdefault(of, Terms())))
+        return self.histories[name]
 
     def delete_if_done(self, path: str, watched: Watched) -> None:
         """Deletes a finished part that got `yes`, if that is asked for."""
@@ -144,7 +163,7 @@ class Watch:
         if len(self.histories) > 1 or snapshot.path != self.setting.out:
             print(f"{escaped(snapshot.path)}:")
         print(snapshot.ask([self._program, "explain", *self._options]).text, end="", flush=True)
-        tell_unjudged(self.setting.out)
+        self.tell_beside()
         if self.setting.command:
             run_command(self.setting.command)
         return 1
@@ -162,8 +181,15 @@ class Watch:
         for answer in answers:
             if not os.path.isdir(self.setting.out) or answer.word != "yes":
                 print(answer.line)
-        tell_unjudged(self.setting.out)
+        self.tell_beside()
         return max(it.status for it in answers)
+
+    def tell_beside(self) -> None:
+        """Prints what the answers don't say: which acknowledged writes may be lost, and what isn't judged."""
+        for terms in self.terms.values():
+            for it in terms.hints():
+                print(f"hint: {it}: it may be lost, though no reply shows that", flush=True)
+        tell_unjudged(self.setting.out)
 
 
 def tell_unjudged(out: str) -> None:

@@ -25,7 +25,7 @@ def changes_at(url: str) -> Dict[int, Pair]:
     for revision, key, value in events_until(url, last):
         # (a document's deletion has no value; it has the revision of its mark)
         if key != "end" and value and changes.setdefault(int(value), Pair(TERM, revision)).seq != revision:
-            raise OSError(f"the call {value} changed something twice, at {changes[int(value)].seq} and {revision}")
+            raise ValueError(f"the call {value} changed something twice, at {changes[int(value)].seq} and {revision}")
     return changes
 
 

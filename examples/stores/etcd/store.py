@@ -4,11 +4,10 @@ docs/RECORDING.md has the same table, and why each run of the store is a legal r
 """
 
 import base64
-import http.client
 import json
 from typing import Any, Dict, List
 
-from casbench_recording.cluster import Answer, ClusterError, Connection, body_of, connection_to
+from casbench_recording.cluster import ClusterError, Connection, connection_to
 from casbench_recording.history import Call, CallError, Pair
 from casbench_recording.load import Kind, NoOutcome, Outcome, Session, Unreachable
 
@@ -78,21 +77,18 @@ class EtcdSession:
     def __init__(self, connection: Connection, is_serializable: bool) -> None:
         self.connection, self.is_serializable = connection, is_serializable
 
+    @property
+    def is_open(self) -> bool:
+        return self.connection.is_open
+
     def send(self, call: Call) -> None:
         asked = {"key": coded(DOCUMENT + call.operation.id), "serializable": self.is_serializable}
         is_get = call.operation.op == "get"
         path, body = ("/v3/kv/range", asked) if is_get else ("/v3/kv/txn", transaction_of(call))
-        try:
-            self.connection.http.request("POST", path, json.dumps(body), self.connection.headers)
-        except (OSError, http.client.HTTPException) as fault:
-            raise NoOutcome(str(fault)) from fault
+        self.connection.send("POST", path, json.dumps(body))
 
     def outcome(self, call: Call) -> Outcome:
-        try:
-            response = self.connection.http.getresponse()
-            answer = Answer(response.status, body_of(response))
-        except (OSError, http.client.HTTPException) as fault:
-            raise NoOutcome(str(fault)) from fault
+        answer = self.connection.receive()
         if answer.status != 200 or "revision" not in answer.members.get("header", {}):
             raise NoOutcome(f"status {answer.status}")
         return outcome_of(call, answer.members)

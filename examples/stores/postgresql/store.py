@@ -9,7 +9,7 @@ import struct
 from typing import Dict, List, Optional
 
 from casbench_recording.history import Call, Pair
-from casbench_recording.load import Kind, NoOutcome, Outcome, Session, Unreachable
+from casbench_recording.load import Kind, Outcome, Session, Unreachable, lost_by
 
 TERM = 1
 """The term of all pairs. A sequence that goes back has lost acknowledged changes, and shall be seen to have done so."""
@@ -105,6 +105,10 @@ def row_of(body: bytes) -> Row:
 
 
 class PostgresSession:
+    """A connection of a client."""
+
+    is_open = True
+
     def __init__(self, connection: Connection) -> None:
         self.connection = connection
 
@@ -112,16 +116,12 @@ class PostgresSession:
         it = call.operation
         value, expected = ("NULL" if number is None else number for number in (it.value, it.condition and it.condition.seq))
         write = f"SELECT kind, number, NULL FROM write('{it.op}', '{it.id}', {value}, {expected}, {call.number})"
-        try:
+        with lost_by(OSError):
             self.connection.send(GET.format(it.id) if it.op == "get" else write)
-        except OSError as fault:
-            raise NoOutcome(str(fault)) from fault
 
     def outcome(self, call: Call) -> Outcome:
-        try:
+        with lost_by(OSError, PostgresError):
             rows = self.connection.receive()
-        except (OSError, PostgresError) as fault:
-            raise NoOutcome(str(fault)) from fault
         kind, number, value = rows[0] if rows else ("missing", "0", None)
         pair, has_pair = Pair(TERM, int(number or 0)), kind not in ("missing", "conflict")
         return Outcome(Kind(kind), pair if has_pair else None, None if value is None else int(value), pair)

@@ -8,7 +8,7 @@ import socket
 from typing import List, Union
 
 from casbench_recording.history import Call, Pair
-from casbench_recording.load import Kind, NoOutcome, Outcome, Session, Unreachable
+from casbench_recording.load import Kind, NoOutcome, Outcome, Session, Unreachable, lost_by
 
 TERM = 1
 """The term of all pairs. A counter that goes back has lost acknowledged changes, and shall be seen to have done so."""
@@ -88,24 +88,22 @@ class Connection:
 class RedisSession:
     """A connection of a client. With `copies` a call is answered when so many replicas have what it changed, or has seen."""
 
+    is_open = True
+
     def __init__(self, connection: Connection, copies: int, deadline: float) -> None:
         self.connection, self.copies, self.deadline = connection, copies, deadline
 
     def send(self, call: Call) -> None:
         it = call.operation
         expected = "" if it.condition is None else str(it.condition.seq)
-        try:
+        with lost_by(OSError):
             self.connection.send("EVAL", SCRIPT, 1, it.id, it.op, "" if it.value is None else it.value, expected, call.number)
-        except OSError as fault:
-            raise NoOutcome(str(fault)) from fault
 
     def outcome(self, call: Call) -> Outcome:
-        try:
+        with lost_by(OSError, RedisError, ValueError):
             told = self.connection.receive()
             if self.copies:
                 self.wait_for_copies()
-        except (OSError, RedisError, ValueError) as fault:
-            raise NoOutcome(str(fault)) from fault
         if not isinstance(told, list) or not all(isinstance(it, str) for it in told):
             raise NoOutcome(f"{told}")
         kind, number, seen, *value = map(str, told)

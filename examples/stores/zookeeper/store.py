@@ -11,7 +11,7 @@ from typing import Dict, List, NamedTuple, Optional
 from protocol import BAD_VERSION, CHILDREN, CREATE, GET, MULTI, SEQUENTIAL, SET, STAT, SYNC, Connection, ZooKeeperError, created, text
 
 from casbench_recording.history import Call, Pair
-from casbench_recording.load import Kind, NoOutcome, Outcome, Session
+from casbench_recording.load import Kind, Outcome, Session, lost_by
 
 TERM = 1
 """The term of all pairs. A `zxid` has the leader's epoch in it, and never falls."""
@@ -28,20 +28,18 @@ class Version(NamedTuple):
 class ZooKeeperSession:
     """A connection of a client to a member. Without `is_synced` a read shows what the member knows."""
 
+    is_open = True
+
     def __init__(self, connection: Connection, is_synced: bool) -> None:
         self.connection, self.is_synced = connection, is_synced
 
     def send(self, call: Call) -> None:
-        try:
+        with lost_by(OSError):
             self.send_read(f"/doc/{call.operation.id}")
-        except OSError as fault:
-            raise NoOutcome(str(fault)) from fault
 
     def outcome(self, call: Call) -> Outcome:
-        try:
+        with lost_by(OSError, ZooKeeperError, struct.error):
             return self.get() if call.operation.op == "get" else self.write(call)
-        except (OSError, ZooKeeperError, struct.error) as fault:
-            raise NoOutcome(str(fault)) from fault
 
     def send_read(self, path: str) -> None:
         if self.is_synced:
