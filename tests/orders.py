@@ -76,11 +76,11 @@ TOLD = [
 SEEDS = [*range(200), 359, 414, 493, 750, 1358, 1549]
 
 # How many drawn histories have an order of the answered calls alone, one by the rules, another one, and none: at least so many.
-LEAST = {"answered": 100, "rules": 450, "another": 20, "none": 20}
+LEAST = {"answered": 100, "rules": 380, "another": 180, "none": 20}
 
 # How many recordings there are in each reading, and how many of them may get no order.
 RECORDINGS = 200
-MOST = {"plain no": 0, "maybe no": 2}
+MOST = {"plain no": 0, "maybe no": 0}
 
 
 # Histories in words.
