@@ -277,7 +277,7 @@ class Placing(ContinuingTest):
             recording.call("create", "d", number).conflict()
         document = recording._documents["d"]
         past = document.past
-        kept = [len(it) for it in (recording._begun, recording._growing, past._lost_blind, past._lost_conditional, past._refused)]
+        kept = [len(it) for it in (recording._open, recording._growing, past._lost_blind, past._lost_conditional, past._refused)]
         self.assertLessEqual(max(kept), 1, kept)
 
 

@@ -606,7 +606,7 @@ class NotJudged(JudgeTest):
             self.tidy()
 
     def test_a_fault_of_the_recorder_ends_the_recording(self):
-        for at, (where, name) in enumerate(((Asking, "operation"), (Answering, "_reply"))):
+        for at, (where, name) in enumerate(((Asking, "set_operation"), (Answering, "_reply"))):
             judge = self.judge()
             get = self.ask(judge, "GET", "/carts/_doc/d")
             with mock.patch.object(where, name, side_effect=KeyError("x")):

@@ -5,7 +5,7 @@ from typing import Any, List, Mapping, Optional, Sequence, Tuple
 
 from .bulk import Items
 from .documents import Document
-from .history import Call, Pair, is_whole
+from .history import Call, Operation, Pair, is_whole
 from .routes import PARTS_OF_A_SOURCE, Kind, Route
 
 DIGITS = re.compile(r"[0-9]{1,19}")
@@ -20,7 +20,10 @@ WEIGHT_OF_A_PART = 512
 class Part:
     """A call that a request makes, and how its reply is read."""
 
-    __slots__ = ("id", "op", "words", "digest", "client", "document", "call", "number", "is_sure", "sweeps")
+    __slots__ = ("id", "op", "words", "digest", "client", "document", "operation", "call", "is_sure", "sweeps")
+
+    # what its line says, set before it is written
+    operation: Operation
 
     def __init__(self, id: str, op: str, words: Mapping[str, Any], digest: Optional[bytes] = None) -> None:
         # (an empty id if the answer tells it)
@@ -32,8 +35,8 @@ class Part:
         # who asks
         self.client = ""
         self.document: Optional[Document] = None
+        # its call, once the line is written
         self.call: Optional[Call] = None
-        self.number: Optional[int] = None
         # whether its line tells the whole condition, so that a conflict may be recorded
         self.is_sure = True
         # how many sweeps there had been when it was made

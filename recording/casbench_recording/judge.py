@@ -11,9 +11,10 @@ from .answering import Answering
 from .asked import Asked, Making
 from .asking import Asking
 from .documents import UNSURE, State
+from .history import Histories
 from .inspection import Shape
 from .ledger import Ledger
-from .recording import Histories, Recording
+from .recording import Recording
 from .routes import BULK, PASS, READS, Kind, Route, route_of
 from .unjudged import Unjudged
 

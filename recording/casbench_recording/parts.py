@@ -10,10 +10,10 @@ import threading
 import time
 from typing import Callable, Dict, Optional, Tuple
 
-from .history import MOST_EVENTS, Call, History, HistoryError, Pair
+from .history import MOST_EVENTS, Call, Histories, History, HistoryError, Pair
 
 
-class Parts:
+class Parts(Histories):
     """The histories of a folder, which is made: `shard-3.ndjson` of a shard."""
 
     def __init__(self, folder: str, most_events: int = MOST_EVENTS, clock: Callable[[], float] = time.time) -> None:
@@ -26,12 +26,6 @@ class Parts:
             os.mkdir(folder)
         except OSError as fault:
             raise HistoryError(f"{folder}: {fault.strerror}") from fault
-
-    def __enter__(self) -> "Parts":
-        return self
-
-    def __exit__(self, *_: object) -> None:
-        self.end()
 
     @property
     def histories(self) -> Tuple[History, ...]:

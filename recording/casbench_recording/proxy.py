@@ -31,7 +31,7 @@ from .continuing import Continuing, add_part_options
 from .disturb import Disturber, read_plan
 from .documents import State
 from .finding import Finding
-from .history import History, HistoryError
+from .history import Histories, History, HistoryError
 from .http1 import Request
 from .inspection import Inspector, Shape
 from .judge import Judge
@@ -39,7 +39,6 @@ from .loop import Listener, Loop, Stream
 from .parts import Parts
 from .past import Conflicts
 from .progress import Progress
-from .recording import Histories
 from .refusal import refusal
 from .routes import shown_request
 from .tls import NO_RENEGOTIATION

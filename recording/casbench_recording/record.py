@@ -21,13 +21,13 @@ import sys
 import threading
 import time
 import urllib.parse
-from typing import Any, Dict, List, NamedTuple, Optional, Sequence, Tuple, Union
+from typing import Any, Dict, List, NamedTuple, Optional, Sequence, Tuple
 
 from .cluster import Answer, Cluster, ClusterError, Connection, NoAnswer, Url, credentials_of, number_from, trust_of, url_of
 from .console import counted
 from .continuing import Continuing, add_part_options
 from .disturb import Disturber, read_plan
-from .history import MOST_EVENTS, Ended, History, HistoryError, Operation, Pair, pair_of
+from .history import MOST_EVENTS, CallWriter, Ended, History, HistoryError, Operation, Pair, pair_of
 from .load import Draw
 from .past import Conflicts
 from .progress import Progress
@@ -156,7 +156,7 @@ class Plan:
 class Client:
     """One client: it makes its calls one after another, and records each."""
 
-    def __init__(self, setting: argparse.Namespace, history: Union[History, Continuing], number: int, stop: Stop) -> None:
+    def __init__(self, setting: argparse.Namespace, history: CallWriter, number: int, stop: Stop) -> None:
         self.setting = setting
         self.history = history
         self.number = number
@@ -271,7 +271,7 @@ class Client:
 class Recorded(NamedTuple):
     """A recording that is over, why the clients made no more calls, and the exit status of its watch."""
 
-    recording: Union[History, Continuing]
+    recording: CallWriter
     stop: Stop
     watched: int
 
@@ -332,7 +332,7 @@ def record(setting: argparse.Namespace) -> Recorded:
     return Recorded(recording, stop, watcher.status if watcher is not None else 0)
 
 
-def recording_of(setting: argparse.Namespace) -> Union[History, Continuing]:
+def recording_of(setting: argparse.Namespace) -> CallWriter:
     """The file that is written, or the directory with one for each part."""
     return History(setting.file) if setting.part is None else Continuing(setting.file, setting.part, Conflicts(setting.conflicts))
 
