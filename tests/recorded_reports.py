@@ -9,6 +9,7 @@ passed and failed.
 
 import contextlib
 import http.client
+import json
 import os
 import pty
 import re
@@ -167,6 +168,7 @@ class Arguments(FolderTest):
             ("proxy", ["--cluster", f"{url},http://127.0.0.1:9201", *index], 2, f"proxy.py: error: argument --cluster: {several}"),
             ("proxy", ["--cluster", "http://127.0.0.1:99999", *index], 2, "proxy.py: error: argument --cluster: a port is a number from 1 to 65535"),
             ("proxy", ["--cluster", "127.0.0.1:9200", *index], 2, "proxy.py: error: argument --cluster: it is no address such as https://host:9200"),
+            ("proxy", ["--cluster", "ftp://127.0.0.1:9200", *index], 2, "proxy.py: error: argument --cluster: it is no address such as https://host:9200"),
             ("proxy", ["--cluster", url, "--node", url, *index], 2, "proxy.py: error: argument --node: it is nothing such as 127.0.0.1:9202=http://node-2:9200"),
             ("proxy", ["--cluster", url, "--node", f"9202={url}", *index], 2, "proxy.py: error: argument --node: it is no address such as 127.0.0.1:9201"),
             ("record", ["http://127.0.0.1:http", "carts", "out"], 2, "record.py: error: argument URL[,URL..]: a port is a number from 1 to 65535"),
@@ -206,6 +208,8 @@ class Counts(ReportTest):
         said = proxy.ended().splitlines()
         self.assertEqual(said[1], "judged: 1 document, 2 calls; not judged: 1 document, 2 calls")
         self.assertRegex(said[2], "^1 document is not judged, from some moment on or at all ")
+        with open(f"{self.file}.not-judged", encoding="utf-8") as lines:
+            self.assertEqual([json.loads(it).get("calls") for it in lines], [None, 2])
 
 
 if __name__ == "__main__":

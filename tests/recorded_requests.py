@@ -108,7 +108,7 @@ class JudgeTest(FolderTest):
             return {}
         with open(path, encoding="utf-8") as lines:
             told = [json.loads(it) for it in lines]
-        return {it.get("id", "ended"): it["why"] for it in told}
+        return {it.get("id", "ended"): it["why"] for it in told if "why" in it}
 
 
 def short(line):

@@ -21,7 +21,6 @@ from .unjudged import Unjudged
 Passed = Tuple[str, bytes, Route]
 """A request that was passed on: its method, its target, and what it was taken for."""
 
-
 HARMLESS_KINDS = (Kind.PASS, Kind.MAKE, Kind.NODES)
 """Requests that change no document."""
 
@@ -111,7 +110,7 @@ class Judge:
         self._is_closed = self.recording.has_ended = True
         self.recording.end_histories()
         self.ledger.close()
-        self.unjudged.close()
+        self.unjudged.close(self.ledger.left_out)
 
 
 def may_have_written(passed: Passed, shape: Shape) -> bool:
