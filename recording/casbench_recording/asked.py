@@ -20,10 +20,14 @@ WEIGHT_OF_A_PART = 512
 class Part:
     """A call that a request makes, and how its reply is read."""
 
-    __slots__ = ("id", "op", "words", "digest", "client", "document", "operation", "call", "is_sure", "sweeps")
+    __slots__ = ("id", "op", "words", "digest", "document", "call", "client", "sweeps", "operation", "is_sure")
 
-    # what its line says, set before it is written
+    # who asks, and how many sweeps there had been when it was made
+    client: str
+    sweeps: int
+    # what its line says, and whether that tells the whole condition, so that a conflict may be recorded
     operation: Operation
+    is_sure: bool
 
     def __init__(self, id: str, op: str, words: Mapping[str, Any], digest: Optional[bytes] = None) -> None:
         # (an empty id if the answer tells it)
@@ -32,15 +36,9 @@ class Part:
         self.words = words
         # of the source that is written, if it can be known
         self.digest = digest
-        # who asks
-        self.client = ""
         self.document: Optional[Document] = None
         # its call, once the line is written
         self.call: Optional[Call] = None
-        # whether its line tells the whole condition, so that a conflict may be recorded
-        self.is_sure = True
-        # how many sweeps there had been when it was made
-        self.sweeps = 0
 
     @property
     def shows_all(self) -> bool:

@@ -207,7 +207,7 @@ class Asking:
             words = {"routing": index, **words}
         if words.get("pipeline", "_none") != "_none":
             raise Untellable(f"a bulk request with pipeline={str(words['pipeline'])[:200]}")
-        strange = sorted(set(words) - OF_AN_ITEM - {"pipeline"})
+        strange = sorted(set(words) - OF_AN_ITEM)
         if strange:
             self._left_out(id, f"it was written by a bulk request, with {strange[0][:200]}")
             return None

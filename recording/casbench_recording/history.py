@@ -24,6 +24,9 @@ MOST_EVENTS = 1_048_576
 LONGEST_LINE = 65_536
 """The most bytes of a line, its line feed not counted."""
 
+LONGEST_BODY = LONGEST_LINE - 100
+"""The most bytes of the text of a body in it: the number, the time and what stands around them take the others."""
+
 LONGEST_ID = 512
 """The most bytes of a document's id."""
 
@@ -471,7 +474,6 @@ class History(CallWriter):
             raise HistoryError(f"{self.path}: {fault.strerror}. The lines before are whole") from fault
         self._length += length
 
-
     def _noted(self, data: bytes) -> bytes:
         """The lines with the note on the first of them, if it has room for it."""
         note = b'{"note":%s,' % compact(self._note).encode()
@@ -570,12 +572,10 @@ def rest_of_reply(status: int, text: Optional[str]) -> str:
     start = f',"status":{status}'
     if text is None:
         return start
-    # (as much as the number, the time and what stands around them may take)
-    most = LONGEST_LINE - 100
     # (a letter takes four bytes at most)
-    if len(text) * 4 > most and len(text.encode()) > most:
+    if len(text) * 4 > LONGEST_BODY and len(text.encode()) > LONGEST_BODY:
         text = shortened(text)
-        if len(text.encode()) > most:
+        if len(text.encode()) > LONGEST_BODY:
             return start
     return f'{start},"body":{text}'
 

@@ -23,8 +23,8 @@ import time
 import urllib.parse
 from typing import Any, Dict, List, NamedTuple, Optional, Sequence, Tuple
 
-from .cluster import Answer, Cluster, ClusterError, Connection, NoAnswer, Url, credentials_of, number_from, trust_of, url_of
-from .console import counted
+from .cluster import START_PATIENCE, Answer, Cluster, ClusterError, Connection, NoAnswer, Url, credentials_of, number_from, trust_of, url_of
+from .console import ENDED_EARLY, counted
 from .continuing import Continuing, add_part_options
 from .disturb import Disturber, read_plan
 from .history import MOST_EVENTS, CallWriter, Ended, History, HistoryError, Operation, Pair, pair_of
@@ -44,12 +44,6 @@ MIXTURE = "get=6,index=2,create=1,delete=1,index-if=6,delete-if=1,bulk=1"
 
 KINDS = ("get", "index", "create", "delete", "index-if", "delete-if", "bulk")
 WRITES = ("index", "create", "delete", "index-if", "delete-if")
-
-ENDED_EARLY = 3
-"""The exit status of a recording that ended before its time."""
-
-START_PATIENCE = 5.0
-"""For how many seconds the first connection is tried."""
 
 
 class Stop:
