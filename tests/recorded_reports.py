@@ -109,12 +109,12 @@ class EarlyEnds(ReportTest):
                 shown += terminal.read(1000)
             proxy.port = int(re.search(rb":(\d+)\r\n", shown)[1])
             self.ask(proxy, "PUT", "/carts/_doc/d", "{}")
-            self.ask(proxy, "DELETE", "/carts")
-            while not re.search(rb"\r\x1b\[K1 call, 0 lost, 0 calls a second, the recording ended early: DELETE ", shown):
+            self.ask(proxy, "POST", f"/carts/_{'long' * 20}")
+            while not re.search(rb"\r\x1b\[K1 call, 0 lost, 0 calls a second, the recording ended early: POST [^\r]*\r", shown):
                 shown += terminal.read(1000)
-            self.assertIn(f"\r\x1b[K{ENDED}DELETE /carts".encode(), shown)
+            self.assertIn(f"\r\x1b[K{ENDED}POST /carts/_long".encode(), shown)
             # (a terminal that says nothing of its width has 80 columns)
-            self.assertLess(max(len(it) for it in shown.split(b"\r\x1b[K") if b"a second" in it), 80)
+            self.assertEqual(max(len(it) for it in shown.split(b"\r\x1b[K") if b"a second" in it), 79)
             proxy.process.send_signal(signal.SIGTERM)
             self.assertEqual(proxy.process.wait(30), 3)
 
