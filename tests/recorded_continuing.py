@@ -154,6 +154,17 @@ class Placing(ContinuingTest):
         self.assertEqual(self.text(3), index(0) + created(0, 1, 0, "d") + index(1, k=2) + updated(1, 1, 1, "d"))
         self.assertEqual((recording.calls, recording.lost, recording.unanswered), (4, 0, 0))
 
+    def test_a_full_part_that_still_grows(self):
+        """What is heard of a call whose document left the part isn't written there."""
+        recording = self.recording(most_events=4)
+        write, read, held = recording.call("index", "d", 1), recording.call("get", "e"), recording.call("get", "d")
+        self.assertEqual(self.names(), ["part-000001.ndjson.growing", "part-000002.ndjson.growing"])
+        write.indexed(Pair(1, 0), created=True)
+        read.missing()
+        self.assertEqual(self.text(1), index(0) + get(1, doc="e") + lost(0) + missing(1, "e"))
+        held.found(Pair(1, 0), 1)
+        self.assertEqual((recording.calls, recording.replies, recording.lost), (3, 3, 0))
+
     def test_many_parts_that_grow(self):
         recording = self.recording(1)
         calls = [recording.call("get", f"d{number}") for number in range(MOST_GROWING + 2)]
