@@ -7,6 +7,7 @@ PROGRAM is the built casbench; where it is not named, the one that ./casbench wo
 failed. That what is refuted of a part is true of the whole is tested by tests/continuing.py.
 """
 
+import contextlib
 import json
 import os
 import pathlib
@@ -26,6 +27,19 @@ from casbench_recording.past import Conflicts
 def rows(text):
     """The lines of a text without their times, and of a reply's body without what doesn't count."""
     return re.sub(r'"t":\d+,|,"t":\d+', "", text)
+
+
+@contextlib.contextmanager
+def files_of_at_most(count):
+    """Has no file take more than so many bytes in the block."""
+    handler = signal.signal(signal.SIGXFSZ, signal.SIG_IGN)
+    limits = resource.getrlimit(resource.RLIMIT_FSIZE)
+    resource.setrlimit(resource.RLIMIT_FSIZE, (count, limits[1]))
+    try:
+        yield
+    finally:
+        resource.setrlimit(resource.RLIMIT_FSIZE, limits)
+        signal.signal(signal.SIGXFSZ, handler)
 
 
 class ContinuingTest(FolderTest):
@@ -256,18 +270,17 @@ class Placing(ContinuingTest):
             call.indexed(Pair(1, len(values)), created=len(values) == 1)
         self.assertEqual(values, [0, 1, 2])
 
-    def test_a_disk_that_is_full(self):
-        with self.recording(1) as recording:
-            recording.call("index", "d", 1).indexed(Pair(1, 0), created=True)
-            handler = signal.signal(signal.SIGXFSZ, signal.SIG_IGN)
-            limits = resource.getrlimit(resource.RLIMIT_FSIZE)
-            resource.setrlimit(resource.RLIMIT_FSIZE, (60, limits[1]))
-            try:
-                self.assertRaises(HistoryError, recording.call, "get", "d")
-            finally:
-                resource.setrlimit(resource.RLIMIT_FSIZE, limits)
-                signal.signal(signal.SIGXFSZ, handler)
-        self.assertEqual(judged(self.program, self.parts / "part-000001.ndjson"), "yes docs=1 calls=1 left_out=0")
+    def test_a_disk_that_is_full_for_a_while(self):
+        """A part that is full or not: its lines are whole, and the recording goes on in the next one."""
+        for part in (1, 2):
+            self.parts = pathlib.Path(self.folder) / f"parts-{part}"
+            with self.recording(part) as recording:
+                recording.call("index", "d", 1).indexed(Pair(1, 0), created=True)
+                with files_of_at_most(60):
+                    self.assertRaises(HistoryError, recording.call, "get", "d")
+                recording.call("get", "d").found(Pair(1, 0), 1)
+            answers = [judged(self.program, it) for it in sorted(self.parts.iterdir())]
+            self.assertEqual(answers, ["yes docs=1 calls=1 left_out=0", "yes docs=1 calls=2 left_out=0"])
 
     def test_damage(self):
         recording = self.recording()
