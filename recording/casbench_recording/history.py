@@ -189,6 +189,18 @@ class Histories:
         """The history of a shard's calls."""
         raise NotImplementedError
 
+    def call(
+        self,
+        op: str,
+        id: str,
+        value: Optional[int] = None,
+        condition: Optional[Pair] = None,
+        shard: int = 0,
+        client: str = "",
+    ) -> Call:
+        """Writes the line of a call. Raises Ended where there is room for no more, CallError where it can't be a call."""
+        return self.of_shard(shard).call_one(Operation(op, id, value, condition, shard, client))
+
     def end(self) -> None:
         """Ends each history: its open calls are lost, and it takes no more. Without a call no file is left."""
         raise NotImplementedError
@@ -228,18 +240,6 @@ class CallWriter(Histories):
     def note(self, text: str) -> None:
         """Puts a note on the next line, such as what was done to the store. The format reads past it."""
         raise NotImplementedError
-
-    def call(
-        self,
-        op: str,
-        id: str,
-        value: Optional[int] = None,
-        condition: Optional[Pair] = None,
-        shard: int = 0,
-        client: str = "",
-    ) -> Call:
-        """Writes the line of a call. Raises Ended where there is room for no more, CallError where it can't be a call."""
-        return self.call_one(Operation(op, id, value, condition, shard, client))
 
     def write(self, op: str, id: str, condition: Optional[Pair] = None, shard: int = 0, client: str = "") -> Call:
         """Writes the line of an index or a create whose value is the number of its call, and so that of no other call.

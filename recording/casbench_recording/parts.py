@@ -8,9 +8,9 @@ import contextlib
 import os
 import threading
 import time
-from typing import Callable, Dict, Optional, Tuple
+from typing import Callable, Dict, Tuple
 
-from .history import MOST_EVENTS, Call, Histories, History, HistoryError, Pair
+from .history import MOST_EVENTS, Histories, History, HistoryError
 
 
 class Parts(Histories):
@@ -21,7 +21,7 @@ class Parts(Histories):
         self._most_events = most_events
         self._clock = clock
         self._lock = threading.Lock()
-        self._histories: Dict[str, History] = {}
+        self._histories: Dict[int, History] = {}
         try:
             os.mkdir(folder)
         except OSError as fault:
@@ -34,14 +34,12 @@ class Parts(Histories):
             return tuple(self._histories.values())
 
     def of_shard(self, shard: int) -> History:
-        """The history of a shard's calls."""
-        return self._named(f"shard-{shard}")
-
-    def call(
-        self, op: str, id: str, value: Optional[int] = None, condition: Optional[Pair] = None, shard: int = 0
-    ) -> Call:
-        """Writes the line of a call to the history of its shard."""
-        return self.of_shard(shard).call(op, id, value, condition, shard)
+        """The history of a shard's calls, begun where there is none yet."""
+        with self._lock:
+            if shard not in self._histories:
+                path = os.path.join(self.folder, f"shard-{shard}.ndjson")
+                self._histories[shard] = History(path, self._most_events, self._clock)
+            return self._histories[shard]
 
     def end(self) -> None:
         """Ends each history. Where none has a call no file is left, and so no folder."""
@@ -49,11 +47,3 @@ class Parts(Histories):
             history.end()
         with contextlib.suppress(OSError):
             os.rmdir(self.folder)
-
-    def _named(self, name: str) -> History:
-        """The history of this name, begun where there is none yet."""
-        with self._lock:
-            if name not in self._histories:
-                path = os.path.join(self.folder, f"{name}.ndjson")
-                self._histories[name] = History(path, self._most_events, self._clock)
-            return self._histories[name]
