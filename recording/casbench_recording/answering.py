@@ -150,7 +150,7 @@ class Answering:
             document.wrote_nothing(value)
         if document.state is UNSURE and not self._is_settled(part, status, body):
             return None
-        text = text or readable(body)
+        text = text or readable(part.id, body)
         return (status, text) if text is not None else None
 
     def _is_settled(self, part: Part, status: int, body: Body) -> bool:
