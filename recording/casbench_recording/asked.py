@@ -5,10 +5,16 @@ from typing import Any, List, Mapping, Optional, Sequence, Tuple
 
 from .bulk import Items
 from .documents import Document
-from .history import Call, Operation, Pair, is_whole
+from .history import TAKES_A_CONDITION, Call, Operation, Pair
 from .routes import PARTS_OF_A_SOURCE, Kind, Route
 
 DIGITS = re.compile(r"[0-9]{1,19}")
+
+OF_A_VERSION = {"version", "version_type"}
+"""Words of a condition that no line can tell."""
+
+OF_A_CONDITION = OF_A_VERSION | {"if_seq_no", "if_primary_term"}
+"""Words of a condition."""
 
 MANY_WRITES = 10**9
 """How many changes a bulk request may make that can't be read."""
@@ -129,11 +135,9 @@ def condition_of(op: str, words: Mapping[str, Any]) -> Tuple[Optional[Pair], boo
     """The condition that the words of a write tell, and whether that is all that it depends on."""
     if not words:
         return None, True
-    seq, term = words.get("if_seq_no"), words.get("if_primary_term")
-    is_sure = not {"version", "version_type", "if_seq_no", "if_primary_term"} & set(words)
-    if op not in ("index", "delete") or not (DIGITS.fullmatch(str(seq)) and DIGITS.fullmatch(str(term))):
-        return None, is_sure
-    pair = Pair(int(str(term)), int(str(seq)))
-    if not is_whole(pair.term, 1, 2**63 - 1) or not is_whole(pair.seq, 0, 2**63 - 1):
+    seq, term = str(words.get("if_seq_no")), str(words.get("if_primary_term"))
+    if op not in TAKES_A_CONDITION or not (DIGITS.fullmatch(seq) and DIGITS.fullmatch(term)):
+        return None, OF_A_CONDITION.isdisjoint(words)
+    if not 1 <= int(term) < 2**63 or not int(seq) < 2**63:
         return None, False
-    return pair, not {"version", "version_type"} & set(words)
+    return Pair(int(term), int(seq)), OF_A_VERSION.isdisjoint(words)
