@@ -1,19 +1,21 @@
 #!/usr/bin/env python3
 """Measures what the recording proxy takes: how many requests a second pass, and how long each takes, with it and without.
 
-    python3 tests/measure_proxy.py [--clients 100] [--seconds 10] [--rate N] [--apart] [PROGRAM]
+    python3 tests/measure_proxy.py [--clients 100] [--seconds 10] [--times 1] [--part N] [--rate N] [--apart] [PROGRAM]
 
 Starts the stand-in, and has so many clients ask it, each on a connection of its own and its next request after each answer:
 three gets, an index and an index under the condition of the last pair that it was told, in turn, each client on a document of its own
 and on one that all share. Then the same through the proxy, and what the program says of the history. With a rate the clients
 together ask so many times a second and no more, evenly, so that the times tell what the proxy adds to each request. What each takes of a
-processor is told too, since the times of the clock say little where other work is done beside.
+processor is told too, since the times of the clock say little where other work is done beside; and how much memory the proxy takes, after
+each of several times. With a part the recording has no end: each part has so many calls.
 """
 
 import argparse
 import contextlib
 import json
 import os
+import pathlib
 import re
 import selectors
 import socket
@@ -21,6 +23,7 @@ import sys
 import tempfile
 import time
 
+from attacks import megabytes
 from recordings import Started, judged
 
 NUMBERS = re.compile(rb'"_seq_no":(\d+),"_primary_term":(\d+)')
@@ -108,13 +111,22 @@ class Taken:
 
 
 def measure(name, port, setting, **commands):
-    """Runs the clients, and tells what was measured."""
+    """Runs the clients, and tells what was measured; how many requests there were."""
     with Taken(**commands) as taken:
         rate, times = run_clients(port, setting)
     middle, most = times[len(times) // 2], times[len(times) * 99 // 100]
     print(f"{name}: {rate:.0f} requests a second; each {middle:.2f} ms (the middle), {most:.2f} ms (99 of 100 at most)")
     shares = [f"{it} {seconds / len(times) * 1000:.3f}" for it, seconds in taken.seconds.items()]
     print(f"  ms of a processor for a request: {', '.join(shares)}", flush=True)
+    return len(times)
+
+
+def measure_times(proxy, other, setting):
+    """Measures the proxy as many times as the setting says; tells how much memory it takes after each."""
+    count = 0
+    for _ in range(setting.times):
+        count += measure("with the proxy", proxy.port, setting, proxy=proxy, stand_in=other)
+        print(f"  {count} requests so far, {megabytes(proxy, 'VmRSS'):.1f} MiB", flush=True)
 
 
 def keep_apart(proxy):
@@ -135,6 +147,8 @@ def main():
     parser = argparse.ArgumentParser()
     parser.add_argument("--clients", type=int, default=100)
     parser.add_argument("--seconds", type=float, default=10)
+    parser.add_argument("--times", type=int, default=1, help="measures the proxy so many times, one after the other")
+    parser.add_argument("--part", type=int, help="records in parts of so many calls")
     parser.add_argument("--rate", type=int)
     parser.add_argument("--apart", action="store_true", help="gives the proxy a processor of its own")
     parser.add_argument("program", nargs="?", default=None)
@@ -144,15 +158,16 @@ def main():
             measure("without the proxy", other.port, setting, stand_in=other)
         with Started("stand_in", "--port", "0") as other:
             other.make("carts")
-            file = os.path.join(folder, "carts.ndjson")
-            words = ["--listen", "127.0.0.1:0", "--cluster", other.url, "--index", "carts", file]
+            file = pathlib.Path(folder) / "carts.ndjson"
+            parts = ["--part", str(setting.part)] if setting.part else []
+            words = ["--listen", "127.0.0.1:0", "--cluster", other.url, "--index", "carts", *parts, str(file)]
             with Started("proxy", *words) as proxy:
                 if setting.apart:
                     keep_apart(proxy)
-                measure("with the proxy", proxy.port, setting, proxy=proxy, stand_in=other)
+                measure_times(proxy, other, setting)
                 print(proxy.ended())
-        if setting.program:
-            print(judged(os.path.realpath(setting.program), file))
+        for history in (sorted(file.iterdir()) if setting.part else [file]) if setting.program else []:
+            print(judged(os.path.realpath(setting.program), history))
 
 
 if __name__ == "__main__":

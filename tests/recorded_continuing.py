@@ -7,6 +7,7 @@ PROGRAM is the built casbench; where it is not named, the one that ./casbench wo
 failed. That what is refuted of a part is true of the whole is tested by tests/continuing.py.
 """
 
+import contextlib
 import json
 import os
 import pathlib
@@ -26,6 +27,19 @@ from casbench_recording.past import Conflicts
 def rows(text):
     """The lines of a text without their times, and of a reply's body without what doesn't count."""
     return re.sub(r'"t":\d+,|,"t":\d+', "", text)
+
+
+@contextlib.contextmanager
+def files_of_at_most(count):
+    """Has no file take more than so many bytes in the block."""
+    handler = signal.signal(signal.SIGXFSZ, signal.SIG_IGN)
+    limits = resource.getrlimit(resource.RLIMIT_FSIZE)
+    resource.setrlimit(resource.RLIMIT_FSIZE, (count, limits[1]))
+    try:
+        yield
+    finally:
+        resource.setrlimit(resource.RLIMIT_FSIZE, limits)
+        signal.signal(signal.SIGXFSZ, handler)
 
 
 class ContinuingTest(FolderTest):
@@ -154,6 +168,17 @@ class Placing(ContinuingTest):
         self.assertEqual(self.text(3), index(0) + created(0, 1, 0, "d") + index(1, k=2) + updated(1, 1, 1, "d"))
         self.assertEqual((recording.calls, recording.lost, recording.unanswered), (4, 0, 0))
 
+    def test_a_full_part_that_still_grows(self):
+        """What is heard of a call whose document left the part isn't written there."""
+        recording = self.recording(most_events=4)
+        write, read, held = recording.call("index", "d", 1), recording.call("get", "e"), recording.call("get", "d")
+        self.assertEqual(self.names(), ["part-000001.ndjson.growing", "part-000002.ndjson.growing"])
+        write.indexed(Pair(1, 0), created=True)
+        read.missing()
+        self.assertEqual(self.text(1), index(0) + get(1, doc="e") + lost(0) + missing(1, "e"))
+        held.found(Pair(1, 0), 1)
+        self.assertEqual((recording.calls, recording.replies, recording.lost), (3, 3, 0))
+
     def test_many_parts_that_grow(self):
         recording = self.recording(1)
         calls = [recording.call("get", f"d{number}") for number in range(MOST_GROWING + 2)]
@@ -247,18 +272,17 @@ class Placing(ContinuingTest):
         several = recording.write_all([Operation("get", "d"), Operation("create", "e"), Operation("delete", "d"), Operation("index", "d")])
         self.assertEqual([it.operation.value for it in several], [None, 4, None, 6])
 
-    def test_a_disk_that_is_full(self):
-        with self.recording(1) as recording:
-            recording.call("index", "d", 1).indexed(Pair(1, 0), created=True)
-            handler = signal.signal(signal.SIGXFSZ, signal.SIG_IGN)
-            limits = resource.getrlimit(resource.RLIMIT_FSIZE)
-            resource.setrlimit(resource.RLIMIT_FSIZE, (60, limits[1]))
-            try:
-                self.assertRaises(HistoryError, recording.call, "get", "d")
-            finally:
-                resource.setrlimit(resource.RLIMIT_FSIZE, limits)
-                signal.signal(signal.SIGXFSZ, handler)
-        self.assertEqual(judged(self.program, self.parts / "part-000001.ndjson"), "yes docs=1 calls=1 left_out=0")
+    def test_a_disk_that_is_full_for_a_while(self):
+        """A part that is full or not: its lines are whole, and the recording goes on in the next one."""
+        for part in (1, 2):
+            self.parts = pathlib.Path(self.folder) / f"parts-{part}"
+            with self.recording(part) as recording:
+                recording.call("index", "d", 1).indexed(Pair(1, 0), created=True)
+                with files_of_at_most(60):
+                    self.assertRaises(HistoryError, recording.call, "get", "d")
+                recording.call("get", "d").found(Pair(1, 0), 1)
+            answers = [judged(self.program, it) for it in sorted(self.parts.iterdir())]
+            self.assertEqual(answers, ["yes docs=1 calls=1 left_out=0", "yes docs=1 calls=2 left_out=0"])
 
     def test_damage(self):
         recording = self.recording()
@@ -279,7 +303,7 @@ class Placing(ContinuingTest):
             recording.call("create", "d", number).conflict()
         document = recording._documents["d"]
         past = document.past
-        kept = [len(it) for it in (recording._begun, recording._growing, past._lost_blind, past._lost_conditional, past._refused)]
+        kept = [len(it) for it in (recording._open, recording._growing, past._lost_blind, past._lost_conditional, past._refused)]
         self.assertLessEqual(max(kept), 1, kept)
 
 

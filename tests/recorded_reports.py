@@ -9,6 +9,7 @@ passed and failed.
 
 import contextlib
 import http.client
+import json
 import os
 import pty
 import re
@@ -108,12 +109,12 @@ class EarlyEnds(ReportTest):
                 shown += terminal.read(1000)
             proxy.port = int(re.search(rb":(\d+)\r\n", shown)[1])
             self.ask(proxy, "PUT", "/carts/_doc/d", "{}")
-            self.ask(proxy, "DELETE", "/carts")
-            while not re.search(rb"\r\x1b\[K1 call, 0 lost, 0 calls a second, the recording ended early: DELETE ", shown):
+            self.ask(proxy, "POST", f"/carts/_{'long' * 20}")
+            while not re.search(rb"\r\x1b\[K1 call, 0 lost, 0 calls a second, the recording ended early: POST [^\r]*\r", shown):
                 shown += terminal.read(1000)
-            self.assertIn(f"\r\x1b[K{ENDED}DELETE /carts".encode(), shown)
+            self.assertIn(f"\r\x1b[K{ENDED}POST /carts/_long".encode(), shown)
             # (a terminal that says nothing of its width has 80 columns)
-            self.assertLess(max(len(it) for it in shown.split(b"\r\x1b[K") if b"a second" in it), 80)
+            self.assertEqual(max(len(it) for it in shown.split(b"\r\x1b[K") if b"a second" in it), 79)
             proxy.process.send_signal(signal.SIGTERM)
             self.assertEqual(proxy.process.wait(30), 3)
 
@@ -167,6 +168,7 @@ class Arguments(FolderTest):
             ("proxy", ["--cluster", f"{url},http://127.0.0.1:9201", *index], 2, f"proxy.py: error: argument --cluster: {several}"),
             ("proxy", ["--cluster", "http://127.0.0.1:99999", *index], 2, "proxy.py: error: argument --cluster: a port is a number from 1 to 65535"),
             ("proxy", ["--cluster", "127.0.0.1:9200", *index], 2, "proxy.py: error: argument --cluster: it is no address such as https://host:9200"),
+            ("proxy", ["--cluster", "ftp://127.0.0.1:9200", *index], 2, "proxy.py: error: argument --cluster: it is no address such as https://host:9200"),
             ("proxy", ["--cluster", url, "--node", url, *index], 2, "proxy.py: error: argument --node: it is nothing such as 127.0.0.1:9202=http://node-2:9200"),
             ("proxy", ["--cluster", url, "--node", f"9202={url}", *index], 2, "proxy.py: error: argument --node: it is no address such as 127.0.0.1:9201"),
             ("record", ["http://127.0.0.1:http", "carts", "out"], 2, "record.py: error: argument URL[,URL..]: a port is a number from 1 to 65535"),
@@ -206,6 +208,8 @@ class Counts(ReportTest):
         said = proxy.ended().splitlines()
         self.assertEqual(said[1], "judged: 1 document, 2 calls; not judged: 1 document, 2 calls")
         self.assertRegex(said[2], "^1 document is not judged, from some moment on or at all ")
+        with open(f"{self.file}.not-judged", encoding="utf-8") as lines:
+            self.assertEqual([json.loads(it).get("calls") for it in lines], [None, 2])
 
 
 if __name__ == "__main__":

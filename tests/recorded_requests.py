@@ -108,7 +108,7 @@ class JudgeTest(FolderTest):
             return {}
         with open(path, encoding="utf-8") as lines:
             told = [json.loads(it) for it in lines]
-        return {it.get("id", "ended"): it["why"] for it in told}
+        return {it.get("id", "ended"): it["why"] for it in told if "why" in it}
 
 
 def short(line):
@@ -606,7 +606,7 @@ class NotJudged(JudgeTest):
             self.tidy()
 
     def test_a_fault_of_the_recorder_ends_the_recording(self):
-        for at, (where, name) in enumerate(((Asking, "operation"), (Answering, "_reply"))):
+        for at, (where, name) in enumerate(((Asking, "set_operation"), (Answering, "_reply"))):
             judge = self.judge()
             get = self.ask(judge, "GET", "/carts/_doc/d")
             with mock.patch.object(where, name, side_effect=KeyError("x")):

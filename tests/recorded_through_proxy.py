@@ -510,7 +510,8 @@ class Begun(ProxyTest):
         self.assertRegex(said[4], "^30 documents are not judged, ")
         self.assertEqual((len(said), said[-1]), (26, "  and 10 more"))
         with open(self.file + ".not-judged", encoding="utf-8") as lines:
-            self.assertEqual(len([json.loads(it) for it in lines]), 31)
+            listed = [json.loads(it) for it in lines]
+        self.assertEqual((len(listed), listed[-2:]), (32, [{"ended": True, "why": "DELETE /carts"}, {"calls": 30}]))
 
     def test_progress_on_a_terminal_alone(self):
         ours, its = pty.openpty()

@@ -145,12 +145,14 @@ class OneHistory(WatchTest):
     def test_what_is_not_judged(self):
         """It is printed with the last answer."""
         self.append(RIGHT)
-        self.append('{"id": "d1", "why": "x"}\n{"id": "d2", "why": "x"}\n{"ended": true, "why": "the disk\\u001b is full"}\n{"id": "d', "carts.ndjson.not-judged")
-        child = self.watched()
-        self.wait_for(lambda: heeds_signals(child))
-        told = f"yes docs=1 calls=2 left_out=0\nnot judged: 2 documents, listed in {self.file}.not-judged\n"
-        told += "the recording ended early: the disk\\x1b is full\n"
-        self.assertEqual(self.ended(child, signal.SIGTERM)[:2], (0, told))
+        self.append('{"id": "d1", "why": "x"}\n{"id": "d2", "why": "x"}\n{"ended": true, "why": "the disk\\u001b is full"}\n', "carts.ndjson.not-judged")
+        for last, count in (('{"id": "d', "2 documents"), ('3"}\n{"calls": 1}\n', "3 documents, 1 call")):
+            self.append(last, "carts.ndjson.not-judged")
+            child = self.watched()
+            self.wait_for(lambda: heeds_signals(child))
+            told = f"yes docs=1 calls=2 left_out=0\nnot judged: {count}, listed in {self.file}.not-judged\n"
+            told += "the recording ended early: the disk\\x1b is full\n"
+            self.assertEqual(self.ended(child, signal.SIGTERM)[:2], (0, told))
 
     def test_a_term_that_starts_too_low(self):
         """It is reported with the last answer, which is yes all the same."""

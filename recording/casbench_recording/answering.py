@@ -7,9 +7,8 @@ from .asking import Asking
 from .bodies import MOST_READ
 from .bulk import items_of_long
 from .documents import NOT_JUDGED, UNSURE, Document, State, digest_of, is_id, object_of
-from .history import Call, pair_of, text_of_find, text_of_write
+from .history import Call, Ending, Reply, pair_of, text_of_find, text_of_write
 from .ledger import Ledger
-from .recording import Ending, Reply
 from .routes import BULK, SWEEP, Kind
 from .told import item_status, listed, missing_by_length, readable, told_true
 from .usual import read_reply
@@ -131,7 +130,7 @@ class Answering:
         """The status and the text of the body that are written for a reply; None where it is lost."""
         document = part.document
         assert document is not None
-        pair, result = pair_of(body), body.get("result")
+        pair, result, value = pair_of(body), body.get("result"), part.operation.value
         text: Optional[str] = None
         if part.op == "get":
             if status == 200 and body.get("found") is True and pair is not None:
@@ -144,14 +143,14 @@ class Answering:
                 text = text_of_find(part.id, pair, number)
         elif status == 409 and not part.is_sure:
             return None
-        elif pair is not None and part.number is not None and (status, result) in ((201, "created"), (200, "updated")):
-            document.written(pair, part.number)
+        elif pair is not None and value is not None and (status, result) in ((201, "created"), (200, "updated")):
+            document.written(pair, value)
             text = text_of_write(part.id, "created" if status == 201 else "updated", pair)
-        elif (status, result) == (200, "noop") and part.number is not None:
-            document.wrote_nothing(part.number)
+        elif (status, result) == (200, "noop") and value is not None:
+            document.wrote_nothing(value)
         if document.state is UNSURE and not self._is_settled(part, status, body):
             return None
-        text = text or readable(body)
+        text = text or readable(part.id, body)
         return (status, text) if text is not None else None
 
     def _is_settled(self, part: Part, status: int, body: Body) -> bool:

@@ -5,10 +5,16 @@ from typing import Any, List, Mapping, Optional, Sequence, Tuple
 
 from .bulk import Items
 from .documents import Document
-from .history import Call, Pair, is_whole
+from .history import TAKES_A_CONDITION, Call, Operation, Pair
 from .routes import PARTS_OF_A_SOURCE, Kind, Route
 
 DIGITS = re.compile(r"[0-9]{1,19}")
+
+OF_A_VERSION = {"version", "version_type"}
+"""Words of a condition that no line can tell."""
+
+OF_A_CONDITION = OF_A_VERSION | {"if_seq_no", "if_primary_term"}
+"""Words of a condition."""
 
 MANY_WRITES = 10**9
 """How many changes a bulk request may make that can't be read."""
@@ -20,7 +26,14 @@ WEIGHT_OF_A_PART = 512
 class Part:
     """A call that a request makes, and how its reply is read."""
 
-    __slots__ = ("id", "op", "words", "digest", "client", "document", "call", "number", "is_sure", "sweeps")
+    __slots__ = ("id", "op", "words", "digest", "document", "call", "client", "sweeps", "operation", "is_sure")
+
+    # who asks, and how many sweeps there had been when it was made
+    client: str
+    sweeps: int
+    # what its line says, and whether that tells the whole condition, so that a conflict may be recorded
+    operation: Operation
+    is_sure: bool
 
     def __init__(self, id: str, op: str, words: Mapping[str, Any], digest: Optional[bytes] = None) -> None:
         # (an empty id if the answer tells it)
@@ -29,15 +42,9 @@ class Part:
         self.words = words
         # of the source that is written, if it can be known
         self.digest = digest
-        # who asks
-        self.client = ""
         self.document: Optional[Document] = None
+        # its call, once the line is written
         self.call: Optional[Call] = None
-        self.number: Optional[int] = None
-        # whether its line tells the whole condition, so that a conflict may be recorded
-        self.is_sure = True
-        # how many sweeps there had been when it was made
-        self.sweeps = 0
 
     @property
     def shows_all(self) -> bool:
@@ -128,11 +135,9 @@ def condition_of(op: str, words: Mapping[str, Any]) -> Tuple[Optional[Pair], boo
     """The condition that the words of a write tell, and whether that is all that it depends on."""
     if not words:
         return None, True
-    seq, term = words.get("if_seq_no"), words.get("if_primary_term")
-    is_sure = not {"version", "version_type", "if_seq_no", "if_primary_term"} & set(words)
-    if op not in ("index", "delete") or not (DIGITS.fullmatch(str(seq)) and DIGITS.fullmatch(str(term))):
-        return None, is_sure
-    pair = Pair(int(str(term)), int(str(seq)))
-    if not is_whole(pair.term, 1, 2**63 - 1) or not is_whole(pair.seq, 0, 2**63 - 1):
+    seq, term = str(words.get("if_seq_no")), str(words.get("if_primary_term"))
+    if op not in TAKES_A_CONDITION or not (DIGITS.fullmatch(seq) and DIGITS.fullmatch(term)):
+        return None, OF_A_CONDITION.isdisjoint(words)
+    if not 1 <= int(term) < 2**63 or not int(seq) < 2**63:
         return None, False
-    return pair, not {"version", "version_type"} & set(words)
+    return Pair(int(term), int(seq)), OF_A_VERSION.isdisjoint(words)

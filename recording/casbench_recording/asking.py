@@ -5,8 +5,8 @@ from typing import Any, Dict, Iterator, List, Mapping, Optional, Sequence
 from .asked import Asked, AskedInPieces, Part, condition_of
 from .bodies import MOST_READ, texts_of
 from .bulk import Item, Untellable
-from .documents import NOT_JUDGED, digest_of_text, object_of
-from .history import Operation
+from .documents import NOT_JUDGED, Document, digest_of_text, object_of
+from .history import WRITES_A_VALUE, Operation
 from .inspection import Shape
 from .ledger import Ledger
 from .routes import BULK, CALL, OF_A_GET, OF_AN_UPDATE, SWEEP, Kind, Route
@@ -80,7 +80,7 @@ class Asking:
     def _ask(self, route: Route, method: str, content: Optional[bytes], client: str) -> Optional[Asked]:
         kind = route.kind
         if kind is CALL:
-            digest = digest_of_text(content) if route.op in ("index", "create") else None
+            digest = digest_of_text(content) if route.op in WRITES_A_VALUE else None
             return self._made_one(kind, Part(route.id, route.op, route.words, digest), client, method == "HEAD")
         if kind is Kind.NEW:
             return self._made_one(kind, Part("", route.op, route.words, digest_of_text(content)), client)
@@ -111,8 +111,8 @@ class Asking:
         """Writes the call of a request that makes one, before the request is passed on."""
         part.client = client
         if self._is_ready(part) and part.document is not None:
-            history = self._recording.history.of_shard(part.document.shard)
-            self._recording.write_calls_of(history, [(part, self.operation(part))])
+            self.set_operation(part, part.document)
+            self._recording.write_calls_of(self._recording.history.of_shard(part.document.shard), [part])
         return Asked(kind, (part,), is_head)
 
     def _made(self, kind: Kind, parts: List[Optional[Part]], client: str) -> Optional[Asked]:
@@ -127,15 +127,20 @@ class Asking:
             if it is not None:
                 it.client = client
         ready = [it for it in parts if it is not None and self._is_ready(it)]
-        # (another part of the request may have ended the judgement of a document)
-        judged = [it for it in ready if it.document is not None and it.document.state is not NOT_JUDGED]
-        self._recording.write_calls([(it, self.operation(it)) for it in judged])
+        judged = []
+        for it in ready:
+            # (another part of the request may have ended the judgement of a document)
+            if it.document is not None and it.document.state is not NOT_JUDGED:
+                self.set_operation(it, it.document)
+                judged.append(it)
+        self._recording.write_calls(judged)
 
     def write_part(self, part: Part) -> bool:
         """Writes the call of a part, if it is one of a document that is judged; tells whether it is."""
-        if not self._is_ready(part):
+        if not self._is_ready(part) or part.document is None:
             return False
-        self._recording.write_calls([(part, self.operation(part))])
+        self.set_operation(part, part.document)
+        self._recording.write_calls([part])
         return True
 
     def _is_ready(self, part: Part) -> bool:
@@ -163,17 +168,16 @@ class Asking:
             self._ledger.untold(part.id, why if shape is None else "it was written with a routing, in an index of several shards")
         return False
 
-    def operation(self, part: Part) -> Operation:
-        """The call that a part is."""
-        document = part.document
-        assert document is not None
+    def set_operation(self, part: Part, document: Document) -> None:
+        """Sets what the line of a part's call says."""
         condition, part.is_sure = condition_of(part.op, part.words)
-        if part.op in ("index", "create"):
-            part.number = document.number_to_write(part.digest)
+        number: Optional[int] = None
+        if part.op in WRITES_A_VALUE:
+            number = document.number_to_write(part.digest)
             document.writes += 1
         elif part.op == "delete":
             document.deletes += 1
-        return Operation(part.op, part.id, part.number, condition, document.shard, part.client)
+        part.operation = Operation(part.op, part.id, number, condition, document.shard, part.client)
 
     # What a request says of a document
 
@@ -203,7 +207,7 @@ class Asking:
             words = {"routing": index, **words}
         if words.get("pipeline", "_none") != "_none":
             raise Untellable(f"a bulk request with pipeline={str(words['pipeline'])[:200]}")
-        strange = sorted(set(words) - OF_AN_ITEM - {"pipeline"})
+        strange = sorted(set(words) - OF_AN_ITEM)
         if strange:
             self._left_out(id, f"it was written by a bulk request, with {strange[0][:200]}")
             return None

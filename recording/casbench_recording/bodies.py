@@ -3,7 +3,6 @@
 import json
 from typing import Any, Dict, List, Optional, Set, Tuple
 
-
 MOST_READ = 2 * 1024 * 1024
 """The most bytes of a body that are read at once. The source of a longer one is none that is known."""
 

@@ -100,7 +100,7 @@ class ClientConnection:
         if self.stream.is_at_end and not self.is_working and (self.exchange is None or not self.exchange.is_sent):
             self.close()
         exchange = self.exchange
-        if self.data or self.held or self.is_paused or self.is_cluster_full or exchange is None or exchange.weight or not exchange.is_sent:
+        if self.data or self.held or self.is_paused or exchange is None or exchange.weight or not exchange.is_sent:
             self.heed_flow()
 
     def ended(self) -> None:

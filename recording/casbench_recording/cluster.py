@@ -15,9 +15,11 @@ from .history import NoOutcome, text_of, value_of
 
 Url = urllib.parse.SplitResult
 
+START_PATIENCE = 5.0
+"""For how many seconds the first connection to the cluster is tried."""
+
 PAUSE = 0.1
 """How many seconds lie between two tries to connect."""
-
 
 MOST_OF_AN_ANSWER = 16 * 1024 * 1024
 """The most bytes of an answer that are taken."""

@@ -10,6 +10,9 @@ import sys
 import time
 from typing import Sequence
 
+ENDED_EARLY = 3
+"""The exit status of a recording that ended before its time."""
+
 MOST_AT_ONCE = 4096
 """The most bytes that a pipe takes without waiting, once it says that it takes any."""
 

@@ -9,11 +9,10 @@ calls is open; its name has the suffix `.growing` until then.
 import argparse
 import contextlib
 import os
-import threading
 import time
-from typing import Callable, Dict, List, NamedTuple, Optional, Sequence, Tuple
+from typing import Callable, Dict, List, Optional, Sequence, Tuple
 
-from .history import MOST_EVENTS, Call, CallError, Ended, History, HistoryError, Operation, Pair, members_of_call, numbered, writing
+from .history import MOST_EVENTS, Call, CallError, CallWriter, Ended, Ending, History, HistoryError, Operation, members_of_call
 from .past import UNKNOWN, Beginning, Conflicts, Past, told_by
 
 PART = 400_000
@@ -47,7 +46,7 @@ class Part:
         self.is_closed = False
         # how many more calls it takes documents with, beside those with which they begin; and calls whose lines are written next
         self._left = most_calls
-        self._waiting: List[Call] = []
+        self._waiting: "List[WholeCall]" = []
 
     @property
     def room(self) -> int:
@@ -65,7 +64,7 @@ class Part:
         self._count()
         return call
 
-    def take(self, call: Call) -> None:
+    def take(self, call: "WholeCall") -> None:
         """Takes a call, whose line `write` writes."""
         self._waiting.append(call)
         self._count()
@@ -75,12 +74,12 @@ class Part:
         self._left -= 1
         self.is_closed = self.is_closed or self._left <= 0 or self.room <= 0
 
-    def write(self, begun: "Dict[int, Begun]") -> None:
-        """Writes the lines of the calls that were taken, and keeps each under its number in the whole recording."""
+    def write(self) -> None:
+        """Writes the lines of the calls that were taken."""
         waiting, self._waiting = self._waiting, []
         written = self.history.call_all([it.operation for it in waiting]) if waiting else []
         for whole, own in zip(waiting, written):
-            begun[whole.number] = begun[whole.number]._replace(call=own)
+            whole.own = own
 
     def begin(self, id: str, shard: int, beginning: Beginning) -> None:
         """Writes what a document begins with here."""
@@ -115,21 +114,33 @@ class Document:
         # whether it is recorded no longer
         self.is_left = False
 
+    def place(self) -> Optional[Part]:
+        """The part that its next call goes to, or None if it moves to another one first."""
+        part = self.part
+        if part is None or part.history.has_ended or part.is_closed and (self.past.is_at_rest or part.room == 0):
+            return None
+        return part
 
-class Begun(NamedTuple):
-    """A call that is open: its document, the part that its line is in, and its call there, or None if it isn't written or is lost there."""
 
-    document: Document
-    part: Part
-    call: Optional[Call] = None
+class WholeCall(Call):
+    """A call, with its number in the whole recording: its document, and the part that its line is in."""
+
+    __slots__ = ("document", "part", "own")
+
+    def __init__(self, history: "Continuing", number: int, operation: Operation, document: Document, part: Part) -> None:
+        super().__init__(history, number, operation)
+        self.document = document
+        self.part = part
+        # the call of the part, or None if it isn't written yet, or was lost there before its ending
+        self.own: Optional[Call] = None
 
     @property
     def recorded(self) -> Optional[Call]:
-        """The call whose ending is recorded, if it is."""
-        return None if self.part.history.has_ended else self.call
+        """The call of the part, if its ending is recorded."""
+        return None if self.part.history.has_ended else self.own
 
 
-class Continuing:
+class Continuing(CallWriter):
     """The parts of a directory, which is made. Any thread may use it, as a `History`.
 
     The numbers of its calls are those of the whole recording; each part numbers its calls anew. Where a line can't be written
@@ -144,18 +155,16 @@ class Continuing:
         most_events: int = MOST_EVENTS,
         clock: Callable[[], float] = time.time,
     ) -> None:
-        self.path = folder
-        self.calls = self.replies = self.lost = 0
-        self.has_ended = False
+        super().__init__(folder)
         # is told of each document that moves, with what its next part begins with, before its call there is returned
         self.heed_move: Callable[[str, Beginning], object] = lambda id, beginning: None
         self._conflicts = conflicts
         self._most_events = min(most_events, MOST_EVENTS)
         self._most_calls = min(part, self._most_events // 2)
         self._clock = clock
-        self._lock = threading.RLock()
         self._documents: Dict[str, Document] = {}
-        self._begun: Dict[int, Begun] = {}
+        # the calls that are open, by their numbers
+        self._open: Dict[int, WholeCall] = {}
         # (the last one is the newest)
         self._growing: List[Part] = []
         self._count = 0
@@ -165,26 +174,6 @@ class Continuing:
             os.mkdir(folder)
         except OSError as fault:
             raise HistoryError(f"{folder}: {fault.strerror}") from fault
-
-    def __enter__(self) -> "Continuing":
-        return self
-
-    def __exit__(self, *_: object) -> None:
-        self.end()
-
-    @property
-    def histories(self) -> "Tuple[Continuing, ...]":
-        """The histories of the recording: this one, as that of all its parts."""
-        return (self,)
-
-    def of_shard(self, shard: int) -> "Continuing":
-        """The history of a shard's calls: this one."""
-        return self
-
-    @property
-    def unanswered(self) -> int:
-        """How many calls have no reply."""
-        return self.calls - self.replies
 
     @property
     def room(self) -> int:
@@ -201,35 +190,15 @@ class Continuing:
             if not self._growing:
                 self._notes.append(text)
 
-    def call(
-        self,
-        op: str,
-        id: str,
-        value: Optional[int] = None,
-        condition: Optional[Pair] = None,
-        shard: int = 0,
-        client: str = "",
-    ) -> Call:
-        """Writes the line of a call to the part that the document is in."""
-        return self.call_one(Operation(op, id, value, condition, shard, client))
-
     def call_one(self, operation: Operation) -> Call:
-        """The same of an operation."""
+        """Writes the line of a call to the part that the document is in."""
         with self._lock:
             document = self._document(operation)
-            if self._is_moving(document):
-                self._move(operation.id, document)
-            part = self._part_of(document)
-            return self._begin(operation, Begun(document, part, part.call(operation)))
-
-    def write(self, op: str, id: str, condition: Optional[Pair] = None, shard: int = 0, client: str = "") -> Call:
-        """Writes the line of an index or a create whose value is the number of its call in the whole recording."""
-        return self.write_all([writing(Operation(op, id, None, condition, shard, client))])[0]
-
-    def write_all(self, operations: Sequence[Operation]) -> List[Call]:
-        """The same of several calls; each index and each create is given the number of its call as its value."""
-        with self._lock:
-            return self.call_all(numbered(operations, self.calls))
+            part = document.place() or self._move(operation.id, document)
+            own = part.call(operation)
+            call = self._begin(operation, document, part)
+            call.own = own
+            return call
 
     def call_all(self, operations: Sequence[Operation]) -> List[Call]:
         """Writes the lines of several calls, such as the items of a bulk request; none where CallError or TooManyLost is raised."""
@@ -238,9 +207,9 @@ class Continuing:
         with self._lock:
             documents = [self._document(it) for it in operations]
             calls = [self._take(operation, document) for operation, document in zip(operations, documents)]
-            for part in {self._begun[it.number].part for it in calls}:
-                part.write(self._begun)
-            return calls
+            for part in {it.part for it in calls}:
+                part.write()
+            return [*calls]
 
     def _document(self, operation: Operation) -> Document:
         """The document of an operation, after a look whether it can be called."""
@@ -252,16 +221,9 @@ class Continuing:
             document = self._documents[operation.id] = Document(operation.shard)
         if document.shard != operation.shard:
             raise CallError(f"the document {operation.id!r} is on shard {document.shard}, and not on {operation.shard}")
-        if document.is_left or self._is_moving(document) and not self._can_move(document):
+        if document.is_left or document.place() is None and not self._can_move(document):
             raise TooManyLost(operation.id)
         return document
-
-    def _is_moving(self, document: Document) -> bool:
-        """Whether the document's next call goes to another part than its last one."""
-        part = document.part
-        if part is None or part.history.has_ended:
-            return True
-        return part.is_closed and (document.past.is_at_rest or part.room == 0)
 
     def _can_move(self, document: Document) -> bool:
         """Whether another part can begin with the document. If it can't the document is recorded no longer."""
@@ -271,29 +233,22 @@ class Continuing:
             self._lose_in_part(document)
         return not document.is_left
 
-    def _take(self, operation: Operation, document: Document) -> Call:
+    def _take(self, operation: Operation, document: Document) -> WholeCall:
         """Takes a call, whose line is written next, into the part that the document is in now."""
-        if self._is_moving(document):
-            self._move(operation.id, document)
-        part = self._part_of(document)
-        call = self._begin(operation, Begun(document, part))
+        part = document.place() or self._move(operation.id, document)
+        call = self._begin(operation, document, part)
         part.take(call)
         return call
 
-    def _part_of(self, document: Document) -> Part:
-        """The part that the document is in."""
-        assert document.part is not None
-        return document.part
-
-    def _begin(self, operation: Operation, begun: Begun) -> Call:
+    def _begin(self, operation: Operation, document: Document, part: Part) -> WholeCall:
         """Counts a call, and keeps it as one that is open."""
-        call = Call(self, self.calls, operation)
+        call = WholeCall(self, self.calls, operation, document, part)
         self.calls += 1
-        self._begun[call.number] = begun
-        begun.document.past.called(call.number, operation)
+        self._open[call.number] = call
+        document.past.called(call)
         return call
 
-    def _move(self, id: str, document: Document) -> None:
+    def _move(self, id: str, document: Document) -> Part:
         """Moves a document to the newest part."""
         self._lose_in_part(document)
         beginning = document.past.beginning(self._conflicts)
@@ -302,18 +257,18 @@ class Continuing:
         if document.part is not None:
             self.heed_move(id, beginning)
         document.part = part
+        return part
 
     def _lose_in_part(self, document: Document) -> None:
         """Writes the document's open calls as lost in the part that it leaves: they may have read what only the next part has."""
         part = document.part
-        numbers = document.past.open_calls
-        if part is None or part.history.has_ended or not numbers:
+        calls = [self._open[it.number] for it in document.past.open_calls]
+        if part is None or part.history.has_ended or not calls:
             return
-        part.write(self._begun)
-        own = [self._begun[it].call for it in numbers]
-        part.history.lose([it for it in own if it is not None])
-        for number in numbers:
-            self._begun[number] = self._begun[number]._replace(call=None)
+        part.write()
+        part.history.lose([it.own for it in calls if it.own is not None])
+        for it in calls:
+            it.own = None
 
     def _newest(self, calls: int) -> Part:
         """The newest part, which is begun if there is none with room for so many calls."""
@@ -324,7 +279,7 @@ class Continuing:
             newest.is_closed = True
             self._finish_if_done(newest)
         while len(self._growing) >= MOST_GROWING:
-            self._growing[0].write(self._begun)
+            self._growing[0].write()
             self._finish(self._growing[0])
         self._count += 1
         path = os.path.join(self.path, f"part-{self._count:06}.ndjson")
@@ -338,62 +293,53 @@ class Continuing:
     # Endings
 
     def is_open(self, call: Call) -> bool:
-        """Whether the call has no ending yet."""
         with self._lock:
-            return call.number in self._begun
+            return call.number in self._open
 
     def reply(self, call: Call, status: int, text: Optional[str]) -> None:
-        """Writes the line of a reply, with the JSON text of its body, or without one where that is None."""
         with self._lock:
-            begun = self._open(call)
-            if begun.recorded is not None:
-                begun.part.history.reply(begun.recorded, status, text)
-            self._end(call, (status, text))
+            whole = self._still_open(call)
+            own = whole.recorded
+            if own is not None:
+                own.history.reply(own, status, text)
+            self._end(whole, (status, text))
 
     def lose_one(self, call: Call) -> None:
-        """Writes that the outcome of a call will never be known."""
         with self._lock:
-            begun = self._open(call)
-            if begun.recorded is not None:
-                begun.recorded.lost()
-            self._end(call, None)
+            whole = self._still_open(call)
+            own = whole.recorded
+            if own is not None:
+                own.lost()
+            self._end(whole, None)
 
-    def end_all(self, endings: "Sequence[Tuple[Call, Optional[Tuple[int, str]]]]") -> None:
-        """Writes the endings of several calls, of each its status and the text of its body, or None where it is lost.
-
-        A call that has its ending already keeps it. At the end of the recording there is nothing to write.
-        """
+    def end_all(self, endings: Sequence[Ending]) -> None:
         with self._lock:
-            by_part: Dict[Part, List[Tuple[Call, Optional[Tuple[int, str]]]]] = {}
-            ending = [it for it in endings if it[0].number in self._begun]
-            for call, reply in ending:
-                begun = self._begun[call.number]
-                if begun.recorded is not None:
-                    by_part.setdefault(begun.part, []).append((begun.recorded, reply))
+            by_part: Dict[Part, List[Ending]] = {}
+            ending = [(self._open[it.number], reply) for it, reply in endings if it.number in self._open]
+            for whole, reply in ending:
+                own = whole.recorded
+                if own is not None:
+                    by_part.setdefault(whole.part, []).append((own, reply))
             for part, its in by_part.items():
                 part.history.end_all(its)
-            for call, reply in ending:
-                self._end(call, reply)
+            for whole, reply in ending:
+                self._end(whole, reply)
 
-    def lose(self, calls: Sequence[Call]) -> None:
-        """Writes those of the calls as lost that are open."""
-        self.end_all([(it, None) for it in calls])
-
-    def _open(self, call: Call) -> Begun:
-        """What is known of a call that is open."""
+    def _still_open(self, call: Call) -> WholeCall:
+        """The call, which is refused if it isn't open."""
         if self.has_ended:
             raise Ended
-        if call.number not in self._begun:
+        if call.number not in self._open:
             raise CallError(f"call {call.number} has its ending already")
-        return self._begun[call.number]
+        return self._open[call.number]
 
-    def _end(self, call: Call, reply: Optional[Tuple[int, Optional[str]]]) -> None:
+    def _end(self, call: WholeCall, reply: Optional[Tuple[int, Optional[str]]]) -> None:
         """Takes what became of a call, whose ending is written, if its part has one."""
-        begun = self._begun.pop(call.number)
-        begun.document.past.ended(call.number, told_by(call.operation, *reply) if reply is not None else UNKNOWN)
+        del self._open[call.number]
+        call.document.past.ended(call, told_by(call.operation, *reply) if reply is not None else UNKNOWN)
         self.replies += reply is not None
         self.lost += reply is None
-        self._finish_if_done(begun.part)
+        self._finish_if_done(call.part)
 
     # The end of parts
 
@@ -413,8 +359,8 @@ class Continuing:
             if self.has_ended:
                 return
             self.has_ended = True
-            self.lost += len(self._begun)
-            self._begun.clear()
+            self.lost += len(self._open)
+            self._open.clear()
             fault: Optional[HistoryError] = None
             for part in self._growing[:]:
                 try:

@@ -109,7 +109,6 @@ class Document:
             return None
         return self.number_of(digest)
 
-
     def goes_on(self, beginning: Beginning) -> None:
         """Forgets, as the document begins another part, the numbers and pairs that nothing in that part has.
 

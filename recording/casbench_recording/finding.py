@@ -30,6 +30,7 @@ PACKED = (b"\x1f\x8b", b"\x78")
 PATIENCE = SECONDS + 2.0
 """For how many seconds an answer of the cluster is waited for."""
 
+
 class Finding:
     """Looks for an index that isn't there yet."""
 

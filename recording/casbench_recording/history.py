@@ -16,13 +16,16 @@ import os
 import re
 import threading
 import time
-from typing import Any, Callable, Dict, List, NamedTuple, Optional, Protocol, Sequence, Set, Tuple, Union
+from typing import Any, Callable, Dict, List, NamedTuple, Optional, Sequence, Set, Tuple, TypeVar, Union
 
 MOST_EVENTS = 1_048_576
 """The most events of a history. A call takes room for two, itself and its ending."""
 
 LONGEST_LINE = 65_536
 """The most bytes of a line, its line feed not counted."""
+
+LONGEST_BODY = LONGEST_LINE - 100
+"""The most bytes of the text of a body in it: the number, the time and what stands around them take the others."""
 
 LONGEST_ID = 512
 """The most bytes of a document's id."""
@@ -60,6 +63,12 @@ HALF_OF_A_PAIR = re.compile(r"\\u[dD][89a-fA-F]|[\ud800-\udfff]")
 Body = Union[bytes, str, Dict[str, Any], List[Any], None]
 """A reply's body: its text as it was received, in bytes or as a string, or the value that it was read as, or nothing."""
 
+Reply = Tuple[int, str]
+"""The status of a reply, and the JSON text of its body."""
+
+Ending = Tuple["Call", Optional[Reply]]
+"""A call that ends, with its reply, or None if it is lost."""
+
 
 class HistoryError(Exception):
     """Why a history could not be begun or gone on with, in words for the operator."""
@@ -96,26 +105,12 @@ class Operation(NamedTuple):
     client: str = ""
 
 
-class Endings(Protocol):
-    """What writes the endings of calls."""
-
-    def is_open(self, call: "Call") -> bool:
-        """Whether the call has no ending yet, and may be given one."""
-
-    def reply(self, call: "Call", status: int, text: Optional[str]) -> None:
-        """Writes the line of a reply, with the JSON text of its body, or without one where that is None."""
-
-    def lose_one(self, call: "Call") -> None:
-        """Writes that the outcome of a call will never be known."""
-
-    def lose(self, calls: "Sequence[Call]") -> None:
-        """Writes those of the calls as lost that are open."""
-
-
 class Call:
     """A call that was made. It is ended once: by a reply, or as lost, which the end of its block does where nothing else did."""
 
-    def __init__(self, history: "Endings", number: int, operation: Operation) -> None:
+    __slots__ = ("history", "number", "operation")
+
+    def __init__(self, history: "CallWriter", number: int, operation: Operation) -> None:
         self.history = history
         self.number = number
         self.operation = operation
@@ -163,7 +158,7 @@ class Call:
     def missing(self) -> None:
         """The get found no document."""
         self.says(("get",), "missing")
-        self.tell(404, compact({"_id": self.operation.id, "found": False}))
+        self.tell(404, text_of_missing(self.operation.id))
 
     def conflict(self) -> None:
         """The write was refused, since its condition wasn't met."""
@@ -180,18 +175,130 @@ class Call:
             raise CallError(f"call {self.number} is a {self.operation.op}, and can't be answered as {reply}")
 
 
-class History:
-    """The file that a history text is written to. Any thread may use it.
+class Histories:
+    """What a recording is written to: one history, or several. It ends with its block, or with `end`."""
+
+    def __enter__(self: "Kept") -> "Kept":
+        return self
+
+    def __exit__(self, *_: object) -> None:
+        self.end()
+
+    @property
+    def histories(self) -> "Tuple[CallWriter, ...]":
+        """The histories of the recording."""
+        raise NotImplementedError
+
+    def of_shard(self, shard: int) -> "CallWriter":
+        """The history of a shard's calls."""
+        raise NotImplementedError
+
+    def call(
+        self,
+        op: str,
+        id: str,
+        value: Optional[int] = None,
+        condition: Optional[Pair] = None,
+        shard: int = 0,
+        client: str = "",
+    ) -> Call:
+        """Writes the line of a call. Raises Ended where there is room for no more, CallError where it can't be a call."""
+        return self.of_shard(shard).call_one(Operation(op, id, value, condition, shard, client))
+
+    def end(self) -> None:
+        """Ends each history: its open calls are lost, and it takes no more. Without a call no file is left."""
+        raise NotImplementedError
+
+
+Kept = TypeVar("Kept", bound=Histories)
+
+
+class CallWriter(Histories):
+    """What numbers calls and writes their lines and those of their endings: a history, or one without end. Any thread may use it."""
+
+    def __init__(self, path: str) -> None:
+        self.path = path
+        self.calls = self.replies = self.lost = 0
+        self.has_ended = False
+        self._lock = threading.RLock()
+
+    @property
+    def histories(self) -> "Tuple[CallWriter, ...]":
+        """This history alone."""
+        return (self,)
+
+    def of_shard(self, shard: int) -> "CallWriter":
+        """This history, as that of every shard's calls."""
+        return self
+
+    @property
+    def unanswered(self) -> int:
+        """How many calls have no reply: those that are open, and those that are lost."""
+        return self.calls - self.replies
+
+    @property
+    def room(self) -> int:
+        """How many calls it takes at once."""
+        raise NotImplementedError
+
+    def note(self, text: str) -> None:
+        """Puts a note on the next line, such as what was done to the store. The format reads past it."""
+        raise NotImplementedError
+
+    def write(self, op: str, id: str, condition: Optional[Pair] = None, shard: int = 0, client: str = "") -> Call:
+        """Writes the line of an index or a create whose value is the number of its call, and so that of no other call.
+
+        So what a get shows, and a log of the store, tells which call wrote it, also where nobody was told.
+        """
+        return self.write_all([writing(Operation(op, id, None, condition, shard, client))])[0]
+
+    def write_all(self, operations: Sequence[Operation]) -> List[Call]:
+        """The same as `call_all`, but each index and each create is given the number of its call as its value."""
+        with self._lock:
+            return self.call_all(numbered(operations, self.calls))
+
+    def call_one(self, operation: Operation) -> Call:
+        """Writes the line of a call."""
+        raise NotImplementedError
+
+    def call_all(self, operations: Sequence[Operation]) -> List[Call]:
+        """Writes the lines of several calls, such as the items of a bulk request: all of them or, where it raises, none."""
+        raise NotImplementedError
+
+    def is_open(self, call: Call) -> bool:
+        """Whether the call has no ending yet, and may be given one."""
+        raise NotImplementedError
+
+    def reply(self, call: Call, status: int, text: Optional[str]) -> None:
+        """Writes the line of a reply, with the JSON text of its body, or without one where that is None."""
+        raise NotImplementedError
+
+    def lose_one(self, call: Call) -> None:
+        """Writes that the outcome of a call will never be known."""
+        raise NotImplementedError
+
+    def end_all(self, endings: Sequence[Ending]) -> None:
+        """Writes the endings of several calls together. A call that has its ending already keeps it; at the end there is nothing to write."""
+        raise NotImplementedError
+
+    def lose(self, calls: Sequence[Call]) -> None:
+        """Writes those of the calls as lost that are open. At the end there is nothing to write."""
+        self.end_all([(it, None) for it in calls])
+
+    def damage(self) -> Optional[str]:
+        """What somebody else did to a file, or None if each is as it was written."""
+        raise NotImplementedError
+
+
+class History(CallWriter):
+    """The file that a history text is written to.
 
     Each line is in the file, whole, when the method that writes it returns. Where a line can't be written, as on a full
     disk, what was written of it is cut off again, HistoryError is raised, and the history is at its end.
     """
 
     def __init__(self, path: str, most_events: int = MOST_EVENTS, clock: Callable[[], float] = time.time) -> None:
-        self.path = path
-        self.calls = self.replies = self.lost = 0
-        self.has_ended = False
-        self._lock = threading.Lock()
+        super().__init__(path)
         self._clock = clock
         self._most_calls = min(most_events, MOST_EVENTS) // 2
         self._open: Set[int] = set()
@@ -205,26 +312,6 @@ class History:
         except OSError as fault:
             raise HistoryError(f"{path}: {fault.strerror}") from fault
 
-    def __enter__(self) -> "History":
-        return self
-
-    def __exit__(self, *_: object) -> None:
-        self.end()
-
-    @property
-    def histories(self) -> Tuple["History", ...]:
-        """The histories of the recording: this one."""
-        return (self,)
-
-    def of_shard(self, shard: int) -> "History":
-        """The history of a shard's calls: this one, as that of every shard's."""
-        return self
-
-    @property
-    def unanswered(self) -> int:
-        """How many calls have no reply: those that are open, and those that are lost."""
-        return self.calls - self.replies
-
     @property
     def open_calls(self) -> int:
         """How many calls have no ending yet."""
@@ -236,7 +323,7 @@ class History:
         return 0 if self.has_ended else self._most_calls - self.calls
 
     def note(self, text: str) -> None:
-        """Puts a note on the next line, such as what was done to the store. The format reads past it.
+        """Puts a note on the next line.
 
         Notes before the same line stand together. What is no ASCII is escaped; a note is cut off behind 1,000 letters.
         """
@@ -244,20 +331,7 @@ class History:
         with self._lock:
             self._note = f"{self._note}; {plain}"[:LONGEST_NOTE] if self._note else plain[:LONGEST_NOTE]
 
-    def call(
-        self,
-        op: str,
-        id: str,
-        value: Optional[int] = None,
-        condition: Optional[Pair] = None,
-        shard: int = 0,
-        client: str = "",
-    ) -> Call:
-        """Writes the line of a call. Raises Ended where there is room for no more, CallError where it can't be a call."""
-        return self.call_one(Operation(op, id, value, condition, shard, client))
-
     def call_one(self, operation: Operation) -> Call:
-        """The same of an operation."""
         members = members_of_call(operation)
         with self._lock:
             if self.room < 1:
@@ -269,35 +343,17 @@ class History:
             self._open.add(number)
         return Call(self, number, operation)
 
-    def write(self, op: str, id: str, condition: Optional[Pair] = None, shard: int = 0, client: str = "") -> Call:
-        """Writes the line of an index or a create whose value is the number of its call, and so that of no other call.
-
-        So what a get shows, and a log of the store, tells which call wrote it, also where nobody was told.
-        """
-        return self.write_all([writing(Operation(op, id, None, condition, shard, client))])[0]
-
-    def write_all(self, operations: Sequence[Operation]) -> List[Call]:
-        """Writes the lines of several calls, all of them or none; each index and each create is given the number of its call as its value."""
-        with self._lock:
-            its = numbered(operations, self.calls)
-            return self._begin_all(its, [members_of_call(it) for it in its])
-
     def call_all(self, operations: Sequence[Operation]) -> List[Call]:
-        """Writes the lines of several calls, such as the items of a bulk request: all of them or, where it raises, none."""
         members = [members_of_call(it) for it in operations]
         with self._lock:
-            return self._begin_all(operations, members)
-
-    def _begin_all(self, operations: Sequence[Operation], members: Sequence[str]) -> List[Call]:
-        """Writes the lines of the next calls, which have these members."""
-        if self.room < len(operations):
-            raise Ended
-        for it in operations:
-            self._keep_shard(it)
-        first, now = self.calls, self._now()
-        self._write("".join([f'{{"e":"call","n":{number},"t":{now},{it}\n' for number, it in enumerate(members, first)]))
-        self.calls += len(members)
-        self._open.update(range(first, self.calls))
+            if self.room < len(operations):
+                raise Ended
+            for it in operations:
+                self._keep_shard(it)
+            first, now = self.calls, self._now()
+            self._write("".join([f'{{"e":"call","n":{number},"t":{now},{it}\n' for number, it in enumerate(members, first)]))
+            self.calls += len(members)
+            self._open.update(range(first, self.calls))
         return [Call(self, number, it) for number, it in enumerate(operations, first)]
 
     def _keep_shard(self, operation: Operation) -> None:
@@ -307,47 +363,46 @@ class History:
             raise CallError(f"the document {operation.id!r} is on shard {shard}, and not on {operation.shard}")
 
     def is_open(self, call: Call) -> bool:
-        """Whether the call has no ending yet, and may be given one."""
         with self._lock:
             return call.number in self._open
 
     def reply(self, call: Call, status: int, text: Optional[str]) -> None:
-        """Writes the line of a reply, with the JSON text of its body, or without one where that is None."""
         if type(status) is not int or not 0 <= status <= 65_535:
             raise CallError(f"a status is a whole number up to 65535, and not {status!r}")
-        self.end_once(call, rest_of_reply(status, text))
+        self._end_one(call, rest_of_reply(status, text))
 
     def lose_one(self, call: Call) -> None:
-        """Writes that the outcome of a call will never be known."""
-        self.end_once(call, None)
+        self._end_one(call, None)
 
-    def end_once(self, call: Call, rest: Optional[str]) -> None:
+    def _end_one(self, call: Call, rest: Optional[str]) -> None:
         """Writes the line of an ending, for a call that is open: that of a reply with this rest, or as lost where it is None."""
         with self._lock:
             if self.has_ended:
                 raise Ended
-            if call.number not in self._open:
-                raise CallError(f"call {call.number} has its ending already")
-            self._end_call(call.number, rest)
+            number = call.number
+            if number not in self._open:
+                raise CallError(f"call {number} has its ending already")
+            if rest is None:
+                self._write(f'{LOST}{number},"t":{self._now()}}}\n')
+                self.lost += 1
+            else:
+                self._write(f'{{"e":"reply","n":{number},"t":{self._now()}{rest}}}\n')
+                self.replies += 1
+            self._open.remove(number)
 
-    def end_all(self, endings: "Sequence[Tuple[Call, Optional[Tuple[int, str]]]]") -> None:
-        """Writes the endings of several calls together: of each its status and the text of its body, or None where it is lost.
-
-        A call that has its ending already keeps it. At the end of the history there is nothing to write.
-        """
+    def end_all(self, endings: Sequence[Ending]) -> None:
         rests = [(call.number, rest_of_reply(*reply) if reply is not None else None) for call, reply in endings]
         with self._lock:
             if not self.has_ended:
                 self._end_calls([it for it in rests if it[0] in self._open])
 
     def lose(self, calls: Sequence[Call]) -> None:
-        """Writes those of the calls as lost that are open. At the end of the history there is nothing to write."""
         with self._lock:
             if not self.has_ended:
                 self._lose([it.number for it in calls if it.number in self._open])
 
     def end(self) -> None:
-        """Writes the calls that are open as lost, and closes the file; later calls and endings raise Ended.
+        """Writes the calls that are open as lost, and closes the file; later calls, and endings of one call, raise Ended.
 
         A file without a call is removed: an empty text would be a history, and a right one.
         """
@@ -405,16 +460,6 @@ class History:
             self._open.difference_update(some)
             self.lost += len(some)
 
-    def _end_call(self, number: int, rest: Optional[str]) -> None:
-        """Writes the line of one ending."""
-        if rest is None:
-            self._write(f'{LOST}{number},"t":{self._now()}}}\n')
-            self.lost += 1
-        else:
-            self._write(f'{{"e":"reply","n":{number},"t":{self._now()}{rest}}}\n')
-            self.replies += 1
-        self._open.discard(number)
-
     def _now(self) -> int:
         """The time of day in milliseconds since 1970. No order is made of it."""
         return int(self._clock() * 1000)
@@ -434,7 +479,6 @@ class History:
             self._file.truncate(self._length)
             raise HistoryError(f"{self.path}: {fault.strerror}. The lines before are whole") from fault
         self._length += length
-
 
     def _noted(self, data: bytes) -> bytes:
         """The lines with the note on the first of them, if it has room for it."""
@@ -486,6 +530,11 @@ def text_of_find(id: str, pair: Pair, k: int) -> str:
     return f'{{"_id":{text_of_id(id)},"_seq_no":{pair.seq},"_primary_term":{pair.term},"found":true,"_source":{{"k":{k}}}}}'
 
 
+def text_of_missing(id: str) -> str:
+    """The text of a reply's body that tells that a get found nothing."""
+    return f'{{"_id":{text_of_id(id)},"found":false}}'
+
+
 def pair_of(body: Any) -> Optional[Pair]:
     """The pair that a body tells, if any."""
     if not isinstance(body, dict):
@@ -511,29 +560,29 @@ def member_of_client(client: str) -> str:
     return f',"client":{compact(client)}'
 
 
-def members_of_call(it: Operation) -> str:
+def members_of_call(operation: Operation) -> str:
     """The members of a call's line behind its number, up to the line's end. Raises CallError where it can't be a call."""
-    if it.op not in OPERATIONS:
-        raise CallError(f"an operation is one of {', '.join(OPERATIONS)}, and not {it.op!r}")
+    op, id, value, condition, shard, client = operation
+    if op not in OPERATIONS:
+        raise CallError(f"an operation is one of {', '.join(OPERATIONS)}, and not {op!r}")
     try:
-        id = member_of_id(it.id)
+        members = f'{member_of_id(id)},"op":"{op}"'
     except TypeError as fault:
-        raise CallError(f"an id is a text, and not {it.id!r}") from fault
-    if type(it.shard) is not int or not 0 <= it.shard <= 1023:
-        raise CallError(f"a shard is a whole number up to 1023, and not {it.shard!r}")
-    members = f'{id},"op":"{it.op}"'
-    if it.op in WRITES_A_VALUE:
-        if type(it.value) is not int or not 0 <= it.value < 2**64:
-            raise CallError(f"the value of a write is a whole number below 2^64, and not {it.value!r}")
-        members += f',"k":{it.value}'
-    if it.condition is not None:
-        if it.op not in TAKES_A_CONDITION:
-            raise CallError(f"a {it.op} has no condition")
-        pair = checked_pair(it.condition)
-        members += f',"if_seq_no":{pair.seq},"if_primary_term":{pair.term}'
-    if it.client:
-        members += member_of_client(it.client)
-    return f'{members},"shard":{it.shard}}}' if it.shard else members + "}"
+        raise CallError(f"an id is a text, and not {id!r}") from fault
+    if type(shard) is not int or not 0 <= shard <= 1023:
+        raise CallError(f"a shard is a whole number up to 1023, and not {shard!r}")
+    if op in WRITES_A_VALUE:
+        if type(value) is not int or not 0 <= value < 2**64:
+            raise CallError(f"the value of a write is a whole number below 2^64, and not {value!r}")
+        members += f',"k":{value}'
+    if condition is not None:
+        if op not in TAKES_A_CONDITION:
+            raise CallError(f"a {op} has no condition")
+        term, seq = checked_pair(condition)
+        members += f',"if_seq_no":{seq},"if_primary_term":{term}'
+    if client:
+        members += member_of_client(client)
+    return f'{members},"shard":{shard}}}' if shard else members + "}"
 
 
 def rest_of_reply(status: int, text: Optional[str]) -> str:
@@ -544,12 +593,10 @@ def rest_of_reply(status: int, text: Optional[str]) -> str:
     start = f',"status":{status}'
     if text is None:
         return start
-    # (as much as the number, the time and what stands around them may take)
-    most = LONGEST_LINE - 100
     # (a letter takes four bytes at most)
-    if len(text) * 4 > most and len(text.encode()) > most:
+    if len(text) * 4 > LONGEST_BODY and len(text.encode()) > LONGEST_BODY:
         text = shortened(text)
-        if len(text.encode()) > most:
+        if len(text.encode()) > LONGEST_BODY:
             return start
     return f'{start},"body":{text}'
 
@@ -586,11 +633,6 @@ def text_of(body: Body) -> Optional[str]:
         return None
 
 
-def value_of(text: str) -> Any:
-    """The value of a JSON text. Raises ValueError where it is none, or has a number that casbench doesn't read."""
-    return json.loads(text, parse_int=whole_number, parse_float=other_number, parse_constant=other_number)
-
-
 def whole_number(digits: str) -> Union[int, float]:
     """A number that is spelled by digits alone. With a minus sign 0 isn't whole for casbench, and stays so."""
     other_number(digits)
@@ -603,6 +645,10 @@ def other_number(digits: str) -> float:
     if not abs(number) < 1e308:
         raise ValueError(f"{digits} is past what a float holds")
     return number
+
+
+value_of = json.JSONDecoder(parse_int=whole_number, parse_float=other_number, parse_constant=other_number).decode
+"""The value of a JSON text. Raises ValueError where it is none, or has a number that casbench doesn't read."""
 
 
 def length_of(text: str) -> int:

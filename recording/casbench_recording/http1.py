@@ -189,19 +189,18 @@ class Request:
 class Response:
     """The head of a response."""
 
-    __slots__ = ("status", "fields", "length", "is_bodiless")
+    __slots__ = ("status", "fields", "length")
 
     def __init__(self, status: int, fields: Fields) -> None:
         self.status = status
         self.fields = fields
-        # how many bytes the body has, or None where that is told behind the head
-        self.length = None if fields.is_chunked else fields.length
-        # whether there is no body, whatever is told of its length
-        self.is_bodiless = status < 200 or status in (204, 304)
+        # how many bytes the body has, unless it answers a HEAD, or None where that is told behind the head. With some statuses there is
+        # none, whatever is told of its length
+        self.length = 0 if status < 200 or status in (204, 304) else None if fields.is_chunked else fields.length
 
     def length_for(self, method: str) -> Optional[int]:
         """The length of the body in the answer to this method."""
-        return 0 if method == "HEAD" or self.is_bodiless else self.length
+        return 0 if method == "HEAD" else self.length
 
     def body(self, method: str) -> Body:
         """Its body in the answer to this method, of which nothing came yet."""

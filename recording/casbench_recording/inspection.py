@@ -10,7 +10,6 @@ from .routing import shard_of
 PROBES = 16
 """For how many routings the cluster is asked which shard they are on, where there are several."""
 
-
 SECONDS = 10.0
 """How long the cluster may take to tell all that is asked of an index."""
 

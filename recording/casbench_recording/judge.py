@@ -11,15 +11,15 @@ from .answering import Answering
 from .asked import Asked, Making
 from .asking import Asking
 from .documents import UNSURE, State
+from .history import Histories
 from .inspection import Shape
 from .ledger import Ledger
-from .recording import Histories, Recording
+from .recording import Recording
 from .routes import BULK, PASS, READS, Kind, Route, route_of
 from .unjudged import Unjudged
 
 Passed = Tuple[str, bytes, Route]
 """A request that was passed on: its method, its target, and what it was taken for."""
-
 
 HARMLESS_KINDS = (Kind.PASS, Kind.MAKE, Kind.NODES)
 """Requests that change no document."""
@@ -110,7 +110,7 @@ class Judge:
         self._is_closed = self.recording.has_ended = True
         self.recording.end_histories()
         self.ledger.close()
-        self.unjudged.close()
+        self.unjudged.close(self.ledger.left_out)
 
 
 def may_have_written(passed: Passed, shape: Shape) -> bool:

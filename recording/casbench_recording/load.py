@@ -16,10 +16,9 @@ import random
 import threading
 import time
 from dataclasses import dataclass
-from typing import Callable, Dict, Iterator, List, Mapping, Optional, Protocol, Sequence, Type, TypeVar, Union, cast
+from typing import Callable, Dict, Iterator, List, Mapping, Optional, Protocol, Sequence, Type, TypeVar, cast
 
-from .continuing import Continuing
-from .history import Call, Ended, History, Operation, Pair
+from .history import Call, CallWriter, Ended, Operation, Pair
 from .history import NoOutcome as NoOutcome
 
 WRITES = ("index", "create", "delete", "index-if", "delete-if")
@@ -324,7 +323,7 @@ def operation_of(kind: str, id: str, pair: Optional[Pair]) -> Operation:
 class Load:
     """Clients of one history. It notes by the number of each answered call what its answer had seen, for a witness."""
 
-    def __init__(self, history: Union[History, Continuing], seed: int, has_ended: Callable[[], bool] = lambda: False) -> None:
+    def __init__(self, history: CallWriter, seed: int, has_ended: Callable[[], bool] = lambda: False) -> None:
         self.history, self.seed, self.has_ended = history, seed, has_ended
         self.draw = Draw(f"{seed}/disturbance")
         self.clients: List[Client] = []

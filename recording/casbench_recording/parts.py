@@ -8,12 +8,12 @@ import contextlib
 import os
 import threading
 import time
-from typing import Callable, Dict, Optional, Tuple
+from typing import Callable, Dict, Tuple
 
-from .history import MOST_EVENTS, Call, History, HistoryError, Pair
+from .history import MOST_EVENTS, Histories, History, HistoryError
 
 
-class Parts:
+class Parts(Histories):
     """The histories of a folder, which is made: `shard-3.ndjson` of a shard."""
 
     def __init__(self, folder: str, most_events: int = MOST_EVENTS, clock: Callable[[], float] = time.time) -> None:
@@ -21,17 +21,11 @@ class Parts:
         self._most_events = most_events
         self._clock = clock
         self._lock = threading.Lock()
-        self._histories: Dict[str, History] = {}
+        self._histories: Dict[int, History] = {}
         try:
             os.mkdir(folder)
         except OSError as fault:
             raise HistoryError(f"{folder}: {fault.strerror}") from fault
-
-    def __enter__(self) -> "Parts":
-        return self
-
-    def __exit__(self, *_: object) -> None:
-        self.end()
 
     @property
     def histories(self) -> Tuple[History, ...]:
@@ -40,14 +34,12 @@ class Parts:
             return tuple(self._histories.values())
 
     def of_shard(self, shard: int) -> History:
-        """The history of a shard's calls."""
-        return self._named(f"shard-{shard}")
-
-    def call(
-        self, op: str, id: str, value: Optional[int] = None, condition: Optional[Pair] = None, shard: int = 0
-    ) -> Call:
-        """Writes the line of a call to the history of its shard."""
-        return self.of_shard(shard).call(op, id, value, condition, shard)
+        """The history of a shard's calls, begun where there is none yet."""
+        with self._lock:
+            if shard not in self._histories:
+                path = os.path.join(self.folder, f"shard-{shard}.ndjson")
+                self._histories[shard] = History(path, self._most_events, self._clock)
+            return self._histories[shard]
 
     def end(self) -> None:
         """Ends each history. Where none has a call no file is left, and so no folder."""
@@ -55,11 +47,3 @@ class Parts:
             history.end()
         with contextlib.suppress(OSError):
             os.rmdir(self.folder)
-
-    def _named(self, name: str) -> History:
-        """The history of this name, begun where there is none yet."""
-        with self._lock:
-            if name not in self._histories:
-                path = os.path.join(self.folder, f"{name}.ndjson")
-                self._histories[name] = History(path, self._most_events, self._clock)
-            return self._histories[name]

@@ -10,7 +10,7 @@ from dataclasses import dataclass
 from enum import Enum
 from typing import Dict, List, NamedTuple, Optional
 
-from .history import CONFLICT, WRITES_A_VALUE, Operation, Pair, is_whole, pair_of, value_of
+from .history import CONFLICT, WRITES_A_VALUE, Call, Operation, Pair, is_whole, pair_of, value_of
 
 
 class Conflicts(Enum):
@@ -87,13 +87,6 @@ def told_by_get(status: int, body: Dict[str, object]) -> Told:
     return MISSING if status == 404 and body.get("found") is False else UNKNOWN
 
 
-class Begun(NamedTuple):
-    """A call that is open: its operation, and how many conflicts had been answered on the document when it was made."""
-
-    operation: Operation
-    conflicts: int
-
-
 @dataclass(frozen=True)
 class Beginning:
     """What a document's next part begins with: the last version known, and the writes that may still take effect, lost again."""
@@ -115,7 +108,8 @@ class Past:
     def __init__(self) -> None:
         # the version with the greatest pair that a reply showed
         self.version: Optional[Version] = None
-        self._open: Dict[int, Begun] = {}
+        # the calls that are open, of each how many conflicts had been answered on the document when it was made
+        self._open: Dict[Call, int] = {}
         # writes of unknown outcome that may still take effect: those without a condition, and those with one
         self._lost_blind: List[Operation] = []
         self._lost_conditional: List[Operation] = []
@@ -129,38 +123,35 @@ class Past:
         return not self._open
 
     @property
-    def open_calls(self) -> List[int]:
-        """The numbers of the calls that are open."""
+    def open_calls(self) -> List[Call]:
+        """The calls that are open."""
         return list(self._open)
 
-    def called(self, number: int, operation: Operation) -> None:
-        """Takes a call, by a number that no other open call has."""
-        self._open[number] = Begun(operation, self._conflicts)
+    def called(self, call: Call) -> None:
+        """Takes a call."""
+        self._open[call] = self._conflicts
 
-    def ended(self, number: int, told: Told) -> None:
+    def ended(self, call: Call, told: Told) -> None:
         """Takes what became of an open call."""
-        begun = self._open.pop(number)
+        operation, conflicts = call.operation, self._open.pop(call)
         if told.version is not None:
-            self._shown(told, begun)
+            self._shown(told.version, told.outcome, self._conflicts - conflicts)
         elif told is REFUSED:
-            self._refused.append(begun.operation)
+            self._refused.append(operation)
             self._conflicts += 1
-        elif told is UNKNOWN and begun.operation.op != "get":
-            (self._lost_blind if begun.operation.condition is None else self._lost_conditional).append(begun.operation)
+        elif told is UNKNOWN and operation.op != "get":
+            (self._lost_blind if operation.condition is None else self._lost_conditional).append(operation)
 
-    def _shown(self, told: Told, begun: Begun) -> None:
-        """Takes a version that the reply to a call shows.
+    def _shown(self, version: Version, outcome: Outcome, since: int) -> None:
+        """Takes a version that the reply to a call shows, with how many conflicts were answered since the call was made.
 
-        A write that was answered with a conflict before this call was made takes no pair past that version, so it is dropped.
+        A write that was answered with a conflict before takes no pair past that version, so it is dropped.
         """
-        version = told.version
-        assert version is not None
-        since = self._conflicts - begun.conflicts
         if len(self._refused) > since:
             del self._refused[: len(self._refused) - since]
         if self.version is not None and version.pair <= self.version.pair:
             return
-        if told.outcome is Outcome.FOUND:
+        if outcome is Outcome.FOUND:
             self._drop_writer_of(version)
         self.version = version
         self._lost_conditional = [it for it in self._lost_conditional if may_follow(it, version)]
@@ -168,7 +159,7 @@ class Past:
     def _drop_writer_of(self, version: Version) -> None:
         """Drops the lost write that took a version which a get found, if only one can have: it took effect, and won't again."""
         lost = self._lost_blind + self._lost_conditional
-        others = [it.operation for it in self._open.values()] + self._refused
+        others = [it.operation for it in self._open] + self._refused
         writers = [it for it in lost + others if it.op in WRITES_A_VALUE and it.value == version.value and may_precede(it, version)]
         if len(writers) != 1:
             return
@@ -183,7 +174,7 @@ class Past:
         to neither part.
         """
         lost = self._lost_blind + self._lost_conditional
-        lost += [it.operation for it in self._open.values() if it.operation.op != "get"]
+        lost += [it.operation for it in self._open if it.operation.op != "get"]
         lost += self._refused if conflicts is Conflicts.MAYBE else []
         return Beginning(self.version, [it for it in lost if self.version is None or may_follow(it, self.version)])
 

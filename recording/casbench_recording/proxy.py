@@ -24,14 +24,14 @@ from typing import Callable, Iterator, List, NamedTuple, Optional, Sequence, Set
 
 from .client_connection import ClientConnection
 from .client_side import ClientSide
-from .cluster import Cluster, ClusterError, Connection, Url, credentials_of, number_from, port_of, trust_of, url_of
+from .cluster import START_PATIENCE, Cluster, ClusterError, Connection, Url, credentials_of, number_from, port_of, trust_of, url_of
 from .connecting import Addresses, Connecting, Made
-from .console import counted, open_standard_files, tell, tell_last, tell_line
+from .console import ENDED_EARLY, counted, open_standard_files, tell, tell_last, tell_line
 from .continuing import Continuing, add_part_options
 from .disturb import Disturber, read_plan
 from .documents import State
 from .finding import Finding
-from .history import History, HistoryError
+from .history import Histories, History, HistoryError
 from .http1 import Request
 from .inspection import Inspector, Shape
 from .judge import Judge
@@ -39,18 +39,11 @@ from .loop import Listener, Loop, Stream
 from .parts import Parts
 from .past import Conflicts
 from .progress import Progress
-from .recording import Histories
 from .refusal import refusal
 from .routes import shown_request
 from .tls import NO_RENEGOTIATION
 from .unjudged import Unjudged
 from .watcher import Watcher, add_watch_options, watch_options
-
-ENDED_EARLY = 3
-"""The exit status of a recording that ended before its time."""
-
-START_PATIENCE = 5.0
-"""For how many seconds the first connection to the cluster is tried."""
 
 SECONDS_TO_ASK = 30.0
 """For how many seconds the proxy waits for a word of an answer to its own questions."""

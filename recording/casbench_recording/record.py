@@ -22,13 +22,13 @@ import sys
 import time
 import urllib.parse
 from dataclasses import dataclass
-from typing import Any, Callable, Dict, List, NamedTuple, Optional, Sequence, Tuple, Union
+from typing import Any, Callable, Dict, List, NamedTuple, Optional, Sequence, Tuple
 
-from .cluster import Answer, Cluster, ClusterError, Connection, NoAnswer, Url, credentials_of, number_from, trust_of, url_of
-from .console import counted
+from .cluster import START_PATIENCE, Answer, Cluster, ClusterError, Connection, NoAnswer, Url, credentials_of, number_from, trust_of, url_of
+from .console import ENDED_EARLY, counted
 from .continuing import Continuing, add_part_options
 from .disturb import Disturber, read_plan
-from .history import MOST_EVENTS, Body, Call, History, HistoryError, Operation, Pair, pair_of
+from .history import MOST_EVENTS, Body, Call, CallWriter, History, HistoryError, Operation, Pair, pair_of
 from .load import ANY_NUMBER, MIXTURE, WRITES, Habits, Load
 from .past import Conflicts
 from .progress import Progress
@@ -41,12 +41,6 @@ TURNS = ",".join(f"{kind}={weight}" for kind, weight in {**MIXTURE, "bulk": 1}.i
 """How often each kind of turn is drawn, where the words don't say."""
 
 KINDS = ("get", *WRITES, "bulk")
-
-ENDED_EARLY = 3
-"""The exit status of a recording that ended before its time."""
-
-START_PATIENCE = 5.0
-"""For how many seconds the first connection is tried."""
 
 
 class Stop:
@@ -200,7 +194,7 @@ class ClusterStore:
 class Recorded(NamedTuple):
     """A recording that is over, why the clients made no more calls, and the exit status of its watch."""
 
-    recording: Union[History, Continuing]
+    recording: CallWriter
     stop: Stop
     watched: int
 
@@ -261,7 +255,7 @@ def record(setting: argparse.Namespace) -> Recorded:
     return Recorded(recording, stop, watcher.status if watcher is not None else 0)
 
 
-def load_of(setting: argparse.Namespace, recording: Union[History, Continuing], stop: Stop) -> Load:
+def load_of(setting: argparse.Namespace, recording: CallWriter, stop: Stop) -> Load:
     """The clients. With several addresses one after the other takes the next of them, and stays there."""
     load = Load(recording, setting.seed, stop.is_over)
     store = ClusterStore(setting, load.is_over)
@@ -270,7 +264,7 @@ def load_of(setting: argparse.Namespace, recording: Union[History, Continuing], 
     return load
 
 
-def recording_of(setting: argparse.Namespace) -> Union[History, Continuing]:
+def recording_of(setting: argparse.Namespace) -> CallWriter:
     """The file that is written, or the directory with one for each part."""
     return History(setting.file) if setting.part is None else Continuing(setting.file, setting.part, Conflicts(setting.conflicts))
 

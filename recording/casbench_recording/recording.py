@@ -1,23 +1,14 @@
 """The lines of a recording that watches, and its end: at its time, or before it, where what is written can't be told any more."""
 
-from typing import Callable, Dict, Optional, Sequence, Tuple, Union
+from typing import Callable, Dict, Optional, Sequence
 
 from .asked import Part
 from .bulk import Untellable
 from .continuing import Continuing, TooManyLost
-from .history import Call, Ended, History, HistoryError, Operation
+from .history import Call, CallWriter, Ended, Ending, Histories, HistoryError, Reply
 from .parts import Parts
 from .past import Beginning
 from .unjudged import Unjudged
-
-Reply = Tuple[int, str]
-"""The status and the text of the body of a reply."""
-
-Ending = Tuple[Call, Optional[Reply]]
-"""A call that ends, with its reply, or None if it is lost."""
-
-Histories = Union[History, Parts, Continuing]
-"""Where the lines of a recording go."""
 
 
 class Recording:
@@ -55,7 +46,7 @@ class Recording:
             except HistoryError as fault:
                 self._ends(str(fault))
 
-    def end_part(self, history: Union[History, Continuing], why: str) -> None:
+    def end_part(self, history: CallWriter, why: str) -> None:
         """Ends the history of a shard, or the one of all."""
         self.has_ended = self.has_ended or not isinstance(self.history, Parts)
         if why not in self.unjudged.ended:
@@ -67,21 +58,21 @@ class Recording:
         self.unjudged.ends(why)
         self.tell_ended(why)
 
-    def write_calls(self, made: Sequence[Tuple[Part, Operation]]) -> None:
+    def write_calls(self, parts: Sequence[Part]) -> None:
         """Writes the lines of calls, those of one shard together. A history that is full ends, and with it what is open."""
-        shards = {operation.shard for _, operation in made}
+        shards = {it.operation.shard for it in parts}
         for shard in shards:
-            its = made if len(shards) == 1 else [it for it in made if it[1].shard == shard]
+            its = parts if len(shards) == 1 else [it for it in parts if it.operation.shard == shard]
             self.write_calls_of(self.history.of_shard(shard), its)
 
-    def write_calls_of(self, history: Union[History, Continuing], made: Sequence[Tuple[Part, Operation]]) -> None:
+    def write_calls_of(self, history: CallWriter, parts: Sequence[Part]) -> None:
         """Writes the lines of calls to a history. A document that it can't go on with is judged no longer."""
-        while made and not self.has_ended:
+        while parts and not self.has_ended:
             try:
-                calls = [history.call_one(made[0][1])] if len(made) == 1 else history.call_all([it for _, it in made])
+                calls = [history.call_one(parts[0].operation)] if len(parts) == 1 else history.call_all([it.operation for it in parts])
             except TooManyLost as fault:
                 self.leave(fault.id, str(fault))
-                made = [it for it in made if it[1].id != fault.id]
+                parts = [it for it in parts if it.id != fault.id]
             except Ended:
                 self.end_part(history, f"{history.path} is full")
                 return
@@ -89,7 +80,7 @@ class Recording:
                 self.end_part(history, str(fault))
                 return
             else:
-                self._called([part for part, _ in made], calls)
+                self._called(parts, calls)
                 return
 
     def _called(self, parts: Sequence[Part], calls: Sequence[Call]) -> None:

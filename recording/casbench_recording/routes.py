@@ -128,7 +128,7 @@ MEANS_NOTHING = {
 OF_A_KIND = ("_bulk", "_delete_by_query", "_update_by_query", "_mapping", "_mappings")
 """Last words of a path behind an index and a kind of documents, as older servers take them; to others they are ids."""
 
-OF_A_WRITE = MEANS_NOTHING | {"op_type", "if_seq_no", "if_primary_term", "version", "version_type", "routing", "parent"}
+OF_A_WRITE = MEANS_NOTHING | {"op_type", "if_seq_no", "if_primary_term", "version", "version_type", "routing", "parent", "pipeline"}
 OF_AN_UPDATE = (OF_A_WRITE - {"op_type"}) | {"retry_on_conflict", "_source", "_source_includes", "_source_excludes", "lang"}
 OF_A_BULK = MEANS_NOTHING | {"routing", "_source", "_source_includes", "_source_excludes"}
 
@@ -267,7 +267,7 @@ def checked(route: Route, known: "set[str]") -> Route:
     words = route.words
     if words.get("pipeline", "_none") != "_none":
         return Route(Kind.END, why=f"a write with pipeline={words['pipeline'][:LONGEST_WHY]}")
-    strange = sorted(set(words) - known - {"pipeline"})
+    strange = sorted(set(words) - known)
     if strange:
         return Route(Kind.UNTOLD, id=route.id, why=f"it was written with {shown_word(strange[0], words)}")
     return route

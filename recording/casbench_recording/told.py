@@ -4,7 +4,7 @@ import functools
 import json
 from typing import Any, Dict, FrozenSet, Iterator, Optional
 
-from .history import compact, counting_members, is_whole, text_of
+from .history import compact, counting_members, is_whole, text_of, text_of_missing
 from .inspection import Shape
 
 MOST_REMEMBERED = 4096
@@ -13,11 +13,16 @@ MOST_REMEMBERED = 4096
 LONGEST_REMEMBERED = 1024
 """The most letters of such a text."""
 
+OF_A_MISSING_ONE = {"_index", "_id", "found"}
+"""The members of the usual reply to a get that found nothing."""
+
 Body = Dict[str, Any]
 
 
-def readable(body: Body) -> Optional[str]:
-    """The text of the members of a body that count, or None where casbench wouldn't read it."""
+def readable(id: str, body: Body) -> Optional[str]:
+    """The text of the members of a document's body that count, or None where casbench wouldn't read it."""
+    if body.keys() == OF_A_MISSING_ONE and body["found"] is False:
+        return text_of_missing(id)
     counting = counting_members(body)
     counting.pop("_source", None)
     try:

@@ -15,7 +15,8 @@ MOST_LISTED = 32 * 1024 * 1024
 
 
 class Unjudged:
-    """A file beside the history, with a line for each document that isn't judged, from then on or at all. Without any there is no file."""
+    """A file beside the history, with a line for each document that isn't judged, from then on or at all, and a last one with how many calls
+    were left out. Without any document there is no file."""
 
     def __init__(self, history: str) -> None:
         self.path = f"{history}.not-judged"
@@ -59,8 +60,10 @@ class Unjudged:
                 self._file = open(self.path, "ab", buffering=0)
             self._file.write(data)
 
-    def close(self) -> None:
-        """Closes the file."""
+    def close(self, left_out: int = 0) -> None:
+        """Closes the file, if there is one, behind the number of calls that were left out."""
+        if self.count and left_out:
+            self._write([json.dumps({"calls": left_out})])
         if self._file is not None:
             with contextlib.suppress(OSError):
                 self._file.close()

@@ -193,12 +193,16 @@ class Watch:
 
 
 def tell_unjudged(out: str) -> None:
-    """Prints how many documents aren't judged, by the list beside a proxy's recording, and why it ended early, if it did."""
+    """Prints how much isn't judged, by the list beside a proxy's recording, and why it ended early, if it did.
+
+    How many calls were left out is told at the end of the list, so of a recording that is over.
+    """
     with contextlib.suppress(FileNotFoundError), open(f"{out}.not-judged", encoding="utf-8") as lines:
         listed = [json.loads(it) for it in lines if it.endswith("\n")]
-        count = sum("id" in it for it in listed)
+        count, calls = sum("id" in it for it in listed), sum(it.get("calls", 0) for it in listed)
         if count:
-            print(f"not judged: {counted(count, 'document')}, listed in {escaped(lines.name)}", flush=True)
+            left_out = f", {counted(calls, 'call')}" if calls else ""
+            print(f"not judged: {counted(count, 'document')}{left_out}, listed in {escaped(lines.name)}", flush=True)
         for it in listed:
             if it.get("ended"):
                 print(f"the recording ended early: {escaped(it['why'])}", flush=True)

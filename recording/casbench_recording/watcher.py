@@ -16,6 +16,7 @@ EVERY = 5.0
 PACKAGE = os.path.dirname(os.path.dirname(os.path.abspath(__file__)))
 """The directory in which the package lies."""
 
+
 class Watcher:
     """A watch of a recording. It ends with the block, after a last check, or when the recorder ends, however that ends.
 
