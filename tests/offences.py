@@ -9,7 +9,7 @@ names the event of a reply. The text up to that event, itself with it, must then
 them no call is lost, and there the event must not stand before the changed reply.
 
 Of long recordings the reply is mostly guessed, so that it isn't looked for by some twenty searches more: in nine of ten the check
-takes less than seven times the processor time of the check of the recording before the change. So it is if each document has an order
+takes less than six times the processor time of the check of the recording before the change. So it is if each document has an order
 by itself, and a number is missing for a lost delete.
 """
 
@@ -33,7 +33,7 @@ SEEDS, LEAST, LEAST_PERCENT = 32, 4, 62
 ORDER = "an order"
 
 # How many calls a long recording has, its seed, and how many times the processor time a check may take where the guess is right.
-LONG_CALLS, LONG_SEED, MOST_TIMES = 20_000, 3, 7
+LONG_CALLS, LONG_SEED, MOST_TIMES = 60_000, 7, 6
 
 
 class Clients:
