@@ -214,6 +214,8 @@ class Disturbed(LinesTest):
         for sent, status in ((None, 0), (signal.SIGINT, 130), (signal.SIGTERM, 130)):
             process = self.record(plan, "--seconds", "2" if sent is None else "1000")
             self.wait_for(mark, True)
+            # (an interruption before the first call leaves no file)
+            self.wait_for(self.file, True)
             if sent is not None:
                 process.send_signal(sent)
             said = "".join(process.communicate(timeout=60))

@@ -247,8 +247,12 @@ def record(setting: argparse.Namespace) -> Recorded:
         if setting.seconds is not None:
             stop.last = time.monotonic() + setting.seconds
         load = load_of(setting, recording, stop)
+        # (before the first disturbance, so that an interruption undoes what was begun)
+        for kind in (signal.SIGINT, signal.SIGTERM):
+            signal.signal(kind, stop.ask)
         with Disturber(setting.disturb, recording.note, tell_fault) as disturber:
-            run_load(load, stop)
+            # (once stop is set, calls that are open may still be answered, and are recorded)
+            load.run()
         stop.has_failed = disturber.has_failed
         is_early = setting.seconds is not None and not stop.is_over()
         stop.is_full = is_early and isinstance(recording, History) and not recording.room
@@ -272,16 +276,6 @@ def recording_of(setting: argparse.Namespace) -> CallWriter:
 def tell_fault(text: str) -> None:
     """Writes a line on standard error."""
     print(f"record.py: {text}", file=sys.stderr)
-
-
-def run_load(load: Load, stop: Stop) -> None:
-    """Runs the clients until all have ended. Raises what the first fault of a client was.
-
-    Once stop is set, calls that are open may still be answered, and are recorded.
-    """
-    for kind in (signal.SIGINT, signal.SIGTERM):
-        signal.signal(kind, stop.ask)
-    load.run()
 
 
 # The words
