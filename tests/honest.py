@@ -198,7 +198,7 @@ def long_settings(seed, calls):
 
 
 def judged_with(program, settings, reading, seed):
-    """Judges a recording with these settings: tells `yes` if it is verified by its own witness, and else what is answered."""
+    """Judges a recording with these settings: `yes` if that is the answer and its own witness verifies it, or else `no`."""
     history = "".join(Recording(seed, **settings).lines())
     status, order = asked(program, "witness", history, conflicts=reading)
     if status == 1 and order.startswith("no "):

@@ -7,7 +7,7 @@ Starts the stand-in, and has so many clients ask it, each on a connection of its
 three gets, an index and an index under the condition of the last pair that it was told, in turn, each client on a document of its own
 and on one that all share. Then the same through the proxy, and what the program says of the history. With a rate the clients
 together ask so many times a second and no more, evenly, so that the times tell what the proxy adds to each request. What each takes of a
-processor is told too, since the times of the clock say little where other work is done beside; and how much memory the proxy takes, after
+processor is reported too, since the times of the clock say little where other work is done beside; and how much memory the proxy takes, after
 each of several times. With a part the recording has no end: each part has so many calls.
 """
 
@@ -111,7 +111,7 @@ class Taken:
 
 
 def measure(name, port, setting, **commands):
-    """Runs the clients, and tells what was measured; how many requests there were."""
+    """Runs the clients and prints what was measured; returns how many requests there were."""
     with Taken(**commands) as taken:
         rate, times = run_clients(port, setting)
     middle, most = times[len(times) // 2], times[len(times) * 99 // 100]
@@ -122,7 +122,7 @@ def measure(name, port, setting, **commands):
 
 
 def measure_times(proxy, other, setting):
-    """Measures the proxy as many times as the setting says; tells how much memory it takes after each."""
+    """Measures the proxy as many times as the setting says, and prints how much memory it takes after each."""
     count = 0
     for _ in range(setting.times):
         count += measure("with the proxy", proxy.port, setting, proxy=proxy, stand_in=other)

@@ -77,6 +77,13 @@ class NodeSession(Session):
             self.store.closed[self.node] += 1
 
 
+def two_groups(history, store):
+    """A load of two clients on each of two nodes, and those of the second, which only read."""
+    load = Load(history, seed=3)
+    load.add_clients(2, store, MANY, node=0)
+    return load, load.add_clients(2, store, Habits({"get": 1}), node=1)
+
+
 class LoadTest(FolderTest):
     """What the clients do."""
 
@@ -133,8 +140,8 @@ class LoadTest(FolderTest):
         store = Nodes(2, {0: "closes", 1: "closes"})
         load = self.run_load(store)
         self.assertEqual((store.after_a_fault, load.history.lost), (0, 0))
-        # (each client stays where it is)
-        self.assertEqual(store.connected[0], store.sent[0])
+        # (each client stays where it is; one that connected as the history became full sent nothing)
+        self.assertIn(store.connected[0] - store.sent[0], range(5))
         self.assertGreater(min(store.sent[0], store.sent[1]), 50)
 
     def test_several_calls_are_made_by_one_request(self):
@@ -147,7 +154,7 @@ class LoadTest(FolderTest):
         # what one answer says nothing of is lost, the rest of the request isn't
         self.assertGreater(load.history.lost, 10)
         self.assertGreater(load.history.replies, 300)
-        # all items are called before any is answered, and some under a pair that was told before
+        # all items are called before any is answered, and some under a pair that was received before
         runs = [list(its) for kind, its in groupby(rows, key=lambda it: it["e"]) if kind == "call"]
         self.assertTrue(any(len(it) >= 5 and any("if_seq_no" in row for row in it) for it in runs))
         self.assertTrue(all(it["k"] == it["n"] for it in rows if "k" in it))
@@ -208,9 +215,7 @@ class LoadTest(FolderTest):
         store = Nodes(2, pause=0.01)
         counts = []
         with History(self.file, most_events=1200) as history:
-            load = Load(history, seed=3)
-            load.add_clients(2, store, MANY, node=0)
-            readers = load.add_clients(2, store, Habits({"get": 1}), node=1)
+            load, readers = two_groups(history, store)
 
             def disturb():
                 load.hold(readers)
@@ -229,9 +234,7 @@ class LoadTest(FolderTest):
         store = Nodes(2, pause=0.01)
         waited = []
         with History(self.file, most_events=400) as history:
-            load = Load(history, seed=3)
-            load.add_clients(2, store, MANY, node=0)
-            others = load.add_clients(2, store, Habits({"get": 1}), node=1)
+            load, others = two_groups(history, store)
 
             def disturb():
                 before = [it.calls for it in others]

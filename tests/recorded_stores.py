@@ -152,7 +152,7 @@ def left_behind(store, scenario, starts, sent, nodes):
 # The words of a node that starts one more process, as a server of PostgreSQL does.
 A_NODE = ["sh", "-c", "sleep 600 & wait"]
 
-# A recorder that starts such a node in a folder and, when it is told to, stops it.
+# A recorder that starts such a node in a folder and stops it on request.
 A_RECORDER = """
 import pathlib, signal, sys
 from nodes import Nodes

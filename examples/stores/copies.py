@@ -13,7 +13,7 @@ IMPATIENCE = 0.3
 
 
 class PortStore(Store, Protocol):
-    """A store whose nodes are told by their ports, each call of which is to be answered in so many seconds."""
+    """A store whose nodes are known by their ports, and have so many seconds to answer each call."""
 
     ports: List[int]
     deadline: float

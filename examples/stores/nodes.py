@@ -52,7 +52,7 @@ def free_ports(count: int) -> List[int]:
 def processes_in(folder: pathlib.Path) -> Iterator[int]:
     """The processes that work in a folder, or in one within it."""
     for it in pathlib.Path("/proc").glob("[0-9]*"):
-        # (one that has ended works nowhere, and one of another user can't be told)
+        # (one that has ended has no folder, and that of another user can't be read)
         with contextlib.suppress(OSError):
             if pathlib.Path(os.readlink(it / "cwd")).is_relative_to(folder.resolve()):
                 yield int(it.name)

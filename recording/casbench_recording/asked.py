@@ -11,10 +11,10 @@ from .routes import PARTS_OF_A_SOURCE, Kind, Route
 DIGITS = re.compile(r"[0-9]{1,19}")
 
 OF_A_VERSION = {"version", "version_type"}
-"""Words of a condition that no line can tell."""
+"""Parameters of a condition that no line has."""
 
 OF_A_CONDITION = OF_A_VERSION | {"if_seq_no", "if_primary_term"}
-"""Words of a condition."""
+"""Parameters of a condition."""
 
 MANY_WRITES = 10**9
 """How many changes a bulk request may make that can't be read."""
@@ -31,7 +31,7 @@ class Part:
     # who asks, and how many sweeps there had been when it was made
     client: str
     sweeps: int
-    # what its line says, and whether that tells the whole condition, so that a conflict may be recorded
+    # what its line says, and whether that is the whole condition, so that a conflict may be recorded
     operation: Operation
     is_sure: bool
 

@@ -149,8 +149,8 @@ class Disturber:
         self._run(it.undo, True)
 
     def _run(self, command: str, is_end: bool) -> bool:
-        """Runs a command, which may end a disturbance; tells whether it succeeded. The next line carries what was done, and if it failed
-        the operator hears of it then."""
+        """Runs a command, which may end a disturbance; returns whether it succeeded. The next line carries what was done, and a
+        failure is reported after that."""
         why = fault_of(command)
         if why:
             self.has_failed = True

@@ -248,7 +248,7 @@ class CallWriter(Histories):
     def write(self, op: str, id: str, condition: Optional[Pair] = None, shard: int = 0, client: str = "") -> Call:
         """Writes the line of an index or a create whose value is the number of its call, and so that of no other call.
 
-        So what a get shows, and a log of the store, tells which call wrote it, also where nobody was told.
+        So a get, or the store's log, shows which call wrote a value, even if the write was never answered.
         """
         return self.write_all([writing(Operation(op, id, None, condition, shard, client))])[0]
 
@@ -531,7 +531,7 @@ def text_of_find(id: str, pair: Pair, k: int) -> str:
 
 
 def text_of_missing(id: str) -> str:
-    """The text of a reply's body that tells that a get found nothing."""
+    """The text of the body with which a get is answered that found nothing."""
     return f'{{"_id":{text_of_id(id)},"found":false}}'
 
 

@@ -178,7 +178,7 @@ class Request:
         self.method = method
         self.target = target
         self.fields = fields
-        # how many bytes the body has, or None where that is told behind the head
+        # how many bytes the body has, or None if that comes only after the head
         self.length = None if fields.is_chunked else fields.length or 0
 
     def body(self) -> Body:
@@ -194,8 +194,8 @@ class Response:
     def __init__(self, status: int, fields: Fields) -> None:
         self.status = status
         self.fields = fields
-        # how many bytes the body has, unless it answers a HEAD, or None where that is told behind the head. With some statuses there is
-        # none, whatever is told of its length
+        # how many bytes the body has, unless it answers a HEAD, or None if that comes only after the head. With some statuses there is
+        # none, whatever the head says of its length
         self.length = 0 if status < 200 or status in (204, 304) else None if fields.is_chunked else fields.length
 
     def length_for(self, method: str) -> Optional[int]:

@@ -25,7 +25,7 @@ WRITES = ("index", "create", "delete", "index-if", "delete-if")
 
 MIXTURE = {"get": 6, "index": 2, "create": 1, "delete": 1, "index-if": 6, "delete-if": 1}
 """How often each kind of turn is drawn. `index-if` and `delete-if` read the document and write it under the pair that was read. `bulk`, for
-a store that takes such requests, makes several writes by one; their conditions are the pairs that the client was last told."""
+a store that takes such requests, makes several writes by one; their conditions are the pairs that the client received last."""
 
 ANY_NUMBER = 2**62
 """The calls of a client that goes on until the history is full, or the load is over."""
@@ -195,7 +195,7 @@ class Client(threading.Thread):
         self.load, self.store, self.node, self.habits, self.draw = load, store, node % store.nodes, habits, draw
         self.session: Optional[Session] = None
         self.calls = 0
-        # the pair that the client was last told of a document
+        # of each document the pair that the client received last
         self.known: Dict[str, Pair] = {}
 
     def run(self) -> None:

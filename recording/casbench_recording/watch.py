@@ -195,7 +195,7 @@ class Watch:
 def tell_unjudged(out: str) -> None:
     """Prints how much isn't judged, by the list beside a proxy's recording, and why it ended early, if it did.
 
-    How many calls were left out is told at the end of the list, so of a recording that is over.
+    The end of the list says how many calls were left out, so only that of a recording that is over does.
     """
     with contextlib.suppress(FileNotFoundError), open(f"{out}.not-judged", encoding="utf-8") as lines:
         listed = [json.loads(it) for it in lines if it.endswith("\n")]
