@@ -18,7 +18,7 @@ pub struct Names {
     refused: IndexSet<(usize, usize, Pair), HashKeys>,
 }
 
-// The pair that the condition of a call names that was not performed, as far as its reply tells.
+// The pair that a call's condition names, unless its reply shows that the call was performed.
 fn name_of(found: Rec) -> Option<Pair> {
     match found.pair_taken() {
         Some(_) => None,
