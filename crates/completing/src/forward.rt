@@ -169,7 +169,11 @@ fn found_chain(
     let most = most_steps(records.len(), limits);
     for _ in 0..most {
         match search.step()? {
-            Step::Done => return Ok(Some(chain_and_stretches(alloc, &search.walk)?)),
+            Step::Done => {
+                // (What it could have come back to is given up before the chain is made.)
+                search.choices = Vec::new(alloc);
+                return Ok(Some(chain_and_stretches(alloc, &search.walk)?));
+            }
             Step::More if search.walk.steps < most => {}
             Step::More | Step::Stuck => return Ok(None),
         }

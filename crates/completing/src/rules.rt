@@ -27,9 +27,8 @@ pub mod unsettled;
 
 /// An order that completes unanswered writes, by rules: first the pairs that are named get their writes; then, in
 /// rounds, the flags that do not fit ask for writes, then the calls that find no stretch, and then the conflicts that
-/// nothing refuses become writes. `None` where a rule finds no write to take, or asks for one between two pairs of one term: there the
-/// search forward chooses its number. The records stand in the order of their calls.
-/// What is found is a guess, to be checked.
+/// nothing refuses become writes. `None` if a rule finds no write to take, or needs one between two pairs of one term: the search
+/// forward chooses the number of such a write. The records are in the order of their calls. What is found is a guess, to be checked.
 pub fn complete_by_rules(
     alloc: Global,
     records: &[Rec],
