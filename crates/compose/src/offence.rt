@@ -11,6 +11,9 @@ use narrowing::guess;
 use std::alloc::Global;
 use version_pair::NoMemory;
 
+// How many replies are guessed before they are halved.
+const MOST_GUESSES: usize = 4;
+
 /// The reply at which the search for an order first fails.
 #[derive(Clone, Copy, Debug, PartialEq, Eq)]
 pub struct Offence {
@@ -61,23 +64,30 @@ fn looked_to(
     looked_for(alloc, &history.front(place + 1), conflicts)
 }
 
-// The reply that is tried next, of those from `low` to `high`, without the last: the one at the guessed place, or else the middle one.
+// The reply that is tried next, of those from `low` to `high`, without the last: the one at the guessed place; if an order was found
+// there, one shortly after it, each time about four times as far; but at most the middle one, which it is without a guess.
 fn next_tried(places: &[usize], low: usize, high: usize, guessed: Option<usize>) -> usize
     requires order { low < high }
     ensures from { low ≤ result }
     ensures below { result < high }
 {
-    if let Some(place) = guessed {
-        let at = places.partition_point(|entry| *entry < place);
-        if low <= at && at < high {
-            return at;
-        }
+    let half = (high - low) / 2;
+    let Some(place) = guessed else {
+        return low + half;
+    };
+    let at = places.partition_point(|entry| *entry < place);
+    if low <= at && at < high {
+        return at;
     }
-    low + (high - low) / 2
+    let more = low.saturating_sub(at).saturating_sub(1).saturating_mul(3);
+    if at < low && more < half {
+        return low + more;
+    }
+    low + half
 }
 
-// The guess after a reply at which the search fails, which was guessed or not: the one that this search gave, if it is earlier; else the
-// reply before, if there is reason to think that the search fails here first.
+// The guess after a reply at which the search fails, at this position: the one that this search gave, if it is earlier; else the reply
+// before, if it was the guess that failed; else the same as before.
 fn guess_before(
     places: &[usize],
     at: usize,
@@ -87,12 +97,11 @@ fn guess_before(
     let place = places.get(at).copied()?;
     match found {
         Some(earlier) if earlier < place => Some(earlier),
-        Some(_) => places.get(at.checked_sub(1)?).copied(),
-        None => {
-            if guessed == Some(place) {
+        _ => {
+            if found.is_some() || guessed == Some(place) {
                 places.get(at.checked_sub(1)?).copied()
             } else {
-                None
+                guessed
             }
         }
     }
@@ -116,10 +125,7 @@ fn narrower(
 {
     let at = next_tried(places, low, high, *guessed);
     match looked_to(alloc, history, conflicts, places[at])? {
-        Looked::Found => {
-            *guessed = None;
-            Ok((at + 1, high))
-        }
+        Looked::Found => Ok((at + 1, high)),
         Looked::NotFound(found) => {
             *guessed = guess_before(places, at, *guessed, found);
             Ok((low, at))
@@ -180,8 +186,8 @@ fn offence_at(
     }
 }
 
-// The offence at this reply, if the search fails there and finds an order of all events before. If it fails on these as well, `next` is
-// another guess, if there is one.
+// The offence at this reply, if the search finds an order of all events before and fails there. If it fails on the events before,
+// `next` is another guess, if there is one; if it finds an order of the events up to the reply, `next` is the reply again.
 fn offence_if(
     alloc: Global,
     history: &History,
@@ -198,20 +204,23 @@ fn offence_if(
     let Event::Reply { no, .. } = history.event(place) else {
         return Ok(None);
     };
-    match looked_to(alloc, history, conflicts, place)? {
-        Looked::Found => return Ok(None),
-        Looked::NotFound(_) => {}
-    }
     match looked_for(alloc, &history.front(place), conflicts)? {
-        Looked::Found => Ok(Some(Offence {
+        Looked::Found => {}
+        Looked::NotFound(earlier) => {
+            *next = earlier;
+            return Ok(None);
+        }
+    }
+    match looked_to(alloc, history, conflicts, place)? {
+        Looked::Found => {
+            *next = Some(place);
+            Ok(None)
+        }
+        Looked::NotFound(_) => Ok(Some(Offence {
             event: place,
             call: *no,
             before_shown: true,
         })),
-        Looked::NotFound(earlier) => {
-            *next = earlier;
-            Ok(None)
-        }
     }
 }
 
@@ -219,7 +228,12 @@ fn offence_if(
 fn first_guess(alloc: Global, case: &Case) -> Result<Option<usize>, NoMemory> {
     match case.short_at() {
         Some(place) => Ok(Some(place)),
-        None => guess(alloc, case.history(), case.conflicts()),
+        None => guess(
+            alloc,
+            case.history(),
+            case.conflicts(),
+            case.unordered(),
+        ),
     }
 }
 
@@ -233,15 +247,21 @@ pub fn first_offence(alloc: Global, case: &Case) -> Result<Offence, NoMemory>
 {
     let history = case.history();
     let conflicts = case.conflicts();
-    let mut next = None;
-    if let Some(place) = first_guess(alloc, case)? {
-        if let Some(offence) = offence_if(alloc, history, conflicts, place, &mut next)? {
+    let mut guessed = first_guess(alloc, case)?;
+    for _ in 0..MOST_GUESSES {
+        let Some(place) = guessed else {
+            break;
+        };
+        if let Some(offence) = offence_if(alloc, history, conflicts, place, &mut guessed)? {
             return Ok(offence);
+        }
+        if guessed == Some(place) {
+            break;
         }
     }
     let places = reply_places(alloc, history)?;
     // What calls after the last reply leave as it was is known from here on.
     late_calls();
-    let place = first_wrong(alloc, history, conflicts, &places, next)?;
+    let place = first_wrong(alloc, history, conflicts, &places, guessed)?;
     offence_at(alloc, history, conflicts, place)
 }

@@ -1,5 +1,5 @@
 use crate::renumbered::gaps::{Gap, Gaps};
-use crate::taken::shard_of;
+use crate::taken::{pair_of_place, shard_of};
 use history::{Front, Rec};
 use std::alloc::Global;
 use version_pair::{NoMemory, Pair};
@@ -12,6 +12,11 @@ pub struct Shortage {
     pub gaps: Gaps,
     /// Those that together want more numbers than are free between their ends, by their positions in the list.
     pub tight: Vec<usize>,
+}
+
+// The pair with the number before that of this one, or itself if it is the first of its term.
+fn pair_before(pair: Pair) -> Pair {
+    Pair::new(pair.term(), pair.seq().saturating_sub(1)).unwrap_or(pair)
 }
 
 // Numbers of a shard, both ends among them.
@@ -40,23 +45,60 @@ fn shown_in(stretch: Stretch, found: Rec) -> Option<(Pair, usize)> {
     }
 }
 
+// The place of the reply to the call at a position of the witness.
+fn reply_at(witness: &DocWitness, position: usize) -> Option<usize> {
+    let place = witness.places().get(position)?;
+    let found = witness.records().get(place.rec)?;
+    found.heard.map(|heard| heard.0)
+}
+
+// The place of the first reply that may ask for what is invented in the gap: of the calls behind it, up to the write with the next pair
+// that wasn't invented.
+fn first_asking(gap: &Gap, witness: &DocWitness) -> Option<usize> {
+    let mut first: Option<usize> = None;
+    let start = *gap.places.first()?;
+    for position in start..witness.places().len() {
+        if let Some(place) = reply_at(witness, position) {
+            first = Some(first.map_or(place, |other| other.min(place)));
+        }
+        let place = *witness.places().get(position)?;
+        if pair_of_place(witness.records(), place) == Some(gap.numbers.upper) {
+            break;
+        }
+    }
+    first
+}
+
 impl Shortage {
+    // The place of the last of the replies that first ask for what is invented in one of these gaps.
+    fn last_asking(&self, witnesses: &[DocWitness]) -> Option<usize> {
+        let mut last = None;
+        for number in 0..self.tight.len() {
+            if let Some(gap) = self.tight_gap(number) {
+                if let Some(witness) = witnesses.get(gap.witness) {
+                    last = last.max(first_asking(gap, witness));
+                }
+            }
+        }
+        last
+    }
+
     // The gaps that want too many numbers.
     fn tight_gap(&self, number: usize) -> Option<&Gap> {
         self.gaps.list.get(*self.tight.get(number)?)
     }
 
-    // The numbers that these gaps lie between.
+    // The pairs that these gaps lie between, and those within.
     fn stretch(&self) -> Option<Stretch> {
         let first = self.tight_gap(0)?;
         let mut stretch = Stretch {
             shard: first.shard,
-            from: first.numbers.from,
+            from: pair_before(first.numbers.from),
             to: first.numbers.upper,
         };
         for number in 1..self.tight.len() {
             let gap = self.tight_gap(number)?;
-            stretch.from = stretch.from.min(gap.numbers.from);
+            stretch.from = stretch.from.min(pair_before(gap.numbers.from));
             stretch.to = stretch.to.max(gap.numbers.upper);
         }
         Some(stretch)
@@ -84,7 +126,7 @@ impl Shortage {
             }
         }
         shown.sort_unstable();
-        Ok(last_first(&shown))
+        Ok(last_first(&shown).max(self.last_asking(witnesses)))
     }
 }
 

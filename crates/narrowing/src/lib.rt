@@ -2,7 +2,7 @@
 //! all replies are halved.
 //!
 //! ```text
-//! let place = guess(alloc, &history, Conflicts::Plain)?; // Option<usize>
+//! let place = guess(alloc, &history, Conflicts::Plain, &docs)?; // Option<usize>
 //! ```
 #![tactic(auto)]
 

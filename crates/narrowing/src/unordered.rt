@@ -126,16 +126,17 @@ fn front_to(history: &History, place: Option<usize>) -> Front<'_> {
     }
 }
 
-// A guess at the first reply at which the search finds no order of the events up to it. It is `suspect`, where each document
-// has an order of the events before that; of a history without a suspect it may be `None`.
+// A guess at the first reply at which the search finds no order of the events up to it. It is `suspect` if each of these documents has an
+// order of the events before that; of a history without a suspect it may be `None`.
 //
-// Each document is searched once, on the events before the place that the ones before it gave, and where it has no order its
+// Each of the documents is searched once, on the events before the place that the ones before it gave, and if it has no order its
 // replies are halved, on windows of its calls; all windows together cost about one search more. The only document of a
 // history is halved at once.
 fn narrow(
     alloc: Global,
     history: &History,
     conflicts: Conflicts,
+    docs: &[usize],
     suspect: Option<usize>,
 ) -> Result<Option<usize>, NoMemory> {
     if history.docs() == 1 {
@@ -144,12 +145,12 @@ fn narrow(
     }
     let seen = history.seen();
     let mut first = suspect;
-    for doc in 0..history.docs() {
+    for doc in docs {
         let front = front_to(history, first);
-        if doc >= front.docs() {
+        if *doc >= front.docs() {
             break;
         }
-        if let Some(place) = first_failing_of(alloc, &front, doc, seen, conflicts)? {
+        if let Some(place) = first_failing_of(alloc, &front, *doc, seen, conflicts)? {
             first = Some(place);
         }
     }
@@ -158,12 +159,14 @@ fn narrow(
 
 /// A guess at the first reply at which the search finds no order of the events up to it, by its place: one that contradicts
 /// an earlier one by the pairs that both show, or one before that to which halving the replies of a document by itself leads.
-/// It may be `None`. Nothing is promised of the place: what came before a window of calls is only told in short.
+/// The documents are those for which the search finds no order, by their numbers, rising. The guess may be `None`. Nothing is promised
+/// of the place: what came before a window of calls is only summarized.
 pub fn guess(
     alloc: Global,
     history: &History,
     conflicts: Conflicts,
+    docs: &[usize],
 ) -> Result<Option<usize>, NoMemory> {
     let suspect = first_contradiction(alloc, history)?;
-    narrow(alloc, history, conflicts, suspect)
+    narrow(alloc, history, conflicts, docs, suspect)
 }
