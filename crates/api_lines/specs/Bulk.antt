@@ -38,7 +38,7 @@ has_one_key (string s) = false
 has_one_key (array ds) = false
 has_one_key (object ms) = are_one ms
 
--- the value under the key, where it is the object's only key
+-- the value under the key, if it is the object's only key
 abbrev pub only_member : List ℕ → Data → Option Data
 only_member key v = if has_one_key v then get key v else None
 
@@ -91,7 +91,7 @@ pub record SoFar : Type 0 where
   pub items : List (List ℕ × Op)
   pub awaited : Option Awaited
 
--- a line that is refused is no action, but for the two causes of its condition
+-- a line that is refused is not an action, except for the two causes of its condition
 abbrev pub action_fault : ℕ → TextCause → BulkFault
 action_fault n Half = fault.Half n
 action_fault n Range = fault.Range n
@@ -136,21 +136,21 @@ taken_line n so_far line =
 
 -- ---- the body
 
--- the items at the end, where no source line is to come; n is the number after the last line
+-- the items at the end, if no source line is to come; n is the number after the last line
 abbrev pub ended : ℕ → List (List ℕ × Op) → Option Awaited → Result (List (List ℕ × Op)) BulkFault
 ended n items None = Ok items
 ended n items (Some a) = Err (fault.Source n)
 
--- the items after these lines, the first of them with this number
+-- the items after these lines, if the first of them has this number
 abbrev pub taken_lines : ℕ → SoFar → List (List ℕ) → Result (List (List ℕ × Op)) BulkFault
 taken_lines n so_far [] = ended n so_far.items so_far.awaited
 taken_lines n so_far (line ∷ lines) = taken_line n so_far line >>= (λ next. taken_lines (suc n) next lines)
 
--- what the body of a bulk request gives: its items, each the id of a document and an operation, or the first fault
+-- the items of the body of a bulk request, each the id of a document and an operation, or the first fault
 abbrev pub bulk_body : List ℕ → Result (List (List ℕ × Op)) BulkFault
 bulk_body bytes = taken_lines 1 (record { items = []; awaited = None }) (lines_of bytes)
 
--- P where the fault isn't want of memory
+-- P, unless the fault is that memory was refused
 abbrev pub UnlessMemory : BulkFault → Type 0 → Type 0
 UnlessMemory (fault.Syntax n) P = P
 UnlessMemory (fault.Action n) P = P

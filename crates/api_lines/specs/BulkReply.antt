@@ -30,7 +30,7 @@ action_name (Index k c) = codes "index"
 action_name (Delete c) = codes "delete"
 action_name (Create k) = codes "create"
 
--- a body that the reply table isn't asked about
+-- what is heard by a body for which the reply table isn't asked
 abbrev pub heard_unread : List ℕ → BodyValues → Heard
 heard_unread d body = if is_other_text d body.id then Stranger else Unknown
 
@@ -46,12 +46,12 @@ heard_by d op other body = heard_unread d body
 abbrev pub heard_of_held : List ℕ → Op → Data → Heard
 heard_of_held d op held = heard_by d op (field (codes "status") held) (body_values held)
 
--- what an item's one key holds, where it is an object
+-- what is heard by what an item's one key holds, if that is an object
 abbrev pub heard_of_object : ℕ → List ℕ → Op → Option Data → Result Heard BulkFault
 heard_of_object i d op None = Err (Kind i)
 heard_of_object i d op (Some held) = if is_some (as_object held) then Ok (heard_of_held d op held) else Err (Kind i)
 
--- what is heard by the item at the place i, or its fault
+-- what is heard by the item at index i, or its fault
 abbrev pub heard_item : ℕ → List ℕ × Op → Data → Result Heard BulkFault
 heard_item i call v = heard_of_object i call.0 call.1 (only_member (action_name call.1) v)
 
@@ -61,7 +61,7 @@ abbrev pub items_list : Items → List Data
 items_list no_items = []
 items_list (item d ds) = d ∷ items_list ds
 
--- What is heard by the items from the place i on, after what is heard so far. There are as many items as calls.
+-- What is heard by the items from index i on, after what is heard so far. There are as many items as calls.
 abbrev pub heard_items : ℕ → List Heard → List (List ℕ × Op) → List Data → Result (List Heard) BulkFault
 heard_items i so_far [] vs = Ok so_far
 heard_items i so_far (call ∷ calls) [] = Err Count
@@ -70,7 +70,7 @@ heard_items i so_far (call ∷ calls) (v ∷ vs) = heard_item i call v >>= (λ h
 abbrev pub heard_counted : List (List ℕ × Op) → List Data → Result (List Heard) BulkFault
 heard_counted calls vs = if length vs == length calls then heard_items 0 [] calls vs else Err Count
 
--- the items of a reply, where it has them
+-- the items of a reply, if it has them
 abbrev pub items_in : Data → Option (List Data)
 items_in v = option_map items_list (option_and_then as_array (get (codes "items") v))
 
@@ -82,7 +82,7 @@ abbrev pub heard_json : List (List ℕ × Op) → Option Data → Result (List H
 heard_json calls None = Err (Syntax 1)
 heard_json calls (Some v) = heard_array calls (items_in v)
 
--- What the reply to a bulk request tells of each of its calls, or the first fault. With a status other than 200 it isn't
--- read, and the outcome of each is unknown.
+-- What the reply to a bulk request says of each of its calls, or the first fault. With a status other than
+-- 200 it isn't read, and the outcome of each is unknown.
 abbrev pub bulk_reply : List (List ℕ × Op) → ℕ → List ℕ → Result (List Heard) BulkFault
 bulk_reply calls status body = if status == 200 then heard_json calls (json_value body) else Ok (map (λ call. Unknown) calls)

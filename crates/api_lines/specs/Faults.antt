@@ -1,4 +1,4 @@
--- What is told of a line that is refused.
+-- What is reported of a line that is refused.
 use Rattle.std.specs.Prelude.{◌≡◌, ℕ, Result, Ok, Err}
 use Rattle.api_lines.specs.declared.text_fault.LineFault.{LineFault}
 use Rattle.api_lines.specs.declared.text_fault.LineFault.TheVariants as line
@@ -12,17 +12,18 @@ abbrev pub text_fault : ℕ → LineFault → ReadFault
 text_fault n (line.Told cause) = text.Text (record { line = n; cause = cause })
 text_fault n line.NoMemory = text.NoMemory
 
--- P of the cause that is told; want of memory tells none
+-- P holds of the cause that is reported; if memory was refused, none is
 abbrev pub IfTold : LineFault → (TextCause → Type 0) → Type 0
 IfTold (line.Told cause) P = P cause
 IfTold line.NoMemory P = Unit {0}
 
--- What a step gives that may be refused: its value, or the first cause. Want of memory says nothing of it.
+-- What a step gives that may be refused: its value, or the first cause. If memory was refused, this says
+-- nothing of it.
 abbrev pub Gives : {A : Type 0} → Result A LineFault → Result A TextCause → Type 0
 Gives (Ok x) told = told ≡ Ok x
 Gives (Err fault) told = IfTold fault (λ cause. told ≡ Err cause)
 
--- P of the line and the cause that are told; want of memory tells none
+-- P holds of the line and the cause that are reported; if memory was refused, none are
 abbrev pub IfTextTold : ReadFault → (TextFault → Type 0) → Type 0
 IfTextTold (text.Text told) P = P told
 IfTextTold text.NoMemory P = Unit {0}

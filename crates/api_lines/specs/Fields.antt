@@ -8,7 +8,7 @@ use Rattle.api_lines.specs.declared.field.Field.TheVariants as field
 use Rattle.api_lines.specs.declared.fields.BodyFields.{BodyFields}
 use Rattle.api_lines.specs.declared.fields.LineFields.{LineFields}
 
--- what the reply table looks at in a reply's body
+-- the fields of a reply's body that the reply table reads
 pub record BodyValues : Type 0 where
   pub id : FieldValue
   pub outcome : FieldValue
@@ -33,7 +33,7 @@ body_values body = record {
   error_type = inner_field (codes "error") (codes "type") body;
 }
 
--- what any line of a history text names
+-- the fields that any line of a history text names
 pub record LineValues : Type 0 where
   pub e : FieldValue
   pub n : FieldValue
@@ -46,7 +46,7 @@ pub record LineValues : Type 0 where
   pub status : FieldValue
   pub body : BodyValues
 
--- the body of a reply line, null where it is absent
+-- the body of a reply line, null if it is absent
 abbrev pub body_of : Data → Data
 body_of v = unwrap_or (get (codes "body") v) null
 

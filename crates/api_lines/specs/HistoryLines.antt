@@ -16,13 +16,14 @@ use Rattle.api_lines.specs.declared.number.Number.{Number}
 use Rattle.api_lines.specs.declared.text_fault.TextCause.{TextCause}
 use Rattle.api_lines.specs.declared.text_fault.TextCause.TheVariants.{Range, Shape}
 
--- how many shards there are: their numbers are below
+-- the number of shards: their numbers are below it
 abbrev pub most_shards : ℕ
 most_shards = 1024
 
 -- ---- kinds
 
--- The numbers of an operation, of the kind that they have to be. Those that the operation doesn't take aren't looked at.
+-- The numbers of an operation, of the kind that they must be. Those that the operation doesn't take aren't
+-- read.
 abbrev pub index_numbers : LineValues → Result OpNumbers TextCause
 index_numbers line = do
   k ← required_number line.k
@@ -55,7 +56,7 @@ op_numbers line = required_text line.op >>= numbers_named line
 
 -- ---- values
 
--- the operation of these numbers: first its condition, then the number that it writes
+-- the operation with these numbers: checked first is its condition, then the number that it writes
 abbrev pub op_told : OpNumbers → Result Op TextCause
 op_told numbers.Get = Ok Get
 op_told (numbers.Index k seq term) = do
@@ -72,7 +73,7 @@ op_told (numbers.Create k) = do
 abbrev pub below_limit : ℕ → ℕ → Result ℕ TextCause
 below_limit limit n = if nat_lt n limit then Ok n else Err Range
 
--- the shard: 0 where it isn't named
+-- the shard: 0 if it isn't named
 abbrev pub shard_told : Option Number → Result ℕ TextCause
 shard_told None = Ok 0
 shard_told (Some number) = whole_told number >>= below_limit most_shards
@@ -82,7 +83,7 @@ status_told number = whole_told number >>= below_limit (2 ^ 16)
 
 -- ---- lines
 
--- a call: all kinds, then the id, then the condition's halves, then the ranges
+-- a call: checked first are all kinds, then the id, then the halves of the condition, then the ranges
 abbrev pub call_told : LineValues → Result LineSaid TextCause
 call_told line = do
   number ← required_number line.n
@@ -95,7 +96,7 @@ call_told line = do
   h ← shard_told shard
   Ok (Call n h id op)
 
--- a reply, whose body is looked at where its call is known
+-- a reply, whose body is read when its call is known
 abbrev pub reply_told : LineValues → Result LineSaid TextCause
 reply_told line = do
   number ← required_number line.n

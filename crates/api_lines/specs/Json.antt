@@ -7,14 +7,14 @@ use Rattle.serde_json.specs.Read.{read}
 
 -- ---- the value of a line
 
--- the value of a line, or of any bytes, that are JSON
+-- the value of a line, or of any bytes, if they are JSON
 abbrev pub json_value : List ℕ → Option Data
 json_value line = if is_utf8 line then read line else None
 
 -- ---- fields
 
--- What a field is: absent, a whole number below 2^64 that is spelled by digits alone, another number, a text, true or
--- false, or of another kind, as null is.
+-- The value of a field, by its kind: absent, a whole number below 2^64 that is spelled by digits alone,
+-- another number, a text, true or false, or of another kind, such as null.
 pub data FieldValue : Type 0 where
   absent : FieldValue
   whole : ℕ → FieldValue
@@ -37,11 +37,11 @@ field_value (Some (string s)) = text s
 field_value (Some (array ds)) = other
 field_value (Some (object ms)) = other
 
--- the field of a value; a value that is no object has none
+-- the field of a value; a value that is not an object has none
 abbrev pub field : List ℕ → Data → FieldValue
 field key v = field_value (get key v)
 
--- the field is not there
+-- the field is absent
 abbrev pub Lacks : List ℕ → Data → Type 0
 Lacks key v = field key v ≡ absent
 

@@ -1,4 +1,4 @@
--- Fields of the kind that is asked for.
+-- Fields of the kind that is required.
 use Rattle.std.specs.Prelude.{ℕ, List, Bool, true, false, not, Option, Some, None, Result, Ok, Err}
 use Rattle.std.specs.Str.{bytes_eq}
 use Rattle.api_lines.specs.Json.{FieldValue, absent, whole, not_whole, text, truth, other}
@@ -16,7 +16,7 @@ optional_number (text t) = Err Shape
 optional_number (truth b) = Err Shape
 optional_number other = Err Shape
 
--- a number that has to be there
+-- a number that must be present
 abbrev pub required_number : FieldValue → Result Number TextCause
 required_number absent = Err Shape
 required_number (whole n) = Ok (Whole n)
@@ -25,7 +25,7 @@ required_number (text t) = Err Shape
 required_number (truth b) = Err Shape
 required_number other = Err Shape
 
--- a text that has to be there
+-- a text that must be present
 abbrev pub required_text : FieldValue → Result (List ℕ) TextCause
 required_text absent = Err Shape
 required_text (whole n) = Err Shape
@@ -43,7 +43,7 @@ is_text t (text found) = bytes_eq found t
 is_text t (truth b) = false
 is_text t other = false
 
--- the field is a text, and another than this
+-- the field is a text other than this one
 abbrev pub is_other_text : List ℕ → FieldValue → Bool
 is_other_text t absent = false
 is_other_text t (whole n) = false

@@ -10,7 +10,7 @@ use Rattle.api_lines.specs.Written.{written_body, written_status}
 use Rattle.api_lines.specs.declared.reply_table.Heard.{Heard}
 use Rattle.api_lines.specs.declared.reply_table.Heard.TheVariants.{Reply as Replied}
 
--- the table tells one reply at most
+-- the table gives at most one reply
 abbrev pub TableTellsOne : Type 0
 TableTellsOne = (op : Op) (status : ℕ) (body : Data) (r s : Reply) → Tells op status body r → Tells op status body s → r ≡ s
 

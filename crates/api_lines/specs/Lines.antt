@@ -2,7 +2,7 @@
 use Rattle.std.specs.Prelude.{◌≡◌, ℕ, ◌==◌, ◌⊎◌, Bool, false, not, ◌||◌, List, [], ◌∷◌, ◌++◌, if◌then◌else◌}
 use Rattle.std.specs.List.{list_all, list_any}
 
--- the lines, with b at the front of the first
+-- the lines, with b at the beginning of the first
 abbrev pub onto_first : ℕ → List (List ℕ) → List (List ℕ)
 onto_first b [] = (b ∷ []) ∷ []
 onto_first b (line ∷ lines) = (b ∷ line) ∷ lines
@@ -28,17 +28,17 @@ AreWholeLines text = (text ≡ []) ⊎ ((front : List ℕ) × (text ≡ front ++
 abbrev pub is_space : ℕ → Bool
 is_space b = (b == 32) || (b == 9) || (b == 13)
 
--- a line of such bytes alone
+-- a line that has only such bytes
 abbrev pub is_blank : List ℕ → Bool
 is_blank line = list_all is_space line
 
 abbrev pub is_written : List ℕ → Bool
 is_written line = not (is_blank line)
 
--- the most lines of a text
+-- the greatest number of lines of a text
 abbrev pub most_lines : ℕ
 most_lines = 4194304
 
--- the most bytes of a line, without its line feed
+-- the greatest number of bytes of a line, without its line feed
 abbrev pub longest_line : ℕ
 longest_line = 65536

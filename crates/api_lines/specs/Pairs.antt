@@ -7,7 +7,7 @@ use Rattle.api_lines.specs.declared.number.Number.TheVariants.{Whole, NotWhole}
 use Rattle.api_lines.specs.declared.text_fault.TextCause.{TextCause}
 use Rattle.api_lines.specs.declared.text_fault.TextCause.TheVariants.{Half, Range}
 
--- the pair, where the three tests of its ranges are true
+-- the pair, if the three tests of its ranges are true
 abbrev pub tested_pair : (term seq : ℕ) (from_one fits seq_fits : Bool) → nat_le 1 term ≡ from_one → nat_lt term (2 ^ 63) ≡ fits
     → nat_lt seq (2 ^ 63) ≡ seq_fits → Option Pair
 tested_pair term seq true true true a b c =
@@ -16,7 +16,7 @@ tested_pair term seq true true false a b c = None
 tested_pair term seq true false t a b c = None
 tested_pair term seq false s t a b c = None
 
--- the pair of a term, 1 to 2^63-1, and a sequence number below 2^63; none where one is outside its range
+-- the pair of a term, 1 to 2^63-1, and a sequence number below 2^63; none if one of them is outside its range
 unfoldable pub pair_of : ℕ → ℕ → Option Pair
 pair_of term seq = tested_pair term seq (nat_le 1 term) (nat_lt term (2 ^ 63)) (nat_lt seq (2 ^ 63)) refl refl refl
 
@@ -25,12 +25,12 @@ abbrev pub whole_told : Number → Result ℕ TextCause
 whole_told (Whole n) = Ok n
 whole_told NotWhole = Err Range
 
--- the pair of two numbers that are both there, where it is none a number is outside its range
+-- the pair of two numbers that are both present; if there is none, a number is outside its range
 abbrev pub in_range : Option Pair → Result (Option Pair) TextCause
 in_range None = Err Range
 in_range (Some p) = Ok (Some p)
 
--- the pair of a sequence number and a term: none where neither is there
+-- the pair of a sequence number and a term: none if both are absent
 abbrev pub pair_told : Option Number → Option Number → Result (Option Pair) TextCause
 pair_told None None = Ok None
 pair_told None (Some term) = Err Half

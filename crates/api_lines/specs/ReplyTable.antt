@@ -36,7 +36,7 @@ pub record TellsConflict (status : ℕ) (body : Data) : Type 0 where
   pub has_status : status ≡ 409
   pub error : (e : Data) × (get (codes "error") body ≡ Some e) × HasText (codes "type") (codes "version_conflict_engine_exception") e
 
--- a document that is there
+-- a document that exists
 pub record TellsFound (status : ℕ) (body : Data) (p : Pair) (k : ℕ) : Type 0 where
   pub has_status : status ≡ 200
   pub found : HasBool (codes "found") true body
@@ -78,8 +78,8 @@ Tells (Create j) status body Conflict = TellsConflict status body
 abbrev pub IsUnknown : Op → ℕ → Data → Type 0
 IsUnknown op status body = (r : Answer) → ¬ Tells op status body r
 
--- What is heard of a document's call by a status and a body. A body that names another document is a stranger's, whatever
--- its status; else the table tells.
+-- What is heard of a document's call by a status and a body. A body that names another document is a
+-- stranger's, whatever its status; otherwise the table decides.
 abbrev pub IsHeard : List ℕ → Op → ℕ → Data → Heard → Type 0
 IsHeard d op status body Stranger = IsStranger d body
 IsHeard d op status body (Reply r) = (¬ IsStranger d body) × Tells op status body r

@@ -6,15 +6,16 @@ use Rattle.api_lines.specs.declared.line_input.Part.{Part}
 use Rattle.api_lines.specs.declared.line_input.Part.TheVariants.{More, Last, End}
 use Rattle.api_lines.specs.declared.text_fault.TextFault.{TextFault}
 
--- the most bytes that are held of a line: one more than it may have
+-- the greatest number of bytes that are held of a line: one more than it may have
 abbrev pub most_held : ℕ
 most_held = 65537
 
--- the most bytes that one read brings
+-- the greatest number of bytes that one read brings
 abbrev pub most_brought : ℕ
 most_brought = 32768
 
--- What was taken of a line: some bytes of it; its last ones and the line feed; nothing, at the end of all bytes.
+-- What was taken of a line: some bytes of it; its last ones and the line feed; nothing, at the end of all
+-- bytes.
 abbrev pub IsPart : Part → Option (List ℕ) → Option (List ℕ) → List ℕ → List ℕ → Type 0
 IsPart More old new before after =
     (bytes : List ℕ) × (after ≡ before ++ bytes) × HasNoLineFeed bytes × (0 < length bytes) × Consumes old new bytes
@@ -22,7 +23,7 @@ IsPart Last old new before after =
     (bytes : List ℕ) × (after ≡ before ++ bytes) × HasNoLineFeed bytes × (length after ≤ longest_line) × Consumes old new (bytes ++ 10 ∷ [])
 IsPart End old new before after = (after ≡ before) × IsAtEnd old × Keeps old new
 
--- A line was taken: with its line feed; the last one, without; or a front of one that is too long.
+-- A line was taken: with its line feed; the last one, without; or a prefix of one that is too long.
 abbrev pub EndsLine : Option (List ℕ) → Option (List ℕ) → List ℕ → Type 0
 EndsLine old new line =
     (Consumes old new (line ++ 10 ∷ []) × (length line ≤ longest_line))
@@ -32,9 +33,10 @@ EndsLine old new line =
 abbrev pub AreOfOneLine : List ℕ → Type 0
 AreOfOneLine bytes = HasNoLineFeed bytes ⊎ ((line : List ℕ) × (bytes ≡ line ++ 10 ∷ []) × HasNoLineFeed line)
 
--- Of a text so much was taken, and the rest is left: the lines before the one with this number; of that line its first bytes,
--- 65,537 at most and its line feed among these; and behind them what the last read brought, 32,768 bytes at most. The lines
--- before are 4,194,304 at most; where they are so many, there is nothing behind them but what the last read brought.
+-- This much of a text was taken, and the rest is left: the lines before the one with this number; of that
+-- line its first bytes, at most 65,537 and its line feed among these; and after them what the last read
+-- brought, at most 32,768 bytes. The lines before are at most 4,194,304; if they are that many, nothing comes
+-- after them but what the last read brought.
 pub record IsTakenUpTo (number : ℕ) (text rest : List ℕ) : Type 0 where
   pub before : List ℕ
   pub line : List ℕ
@@ -49,8 +51,8 @@ pub record IsTakenUpTo (number : ℕ) (text rest : List ℕ) : Type 0 where
   pub none_past : number ≡ most_lines + 1 → line ≡ []
   pub brought_at_once : length brought ≤ most_brought
 
--- What was taken for a text that is read so, of bytes that are known: no line behind the first that is refused, and nothing
--- behind that one but what the last read brought.
+-- What was taken for a text that is read in this way, if its bytes are known: no line after the first that is
+-- refused, and nothing after that one but what the last read brought.
 abbrev pub IsTakenFor : {S : Type 0} → (List ℕ → Result S TextFault) → Option (List ℕ) → Option (List ℕ) → Type 0
 IsTakenFor reads None new = Unit {0}
 IsTakenFor reads (Some text) None = ⊥

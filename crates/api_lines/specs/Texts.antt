@@ -1,4 +1,5 @@
--- How a text is read line by line: what each line gives, and the first line that is refused with its first cause.
+-- How a text is read line by line: what each line gives, and the first line that is refused with its first
+-- cause.
 use Rattle.std.specs.Prelude.{◌≡◌, ℕ, suc, ◌+◌, ◌<◌, List, [], ◌∷◌, ◌++◌, Option, Some, None, Result, Ok, Err, length, nat_lt, if◌then◌else◌}
 use Rattle.serde_json.specs.Data.{Data}
 use Rattle.api_lines.specs.Faults.{◌>>=◌}
@@ -12,8 +13,8 @@ abbrev pub value_given : Option Data → Result (Option Data) TextCause
 value_given None = Err Json
 value_given (Some v) = Ok (Some v)
 
--- What the line with this number gives: nothing where it is blank, else its value. Causes in their order: too many
--- lines, a line that is too long, a line that is no JSON.
+-- What the line with this number gives: nothing if it is blank, otherwise its value. Causes in their order:
+-- too many lines, a line that is too long, a line that is not JSON.
 abbrev pub line_given : ℕ → List ℕ → Result (Option Data) TextCause
 line_given number line =
     if nat_lt most_lines number then Err Lines
@@ -21,7 +22,7 @@ line_given number line =
     else (if is_blank line then Ok None
     else value_given (json_value line)))
 
--- the state after what a line gives: a blank line leaves it
+-- the state after what a line gives: a blank line leaves it as it was
 abbrev pub taken : {S : Type 0} → (S → Data → Result S TextCause) → S → Option Data → Result S TextCause
 taken takes s None = Ok s
 taken takes s (Some v) = takes s v
@@ -35,15 +36,16 @@ abbrev pub read_on : {S : Type 0} → ℕ → Result S TextCause → (S → Resu
 read_on number (Ok s) next = next s
 read_on number (Err cause) next = Err (record { line = number; cause = cause })
 
--- The state after the lines, the first of which has this number; or the first line that is refused, with its first cause.
+-- The state after the lines, if the first of them has this number; or the first line that is refused, with
+-- its first cause.
 abbrev pub read_lines : {S : Type 0} → (S → Data → Result S TextCause) → ℕ → S → List (List ℕ) → Result S TextFault
 read_lines takes number s [] = Ok s
 read_lines takes number s (line ∷ lines) =
     read_on number (read_line takes number s line) (λ t. read_lines takes (suc number) t lines)
 
--- ---- one line more
+-- ---- one more line
 
--- the state after some lines of a text, and how many lines these were
+-- the state after some lines of a text, and the number of these lines
 pub record SoFar (S : Type 0) : Type 0 where
   pub state : S
   pub lines : ℕ
@@ -56,7 +58,7 @@ abbrev pub after_line : {S : Type 0} → ℕ → Result S TextCause → Result (
 after_line number (Ok s) = Ok (so_far s number)
 after_line number (Err cause) = Err (record { line = number; cause = cause })
 
--- what the next line makes of it; or that line with its first cause
+-- the state after the next line; or that line with its first cause
 abbrev pub next_line : {S : Type 0} → (S → Data → Result S TextCause) → SoFar S → List ℕ → Result (SoFar S) TextFault
 next_line takes r line = after_line (r.lines + 1) (read_line takes (r.lines + 1) r.state line)
 
@@ -65,15 +67,15 @@ abbrev pub state_of : {S : Type 0} → Result (SoFar S) TextFault → Result S T
 state_of (Ok r) = Ok r.state
 state_of (Err told) = Err told
 
--- the text is of whole lines, so many, and they are read to this state
+-- the text has that many whole lines, and they are read to this state
 pub record IsReadTo {S : Type 0} (takes : S → Data → Result S TextCause) (start : S) (text : List ℕ) (r : SoFar S) : Type 0 where
   pub whole : AreWholeLines text
   pub count : length (lines_of text) ≡ r.lines
   pub read : read_lines takes 1 start (lines_of text) ≡ Ok r.state
 
--- A text can be read line by line. What the next line makes of the lines before it is what is read of the text with it, ended by
--- a line feed or by the end of the text. A text with a line that is refused is refused so, whatever follows, and with a line that
--- is too long already where the line goes on.
+-- A text can be read line by line. The result of the next line after the lines before it is that of reading
+-- the text with it, ended by a line feed or by the end of the text. A text with a line that is refused is
+-- refused in the same way, whatever follows; and with a line that is too long, however that line continues.
 pub record ReadsLineByLine {S : Type 0} (takes : S → Data → Result S TextCause) (start : S) : Type 0 where
   pub none : IsReadTo takes start [] (so_far start 0)
   pub more : (text line : List ℕ) (r q : SoFar S) → IsReadTo takes start text r → HasNoLineFeed line → next_line takes r line ≡ Ok q

@@ -24,7 +24,7 @@ id_and_pair d p rest =
 abbrev pub write_body : List ℕ → Pair → List ℕ → Data
 write_body d p outcome = object (id_and_pair d p (member (codes "result") (string outcome) no_members))
 
--- the body of a document that is there
+-- the body of a document that exists
 abbrev pub found_body : List ℕ → Pair → ℕ → Data
 found_body d p k =
     object (id_and_pair d p (member (codes "_source") (object (number_member (codes "k") k no_members)) (member (codes "found") (boolean true) no_members)))

@@ -50,7 +50,7 @@ pub enum ActionSaid {
 }
 
 impl Awaited {
-    /// The item of the action, with the number of its source.
+    /// Returns the item of the action, with the number of its source.
     pub fn item(self, k: u64) -> (DocId, Op)
         ensures { result ≡ item_of self k }
     {
@@ -71,7 +71,7 @@ fn has_one_key(value: &Value) -> bool
     }
 }
 
-/// The value under the key, where it is the only key of an object.
+/// Returns the value under the key, if it is the only key of an object.
 pub fn only_member<'v>(value: &'v Value, key: &str) -> Option<&'v Value>
     ensures { option_map (λ v. view v.now) result ≡ member_alone key.now (view value.now) }
 {
@@ -94,7 +94,8 @@ fn fields_of(action: ActionName, value: &Value) -> ActionFields<'_>
     }
 }
 
-/// The fields of an action's line; `None` where the value is no object whose one key names an action.
+/// Returns the fields of an action's line; `None` if the value is not an object whose one key names an
+/// action.
 pub fn action_fields(value: &Value) -> Option<ActionFields<'_>>
     ensures { MatchOption result (action_values (view value.now) ≡ None) (λ fields. action_values (view value.now) ≡ Some (action_seen fields)) }
 {
@@ -110,7 +111,7 @@ pub fn action_fields(value: &Value) -> Option<ActionFields<'_>>
     None
 }
 
-// The id and the condition of an action: `Shape`, `Id`, `Half`, `Range`.
+// The id and the condition of an action. Causes in their order: `Shape`, `Id`, `Half`, `Range`.
 fn id_and_condition(
     alloc: Global,
     action: &ActionFields<'_>,
@@ -125,7 +126,8 @@ fn id_and_condition(
     Ok((id, cond))
 }
 
-// What an action says. Causes in their order: `Shape`, `Id`, `Half`, `Range`. Conditions on a create are passed over.
+// What an action says. Causes in their order: `Shape`, `Id`, `Half`, `Range`. Conditions on a create are
+// passed over.
 fn said_by(alloc: Global, action: &ActionFields<'_>) -> Result<ActionSaid, LineFault>
     ensures { Gives result (action_by action.now.action (action_seen action.now)) }
 {
@@ -146,8 +148,8 @@ fn said_by(alloc: Global, action: &ActionFields<'_>) -> Result<ActionSaid, LineF
     }
 }
 
-/// What an action's line says. Causes in their order: `Shape`, also for what is no action; `Id`, `Half`, `Range`.
-/// `NoMemory` says nothing of the line.
+/// Returns what an action's line says. Causes in their order: `Shape`, also for what is not an action; `Id`,
+/// `Half`, `Range`. `NoMemory` says nothing of the line.
 pub fn action_said(alloc: Global, value: &Value) -> Result<ActionSaid, LineFault>
     ensures { Gives result (action_told (action_values (view value.now))) }
 {

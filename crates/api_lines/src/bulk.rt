@@ -128,7 +128,7 @@ impl Bulk {
         }
     }
 
-    // The items, where no source line is to come; the number is that after the last line.
+    // The items, if no source line is to come; the number is that after the last line.
     fn into_items(self, number: u64) -> Result<Vec<(DocId, Op)>, BulkFault>
         ensures ok { IfOk result (λ items. ended number self.items.items self.awaited ≡ Ok items.items) }
         ensures err { IfErr result (λ fault. UnlessMemory fault (ended number self.items.items self.awaited ≡ Err fault)) }
@@ -140,14 +140,19 @@ impl Bulk {
     }
 }
 
-/// The items of the body of a bulk request, each the id of a document and an operation; or the first fault.
+/// Returns the items of the body of a bulk request, each the id of a document and an operation; or the first
+/// fault.
 ///
-/// The lines are taken in order, blank ones passed over. A line of more than 65,536 bytes, also a blank one, and one that
-/// is no JSON is `Syntax`. An action's line is an object with the one key `index`, `delete` or `create`, holding an object
-/// whose `_id` is a document's id and whose `if_seq_no` and `if_primary_term` are numbers where they are there, else
-/// `Action`; then `Half` and `Range` for these two. On a create they are passed over. After `index` and `create` a source
-/// line follows, an object with a whole number `k`, else `Source`, with the number after the last line where none is
-/// left. `NoMemory` is told where a growth was refused.
+/// The lines are taken in order, and blank ones are passed over. A line of more than 65,536 bytes, even a
+/// blank one, or one that is not JSON is `Syntax`.
+///
+/// An action's line is an object with the one key `index`, `delete` or `create`. The key holds an object
+/// whose `_id` is a document's id and whose `if_seq_no` and `if_primary_term` are numbers if they are
+/// present; otherwise the fault is `Action`. Then `Half` and `Range` apply to these two. On a create they are
+/// passed over.
+///
+/// After `index` and `create` a source line follows, an object with a whole number `k`; otherwise the fault
+/// is `Source`, with the number after the last line if no line is left. `NoMemory` if memory was refused.
 pub fn read_bulk(alloc: Global, body: &[u8]) -> Result<Vec<(DocId, Op)>, BulkFault>
     ensures ok { IfOk result (λ items. bulk_body body.now ≡ Ok items.items) }
     ensures writes { IfOk result (λ items. All (λ item. is_write item.1 ≡ true) items.items) }

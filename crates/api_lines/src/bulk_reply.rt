@@ -30,7 +30,7 @@ fn action_name(op: &Op) -> &'static str
     }
 }
 
-// What is heard by a body that the reply table isn't asked about.
+// What is heard by a body for which the reply table isn't asked.
 fn heard_unread(id: &DocId, body: &BodyFields<'_>) -> Heard
     ensures { result ≡ unread id.now (body_seen body.now) }
 {
@@ -57,7 +57,7 @@ fn heard_by(op: &Op, id: &DocId, status: Field<'_>, body: &BodyFields<'_>) -> He
     }
 }
 
-// What is heard by the item at the place, else `Kind`.
+// What is heard by the item at the index, or `Kind`.
 fn heard_item(place: usize, call: &(DocId, Op), item: &Value) -> Result<Heard, BulkFault>
     requires { is_write call.now.1 ≡ true }
     ensures { result ≡ item_heard place call.now (view item.now) }
@@ -96,7 +96,7 @@ fn heard_items(
     Ok(heard)
 }
 
-// What is heard by the items of the reply, else `Count` where they aren't as many as the calls.
+// What is heard by the items of the reply, or `Count` if they aren't as many as the calls.
 fn heard_counted(
     alloc: Global,
     calls: &[(DocId, Op)],
@@ -113,7 +113,7 @@ fn heard_counted(
     }
 }
 
-// The items of a reply's body, where it has them.
+// The items of a reply's body, if it has them.
 #[tactic(auto, using(crate::proofs::BulkReplyLemmas::viewed))]
 fn reply_items(value: &Value) -> Option<&[Value]>
     ensures { option_map (λ items. map view items.now) result ≡ items_in (view value.now) }
@@ -134,7 +134,7 @@ fn heard_value(alloc: Global, calls: &[(DocId, Op)], value: &Value) -> Result<Ve
     }
 }
 
-// The outcome of each call is unknown.
+// The unknown outcome of each call.
 fn all_unknown(alloc: Global, calls: &[(DocId, Op)]) -> Result<Vec<Heard>, BulkFault>
     ensures ok { IfOk result (λ heard. heard.items ≡ map (λ call. Unknown) calls.now) }
     ensures fault { IfErr result (λ fault. fault ≡ BulkFault.NoMemory) }
@@ -145,13 +145,16 @@ fn all_unknown(alloc: Global, calls: &[(DocId, Op)]) -> Result<Vec<Heard>, BulkF
     }
 }
 
-/// What the reply to a bulk request tells of each of its calls, in their order, or the first fault.
+/// Returns what the reply to a bulk request says of each of its calls, in their order, or the first fault.
 ///
-/// With a status other than 200 the body isn't read, and the outcome of each call is unknown. Else a body that is no JSON
-/// is `Syntax(1)`; one with no array `items`, or with another number of items than calls, is `Count`; then item by item
-/// one that isn't an object with the action's name as its one key, holding an object, is `Kind`. That object is a body
-/// for the reply table, with the status in it: a body that names another document is a `Stranger`, whatever its status,
-/// and an item with no whole status from 0 to 65,535 is `Unknown`. `NoMemory` is told where a growth was refused.
+/// With a status other than 200 the body isn't read, and the outcome of each call is unknown. Otherwise a
+/// body that is not JSON is `Syntax(1)`; one with no array `items`, or with a number of items other than that
+/// of the calls, is `Count`; then, item by item, one that isn't an object with the action's name as its one
+/// key, holding an object, is `Kind`.
+///
+/// That object is a body for the reply table, and has the status. A body that names another document is a
+/// `Stranger`, whatever its status, and an item with no whole status from 0 to 65,535 is `Unknown`.
+/// `NoMemory` if memory was refused.
 pub fn read_bulk_reply(
     alloc: Global,
     calls: &[(DocId, Op)],

@@ -7,12 +7,13 @@ use std::alloc::{AllocError, Global};
 use std::io::Read;
 use std::marker::Model;
 
-/// How many bytes are asked of a reader at once.
+/// The number of bytes that a reader is asked for at once.
 pub const CHUNK: usize = 32_768;
 
-/// What the last read of a reader brought and nobody took yet: 32,768 bytes at most.
+/// The bytes that the last read of a reader brought and that nobody took yet: at most 32,768 bytes.
 ///
-/// Contracts see these bytes. With a chunk before a reader its bytes are those of the chunk and then what the reader has left.
+/// Contracts see these bytes. If a chunk is before a reader, the bytes are those of the chunk, followed by
+/// what the reader has left.
 #[derive(Drop)]
 pub struct Chunk {
     bytes: Vec<u8>,
@@ -46,7 +47,7 @@ fn read_over<R: Read>(reader: &mut R, bytes: &mut Vec<u8>) -> Result<usize, Inpu
 }
 
 impl Chunk {
-    /// The chunk in front of a reader that was not asked yet. It takes room for 32,768 bytes.
+    /// Returns the chunk for a reader that was not asked yet. It takes room for 32,768 bytes.
     pub fn new(alloc: Global) -> Result<Chunk, AllocError>
         ensures { IfOk result (λ chunk. chunk ≡ []) }
     {
@@ -59,8 +60,8 @@ impl Chunk {
         })
     }
 
-    /// Asks the reader once for 32,768 bytes, but only where none are at hand. A fault of the reader of any kind is `Read`, an
-    /// interruption too.
+    /// Asks the reader once for 32,768 bytes, but only if none are at hand. Errors: `Read` for a fault of the
+    /// reader of any kind, an interruption included.
     pub(crate) fn fill<R: Read>(&mut self, reader: &mut R) -> Result<(), InputFault>
         ensures bytes { Keeps (prepend_known self.old (R.remaining reader.old))
             (prepend_known self.new (R.remaining reader.new)) }
@@ -76,14 +77,14 @@ impl Chunk {
         Ok(())
     }
 
-    /// The bytes at hand.
+    /// Returns the bytes at hand.
     pub(crate) fn bytes(&self) -> &[u8]
         ensures { result.now ≡ self.now }
     {
         &self.bytes[self.start..self.end]
     }
 
-    /// Takes so many of the bytes at hand.
+    /// Takes that many of the bytes at hand.
     pub(crate) fn consume(&mut self, count: usize)
         requires { count ≤ length self.old }
         ensures { self.new ≡ drop count self.old }

@@ -9,10 +9,10 @@ use crate::number::Number;
 use crate::text_fault::TextCause;
 use serde_json::Value;
 
-/// What a field of a line is.
+/// The value of a field of a line, by its kind.
 #[derive(Clone, Copy, Debug, PartialEq, Eq)]
 pub enum Field<'v> {
-    /// It is not there.
+    /// The field is absent.
     Absent,
     /// A whole number below 2^64, spelled by digits alone.
     Whole(u64),
@@ -22,14 +22,15 @@ pub enum Field<'v> {
     Text(&'v str),
     /// True.
     True,
-    /// False. (Each has a variant of its own: a variant that holds a byte makes all the others slower to copy.)
+    /// False. (Each has a variant of its own: a variant that holds a byte makes all the others slower to
+    /// copy.)
     False,
-    /// Of another kind, as null is.
+    /// A value of another kind, such as null.
     Other,
 }
 
 impl<'v> Field<'v> {
-    /// A number that may be absent; another kind is `Shape`.
+    /// Returns a number that may be absent. Errors: `Shape` for another kind.
     pub fn optional_number(self) -> Result<Option<Number>, TextCause>
         ensures { result ≡ optional_number (value_of self.entry) }
     {
@@ -41,7 +42,7 @@ impl<'v> Field<'v> {
         }
     }
 
-    /// A number that has to be there, else `Shape`.
+    /// Returns a number, which must be present. Errors: `Shape` if it is not.
     pub fn required_number(self) -> Result<Number, TextCause>
         ensures { result ≡ required_number (value_of self.entry) }
     {
@@ -54,7 +55,7 @@ impl<'v> Field<'v> {
         }
     }
 
-    /// A text that has to be there, else `Shape`.
+    /// Returns a text, which must be present. Errors: `Shape` if it is not.
     pub fn required_text(self) -> Result<&'v str, TextCause>
         ensures { MatchResult result (λ text. required_text (value_of self.entry) ≡ Ok text.now) (λ cause. required_text (value_of self.entry) ≡ Err cause) }
     {
@@ -64,7 +65,7 @@ impl<'v> Field<'v> {
         }
     }
 
-    /// Whether it is this text.
+    /// Returns whether it is this text.
     pub fn is_text(self, text: &str) -> bool
         ensures { result ≡ is_text text.now (value_of self.entry) }
     {
@@ -74,7 +75,7 @@ impl<'v> Field<'v> {
         }
     }
 
-    /// Whether it is this truth value.
+    /// Returns whether it is this truth value.
     pub fn is_bool(self, wanted: bool) -> bool
         ensures { result ≡ is_truth wanted (value_of self.entry) }
     {
@@ -85,7 +86,7 @@ impl<'v> Field<'v> {
         }
     }
 
-    /// The field that true or false is.
+    /// Returns the field for true or false.
     pub fn of_bool(truth: bool) -> Field<'v>
         ensures { value_of result ≡ field_value (Some (boolean truth)) }
     {
@@ -93,7 +94,7 @@ impl<'v> Field<'v> {
     }
 }
 
-// What a value is as a field.
+// The field for a value.
 fn kind_of(value: &Value) -> Field<'_>
     ensures { value_of result ≡ field_value (Some (view value.now)) }
 {
@@ -108,7 +109,7 @@ fn kind_of(value: &Value) -> Field<'_>
     }
 }
 
-/// The field of a value with this key; absent where the value is no object.
+/// Returns the field of a value with this key; absent if the value is not an object.
 pub fn field_of<'v>(value: &'v Value, key: &str) -> Field<'v>
     ensures { value_of result ≡ field key.now (view value.now) }
 {
@@ -118,7 +119,7 @@ pub fn field_of<'v>(value: &'v Value, key: &str) -> Field<'v>
     }
 }
 
-/// The field with the key `key` of the field with the key `outer`; absent where that is no object.
+/// Returns the field with the key `key` of the field with the key `outer`; absent if that is not an object.
 pub fn inner_field_of<'v>(value: &'v Value, outer: &str, key: &str) -> Field<'v>
     ensures { value_of result ≡ inner_field outer.now key.now (view value.now) }
 {

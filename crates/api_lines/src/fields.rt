@@ -6,7 +6,7 @@ ghost use Rattle.serde_json.specs.Data.{null};
 use crate::field::{Field, field_of, inner_field_of};
 use serde_json::Value;
 
-/// The fields of a reply's body that the reply table looks at, by the names of their keys.
+/// The fields of a reply's body that the reply table reads, by the names of their keys.
 #[derive(Clone, Copy, Debug, PartialEq, Eq)]
 pub struct BodyFields<'v> {
     /// `_id`.
@@ -40,7 +40,7 @@ pub struct LineFields<'v> {
     pub body: BodyFields<'v>,
 }
 
-/// The fields of a reply's body.
+/// Returns the fields of a reply's body.
 pub fn body_fields(body: &Value) -> BodyFields<'_>
     ensures { body_seen result ≡ body_values (view body.now) }
 {
@@ -71,7 +71,7 @@ pub(crate) fn no_body<'v>() -> BodyFields<'v>
 }
 
 impl<'v> LineFields<'v> {
-    /// The fields of a line that has none of them.
+    /// Returns the fields of a line that has none of them.
     pub fn absent() -> LineFields<'v>
         ensures { line_seen result ≡ line_values null }
     {
@@ -100,7 +100,7 @@ fn body_of_line(value: &Value) -> BodyFields<'_>
     }
 }
 
-/// The fields of a line.
+/// Returns the fields of a line.
 pub fn line_fields(value: &Value) -> LineFields<'_>
     ensures { line_seen result ≡ line_values (view value.now) }
 {

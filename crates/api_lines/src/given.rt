@@ -14,8 +14,8 @@ use crate::unescaped::LineRoom;
 use serde_json::Value;
 use std::alloc::Global;
 
-/// What the line of a text with this number, from 1, gives: nothing where it is blank, else its value. Causes in their
-/// order: `Lines`, `Long`, `Json`. `NoMemory` says nothing of the line.
+/// Returns what the line of a text with this number, from 1, gives: nothing if it is blank, otherwise its
+/// value. Causes in their order: `Lines`, `Long`, `Json`. `NoMemory` says nothing of the line.
 pub fn given_line(alloc: Global, number: u64, line: &[u8]) -> Result<Option<Value>, LineFault>
     ensures { MatchResult result
         (λ given. line_given number line.now ≡ Ok (option_map view given))
@@ -36,7 +36,8 @@ pub fn given_line(alloc: Global, number: u64, line: &[u8]) -> Result<Option<Valu
     }
 }
 
-// Whether the line of a text with this number, from 1, is one whose value counts: it is within the limits and not blank.
+// Whether the line of a text with this number, from 1, is one whose value counts: it is within the limits and
+// not blank.
 fn is_given(number: u64, line: &[u8]) -> bool
     ensures { IsTrue result → ((v : Data) → (json_value line.now ≡ Some v)
         → (line_given number line.now ≡ Ok (Some v))) }
@@ -44,9 +45,9 @@ fn is_given(number: u64, line: &[u8]) -> bool
     number <= MOST_LINES && line.len() <= LONGEST_LINE && !is_blank(line)
 }
 
-/// Whether `quick_fields` tells the fields of the line of a text with this number, from 1: then they are put in `fields`,
-/// which had none. Nothing is said of another line: it may be blank, or refused, or have a value of another form. Then
-/// `given_unescaped_fields` or `given_line` tells.
+/// Returns whether `quick_fields` gives the fields of the line of a text with this number, from 1. If it
+/// does, they are put in `fields`, which must have none. Nothing is said of another line: it may be blank, or
+/// refused, or have a value of another form. For it, ask `given_unescaped_fields` or `given_line`.
 pub fn given_fields<'v>(number: u64, line: &'v [u8], fields: &mut LineFields<'v>) -> bool
     requires { line_seen fields.old ≡ line_values null }
     ensures { IsTrue result → ((v : Data)
@@ -62,7 +63,7 @@ pub fn given_fields<'v>(number: u64, line: &'v [u8], fields: &mut LineFields<'v>
     }
 }
 
-/// The same by `unescaped_fields`, in room that is lent.
+/// The same by `unescaped_fields`, in a borrowed room.
 pub fn given_unescaped_fields<'v>(
     number: u64,
     line: &'v [u8],

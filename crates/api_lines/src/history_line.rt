@@ -9,10 +9,10 @@ use crate::text_fault::TextCause;
 use doc_register::Op;
 use version_pair::IdText;
 
-/// How many shards there are: they are numbered from 0.
+/// The number of shards. They are numbered from 0.
 pub const SHARDS: u64 = 1024;
 
-/// The numbers of a call's operation, before their ranges are looked at.
+/// The numbers of a call's operation, before their ranges are checked.
 #[derive(Clone, Copy, PartialEq, Eq)]
 pub enum OpNumbers {
     Get,
@@ -40,12 +40,13 @@ pub enum LineSaid<'l> {
         id: IdText<'l>,
         op: Op,
     },
-    /// A reply to the call with this number, with its status. What it tells is told by its body and its call.
+    /// A reply to the call with this number, with its status. What it reports depends on its body and its
+    /// call.
     Reply {
         no: u64,
         status: u16,
     },
-    /// The call with this number got no reply.
+    /// The call with this number got no reply: its outcome is lost (indeterminate).
     Lost {
         no: u64,
     },
@@ -75,7 +76,7 @@ impl OpNumbers {
     }
 }
 
-// The numbers of the operation of a call, all of their kinds, else `Shape`.
+// The numbers of the operation of a call, if all are of the right kind, or `Shape`.
 fn op_numbers(line: &LineFields<'_>) -> Result<OpNumbers, TextCause>
     ensures { result ≡ numbers_of_line (line_seen line.now) }
 {
@@ -97,7 +98,7 @@ fn op_numbers(line: &LineFields<'_>) -> Result<OpNumbers, TextCause>
     }
 }
 
-// The shard of a call: 0 where it is not named, `Range` from 1,024 on.
+// The shard of a call: 0 if it is not named, `Range` from 1,024 on.
 fn shard(field: Option<Number>) -> Result<u32, TextCause>
     ensures { result ≡ shard_told field }
 {
@@ -112,7 +113,7 @@ fn shard(field: Option<Number>) -> Result<u32, TextCause>
     }
 }
 
-// The status of a reply, else `Range` from 65,536 on.
+// The status of a reply, or `Range` from 65,536 on.
 fn status(number: Number) -> Result<u16, TextCause>
     ensures { result ≡ status_told number }
 {
@@ -124,7 +125,8 @@ fn status(number: Number) -> Result<u16, TextCause>
     }
 }
 
-/// The call that a line says. Causes in their order: `Shape` for all fields that count, `Id`, `Half`, `Range`.
+/// Returns the call that a line gives. Causes in their order: `Shape` for all fields that count, `Id`,
+/// `Half`, `Range`.
 pub fn call_of<'l>(line: &LineFields<'l>) -> Result<LineSaid<'l>, TextCause>
     ensures { result ≡ call_told (line_seen line.now) }
 {
@@ -139,7 +141,7 @@ pub fn call_of<'l>(line: &LineFields<'l>) -> Result<LineSaid<'l>, TextCause>
     Ok(LineSaid::Call { no, shard, id, op })
 }
 
-/// The reply that a line says. Causes in their order: `Shape`, `Range`.
+/// Returns the reply that a line gives. Causes in their order: `Shape`, `Range`.
 pub fn reply_of<'l>(line: &LineFields<'l>) -> Result<LineSaid<'l>, TextCause>
     ensures { result ≡ reply_told (line_seen line.now) }
 {
@@ -150,7 +152,7 @@ pub fn reply_of<'l>(line: &LineFields<'l>) -> Result<LineSaid<'l>, TextCause>
     Ok(LineSaid::Reply { no, status })
 }
 
-/// The end without a reply that a line says. Causes in their order: `Shape`, `Range`.
+/// Returns the end without a reply that a line gives. Causes in their order: `Shape`, `Range`.
 pub fn lost_of<'l>(line: &LineFields<'l>) -> Result<LineSaid<'l>, TextCause>
     ensures { result ≡ lost_told (line_seen line.now) }
 {
@@ -159,8 +161,8 @@ pub fn lost_of<'l>(line: &LineFields<'l>) -> Result<LineSaid<'l>, TextCause>
     Ok(LineSaid::Lost { no })
 }
 
-/// What a line of a history text says by itself. Causes in their order: `Shape` for all fields that count, also for an
-/// `e` or an `op` of an unknown text; `Id`, `Half`, `Range`.
+/// Returns what a line of a history text says by itself. Causes in their order: `Shape` for all fields that
+/// count, also for an unknown text as `e` or `op`; `Id`, `Half`, `Range`.
 pub fn line_said<'l>(line: &LineFields<'l>) -> Result<LineSaid<'l>, TextCause>
     ensures { result ≡ line_told (line_seen line.now) }
 {

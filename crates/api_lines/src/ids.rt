@@ -4,7 +4,7 @@ ghost use Rattle.api_lines.specs.Ids.{id_told};
 use crate::text_fault::TextCause;
 use version_pair::IdText;
 
-/// The text as a document's id, else `Id` where it is empty or has more than 512 bytes.
+/// Returns the text as a document's id. Errors: `Id` if it is empty or has more than 512 bytes.
 pub fn document_id<'t>(text: &'t str) -> Result<IdText<'t>, TextCause>
     ensures { result ≡ id_told text.now }
 {

@@ -1,4 +1,4 @@
-//! The keys of a line, told apart by their first bytes.
+//! The keys of a line, distinguished by their first bytes.
 ghost use Rattle.std.specs.Prelude.{◌≡◌, ◌∷◌, ◌++◌, IfSome, not, true};
 ghost use Rattle.std.specs.List.{list_all};
 ghost use Rattle.api_lines.specs.aids.Keys.{key_text};
@@ -44,7 +44,7 @@ pub enum Key<'a> {
 }
 
 impl<'a> Key<'a> {
-    /// The key as it is spelled.
+    /// Returns the key as it is spelled.
     pub fn text(self) -> &'a str
         ensures { result.now ≡ key_text self.entry }
     {
@@ -70,7 +70,8 @@ impl<'a> Key<'a> {
     }
 }
 
-/// The key that is next behind its quote, with its colon, where it is one that most lines have; and the bytes behind that.
+/// Returns the key that comes next after its quote, with its colon, if it is one that most lines have; and
+/// the bytes after that.
 #[inline(always)]
 pub fn known_key(quoted: &[u8]) -> Option<(Key<'_>, &[u8])>
     ensures { IfSome result (λ parts. (quoted.now ≡ key_text parts.0 ++ 34 ∷ 58 ∷ parts.1.now)
@@ -86,7 +87,7 @@ pub fn known_key(quoted: &[u8]) -> Option<(Key<'_>, &[u8])>
     }
 }
 
-// The same of longer keys.
+// The same for longer keys.
 #[inline(always)]
 fn long_key(quoted: &[u8]) -> Option<(Key<'_>, &[u8])>
     ensures { IfSome result (λ parts. (quoted.now ≡ key_text parts.0 ++ 34 ∷ 58 ∷ parts.1.now)
@@ -100,7 +101,7 @@ fn long_key(quoted: &[u8]) -> Option<(Key<'_>, &[u8])>
     }
 }
 
-// The same of keys of bodies.
+// The same for keys of bodies.
 #[inline(always)]
 fn body_key(quoted: &[u8]) -> Option<(Key<'_>, &[u8])>
     ensures { IfSome result (λ parts. (quoted.now ≡ key_text parts.0 ++ 34 ∷ 58 ∷ parts.1.now)
@@ -142,7 +143,7 @@ fn body_key(quoted: &[u8]) -> Option<(Key<'_>, &[u8])>
     }
 }
 
-// The same of keys of bodies that tell what was done or found.
+// The same for keys of bodies that say what was done or found.
 #[inline(always)]
 fn outcome_key(quoted: &[u8]) -> Option<(Key<'_>, &[u8])>
     ensures { IfSome result (λ parts. (quoted.now ≡ key_text parts.0 ++ 34 ∷ 58 ∷ parts.1.now)
@@ -167,7 +168,7 @@ fn outcome_key(quoted: &[u8]) -> Option<(Key<'_>, &[u8])>
     }
 }
 
-// The same of keys of conditions.
+// The same for keys of conditions.
 #[inline(always)]
 fn condition_key(quoted: &[u8]) -> Option<(Key<'_>, &[u8])>
     ensures { IfSome result (λ parts. (quoted.now ≡ key_text parts.0 ++ 34 ∷ 58 ∷ parts.1.now)

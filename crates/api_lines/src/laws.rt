@@ -1,21 +1,21 @@
-//! Laws of the definitions, each the contract of a function that does nothing.
+//! Laws of the definitions. Each is the contract of a function that does nothing.
 
 ghost use Rattle.api_lines.specs.Laws.{FieldsAreHeard, TableTellsOne, WrittenIsHeard};
 
-/// Shows that the reply table tells one reply at most of an operation, a status and a body.
+/// Shows that the reply table gives at most one reply for an operation, a status and a body.
 #[tactic(auto, using(crate::proofs::TableLaws::tells_one))]
 pub fn table_tells_one()
     ensures { TableTellsOne }
 {}
 
-/// Shows that what is heard of a call by the fields of a body is a stranger's exactly where the body names another
-/// document, else the reply that the table tells, and unknown where it tells none.
+/// Shows that what is heard of a call by the fields of a body is a stranger's if and only if the body names
+/// another document; otherwise it is the reply that the table gives, and unknown if the table gives none.
 pub fn fields_are_heard()
     ensures { FieldsAreHeard }
 {}
 
-/// Shows that what `write_reply` writes of a reply is read back as that reply, and as no stranger's, for each operation
-/// that the reply fits.
+/// Shows that what `write_reply` writes of a reply is read back as that reply, and as no stranger's, for each
+/// operation that the reply fits.
 pub fn written_is_heard()
     ensures { WrittenIsHeard }
 {}

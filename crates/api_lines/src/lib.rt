@@ -1,5 +1,5 @@
-//! Lines of JSON that speak of a cluster: their fields, why a line is refused, the reply table, and bulk bodies. A text is
-//! read by one loop over its lines, which takes any `LineReader`.
+//! Lines of JSON about a cluster: their fields, the causes to refuse a line, the reply table, and bulk
+//! bodies. A text is read by one loop over its lines, which takes any `LineReader`.
 //!
 //! ```text
 //! let items = read_bulk(alloc, body)?; // Vec<(DocId, Op)>, or the first BulkFault

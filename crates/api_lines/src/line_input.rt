@@ -10,13 +10,13 @@ use std::alloc::AllocError;
 use std::io::Read;
 use thiserror::Error;
 
-/// Why the bytes of a reader are not had.
+/// The reason why the bytes of a reader could not be read.
 #[derive(Clone, Copy, Debug, PartialEq, Eq, Error)]
 pub enum InputFault {
     /// The reader failed.
     #[error("the input failed")]
     Read,
-    /// A growth was refused memory.
+    /// Memory was refused.
     #[error("no memory")]
     NoMemory,
 }
@@ -27,18 +27,18 @@ impl From<AllocError> for InputFault {
     }
 }
 
-// What the bytes at hand are to a line.
+// What was taken of a line from the bytes at hand.
 #[derive(Clone, Copy, PartialEq, Eq)]
 enum Part {
-    // A part of it.
+    // A part of the line.
     More,
     // Its last part, with the line feed.
     Last,
-    // There are none.
+    // Nothing: there are no more bytes.
     End,
 }
 
-// Adds to a line the bytes that are at hand, up to a line feed, and no more than it may have.
+// Adds the bytes at hand to a line, up to a line feed, and no more than a line may have.
 fn take_part<R: Read>(
     reader: &mut R,
     chunk: &mut Chunk,
@@ -79,11 +79,12 @@ fn take_part<R: Read>(
     }
 }
 
-/// The next line of a chunk and the reader behind it, without its line feed, put in place of what `line` had; or false at the
-/// end of their bytes. Of a line with more bytes than a line may have only a front is taken, of 65,537 bytes.
+/// Takes the next line of a chunk and the reader after it, without its line feed, and puts it in `line` in
+/// place of what that had. Returns `false` at the end of their bytes. Of a line with more bytes than a line
+/// may have, only a prefix of 65,537 bytes is taken.
 ///
-/// A fault of the reader of any kind is `Read`, an interruption too; `NoMemory` is told where a growth was refused. After
-/// either, `line` has the bytes of the line that were taken.
+/// Errors: `Read` for a fault of the reader of any kind, an interruption included; `NoMemory` if memory was
+/// refused. After either, `line` has the bytes of the line that were taken.
 pub fn next_line<R: Read>(
     reader: &mut R,
     chunk: &mut Chunk,

@@ -15,19 +15,20 @@ use memchr::memchr;
 use std::alloc::Global;
 use std::io::Read;
 
-/// What reads a text line by line.
+/// A reader that takes a text line by line.
 pub trait LineReader {
-    /// What lines make.
+    /// The state that lines build.
     ghost State: { Type 0 };
 
-    /// What the value of one more line makes of what the lines before it made, or the first cause to refuse it.
+    /// The state after the value of one more line, from the state after the lines before it; or the first
+    /// cause to refuse the line.
     ghost takes: { Self.State → Data → Outcome Self.State Cause };
 
-    /// What the lines that were taken made, and how many they were.
+    /// The state after the lines that were taken, and the number of these lines.
     ghost reached: { Self → SoFar Self.State };
 
-    /// Takes the next line, without its line feed; or refuses it with its first cause. `NoMemory` is told where a growth was
-    /// refused.
+    /// Takes the next line, without its line feed; or refuses it with its first cause. `NoMemory` if memory
+    /// was refused.
     fn line(&mut self, line: &[u8]) -> Result<(), ReadFault>
         requires { HasNoLineFeed line.now }
         ensures ok { OnOk result (after_next Self.takes (Self.reached self.old) line.now ≡ Ok (Self.reached self.new)) }
@@ -40,13 +41,13 @@ pub trait LineReader {
 #[derive(Debug, Drop)]
 pub struct RefusedLine {
     pub fault: TextFault,
-    /// Its bytes without the line feed; a front of 65,537 where it has more; of the 4,194,305th line of a text what the last
-    /// read brought.
+    /// Its bytes without the line feed. If it has more than 65,537 bytes, a prefix of that length; of the
+    /// 4,194,305th line of a text, what the last read brought.
     pub line: Vec<u8>,
 }
 
-/// Has the reader, which took no line yet, take the lines of a text to its end; or tells the first line that is refused, with
-/// its first cause.
+/// Has the reader, which must have taken no line yet, take the lines of a text to its end; or reports the
+/// first line that is refused, with its first cause.
 pub fn take_text<L: LineReader>(reader: &mut L, text: &[u8]) -> Result<(), ReadFault>
     requires { (L.reached reader.old).lines ≡ 0 }
     ensures ok { OnOk result (read_lines L.takes 1 (L.reached reader.old).state (lines_of text.now)
@@ -63,8 +64,9 @@ pub fn take_text<L: LineReader>(reader: &mut L, text: &[u8]) -> Result<(), ReadF
     Ok(())
 }
 
-// Looks whether the bytes go on behind the most lines that a text may have: then the line there is refused. Nothing of it is
-// taken; it comes with what is at hand of it, in place of what `line` had.
+// Checks whether the bytes continue after the greatest number of lines that a text may have. If they do, the
+// line there is refused. None of it is taken; it comes with the part that is at hand, in place of what `line`
+// had.
 fn end_of_lines<R: Read>(
     input: &mut R,
     chunk: &mut Chunk,
@@ -96,15 +98,17 @@ fn end_of_lines<R: Read>(
     Ok(Err(RefusedLine { fault, line }))
 }
 
-/// Has the reader, which took no line yet, take the lines of the text that an input has to its end; or tells the first line
-/// that is refused.
+/// Has the reader, which must have taken no line yet, take the lines of an input's text to its end; or
+/// reports the first line that is refused.
 ///
-/// The input is asked for 32,768 bytes at a time, and where a line is refused for none behind it, so that nothing after that
-/// line is taken but what the last read brought (`taken`). Of a line that is too long 65,537 bytes are taken, and of the
-/// 4,194,305th none.
+/// The input is asked for 32,768 bytes at a time, and for none after a line that is refused: no bytes after
+/// that line are taken but those that the last read brought (`taken`). Of a line that is too long 65,537
+/// bytes are taken, and of the 4,194,305th line none.
 ///
-/// A line at most is held, and no more than 65,537 bytes of one. `Read` is told where the input failed, `NoMemory` where a
-/// growth was refused: then the lines before the one at which it stopped are taken, and maybe a front of that one.
+/// At most one line is held, and no more than 65,537 bytes of one.
+///
+/// Errors: `Read` if the input failed, `NoMemory` if memory was refused. In both cases the lines before the
+/// one at which it stopped are taken, and maybe a prefix of that one.
 pub fn take_lines<L: LineReader, R: Read>(
     alloc: Global,
     reader: &mut L,

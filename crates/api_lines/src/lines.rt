@@ -10,10 +10,10 @@ use memchr::memchr;
 use serde_json::Value;
 use std::alloc::Global;
 
-/// The most bytes of a line, without its line feed.
+/// The greatest number of bytes of a line, without its line feed.
 pub const LONGEST_LINE: usize = 65_536;
 
-/// The most lines of a text.
+/// The greatest number of lines of a text.
 pub const MOST_LINES: u64 = 4_194_304;
 
 // A space, a tab or a carriage return.
@@ -24,14 +24,14 @@ pub(crate) fn is_space(byte: u8) -> bool
     byte == b' ' || byte == b'\t' || byte == b'\r'
 }
 
-/// Whether a line has only spaces, tabs and carriage returns.
+/// Returns whether a line has only spaces, tabs and carriage returns.
 pub fn is_blank(line: &[u8]) -> bool
     ensures { result ≡ blank line.now }
 {
     line.iter().all(|byte| is_space(*byte))
 }
 
-/// The first line of a text that is not empty, without its line feed, and the text after it.
+/// Returns the first line of a text that is not empty, without its line feed, and the text after it.
 pub fn first_line(text: &[u8]) -> (&[u8], &[u8])
     requires { 0 < length text.now }
     ensures lines { lines_of text.now ≡ result.0.now ∷ lines_of result.1.now }
@@ -44,7 +44,7 @@ pub fn first_line(text: &[u8]) -> (&[u8], &[u8])
     }
 }
 
-/// The value that a line spells, else `Json`. `NoMemory` says nothing of the line.
+/// Returns the value that a line spells, or `Json`. `NoMemory` says nothing of the line.
 pub fn line_value(alloc: Global, line: &[u8]) -> Result<Value, LineFault>
     ensures { MatchResult result (λ value. json_value line.now ≡ Some (view value))
         (λ fault. IfTold fault (λ cause. (json_value line.now ≡ None) × (cause ≡ Json))) }

@@ -14,7 +14,7 @@ pub enum Number {
 }
 
 impl Number {
-    /// The whole number, else `Range`.
+    /// Returns the whole number, or `Range`.
     pub fn whole(self) -> Result<u64, TextCause>
         ensures { result ≡ whole_told self }
     {
@@ -25,15 +25,15 @@ impl Number {
     }
 }
 
-/// The pair of a term and a sequence number; `None` where one is outside its range.
+/// Returns the pair of a term and a sequence number; `None` if one of them is outside its range.
 pub fn pair_of(term: u64, seq: u64) -> Option<Pair>
     ensures { result ≡ the_pair_of term seq }
 {
     Pair::new(term, seq)
 }
 
-/// The pair of a sequence number and a term, each of which may be absent: `None` where neither is there, `Half` where
-/// one is there without the other, `Range` where one is not whole or outside its range.
+/// Returns the pair of a sequence number and a term, each of which may be absent: `None` if both are absent.
+/// Errors: `Half` if only one is present, `Range` if one is not whole or is outside its range.
 pub fn pair_of_numbers(seq: Option<Number>, term: Option<Number>) -> Result<Option<Pair>, TextCause>
     ensures { result ≡ pair_told seq term }
 {

@@ -110,7 +110,7 @@ fn got(status: u16, body: &BodyFields<'_>) -> Option<Reply>
     None
 }
 
-// The reply that the table tells.
+// The reply that the table gives.
 fn known_reply(op: &Op, status: u16, body: &BodyFields<'_>) -> Option<Reply>
     ensures { result ≡ told_reply op.now status (body_seen body.now) }
 {
@@ -122,7 +122,7 @@ fn known_reply(op: &Op, status: u16, body: &BodyFields<'_>) -> Option<Reply>
     }
 }
 
-/// Whether the body names another document in `_id`.
+/// Returns whether the body names another document in `_id`.
 pub fn is_stranger(id: &DocId, body: &BodyFields<'_>) -> bool
     ensures { result ≡ is_other_text id.now (body_seen body.now).id }
 {
@@ -132,8 +132,9 @@ pub fn is_stranger(id: &DocId, body: &BodyFields<'_>) -> bool
     }
 }
 
-/// What is heard of the document's call by a status and the fields of a body: `Stranger` where the body names another
-/// document, whatever the status; else the reply that the reply table tells, or `Unknown` where it tells none.
+/// Returns what is heard of the document's call by a status and the fields of a body: `Stranger` if the body
+/// names another document, whatever the status; otherwise the reply that the reply table gives, or `Unknown`
+/// if it gives none.
 pub fn heard_of(op: &Op, id: &DocId, status: u16, body: &BodyFields<'_>) -> Heard
     ensures { result ≡ heard op.now id.now status (body_seen body.now) }
 {
@@ -146,11 +147,11 @@ pub fn heard_of(op: &Op, id: &DocId, status: u16, body: &BodyFields<'_>) -> Hear
     }
 }
 
-/// What is heard of the document's call by a status and a body.
+/// Returns what is heard of the document's call by a status and a body.
 ///
-/// A body that is an object whose `_id` is a text other than the document's id is a `Stranger`, whatever the status. Else
-/// the reply table tells, row by row, the reply of the operation, the status and the body; what no row knows is
-/// `Unknown`.
+/// A body that is an object whose `_id` is a text other than the document's id is a `Stranger`, whatever the
+/// status. Otherwise the reply table gives, row by row, the reply to the operation with this status and this
+/// body; what no row knows is `Unknown`.
 pub fn read_reply(op: &Op, id: &DocId, status: u16, body: &Value) -> Heard
     ensures fields { result ≡ heard op.now id.now status (body_values (view body.now)) }
     ensures stranger { (result ≡ Heard.Stranger) ↔ IsStranger id.now (view body.now) }

@@ -1,5 +1,5 @@
-//! The tokens of a line, read a byte at a time: a line whose texts have no escape and no byte past ASCII, and whose
-//! numbers are digits alone. Spaces may stand around values, but not between a key and its colon.
+//! The tokens of a line, read a byte at a time. The texts of the line have no escape and no byte outside
+//! ASCII, and its numbers are digits alone. Spaces may be around values, but not between a key and its colon.
 ghost use Rattle.std.specs.Prelude.{◌≡◌, ◌<◌, ◌∷◌, ◌++◌, ℕ, [], IfSome, List, MatchOption, OnSome, Some, length, not, option_map, take, true};
 ghost use Rattle.std.specs.Bool.{MatchBool};
 ghost use Rattle.std.specs.List.{list_all};
@@ -17,10 +17,11 @@ ghost use Rattle.api_lines.specs.aids.PlainTexts.{EndsValue, is_ended as ended, 
 use crate::keys::{Key, known_key};
 use crate::lines::is_space;
 
-// The most digits that are read: so many are below 2^64.
+// The greatest number of digits that are read: a number of that many digits is below 2^64.
 const MOST_DIGITS: usize = 19;
 
-// Whether this byte may end a plain text: a quote, or one that a text doesn't hold as it is, or one past ASCII.
+// Whether this byte may end a plain text: a quote, a byte that a text doesn't hold as it is, or one outside
+// ASCII.
 #[inline(always)]
 fn is_stop(byte: u8) -> bool
     ensures { result ≡ stop byte }
@@ -28,7 +29,7 @@ fn is_stop(byte: u8) -> bool
     byte == b'"' || byte == b'\\' || byte < 0x20 || byte >= 0x80
 }
 
-// Where the plain text that begins here ends.
+// The end of the plain text that begins here.
 #[inline(always)]
 fn plain_end(bytes: &[u8]) -> Option<usize>
     ensures within { IfSome result (λ end. end < length bytes.now) }
@@ -56,7 +57,7 @@ fn plain_text(bytes: &[u8]) -> Option<(&str, &[u8])>
     Some((text, &bytes[end + 1..]))
 }
 
-// The bytes after this one, where it is next.
+// The bytes after this one, if it is next.
 #[inline(always)]
 fn after(bytes: &[u8], byte: u8) -> Option<&[u8]>
     ensures { IfSome result (λ rest. bytes.now ≡ byte ∷ rest.now) }
@@ -67,7 +68,7 @@ fn after(bytes: &[u8], byte: u8) -> Option<&[u8]>
     }
 }
 
-// The key that is next behind its quote, with its colon; and the bytes behind that.
+// The key that comes next after its quote, with its colon; and the bytes after that.
 #[inline(always)]
 fn named_key(quoted: &[u8]) -> Option<(Key<'_>, &[u8])>
     ensures { IfSome result (λ parts. (quoted.now ≡ key_text parts.0 ++ 34 ∷ 58 ∷ parts.1.now)
@@ -108,7 +109,7 @@ fn after_all_spaces(bytes: &[u8]) -> &[u8]
     rest
 }
 
-// The bytes after a space, where one is next.
+// The bytes after a space, if one is next.
 #[inline(always)]
 fn after_space(bytes: &[u8]) -> Option<&[u8]>
     ensures { IfSome result (λ rest. (b : ℕ) × (space b ≡ true) × (bytes.now ≡ b ∷ rest.now)) }
@@ -152,7 +153,7 @@ fn digits(bytes: &[u8]) -> Option<(u64, &[u8])>
     Some((number, &bytes[at..]))
 }
 
-/// Where the bytes that are left stand, as commas go.
+/// Where the remaining bytes are with respect to commas.
 #[derive(Clone, Copy)]
 pub enum Place {
     Fresh,
@@ -188,7 +189,7 @@ pub struct Scanner<'a> {
 impl<'a> Scanner<'a> {
     ghost use Rattle.api_lines.specs.aids.Scanning.{tokens_at, tokens_left};
 
-    /// The tokens of a line.
+    /// Returns the tokens of a line.
     #[inline(always)]
     pub fn new(line: &'a [u8]) -> Scanner<'a>
         ensures { tokens_left result ≡ tokens line.now }
@@ -199,7 +200,7 @@ impl<'a> Scanner<'a> {
         }
     }
 
-    /// Whether no token is left, after a value.
+    /// Returns whether no token is left, after a value.
     #[inline(always)]
     pub fn is_over(&self) -> bool
         ensures { result ≡ true → tokens_left self.now ≡ [] }
@@ -207,7 +208,7 @@ impl<'a> Scanner<'a> {
         self.rest.is_empty() && self.place.may_close()
     }
 
-    // Stands at these bytes, where a value or a key may begin, or a bracket may close.
+    // Moves to these bytes, where a value or a key may begin, or a bracket may close.
     #[inline(always)]
     fn begin(&mut self, rest: &'a [u8])
         ensures { tokens_left self.new ≡ tokens_at fresh rest.now }
@@ -216,7 +217,7 @@ impl<'a> Scanner<'a> {
         self.place = Place::Fresh;
     }
 
-    // Stands at these bytes after a value: passes the comma that may be next.
+    // Moves to these bytes after a value, and passes the comma that may be next.
     #[inline(always)]
     fn end_value(&mut self, rest: &'a [u8])
         ensures { tokens_left self.new ≡ tokens_at after_value rest.now }
@@ -234,7 +235,7 @@ impl<'a> Scanner<'a> {
         }
     }
 
-    // Stands after a value that has to end here: at a comma or at a closing bracket.
+    // Moves past a value that must end here: at a comma or at a closing bracket.
     #[inline(always)]
     fn end_scalar(&mut self, rest: &'a [u8]) -> Option<()>
         ensures ended { OnSome result (EndsValue rest.now) }
@@ -247,7 +248,8 @@ impl<'a> Scanner<'a> {
         Some(())
     }
 
-    // Stands after a value where a comma or a closing bracket is next, as most often. Elsewhere it stands as before.
+    // Moves past a value if a comma or a closing bracket is next, as is most often the case. Otherwise
+    // nothing changes.
     #[inline(always)]
     fn end_usual(&mut self, rest: &'a [u8]) -> bool
         ensures { MatchBool result
@@ -270,7 +272,7 @@ impl<'a> Scanner<'a> {
         true
     }
 
-    /// Takes a text that ends as most do. Where it takes none, the same tokens are left.
+    /// Takes a text that ends as most do. If it takes none, the same tokens are left.
     #[inline(always)]
     pub fn usual_text(&mut self) -> Option<&'a str>
         ensures { MatchOption result (tokens_left self.new ≡ tokens_left self.old)
@@ -285,7 +287,7 @@ impl<'a> Scanner<'a> {
         }
     }
 
-    /// Takes a whole number that ends as most do. Where it takes none, the same tokens are left.
+    /// Takes a whole number that ends as most do. If it takes none, the same tokens are left.
     #[inline(always)]
     pub fn usual_whole(&mut self) -> Option<u64>
         ensures { MatchOption result (tokens_left self.new ≡ tokens_left self.old)
@@ -301,7 +303,7 @@ impl<'a> Scanner<'a> {
         }
     }
 
-    // The bytes that are left, where a value or a key may begin.
+    // The remaining bytes, if a value or a key may begin there.
     #[inline(always)]
     fn beginning(&self) -> Option<&'a [u8]>
         ensures { IfSome result (λ bytes. (p : LexPlace) × (begins p ≡ true)
@@ -334,7 +336,7 @@ impl<'a> Scanner<'a> {
         Some(())
     }
 
-    /// Takes the bracket that closes an array, where it is next.
+    /// Takes the bracket that closes an array, if it is next.
     #[inline(always)]
     pub fn close_array(&mut self) -> bool
         ensures { MatchBool result (after_end_array (tokens_left self.old) ≡ Some (tokens_left self.new))
@@ -365,7 +367,7 @@ impl<'a> Scanner<'a> {
         Some(())
     }
 
-    /// The next key of an object, or nothing at its brace.
+    /// Takes the next key of an object, or nothing at its closing brace.
     #[inline(always)]
     pub fn key(&mut self) -> Option<Option<Key<'a>>>
         ensures read { IfSome result (λ name. read_key (tokens_left self.old)
@@ -441,7 +443,7 @@ impl<'a> Scanner<'a> {
         Some(())
     }
 
-    /// The byte with which the next value begins.
+    /// Returns the byte with which the next value begins.
     #[inline(always)]
     pub fn first(&self) -> Option<u8> {
         self.rest.first().copied()

@@ -5,46 +5,48 @@ ghost use Rattle.api_lines.specs.Faults.{text_fault};
 use std::alloc::AllocError;
 use thiserror::Error;
 
-/// Why a line was refused.
+/// The reason why a line was refused.
 #[derive(Clone, Copy, Debug, PartialEq, Eq, Error)]
 pub enum TextCause {
     /// It has more than 65,536 bytes.
     #[error("the line has more than 65,536 bytes")]
     Long,
-    /// It is past the 4,194,304th line.
+    /// It comes after the 4,194,304th line.
     #[error("the text has more than 4,194,304 lines")]
     Lines,
-    /// It is no JSON.
+    /// It is not JSON.
     #[error("the line is no JSON")]
     Json,
-    /// It is no object, a required field is missing, a field is of another kind, or its `e` or `op` is unknown.
+    /// It is not an object, a required field is missing, a field is of another kind, or its `e` or `op` is
+    /// unknown.
     #[error("the line is JSON and no event")]
     Shape,
     /// The document's id is empty or has more than 512 bytes.
     #[error("the document's id is empty or has more than 512 bytes")]
     Id,
-    /// A number is not whole or outside its range.
+    /// A number is not whole or is outside its range.
     #[error("a number is not whole or outside its range")]
     Range,
-    /// One of the two conditions is there without the other.
+    /// One of the two conditions is present without the other.
     #[error("one of the two conditions is there without the other")]
     Half,
     /// The body of a reply names another document.
     #[error("the reply names another document than its call")]
     Stranger,
-    /// A call has this number already.
+    /// An earlier call has this number.
     #[error("an earlier call has this number")]
     SecondCall,
     /// No call has this number.
     #[error("no call has this number")]
     NoCall,
-    /// The call of this number has an ending already.
+    /// The call with this number has an ending already.
     #[error("the call of this number has ended already")]
     Ended,
-    /// The history has its most events, or the witness its most documents and places.
+    /// The history has its greatest number of events, or the witness its greatest number of documents and
+    /// places.
     #[error("the text has its most events")]
     Full,
-    /// The document was called before on another shard.
+    /// An earlier call names another shard for the document.
     #[error("the document was called before on another shard")]
     ShardMoved,
 }
@@ -57,30 +59,30 @@ pub struct TextFault {
     pub cause: TextCause,
 }
 
-/// Why a text was not read.
+/// The reason why a text was not read.
 #[derive(Clone, Copy, Debug, PartialEq, Eq, Error)]
 pub enum ReadFault {
     /// A line was refused.
     #[error("{0}")]
     Text(TextFault),
-    /// A growth was refused memory.
+    /// Memory was refused.
     #[error("no memory")]
     NoMemory,
 }
 
-/// Why a line was not read.
+/// The reason why a line was not read.
 #[derive(Clone, Copy, Debug, PartialEq, Eq, Error)]
 pub enum LineFault {
     /// It was refused.
     #[error("{0}")]
     Told(TextCause),
-    /// A growth was refused memory.
+    /// Memory was refused.
     #[error("no memory")]
     NoMemory,
 }
 
 impl LineFault {
-    /// The fault as one of the text's line with this number.
+    /// Returns the fault as one of the text's line with this number.
     pub fn at(self, line: u64) -> ReadFault
         ensures { result ≡ text_fault line self }
     {

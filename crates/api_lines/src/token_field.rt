@@ -11,8 +11,8 @@ use crate::keys::Key;
 use crate::scanner::Scanner;
 use crate::token_reader::TokenReader;
 
-/// Takes the next value, nested no deeper than `depth`, and puts what it is as a field in the place of `found`. It is
-/// written where it stays: to hand a field back and to copy it costs more than to read it.
+/// Takes the next value, nested no deeper than `depth`, and writes it as a field to `found`. It is written
+/// where it stays: to return a field and to copy it costs more than to read it.
 #[inline(never)]
 #[cycle(field)]
 pub fn field<'a>(scanner: &mut Scanner<'a>, depth: usize, found: &mut Field<'a>) -> Option<()>
@@ -53,7 +53,7 @@ pub fn field<'a>(scanner: &mut Scanner<'a>, depth: usize, found: &mut Field<'a>)
     }
 }
 
-// Passes an array, each number in it too.
+// Passes an array, including each number in it.
 #[inline(never)]
 #[cycle(field)]
 fn pass_array(scanner: &mut Scanner<'_>, depth: usize) -> Option<()>
@@ -74,7 +74,7 @@ fn pass_array(scanner: &mut Scanner<'_>, depth: usize) -> Option<()>
     Some(())
 }
 
-// Passes an object, each number in it too.
+// Passes an object, including each number in it.
 #[inline(never)]
 #[cycle(field)]
 fn pass_object(scanner: &mut Scanner<'_>, depth: usize) -> Option<()>
@@ -95,7 +95,7 @@ fn pass_object(scanner: &mut Scanner<'_>, depth: usize) -> Option<()>
     Some(())
 }
 
-// The same of a value that most often is a text.
+// The same for a value that is most often a text.
 #[inline(always)]
 fn text_field<'a>(scanner: &mut Scanner<'a>, depth: usize, found: &mut Field<'a>) -> Option<()>
     ensures read { OnSome result ((v : Data)
@@ -113,7 +113,7 @@ fn text_field<'a>(scanner: &mut Scanner<'a>, depth: usize, found: &mut Field<'a>
     }
 }
 
-// The same of a value that most often is a whole number.
+// The same for a value that is most often a whole number.
 #[inline(always)]
 fn number_field<'a>(scanner: &mut Scanner<'a>, depth: usize, found: &mut Field<'a>) -> Option<()>
     ensures read { OnSome result ((v : Data)

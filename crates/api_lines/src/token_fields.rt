@@ -17,13 +17,13 @@ use crate::token_reader::TokenReader;
 use crate::unescaped::LineRoom;
 use json::Reader;
 
-// How deep the values may nest that a member of a line holds: a line nests to 127.
+// How deep the values of a line's members may nest: a line nests to 127.
 const IN_LINE: usize = 126;
 
-// The same of a member of a line's body.
+// The same for a member of a line's body.
 const IN_BODY: usize = 125;
 
-// The same of a member of a body's `_source` or `error`.
+// The same for a member of a body's `_source` or `error`.
 const IN_PART: usize = 124;
 
 impl<'v> BodyFields<'v> {
@@ -63,7 +63,7 @@ impl<'v> BodyFields<'v> {
         }
     }
 
-    // Takes all members up to the brace, where there are none yet.
+    // Takes all members up to the brace. There must be none yet.
     #[inline(always)]
     fn take_members<T: TokenReader<'v>>(&mut self, tokens: &mut T) -> Option<()>
         requires { body_seen self.old ≡ body_values null }
@@ -135,7 +135,7 @@ impl<'v> LineFields<'v> {
         }
     }
 
-    // Takes all members up to the brace, where there are none yet.
+    // Takes all members up to the brace. There must be none yet.
     #[inline(always)]
     fn take_members<T: TokenReader<'v>>(&mut self, tokens: &mut T) -> Option<()>
         requires { line_seen self.old ≡ line_values null }
@@ -151,7 +151,7 @@ impl<'v> LineFields<'v> {
     }
 }
 
-// Takes a value that is no field of the line.
+// Takes a value that is not a field of the line.
 #[inline(never)]
 fn pass<'a, T: TokenReader<'a>>(tokens: &mut T, depth: usize) -> Option<()>
     ensures read { OnSome result ((d : Data)
@@ -162,7 +162,7 @@ fn pass<'a, T: TokenReader<'a>>(tokens: &mut T, depth: usize) -> Option<()>
     tokens.field(depth, &mut passed)
 }
 
-// Takes the object that is next, in a line's body, and puts its field of this key in the place of `found`.
+// Takes the object that is next, in a line's body, and writes its field of this key to `found`.
 #[inline(never)]
 fn part<'a, T: TokenReader<'a>>(tokens: &mut T, wanted: &str, found: &mut Field<'a>) -> Option<()>
     ensures read { OnSome result ((d : Data)
@@ -182,7 +182,7 @@ fn part<'a, T: TokenReader<'a>>(tokens: &mut T, wanted: &str, found: &mut Field<
     Some(())
 }
 
-// Takes all members of the object that a line is, to its end, where there are none yet.
+// Takes all members of the object that a line is, to its end. There must be none yet.
 #[inline(always)]
 fn take_line<'v, T: TokenReader<'v>>(tokens: &mut T, fields: &mut LineFields<'v>) -> Option<()>
     requires { line_seen fields.old ≡ line_values null }
@@ -196,9 +196,10 @@ fn take_line<'v, T: TokenReader<'v>>(tokens: &mut T, fields: &mut LineFields<'v>
     if tokens.is_over() { Some(()) } else { None }
 }
 
-/// Whether the line is an object with no escape and no byte past ASCII in its texts, no space between a key and its colon,
-/// numbers that are all digits alone, at most 19, and objects as its `body`, the body's `_source` and its `error`, where
-/// they are there. Then its fields are put in `fields`, which had none; of another line nothing is said.
+/// Returns whether the line is an object of this form: its texts have no escape and no byte outside ASCII,
+/// there is no space between a key and its colon, all its numbers are digits alone, at most 19, and its
+/// `body`, the body's `_source` and its `error` are objects if they are present. If it is, its fields are put
+/// in `fields`, which must have none. Of any other line nothing is said.
 pub fn quick_fields<'v>(line: &'v str, fields: &mut LineFields<'v>) -> bool
     requires { line_seen fields.old ≡ line_values null }
     ensures { IsTrue result → ((v : Data)
@@ -212,10 +213,10 @@ pub fn quick_fields<'v>(line: &'v str, fields: &mut LineFields<'v>) -> bool
     }
 }
 
-/// Whether the line is an object with numbers that are all digits alone and below 2^64, and objects as its `body`, the
-/// body's `_source` and its `error`, where they are there; texts with escapes and bytes past ASCII are read too, in room
-/// that is lent. Then its fields are put in `fields`, which had none; of another line nothing is said, and of none where a
-/// growth was refused.
+/// Returns whether the line is an object of this form: all its numbers are digits alone and below 2^64, and
+/// its `body`, the body's `_source` and its `error` are objects if they are present. Texts with escapes and
+/// bytes outside ASCII are read too, in a borrowed room. If it is, its fields are put in `fields`, which must
+/// have none. Of any other line nothing is said, and of no line if memory was refused.
 pub fn unescaped_fields<'v>(
     line: &'v str,
     room: &'v mut LineRoom,

@@ -1,4 +1,4 @@
-//! The tokens of a line by the kit's reader, which unescapes texts into a room that is lent.
+//! The tokens of a line by the kit's reader, which unescapes texts into a borrowed room.
 ghost use Rattle.std.specs.Prelude.{◌≡◌, ◌<◌, IfSome, OnSome, Some, length, option_map};
 ghost use Rattle.json.specs.Json.{read_key};
 ghost use Rattle.serde_json.specs.Data.{Data, Items, Members, unsigned};
@@ -23,7 +23,7 @@ pub struct LineRoom {
 }
 
 impl LineRoom {
-    /// No room yet. It allocates nothing.
+    /// Returns a room without memory yet. It allocates nothing.
     pub fn new(alloc: Global) -> LineRoom {
         LineRoom {
             scratch: Scratch::new(alloc),
@@ -31,7 +31,7 @@ impl LineRoom {
     }
 }
 
-// What the room has is of no meaning between lines, and isn't shown.
+// The contents of the room mean nothing between lines, and are not shown.
 impl Debug for LineRoom {
     fn fmt<W: fmt::Write>(&self, f: &mut Formatter<W>) -> fmt::Result {
         f.debug_struct("LineRoom").finish_non_exhaustive()
@@ -80,7 +80,7 @@ fn field<'a>(reader: &mut Reader<'a>, depth: usize) -> Option<Field<'a>>
     }
 }
 
-// Passes the items of an array to its end, each number in them too.
+// Passes the items of an array to its end, including each number in them.
 #[cycle(field)]
 fn pass_items(reader: &mut Reader<'_>, depth: usize) -> Option<()>
     ensures read { OnSome result ((vs : Items) × BeginsWithItems depth reader.old vs reader.new) }
@@ -92,7 +92,7 @@ fn pass_items(reader: &mut Reader<'_>, depth: usize) -> Option<()>
     Some(())
 }
 
-// Passes the members of an object to its end, each number in them too.
+// Passes the members of an object to its end, including each number in them.
 #[cycle(field)]
 fn pass_members(reader: &mut Reader<'_>, depth: usize) -> Option<()>
     ensures read { OnSome result ((ms : Members) × BeginsWithMembers depth reader.old ms reader.new) }
@@ -104,7 +104,7 @@ fn pass_members(reader: &mut Reader<'_>, depth: usize) -> Option<()>
     Some(())
 }
 
-// The next key of an object, or nothing at its brace.
+// The next key of an object, or nothing at its closing brace.
 fn key<'a>(reader: &mut Reader<'a>) -> Option<Option<Key<'a>>>
     ensures read { IfSome result (λ name. read_key reader.old
         ≡ Some (option_map key_text name, reader.new)) }

@@ -17,7 +17,7 @@ fn write_body(alloc: Global, id: &DocId, pair: Pair, outcome: &str) -> Result<Va
     json!(in alloc; {"_id": name, "_primary_term": term, "_seq_no": seq, "result": outcome})
 }
 
-// The body of a document that is there.
+// The body of a document that exists.
 fn found_body(alloc: Global, id: &DocId, pair: Pair, k: u64) -> Result<Value, NoMemory>
     ensures { IfOk result (λ body. view body ≡ body_of_found id.now pair k) }
 {
@@ -82,8 +82,9 @@ fn written_body(alloc: Global, id: &DocId, reply: &Reply) -> Result<Value, NoMem
     }
 }
 
-/// The status and the body of a reply about the document, as the reply table has them: the body has the keys that tell
-/// the reply and no others. `read_reply` reads it back, for each operation that the reply fits.
+/// Returns the status and the body of a reply about the document, as the reply table has them. The body has
+/// the keys that report the reply and no others. `read_reply` reads it back, for each operation that the
+/// reply fits.
 pub fn write_reply(alloc: Global, id: &DocId, reply: &Reply) -> Result<(u16, Value), NoMemory>
     ensures status { IfOk result (λ written. written.0 ≡ status_written reply.now) }
     ensures body { IfOk result (λ written. view written.1 ≡ body_written id.now reply.now) }

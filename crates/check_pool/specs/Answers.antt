@@ -1,4 +1,4 @@
--- What the search of a job answers, and what the answers of a list of jobs are.
+-- What the search for a job answers, and what the answers of a list of jobs are.
 use Rattle.std.specs.Prelude.{◌≡◌, ℕ, List, Some, length, slice_get}
 use Rattle.doc_register.specs.declared.state.Conflicts.{Conflicts}
 use Rattle.history.specs.declared.record.Rec.{Rec}
@@ -6,23 +6,23 @@ use Rattle.doc_check.specs.Search.{FindsUnpaired, FollowsReplies, IsAbout}
 use Rattle.doc_check.specs.declared.search.DocAnswer.{DocAnswer}
 use Rattle.check_pool.specs.declared.doc_job.DocJob.{DocJob}
 
--- all that the search of a document promises of its answer: it is about the document, its records and this reading of
--- conflicts; where the order of the replies is valid, it is what is found; where any places without a given pair are valid,
--- such places are found
+-- all that the search for a document promises of its answer: it is about the document, its records and this
+-- reading of conflicts; if response order is valid, it is the order found; if any places without a given pair
+-- are valid, such places are found
 pub record IsSearchOf (doc : List ℕ) (records : List Rec) (conflicts : Conflicts) (answer : DocAnswer) : Type 0 where
   pub about : IsAbout doc records conflicts answer
   pub replies : FollowsReplies conflicts records answer
   pub complete : FindsUnpaired conflicts records answer
 
--- all this of the id, the records and the reading of conflicts of a job
+-- the same for the id, the records and the reading of conflicts of a job
 abbrev pub IsAnswerTo : DocJob → DocAnswer → Type 0
 IsAnswerTo job answer = IsSearchOf job.id job.recs.items job.conflicts answer
 
--- the number of each job is its place
+-- the number of each job is its index
 abbrev pub AreNumbered : List DocJob → Type 0
 AreNumbered jobs = (i : ℕ) (job : DocJob) → slice_get jobs i ≡ Some job → job.doc ≡ i
 
--- at each job's place stands an answer to that job, and there are no more answers
+-- at each job's index is an answer to that job, and there are no more answers
 pub record AreAnswers (jobs : List DocJob) (answers : List DocAnswer) : Type 0 where
   pub count : length answers ≡ length jobs
   pub each : (i : ℕ) (job : DocJob) → slice_get jobs i ≡ Some job

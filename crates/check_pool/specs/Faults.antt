@@ -4,7 +4,8 @@ use Rattle.check_pool.specs.declared.doc_job.DocJob.{DocJob}
 use Rattle.check_pool.specs.declared.pool_fault.PoolFault.{PoolFault}
 use Rattle.check_pool.specs.declared.pool_fault.PoolFault.TheVariants.{NoWorkers, TooMany, Lost, Double, Stranger, NoMemory}
 
--- a job that is lost, of which two messages came, or to which an answer is none, is one of the jobs
+-- if the fault names a job (one without a message, one of which two messages came, or one that an answer is
+-- not about), it is one of the jobs
 abbrev pub NamesJob : List DocJob → PoolFault → Type 0
 NamesJob jobs NoWorkers = Unit {0}
 NamesJob jobs TooMany = Unit {0}

@@ -10,7 +10,7 @@ use crate::pool_fault::PoolFault;
 use doc_check::DocAnswer;
 use std::alloc::{AllocError, Global};
 
-// A place for the answer of each job.
+// A slot for the answer of each job.
 fn empty_slots(alloc: Global, count: usize) -> Result<Vec<Option<DocAnswer>>, AllocError>
     ensures count { IfOk result (λ slots. vec_len slots ≡ count) }
     ensures empty { IfOk result (λ slots. AreEmpty slots.items) }
@@ -22,15 +22,15 @@ fn empty_slots(alloc: Global, count: usize) -> Result<Vec<Option<DocAnswer>>, Al
     Ok(slots)
 }
 
-// The fault of a message that is of no job. It names a job: that of the message's number, or the last one where that number
-// is no job's.
+// The fault for a message that is of no job. It names a job: the one with the message's number, or the last
+// one if no job has that number.
 fn stranger(jobs: &[DocJob], doc: usize) -> PoolFault
     ensures { result ≡ PoolFault.Stranger (nearest_number jobs.now doc) }
 {
     PoolFault::Stranger(doc.min(jobs.len().saturating_sub(1)))
 }
 
-// Puts the message's answer at the place of its job.
+// Puts the message's answer into the slot of its job.
 fn take(jobs: &[DocJob], slots: &mut [Option<DocAnswer>], message: Message) -> Result<(), PoolFault>
     requires { length slots.old ≡ length jobs.now }
     ensures job { OnOk result (IsOfJob jobs.now message) }
@@ -53,7 +53,7 @@ fn take(jobs: &[DocJob], slots: &mut [Option<DocAnswer>], message: Message) -> R
     Ok(())
 }
 
-// The answers, where no place is empty.
+// The answers, if no slot is empty.
 fn answers_of(alloc: Global, slots: Vec<Option<DocAnswer>>) -> Result<Vec<DocAnswer>, PoolFault>
     ensures ok { IfOk result (λ answers. slots.items ≡ map Some answers.items) }
     ensures fault { IfErr result (IsFirstEmpty slots.items) }
@@ -70,10 +70,11 @@ fn answers_of(alloc: Global, slots: Vec<Option<DocAnswer>>) -> Result<Vec<DocAns
     Ok(answers)
 }
 
-/// The answers of the jobs, in the order of the jobs, from the messages of the workers in any order. `starved` says that
-/// a worker was refused memory.
+/// Returns the answers of the jobs, in the order of the jobs, from the messages of the workers in any order.
+/// `starved` says that a worker was refused memory.
 ///
-/// `Stranger` and `Double` are told as the messages come; then `NoMemory`; then `Lost`, with the least number.
+/// `Stranger` and `Double` are reported as the messages come; then `NoMemory`; then `Lost`, with the least
+/// number.
 pub fn collect(
     alloc: Global,
     jobs: &[DocJob],

@@ -1,5 +1,5 @@
-//! The search of each document on threads of its own. Where it ends well there is one answer for each job, in the order of the
-//! jobs, whichever worker made it.
+//! The search for each document on threads of its own. If it ends well, there is one answer for each job, in
+//! the order of the jobs, whichever worker made it.
 //!
 //! ```text
 //! let answers = answers(rt, alloc, jobs, 4, &NoGate)?; // jobs: Vec<DocJob>, answers: Vec<DocAnswer>

@@ -12,8 +12,8 @@ use version_pair::{DocId, NoMemory};
 
 /// What a worker sends: the number of a job, and an answer.
 ///
-/// Its type keeps that the answer is what the search promises for the id, the records and the reading of conflicts that
-/// the answer itself is about.
+/// The type guarantees that the answer is what the search promises for the id, the records and the reading of
+/// conflicts that the answer itself is about.
 #[derive(Drop)]
 pub struct Message {
     doc: usize,
@@ -33,7 +33,7 @@ impl Model for Message {
     ghost invariant = { λ m. IsSearched m.answer };
 }
 
-// Whether two ids are one.
+// Whether two ids are equal.
 fn is_same(id: &DocId, other: &DocId) -> bool
     ensures { IsTrue result ↔ (id.now ≡ other.now) }
 {
@@ -47,7 +47,7 @@ fn are_same(records: &[Rec], others: &[Rec]) -> bool
     records == others
 }
 
-// Whether the readings of conflicts are one.
+// Whether the readings of conflicts are the same.
 fn is_same_reading(conflicts: Conflicts, other: Conflicts) -> bool
     ensures { IsTrue result ↔ (conflicts ≡ other) }
 {
@@ -55,7 +55,7 @@ fn is_same_reading(conflicts: Conflicts, other: Conflicts) -> bool
 }
 
 impl Message {
-    /// What the search of the job answers, under the job's number.
+    /// Returns the answer of the search for the job, under the job's number.
     pub fn of(alloc: Global, job: &DocJob) -> Result<Message, NoMemory>
         ensures number { IfOk result (λ m. m.doc ≡ job.now.doc) }
         ensures answer { IfOk result (λ m. IsAnswerTo job.now m.answer) }
@@ -69,14 +69,14 @@ impl Message {
         })
     }
 
-    /// The number of the job.
+    /// Returns the number of the job.
     pub fn doc(&self) -> usize
         ensures { result ≡ self.now.doc }
     {
         self.doc
     }
 
-    /// Whether the answer is about the id, the records and the reading of conflicts of the job.
+    /// Returns whether the answer is about the id, the records and the reading of conflicts of the job.
     pub fn is_about(&self, job: &DocJob) -> bool
         ensures { IsTrue result ↔ IsAboutJob job.now self.now.answer }
     {
@@ -85,7 +85,7 @@ impl Message {
             && is_same_reading(self.answer.conflicts(), job.conflicts)
     }
 
-    /// The answer.
+    /// Returns the answer.
     pub fn into_answer(self) -> DocAnswer
         ensures same { result ≡ self.answer }
         ensures searched { IsSearched result }

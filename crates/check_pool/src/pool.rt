@@ -17,10 +17,10 @@ use std::thread;
 use std::thread::Threads;
 use version_pair::NoMemory;
 
-// The most workers.
+// The greatest number of workers.
 const MOST_WORKERS: usize = 16;
 
-// Runs the workers until each has ended. True where one was refused memory.
+// Runs the workers until each has ended. Returns `true` if one was refused memory.
 fn run_workers<R: Threads + Wait + Sync, G: Gate + Sync>(
     rt: &R,
     alloc: Global,
@@ -44,7 +44,7 @@ fn run_workers<R: Threads + Wait + Sync, G: Gate + Sync>(
     }
 }
 
-// Takes in all messages that were sent, once each sender is gone.
+// Receives all messages that were sent, until each sender is gone.
 fn receive(
     rt: &impl Wait,
     receiver: &Receiver<Message>,
@@ -59,7 +59,7 @@ fn receive(
     Ok(())
 }
 
-/// Whether there may be so many workers: `NoWorkers` where there are none, `TooMany` where there are more than 16.
+/// Checks the number of workers. Errors: `NoWorkers` if there are none, `TooMany` if there are more than 16.
 pub fn check_workers(workers: usize) -> Result<(), PoolFault>
     ensures ok { 0 < workers → workers ≤ 16 → IsOk result }
     ensures no_workers { IsErrOf result PoolFault.NoWorkers ↔ (workers ≡ 0) }
@@ -75,14 +75,16 @@ pub fn check_workers(workers: usize) -> Result<(), PoolFault>
     }
 }
 
-/// The answers of the jobs, in the order of the jobs, searched by at most this many workers, 1 to 16, each on a thread of
-/// its own where one can be made. Worker `w` takes the jobs whose number leaves `w` when divided by the number of workers,
-/// which is no greater than the number of jobs; it passes the gate before each.
+/// Returns the answers of the jobs, in the order of the jobs. The search is done by at most this many
+/// workers, 1 to 16, each on a thread of its own if one can be made. Worker `w` takes the jobs whose number
+/// leaves `w` when divided by the number of workers, which is no greater than the number of jobs; it passes
+/// the gate before each.
 ///
 /// A worker searches a copy of the job's records: what comes back is compared with the job itself.
 ///
-/// `NoWorkers` and `TooMany` are told first. Then `Stranger` and `Double`, as the messages of the workers come; `NoMemory`,
-/// where a growth was refused, in a worker too; `Lost`, with the least number. It returns only if each call of the gate does.
+/// Errors: first `NoWorkers` and `TooMany`; then `Stranger` and `Double`, as the messages of the workers
+/// come; `NoMemory` if memory was refused, also in a worker; last `Lost`, with the least number. It returns
+/// only if each call of the gate does.
 pub fn answers<R: Threads + Wait + Sync, G: Gate + Sync>(
     rt: &R,
     alloc: Global,

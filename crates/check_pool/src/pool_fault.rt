@@ -3,7 +3,7 @@ ghost use Rattle.std.specs.Prelude.{◌≡◌};
 use std::alloc::AllocError;
 use thiserror::Error;
 
-/// Why the jobs have no answers. Jobs are numbered from 0.
+/// The reason why the jobs have no answers. Jobs are numbered from 0.
 #[derive(Clone, Copy, Debug, PartialEq, Eq, Error)]
 pub enum PoolFault {
     /// There are no workers.
@@ -12,17 +12,18 @@ pub enum PoolFault {
     /// There are more than 16 workers.
     #[error("there are more than 16 workers")]
     TooMany,
-    /// No message came of this job, the first of those without one.
+    /// No message came for this job, the first such job.
     #[error("job {0} has no answer")]
     Lost(usize),
-    /// A second message came of this job.
+    /// A second message came for this job.
     #[error("job {0} was answered twice")]
     Double(usize),
-    /// A message came whose answer is about another id, other records or another reading of conflicts than the job of its
-    /// number, which is this one; or one whose number is no job's, and this is the last job.
+    /// A message came whose answer is about another id, other records or another reading of conflicts than
+    /// the job of its number, which is this one. Or no job has the message's number, and this is the last
+    /// job.
     #[error("an answer came that is not to job {0}")]
     Stranger(usize),
-    /// A growth was refused memory.
+    /// Memory was refused.
     #[error("no memory")]
     NoMemory,
 }

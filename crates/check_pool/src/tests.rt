@@ -18,7 +18,7 @@ const TWO_DOCUMENTS: &str = r#"{"e":"call","n":0,"id":"a","op":"index","k":1}
 {"e":"reply","n":0,"status":201,"body":{"_id":"a","result":"created","_seq_no":1,"_primary_term":1}}
 "#;
 
-// Five documents, of which the third has no order: its write has no condition, and answers a conflict.
+// Five documents. The third has no order: its write has no condition, and its reply is a conflict.
 const FIVE_DOCUMENTS: &str = r#"{"e":"call","n":0,"id":"a","op":"index","k":1}
 {"e":"reply","n":0,"status":201,"body":{"_id":"a","result":"created","_seq_no":0,"_primary_term":1}}
 {"e":"call","n":1,"id":"b","op":"get"}
@@ -60,7 +60,7 @@ fn shown(answer: &DocAnswer) -> (&str, bool) {
     }
 }
 
-// The answers are about these ids, in this order, with an order found or not.
+// Asserts that the answers are about these ids, in this order, with an order found or not.
 fn assert_shown(rt: &impl Abort, answers: &[DocAnswer], wanted: &[(&str, bool)]) {
     assert_eq!(rt; answers.len(), wanted.len());
     for (answer, (id, found)) in answers.iter().zip(wanted) {

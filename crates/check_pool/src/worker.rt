@@ -8,7 +8,7 @@ use std::alloc::{AllocError, Global};
 use std::sync::Wait;
 use version_pair::NoMemory;
 
-// Sends the answer of one job. Where nobody receives any more, it is dropped.
+// Sends the answer of one job. If nobody receives any more, it is dropped.
 fn send_answer<R: Wait>(
     rt: &R,
     alloc: Global,
@@ -21,8 +21,8 @@ fn send_answer<R: Wait>(
     }
 }
 
-/// Passes the gate, searches and sends the answer, for each job whose number leaves `worker` when divided by `workers`.
-/// It stops where it is refused memory.
+/// Passes the gate, searches, and sends the answer, for each job whose number leaves `worker` when divided by
+/// `workers`. It stops if it is refused memory.
 pub fn work<R: Wait, G: Gate>(
     rt: &R,
     alloc: Global,

@@ -1,4 +1,5 @@
-/// The earlier one of two, each a place and the record that stands there; the first of them where both are at one place.
+/// Returns the earlier of two, each an index and the record at it; the first of them if both have the same
+/// index.
 pub fn earlier(
     first: Option<(usize, usize)>,
     second: Option<(usize, usize)>,

@@ -22,27 +22,27 @@ pub mod rooms;
 pub mod standing;
 pub mod walk;
 
-// A place that the walk came to, and what is tried there next.
+// A point that the walk reached, and what is tried there next.
 #[derive(Clone, Copy)]
 struct Choice {
     standing: Standing,
-    // How many records were placed.
+    // The number of records that were placed.
     placed: usize,
     turn: Turn,
 }
 
-// What a step of the search gives.
+// The result of a step of the search.
 #[derive(Clone, Copy, PartialEq, Eq)]
 enum Step {
     // All answered records are placed.
     Done,
-    // It goes on.
+    // The search goes on.
     More,
     // Nothing is left to try.
     Stuck,
 }
 
-// A search and the places that it may come back to.
+// A search, and the points to which it may come back.
 #[derive(Drop)]
 struct Search<'a> {
     walk: Walk<'a>,
@@ -51,7 +51,7 @@ struct Search<'a> {
 }
 
 impl Search<'_> {
-    // Places the reads, and notes the place, where something can come of it; else goes back to the last one.
+    // Places the reads, and records the point if it can lead anywhere; otherwise goes back to the last one.
     fn arrive(&mut self) -> Result<(), NoMemory> {
         self.walk.place_reads()?;
         if self.failed.has(self.walk.standing.key()) || is_lost(&mut self.walk) {
@@ -66,15 +66,15 @@ impl Search<'_> {
         Ok(())
     }
 
-    // Takes back what was placed since the last place.
+    // Takes back what was placed since the last point.
     fn go_back(&mut self) {
         if let Some(last) = self.choices.last() {
             self.walk.take_back(last.standing, last.placed);
         }
     }
 
-    // Leaves the last place, at which nothing is left to try; at the beginning of a stretch only once all numbers of
-    // insertions were tried.
+    // Leaves the last point, at which nothing is left to try. At the beginning of a stretch this happens only
+    // after all numbers of insertions were tried.
     fn leave(&mut self) {
         let room = self.walk.room();
         if let Some(last) = self.choices.last_mut() {
@@ -110,7 +110,7 @@ impl Search<'_> {
     }
 }
 
-// The chain of the walk, and of each record that is not in it the stretch.
+// The chain of the walk, and the stretch of each record that is not in it.
 fn chain_and_stretches(
     alloc: Global,
     walk: &Walk,
@@ -140,7 +140,8 @@ fn chain_and_stretches(
     Ok((links, given))
 }
 
-// How many steps a search of so many records may take; one that is limited may have nothing to find, and takes fewer.
+// The number of steps that a search of that many records may take. A search with limits may have nothing to
+// find, and takes fewer.
 fn most_steps(records: usize, limits: &[Limit]) -> usize {
     if limits.is_empty() {
         records.saturating_mul(2).saturating_add(100_000)
@@ -149,7 +150,7 @@ fn most_steps(records: usize, limits: &[Limit]) -> usize {
     }
 }
 
-// The chain of an order that the search finds, and of each record that is not in it the stretch.
+// The chain of an order that the search finds, and the stretch of each record that is not in it.
 fn found_chain(
     alloc: Global,
     records: &[Rec],
@@ -170,7 +171,7 @@ fn found_chain(
     for _ in 0..most {
         match search.step()? {
             Step::Done => {
-                // (What it could have come back to is given up before the chain is made.)
+                // (The points to which it could have come back are given up before the chain is made.)
                 search.choices = Vec::new(alloc);
                 return Ok(Some(chain_and_stretches(alloc, &search.walk)?));
             }
@@ -181,9 +182,10 @@ fn found_chain(
     Ok(None)
 }
 
-/// An order that completes unanswered writes, by a search forward in time, with room for an invented pair only where a
-/// number is left that none of the pairs in use has, and within the limits. `None` if none is found in a number of steps in
-/// proportion to the records. What is found is a guess, to be checked.
+/// Returns an order that completes unanswered writes, by a search forward in time. It has room for an
+/// invented pair only if a number is left that none of the pairs in use has, and within the limits. Returns
+/// `None` if none is found in a number of steps in proportion to the records. The result is a guess that must
+/// be checked.
 pub fn search_forward(
     alloc: Global,
     records: &[Rec],
@@ -192,7 +194,7 @@ pub fn search_forward(
     used: &[Pair],
     limits: &[Limit],
 ) -> Result<Option<Vec<Place>>, NoMemory> {
-    // (What the search keeps is given up before the places are made, so that memory holds one of the two.)
+    // (What the search keeps is given up before the places are made, so that memory has only one of the two.)
     match found_chain(alloc, records, conflicts, used, limits)? {
         Some((links, given)) => places_with_pairs(alloc, records, &links, &given, seen),
         None => Ok(None),

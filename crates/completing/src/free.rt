@@ -3,22 +3,22 @@ use version_pair::Pair;
 /// The pairs of a shard that are not in use.
 #[derive(Clone, Copy)]
 pub struct Free<'a> {
-    // Those that are, rising.
+    // The pairs that are in use, rising.
     used: &'a [Pair],
 }
 
 impl Free<'_> {
-    /// All but the pairs in use, which rise.
+    /// Returns all pairs but those in use, which must rise.
     pub fn among(used: &[Pair]) -> Free<'_> {
         Free { used }
     }
 
-    // How many pairs in use are below this one.
+    // The number of pairs in use below this one.
     fn count_below(self, pair: Pair) -> usize {
         self.used.partition_point(|entry| *entry < pair)
     }
 
-    /// How many are free from one pair on and below another of its term.
+    /// Returns the number of pairs that are free from one pair on and below another of its term.
     pub fn count(self, from: Pair, below: Pair) -> u64 {
         let used = self
             .count_below(below)
@@ -29,7 +29,7 @@ impl Free<'_> {
             .saturating_sub(u64::try_from(used).unwrap_or(u64::MAX))
     }
 
-    // Whether the pair in use at this place is the one with so many numbers more than another.
+    // Whether the pair in use at this index is the one with that many numbers more than another.
     fn is_next(self, place: usize, from: Pair, more: usize) -> bool {
         match (self.used.get(place), u64::try_from(more)) {
             (Some(pair), Ok(more)) => {
@@ -39,8 +39,9 @@ impl Free<'_> {
         }
     }
 
-    // How many pairs in use follow one another without a free one between, from this one on: found by halving, as the first so many
-    // are without a gap exactly if the last of them is.
+    // How many pairs in use follow one another without a free one between, from this one on. It is found by
+    // bisection: the first n pairs are without a gap if and only if the last of them is where it would be
+    // without one.
     fn count_following(self, from: Pair) -> usize {
         let start = self.count_below(from);
         let mut count = 0usize;
@@ -63,13 +64,13 @@ impl Free<'_> {
         count
     }
 
-    /// The least number that is free in the term of a pair, from its own on.
+    /// Returns the least number that is free in the term of a pair, from its own number on.
     pub fn least_from(self, from: Pair) -> u64 {
         let following = u64::try_from(self.count_following(from)).unwrap_or(u64::MAX);
         from.seq().saturating_add(following)
     }
 
-    /// The least that is free from one pair on and below another of its term.
+    /// Returns the least pair that is free from one pair on and below another of its term.
     pub fn least(self, from: Pair, below: Pair) -> Option<Pair> {
         let seq = self.least_from(from);
         if seq < below.seq() {
@@ -88,7 +89,8 @@ pub struct Gap {
 }
 
 impl Gap {
-    /// The numbers above a pair and below another, if both are of one term. Before the first pair the term counts as 1.
+    /// Returns the numbers above a pair and below another, if both are of one term. Before the first pair the
+    /// term counts as 1.
     pub fn between(lower: Option<Pair>, upper: Pair) -> Option<Gap> {
         let (term, seq) = match lower {
             Some(lower) => (lower.term(), lower.seq().saturating_add(1)),

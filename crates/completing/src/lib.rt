@@ -1,5 +1,5 @@
-//! Orders of a document's calls that complete unanswered writes, guessed: by rules, and by a search forward in time. Nothing
-//! is promised of what is found; whoever takes a guess has `DocWitness::check` check it.
+//! Guessed orders of a document's calls that complete unanswered writes: by rules, and by a search forward in
+//! time. The results come with no guarantee; whoever takes a guess has `DocWitness::check` check it.
 //!
 //! ```text
 //! let places = complete_by_rules(alloc, &records, seen, conflicts)?; // Option<Vec<Place>>

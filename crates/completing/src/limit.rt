@@ -1,18 +1,18 @@
 use version_pair::Pair;
 
-/// A bound on the writes that may be inserted in each stretch of a document between two known pairs, if the stretch ends above
-/// one pair, and not above another.
+/// A bound on the writes that may be inserted in each stretch of a document between two known pairs, if the
+/// stretch ends above one pair, but not above another.
 #[derive(Clone, Copy, Debug, PartialEq, Eq)]
 pub struct Limit {
     /// Stretches that end at this pair or below aren't bounded.
     pub lower: Pair,
     /// Neither are those that end above this one.
     pub upper: Pair,
-    /// How many writes may be inserted.
+    /// The greatest number of writes that may be inserted.
     pub most: u64,
 }
 
-/// At most how many writes the limits allow in a stretch that ends at the pair.
+/// Returns the greatest number of writes that the limits allow in a stretch that ends at the pair.
 pub fn most_before(limits: &[Limit], pair: Pair) -> u64 {
     let mut most = u64::MAX;
     for limit in limits {

@@ -1,8 +1,8 @@
 use version_pair::Pair;
 
-/// What has a pair.
+/// A value that has a pair.
 pub trait HasPair {
-    /// The pair.
+    /// Returns the pair.
     fn pair(&self) -> Pair;
 }
 
@@ -12,10 +12,10 @@ impl HasPair for (Pair, usize) {
     }
 }
 
-// How many entries on either side are looked at before the whole list is searched.
+// The number of entries on either side that are examined before the whole list is searched.
 const NEAR: usize = 16;
 
-// The first place from one on whose entry is not below the pair, where it is one of the next few.
+// The first index from one on whose entry is not below the pair, if it is one of the next few.
 fn place_above<T: HasPair>(entries: &[T], pair: Pair, from: usize) -> Option<usize> {
     let end = from.saturating_add(NEAR).min(entries.len());
     for at in from..end {
@@ -26,7 +26,7 @@ fn place_above<T: HasPair>(entries: &[T], pair: Pair, from: usize) -> Option<usi
     None
 }
 
-// The last place up to one with an entry below the pair before it, where it is one of the few before.
+// The last index up to one with an entry below the pair before it, if it is one of the few before.
 fn place_below<T: HasPair>(entries: &[T], pair: Pair, from: usize) -> Option<usize> {
     for back in 0..NEAR {
         let at = from.saturating_sub(back);
@@ -39,8 +39,8 @@ fn place_below<T: HasPair>(entries: &[T], pair: Pair, from: usize) -> Option<usi
     None
 }
 
-/// The place of the first entry that is not below the pair, in a list by rising pair. It is looked for near another place
-/// first: pairs that are asked for one after the other mostly stand near one another.
+/// Returns the index of the first entry that is not below the pair, in a list by rising pair. It is searched
+/// for near another index first: pairs that are asked for one after the other are mostly near one another.
 pub fn place_near<T: HasPair>(entries: &[T], pair: Pair, near: usize) -> usize {
     let from = near.min(entries.len());
     let place = match entries.get(from) {
@@ -53,7 +53,7 @@ pub fn place_near<T: HasPair>(entries: &[T], pair: Pair, near: usize) -> usize {
     }
 }
 
-/// What stands with the pair at the place, where the place's pair is this one.
+/// Returns the value with the pair at the index, if the pair at that index is this one.
 pub fn entry_at(entries: &[(Pair, usize)], place: usize, pair: Pair) -> Option<usize> {
     let (own, entry) = *entries.get(place)?;
     if own == pair { Some(entry) } else { None }

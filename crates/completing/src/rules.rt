@@ -25,10 +25,11 @@ pub mod round;
 pub mod stand;
 pub mod unsettled;
 
-/// An order that completes unanswered writes, by rules: first the pairs that are named get their writes; then, in
-/// rounds, the flags that do not fit ask for writes, then the calls that find no stretch, and then the conflicts that
-/// nothing refuses become writes. `None` if a rule finds no write to take, or needs one between two pairs of one term: the search
-/// forward chooses the number of such a write. The records are in the order of their calls. What is found is a guess, to be checked.
+/// Returns an order that completes unanswered writes, by rules. First the pairs that are named get their
+/// writes. Then, in rounds, the flags that do not fit ask for writes, then the calls that find no stretch,
+/// and then the conflicts that nothing refuses become writes. Returns `None` if a rule finds no write to
+/// take, or needs one between two pairs of one term: the search forward chooses the number of such a write.
+/// The records must be in the order of their calls. The result is a guess that must be checked.
 pub fn complete_by_rules(
     alloc: Global,
     records: &[Rec],

@@ -15,12 +15,12 @@ use Rattle.disturbances.specs.declared.disturbance.Disturbance.{Disturbance}
 use Rattle.disturbances.specs.declared.incident.Incident.{Incident}
 use Rattle.disturbances.specs.declared.incident.Incident.TheVariants.{Quiet, CutOff, Reach, TakeOver}
 
--- The copy of this number beside the primary, of two copies or more: the next one after the primary has the number 0, and a
--- number past the last begins with the first again.
+-- The copy of this number beside the primary, of two copies or more: the next one after the primary has the
+-- number 0, and numbers above the last start again with the first copy.
 abbrev pub other_copy : ℕ → ℕ → ℕ → ℕ
 other_copy primary copies number = (primary + 1 + number % (copies - 1)) % copies
 
--- the steps of an incident, where this is the primary of two copies or more
+-- the steps of an incident, if this is the primary of two copies or more
 abbrev pub steps_among : Incident → ℕ → ℕ → List Step
 steps_among Quiet primary copies = []
 steps_among (CutOff number) primary copies = Cut (other_copy primary copies number) ∷ []
@@ -28,22 +28,22 @@ steps_among (Reach number) primary copies = Heal (other_copy primary copies numb
 steps_among (TakeOver number) primary copies =
     Cut primary ∷ Heal (other_copy primary copies number) ∷ Promote (other_copy primary copies number) ∷ Heal primary ∷ []
 
--- The steps of an incident; none where the primary is the only copy.
+-- The steps of an incident; none if the primary is the only copy.
 abbrev pub steps_of : Incident → ℕ → ℕ → List Step
 steps_of incident primary copies = if nat_lt copies 2 then [] else steps_among incident primary copies
 
--- The group takes the steps of the incident, one after the other, whatever each is answered.
+-- The group takes the steps of the incident, one after the other, whatever the answer to each.
 abbrev pub IsDisturbed : GroupState → Incident → GroupState → Type 0
 IsDisturbed w incident n = IsRun w (steps_of incident w.primary (length w.copies)) n
 
--- The poll of that number: first the incident that the schedule has before it, then the poll.
+-- The poll of that number: first the incident that the schedule has before it, followed by the poll.
 abbrev pub PollsDisturbed : List Incident → ℕ → GroupState → Lcg → ℕ → Result Progress TargetFault → GroupState → Lcg → Type 0
 PollsDisturbed schedule number w random t told n random' =
     (m : GroupState) × IsDisturbed w (incident_before schedule number) m × Polls m random t told n random'
 
 -- ---- a group that one caller owns
 
--- the group, the generator from which its steps are drawn, and how many polls there were
+-- the group, the generator from which its steps are drawn, and the number of polls so far
 pub record CountedState : Type 0 where
   pub core : GroupState
   pub random : Lcg
@@ -59,7 +59,8 @@ pub record DisturbedState : Type 0 where
 abbrev pub with_schedule : CountedState → List Incident → DisturbedState
 with_schedule counted schedule = record { core = counted.core; random = counted.random; polls = counted.polls; schedule = schedule }
 
--- a group at the start that does this wrong, with so many copies and the generator of the seed, and no poll was made
+-- a group at the start that does this wrong, with that many copies and the generator of the seed, before any
+-- poll
 abbrev pub counted_from : Fault → ℕ → ℕ → CountedState
 counted_from fault copies seed = record { core = start fault copies; random = generator_of seed; polls = 0 }
 
@@ -67,12 +68,12 @@ counted_from fault copies seed = record { core = start fault copies; random = ge
 abbrev pub disturbed_from : Fault → ℕ → ℕ → Disturbance → ℕ → DisturbedState
 disturbed_from fault copies seed disturbance count = with_schedule (counted_from fault copies seed) (schedule_drawn disturbance seed count)
 
--- A submission that answers a ticket: the group takes the step Submit, and the rest stays.
+-- A submission that returns a ticket: the group takes the step Submit, and the rest stays as it was.
 pub record SubmitsTicket (old : DisturbedState) (id : List ℕ) (op : Op) (ticket : Ticket) (new : DisturbedState) : Type 0 where
   pub submits : Submits old.core id op (Ok ticket) new.core
   pub rest_stays : new ≡ record old { core = new.core }
 
--- A poll that tells of a ticket: what the poll of its number does, and it is counted, modulo 2^64.
+-- A poll that reports on a ticket: it does what the poll of its number does, and is counted, modulo 2^64.
 pub record TellsProgress (old : DisturbedState) (ticket : Ticket) (progress : Progress) (new : DisturbedState) : Type 0 where
   pub polls : PollsDisturbed old.schedule old.polls old.core old.random ticket.0 (Ok progress) new.core new.random
   pub counted : new.polls ≡ (old.polls + 1) % 2 ^ 64

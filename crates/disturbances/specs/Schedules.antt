@@ -14,16 +14,16 @@ incident_of_kind by.Cuts kind copy = if nat_lt kind 16 then CutOff copy else (if
 incident_of_kind by.Promotions kind copy = if nat_lt kind 8 then TakeOver copy else Quiet
 incident_of_kind by.Storm kind copy = if nat_lt kind 16 then TakeOver 0 else CutOff 0
 
--- The incident that a word draws: the word modulo 64 is the kind; what is left is the number of a copy.
+-- The incident that a word draws: the word modulo 64 is the kind; the rest is the number of a copy.
 abbrev pub incident_of : Disturbance → ℕ → Incident
 incident_of disturbance word = incident_of_kind disturbance (word % 64) (word / 64)
 
--- so many incidents, each of one word
+-- that many incidents, each of one word
 unfoldable pub incidents_drawn : Disturbance → ℕ → Lcg → List Incident
 incidents_drawn disturbance zero g = []
 incidents_drawn disturbance (suc n) g = incident_of disturbance (pcg32 g).0 ∷ incidents_drawn disturbance n (pcg32 g).1
 
--- the generator after so many words
+-- the generator after that many words
 unfoldable pub after_words : ℕ → Lcg → Lcg
 after_words zero g = g
 after_words (suc n) g = after_words n (pcg32 g).1
@@ -32,19 +32,19 @@ after_words (suc n) g = after_words n (pcg32 g).1
 abbrev pub generator_of : ℕ → Lcg
 generator_of seed = started 64 multiplier_64 seed (increment_of 64 56)
 
--- The schedule of a seed and a length; no incident where there is no disturbance.
+-- The schedule of a seed and a length; no incidents if there is no disturbance.
 abbrev pub schedule_drawn : Disturbance → ℕ → ℕ → List Incident
 schedule_drawn by.None seed count = []
 schedule_drawn by.Cuts seed count = incidents_drawn by.Cuts count (generator_of seed)
 schedule_drawn by.Promotions seed count = incidents_drawn by.Promotions count (generator_of seed)
 schedule_drawn by.Storm seed count = incidents_drawn by.Storm count (generator_of seed)
 
--- how many polls come from one incident to the next
+-- the number of polls from one incident to the next
 abbrev pub polls_apart : ℕ
 polls_apart = 16
 
--- The incident before the poll of this number, from 0: each place of the schedule has its poll, and after the last the first comes
--- again. Before other polls nothing happens.
+-- The incident before the poll of this number, from 0: each incident of the schedule has its poll, and after
+-- the last one the first comes again. Before other polls nothing happens.
 abbrev pub incident_before : List Incident → ℕ → Incident
 incident_before schedule n =
     if n % polls_apart == 0 then unwrap_or (slice_get schedule (n / polls_apart % length schedule)) Quiet else Quiet

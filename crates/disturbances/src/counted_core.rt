@@ -10,11 +10,11 @@ use std::marker::Model;
 use version_pair::DocId;
 use workload::{Progress, TargetFault, Ticket};
 
-// The stream of words from which a group draws its steps.
+// The stream of generator words from which a group draws its steps.
 const STREAM: u64 = 55;
 
-/// A core, the generator from which its steps are drawn, and how many polls there were. Where the core has no fault, it is
-/// honest between two calls.
+/// A core, the generator from which its steps are drawn, and the number of polls so far. If the core has no
+/// fault, it is honest between two calls.
 #[derive(Drop)]
 pub struct CountedCore {
     core: Core,
@@ -41,7 +41,8 @@ impl CountedCore {
     ghost use Rattle.repl_group.specs.Polling.{Submits};
     ghost use Rattle.disturbances.specs.Disturbed.{PollsDisturbed, counted_from};
 
-    /// The core of a group of so many copies at the start, whose steps are drawn from the seed, and which was not polled.
+    /// Returns the core of a group of that many copies at the start, whose steps are drawn from the seed, and
+    /// which was not polled.
     pub fn new(
         alloc: Global,
         copies: u32,

@@ -1,7 +1,7 @@
 /// How the copies of a group are disturbed while clients are at work.
 #[derive(Clone, Copy, Debug, PartialEq, Eq)]
 pub enum Disturbance {
-    /// Not at all, but by the steps that the group draws itself.
+    /// Not at all, except by the steps that the group draws itself.
     None,
     /// Copies are cut off, and are reached again.
     Cuts,

@@ -10,10 +10,11 @@ use std::marker::Model;
 use version_pair::DocId;
 use workload::{OwnedTarget, Progress, TargetFault, Ticket};
 
-/// A replication group that one caller owns as a target, and that is disturbed by a schedule as it is polled.
+/// A replication group that one caller owns as a target, and that a schedule disturbs as it is polled.
 ///
-/// A poll makes the group take the steps of the incident that the schedule has before it, then a step that is drawn at random from
-/// its seed. Contracts see a `DisturbedState`: the group, its generator, how many polls there were, and the incidents.
+/// A poll makes the group take the steps of the incident that the schedule has before it, then a step that is
+/// drawn at random from its seed. Contracts see a `DisturbedState`: the group, its generator, the number of
+/// polls so far, and the incidents.
 #[derive(Drop)]
 pub struct DisturbedCore {
     counted: CountedCore,
@@ -31,8 +32,9 @@ impl Model for DisturbedCore {
 impl DisturbedCore {
     ghost use Rattle.disturbances.specs.Disturbed.{disturbed_from, with_schedule};
 
-    /// A group with so many copies, 1 to 5, at the start, whose steps are drawn from the seed, and from the seed too its schedule
-    /// of so many incidents; no poll was counted. Else `Copies`. Last `NoMemory`.
+    /// Returns a group with that many copies, 1 to 5, at the start. Its steps are drawn from the seed, and so
+    /// is its schedule of that many incidents; no poll was counted. Errors: `Copies` for another number of
+    /// copies; last `NoMemory`.
     pub fn new(
         alloc: Global,
         copies: u32,
@@ -51,7 +53,7 @@ impl DisturbedCore {
         }
     }
 
-    // The group without its schedule, and the schedule.
+    // Returns the group without its schedule, and the schedule.
     pub(crate) fn into_parts(self) -> (CountedCore, Schedule)
         ensures { with_schedule result.0 result.1 ≡ self }
     {
@@ -63,10 +65,11 @@ impl DisturbedCore {
 impl OwnedTarget for DisturbedCore {
     ghost use Rattle.disturbances.specs.Disturbed.{SubmitsTicket, TellsProgress};
 
-    // A submission is the step `Submit`, and leaves the rest.
+    // A submission is the step `Submit`, and leaves the rest as it was.
     ghost takes = { SubmitsTicket };
 
-    // A poll is the incident that the schedule has before it, then the step of the poll, and it is counted.
+    // A poll is the incident that the schedule has before it, followed by the step of the poll, and it is
+    // counted.
     ghost tells = { TellsProgress };
 
     fn submit(&mut self, id: &DocId, op: &Op) -> Result<Ticket, TargetFault> {

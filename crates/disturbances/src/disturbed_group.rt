@@ -12,11 +12,11 @@ use std::sync::{Mutex, Wait};
 use version_pair::DocId;
 use workload::{Progress, Target, TargetFault, Ticket};
 
-/// A replication group that threads share as a target, and that is disturbed by a schedule as it is polled: each submission and
-/// each poll is one hold of its lock.
+/// A replication group that threads share as a target, and that a schedule disturbs as it is polled. Each
+/// submission and each poll is one hold of its lock.
 ///
-/// Under its lock is a `DisturbedCore` without its schedule. Without a disturbance it is a `Group`. Contracts see a disturbed group
-/// as the incidents of its schedule.
+/// Under its lock is a `DisturbedCore` without its schedule. Without a disturbance it is a `Group`. Contracts
+/// see a disturbed group as the incidents of its schedule.
 #[derive(Drop)]
 pub struct DisturbedGroup {
     locked: Mutex<CountedCore>,
@@ -35,8 +35,9 @@ impl Model for DisturbedGroup {
 impl DisturbedGroup {
     ghost use Rattle.disturbances.specs.Schedules.{schedule_drawn};
 
-    /// A group with so many copies, 1 to 5, at the start, whose steps are drawn from the seed, and from the seed too its schedule
-    /// of so many incidents; else `Copies`. Last `NoMemory`.
+    /// Returns a group with that many copies, 1 to 5, at the start. Its steps are drawn from the seed, and so
+    /// is its schedule of that many incidents. Errors: `Copies` for another number of copies; last
+    /// `NoMemory`.
     pub fn new(
         alloc: Global,
         copies: u32,
@@ -52,7 +53,7 @@ impl DisturbedGroup {
         Ok(DisturbedGroup::shared(core))
     }
 
-    /// The group that one caller owned, for threads to share.
+    /// Returns the group that one caller owned, for threads to share.
     pub fn shared(core: DisturbedCore) -> DisturbedGroup
         ensures { result ≡ core.schedule }
     {
@@ -72,10 +73,10 @@ impl Target for DisturbedGroup {
     // Only tickets that a group has are issued.
     ghost issued = { λ ticket _ _. ticket.0 < most_tickets };
 
-    // Of a group nothing is known through its lock where it has given all its tickets.
+    // Through its lock nothing is known of a group that has given all its tickets.
     ghost all_given = { Unit {0} };
 
-    // A group never tells that an outcome is unknown.
+    // A group never reports that an outcome is unknown.
     ghost gave = { λ _ progress. IsKnown progress };
 
     fn submit<R: Wait>(&self, rt: &R, id: &DocId, op: &Op) -> Result<Ticket, TargetFault> {

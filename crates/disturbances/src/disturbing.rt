@@ -18,7 +18,7 @@ fn other_copy(primary: u32, copies: u32, number: u32) -> u32
     ((primary as u64 + 1 + (number % (copies - 1)) as u64) % copies as u64) as u32
 }
 
-// Takes one step, whatever it is answered.
+// Takes one step, whatever its answer.
 fn take(core: &mut Core, step: Step) -> Result<(), TargetFault>
     ensures takes { IfOk result (λ _. (told : Told) × Takes core.old step told core.new) }
     ensures refused { IfErr result (λ fault. fault ≡ TargetFault.NoMemory) }
@@ -30,8 +30,8 @@ fn take(core: &mut Core, step: Step) -> Result<(), TargetFault>
     }
 }
 
-/// Disturbs a group: it takes the steps of the incident, one after the other, whatever each is answered. A group of one copy takes
-/// none. Where a step is refused memory those before it have been taken.
+/// Disturbs a group: it takes the steps of the incident, one after the other, whatever the answer to each. A
+/// group of one copy takes none. If a step is refused memory, those before it have been taken.
 pub fn disturb(core: &mut Core, incident: Incident) -> Result<(), TargetFault>
     requires honest { IsHonestUnlessFaulty core.old }
     ensures disturbed { IfOk result (λ _. IsDisturbed core.old incident core.new) }
@@ -57,8 +57,8 @@ pub fn disturb(core: &mut Core, incident: Incident) -> Result<(), TargetFault>
     }
 }
 
-/// What the poll of that number does in one hold of a disturbed group's lock: the incident that the schedule has before it, then
-/// the step of the poll.
+/// Does what the poll of that number does in one hold of a disturbed group's lock: the incident that the
+/// schedule has before it, followed by the step of the poll.
 pub fn disturbed_poll_step(
     core: &mut Core,
     random: &mut Lcg64Xsh32,

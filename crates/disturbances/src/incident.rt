@@ -3,8 +3,8 @@ ghost use Rattle.disturbances.specs.Schedules.{incident_of as incident_by};
 
 use crate::disturbance::Disturbance;
 
-/// What happens to a group at one place of a schedule. The copies beside the primary are numbered from the next one on, from
-/// 0; a number past the last begins with the first again.
+/// What happens to a group at one point of a schedule. The copies beside the primary are numbered from the
+/// next one on, from 0; numbers above the last start again with the first copy.
 #[derive(Clone, Copy, Debug, PartialEq, Eq)]
 pub enum Incident {
     /// Nothing.
@@ -13,11 +13,12 @@ pub enum Incident {
     CutOff(u32),
     /// That copy is reached again.
     Reach(u32),
-    /// The primary is cut off, that copy is reached and becomes the primary, and the old primary is reached again.
+    /// The primary is cut off, that copy is reached and becomes the primary, and the old primary is reached
+    /// again.
     TakeOver(u32),
 }
 
-/// The incident that a word draws.
+/// Returns the incident that a word draws.
 pub fn incident_of(disturbance: Disturbance, word: u32) -> Incident
     ensures { result ≡ incident_by disturbance word }
 {

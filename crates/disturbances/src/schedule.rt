@@ -8,13 +8,14 @@ use rand_pcg::Lcg64Xsh32;
 use std::alloc::{AllocError, Global};
 use std::marker::Model;
 
-// The stream of words from which a schedule is drawn.
+// The stream of generator words from which a schedule is drawn.
 const STREAM: u64 = 56;
 
-/// How many polls come from one incident to the next.
+/// The number of polls from one incident to the next.
 pub const POLLS_APART: u64 = 16;
 
-/// What happens to a group while it is polled: one incident each 16 polls, and after the last the first again.
+/// What happens to a group while it is polled: one incident every 16 polls, and after the last incident the
+/// first one again.
 ///
 /// Contracts see the list of the incidents.
 #[derive(Debug, Drop)]
@@ -31,7 +32,7 @@ impl Model for Schedule {
     ghost view = { λ s. s.incidents.items };
 }
 
-// So many incidents, each drawn from a word.
+// That many incidents, each drawn from a word.
 #[tactic(auto, using(crate::proofs::ScheduleLemmas::more_words), unfolding(crate::specs::Schedules::incidents_drawn, crate::specs::Schedules::after_words))]
 fn draw_incidents(
     alloc: Global,
@@ -50,8 +51,8 @@ fn draw_incidents(
 }
 
 impl Schedule {
-    /// The schedule that is drawn from the seed, of so many incidents, one word of a generator each; of none where the
-    /// disturbance is `None`.
+    /// Returns the schedule that is drawn from the seed, of that many incidents, one word of a generator
+    /// each; of no incidents if the disturbance is `None`.
     pub fn draw(
         alloc: Global,
         disturbance: Disturbance,
@@ -69,7 +70,7 @@ impl Schedule {
         Ok(Schedule { incidents })
     }
 
-    /// What happens before the poll of this number, counted from 0.
+    /// Returns what happens before the poll of this number, counted from 0.
     pub fn before_poll(&self, number: u64) -> Incident
         ensures { result ≡ incident_before self.now number }
     {

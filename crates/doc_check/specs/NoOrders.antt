@@ -14,19 +14,19 @@ AreUnpaired places = (i : ℕ) (p : Place) → slice_get places i ≡ Some p →
 abbrev pub HasNoOrder : Conflicts → List Rec → Type 0
 HasNoOrder conflicts records = (places : List Place) → AreUnpaired places → ¬ AreValid conflicts records places
 
--- a document for whose records that holds, in this reading of conflicts
+-- a document whose records have no such order, in this reading of conflicts
 pub record Unordered : Type 0 where
   pub doc : List ℕ
   pub records : List Rec
   pub conflicts : Conflicts
 
--- ---- settled records
+-- ---- complete (settled) records
 
--- each write has a reply that tells whether it was performed
+-- each write has a reply that says whether it was performed
 abbrev pub AreSettled : Conflicts → List Rec → Type 0
 AreSettled conflicts records = (k : ℕ) (r : Rec) → slice_get records k ≡ Some r → IsSettled conflicts r
 
--- settled records for which no places without a given pair are valid have no valid places
+-- settled records for which no places without a given pair are valid have no valid places at all
 abbrev pub SettledHaveNone : Type 0
 SettledHaveNone = (conflicts : Conflicts) (records : List Rec) → AreSettled conflicts records → HasNoOrder conflicts records
     → (places : List Place) → ¬ AreValid conflicts records places

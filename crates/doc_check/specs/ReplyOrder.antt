@@ -1,4 +1,4 @@
--- The order of the replies of a document.
+-- Response order: the answered calls of a document by their replies.
 use Rattle.std.specs.Prelude.{◌≡◌, ℕ, suc, List, [], ◌∷◌, Option, Some, None, map, IsPermutation, IsSorted}
 use Rattle.std.specs.declared.cmp.Ordering.{Ordering}
 use Rattle.std.specs.Ordering.{nat_cmp, ordering_then}
@@ -6,12 +6,12 @@ use Rattle.doc_register.specs.declared.reply.Reply.{Reply}
 use Rattle.history.specs.declared.record.Rec.{Rec}
 use Rattle.witness.specs.declared.place.Place.{Place}
 
--- a record that was answered: the place of its reply, and its number
+-- a record that was answered: the index of its reply, and its number
 abbrev pub answered_at : ℕ → Option (ℕ × Reply) → List (ℕ × ℕ) → List (ℕ × ℕ)
 answered_at k None rest = rest
 answered_at k (Some heard) rest = (heard.0, k) ∷ rest
 
--- the answered records, the first record being numbered k
+-- the answered records, if the first record is numbered k
 abbrev pub answered_records : ℕ → List Rec → List (ℕ × ℕ)
 answered_records k [] = []
 answered_records k (r ∷ rs) = answered_at k r.heard (answered_records (suc k) rs)
@@ -20,11 +20,11 @@ answered_records k (r ∷ rs) = answered_at k r.heard (answered_records (suc k) 
 abbrev pub unpaired_place : ℕ × ℕ → Place
 unpaired_place answered = record { rec = answered.1; pair = None }
 
--- by place of reply, then by number
+-- by the index of the reply, then by number
 abbrev pub by_reply : ℕ × ℕ → ℕ × ℕ → Ordering
 by_reply a b = ordering_then (nat_cmp a.0 b.0) (nat_cmp a.1 b.1)
 
--- The places are the answered records by place of reply, ties by number, with no pair given.
+-- The places are the answered records by the index of their reply, ties by number, with no pair given.
 abbrev pub IsReplyOrder : List Rec → List Place → Type 0
 IsReplyOrder records places =
     (sorted : List (ℕ × ℕ)) × IsPermutation (answered_records 0 records) sorted × IsSorted by_reply sorted × (places ≡ map unpaired_place sorted)

@@ -1,4 +1,4 @@
--- What the search of a document answers.
+-- What the search for a document answers.
 use Rattle.std.specs.Prelude.{◌≡◌, ℕ, List}
 use Rattle.doc_register.specs.declared.state.Conflicts.{Conflicts}
 use Rattle.history.specs.declared.record.Rec.{Rec}
@@ -9,8 +9,8 @@ use Rattle.doc_check.specs.ReplyOrder.{IsReplyOrder}
 use Rattle.doc_check.specs.declared.search.DocAnswer.{DocAnswer}
 use Rattle.doc_check.specs.declared.search.DocAnswer.TheVariants.{Found, NotFound}
 
--- The answer is about the document, its records and this reading of conflicts: an order found is valid for them; where none
--- is found, no places without a given pair are.
+-- The answer is about the document, its records and this reading of conflicts: an order found is valid for
+-- them; if none is found, no places without a given pair are.
 abbrev pub IsAbout : List ℕ → List Rec → Conflicts → DocAnswer → Type 0
 IsAbout doc records conflicts (Found w) = (w.doc ≡ doc) × (w.records ≡ records) × (w.conflicts ≡ conflicts) × AreValid conflicts records w.places
 IsAbout doc records conflicts (NotFound n) = (n.doc ≡ doc) × (n.records ≡ records) × (n.conflicts ≡ conflicts) × HasNoOrder conflicts records
@@ -30,12 +30,12 @@ abbrev pub conflicts_of : DocAnswer → Conflicts
 conflicts_of (Found w) = w.conflicts
 conflicts_of (NotFound n) = n.conflicts
 
--- an order is found, with just these places
+-- an order is found, with exactly these places
 abbrev pub IsFoundWith : List Place → DocAnswer → Type 0
 IsFoundWith places (Found w) = w.places ≡ places
 IsFoundWith places (NotFound n) = ⊥
 
--- where the order of the replies is valid, it is what is found
+-- if response order is valid, it is the order found
 abbrev pub FollowsReplies : Conflicts → List Rec → DocAnswer → Type 0
 FollowsReplies conflicts records answer = (places : List Place) → IsReplyOrder records places → AreValid conflicts records places
     → IsFoundWith places answer
@@ -45,6 +45,6 @@ abbrev pub IsFoundUnpaired : DocAnswer → Type 0
 IsFoundUnpaired (Found w) = AreUnpaired w.places
 IsFoundUnpaired (NotFound n) = ⊥
 
--- where any places without a given pair are valid, such places are found
+-- if any places without a given pair are valid, such places are found
 abbrev pub FindsUnpaired : Conflicts → List Rec → DocAnswer → Type 0
 FindsUnpaired conflicts records answer = (places : List Place) → AreUnpaired places → AreValid conflicts records places → IsFoundUnpaired answer

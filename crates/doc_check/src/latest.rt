@@ -5,7 +5,7 @@ use doc_register::DocState;
 use std::alloc::Global;
 use version_pair::NoMemory;
 
-// Whether the document is there, or is not, as is asked.
+// Whether the document exists, or does not, as asked.
 fn is_so(state: DocState, live: bool) -> bool
     ensures { result ≡ is_as_asked live state }
 {
@@ -13,7 +13,8 @@ fn is_so(state: DocState, live: bool) -> bool
     if live { here } else { !here }
 }
 
-/// For each stretch the latest one up to it in which the document is there, or is not, as is asked.
+/// Returns, for each stretch, the latest stretch up to it in which the document exists, or does not, as
+/// asked.
 pub fn latest_stretches(
     alloc: Global,
     states: &[DocState],

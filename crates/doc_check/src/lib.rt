@@ -1,4 +1,5 @@
-//! The search for one document: an order of its calls that explains them, or that its answered calls alone have none.
+//! The search for one document. It finds an order of its calls that explains them, or that its answered calls
+//! alone have none.
 //!
 //! ```text
 //! match answer(alloc, id, records, history.seen(), Conflicts::Plain)? {

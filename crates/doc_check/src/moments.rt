@@ -6,7 +6,8 @@ use std::alloc::Global;
 use version_pair::NoMemory;
 use write_chain::sort_nearly_ordered;
 
-/// The call or the reply of an answered record: its place in the history, whether it is the reply, and the record.
+/// The call or the reply of an answered record: its index in the history, whether it is the reply, and the
+/// record.
 pub type Moment = (usize, bool, usize);
 
 // The calls and replies of the answered records.
@@ -24,7 +25,8 @@ fn answered_moments(alloc: Global, records: &[Rec]) -> Result<Vec<Moment>, NoMem
     Ok(moments)
 }
 
-/// The calls and replies of the answered records from the last to the first, a reply first among those of one place.
+/// Returns the calls and replies of the answered records from the last to the first. Among those with the
+/// same index, a reply comes first.
 pub fn moments_of(alloc: Global, records: &[Rec]) -> Result<Vec<Moment>, NoMemory>
     ensures { IfOk result (λ moments. AreMoments records.now moments.items) }
 {

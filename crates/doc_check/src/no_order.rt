@@ -8,7 +8,8 @@ use version_pair::DocId;
 
 /// The calls of a document for which no order was found.
 ///
-/// Its type keeps that no places without a given pair are valid for its records in its reading of conflicts.
+/// The type guarantees that no places without a given pair are valid for its records in its reading of
+/// conflicts.
 #[derive(Debug, Drop)]
 pub struct NoOrder {
     id: DocId,
@@ -31,7 +32,7 @@ impl Model for NoOrder {
 }
 
 impl NoOrder {
-    // For records of which no places without a given pair are valid.
+    // Returns the value for records for which no places without a given pair are valid.
     pub(crate) fn of(id: DocId, records: Vec<Rec>, conflicts: Conflicts) -> NoOrder
         requires { HasNoOrder conflicts records.items }
         ensures { result ≡ record {
@@ -47,24 +48,24 @@ impl NoOrder {
         }
     }
 
-    /// The document's id.
+    /// Returns the document's id.
     pub fn id(&self) -> &DocId
         ensures { result.now ≡ self.now.doc }
     {
         &self.id
     }
 
-    /// The document's calls, in their order in the history.
+    /// Returns the document's calls, in their order in the history.
     pub fn records(&self) -> &[Rec]
         ensures same { result.now ≡ self.now.records }
         ensures none { HasNoOrder self.now.conflicts self.now.records }
     {
-        // A look at a field: what the type keeps is known from here on.
+        // The access to a field makes the type's invariant known from here on.
         let _ = &self.id;
         &self.records
     }
 
-    /// How a conflict is read.
+    /// Returns how conflicts are read.
     pub fn conflicts(&self) -> Conflicts
         ensures { result ≡ self.now.conflicts }
     {

@@ -7,10 +7,10 @@ use version_pair::NoMemory;
 use witness::Place;
 use write_chain::sort_nearly_ordered;
 
-// Where a record stands: its stretch, its turn there, the place of its reply, its number.
+// The sort key of a record: its stretch, its turn there, the index of its reply, its number.
 type Standing = (usize, usize, usize, usize);
 
-// Where an answered record stands that was given a stretch: the write of a stretch comes first in it.
+// The sort key of an answered record that was given a stretch: the write of a stretch comes first in it.
 fn standing_of(k: usize, found: Rec, given: Option<usize>) -> Option<Standing>
     ensures { result ≡ standing_made k found.heard given }
 {
@@ -26,7 +26,7 @@ fn standing_of(k: usize, found: Rec, given: Option<usize>) -> Option<Standing>
     }
 }
 
-// Where the answered records stand.
+// The sort keys of the answered records.
 fn standings_of(
     alloc: Global,
     records: &[Rec],
@@ -45,7 +45,7 @@ fn standings_of(
     Ok(standings)
 }
 
-/// The answered records by stretch, its write first, then by place of reply, with no pair given.
+/// Returns the answered records by stretch, its write first, then in response order, with no pair given.
 pub fn order_of(
     alloc: Global,
     records: &[Rec],

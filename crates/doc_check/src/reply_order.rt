@@ -7,7 +7,7 @@ use version_pair::NoMemory;
 use witness::Place;
 use write_chain::sort_nearly_ordered;
 
-// The answered records by their numbers, each with the place of its reply before it.
+// The answered records in the order of their numbers, each as the index of its reply and its number.
 fn answered_by_reply(alloc: Global, records: &[Rec]) -> Result<Vec<(usize, usize)>, NoMemory>
     ensures { IfOk result (λ answered. answered.items ≡ answered_records 0 records.now) }
 {
@@ -20,7 +20,7 @@ fn answered_by_reply(alloc: Global, records: &[Rec]) -> Result<Vec<(usize, usize
     Ok(answered)
 }
 
-/// The order of the replies: the answered records by place of reply, with no pair given.
+/// Returns response order: the answered records by the index of their reply, with no pair given.
 pub fn reply_order(alloc: Global, records: &[Rec]) -> Result<Vec<Place>, NoMemory>
     ensures { IfOk result (λ places. IsReplyOrder records.now places.items) }
 {

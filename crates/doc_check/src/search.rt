@@ -20,7 +20,7 @@ use version_pair::{DocId, NoMemory, Pair};
 use witness::{Broken, DocWitness, Place};
 use write_chain::{chain_of, rises};
 
-/// What the search found for a document.
+/// The result of the search for a document.
 #[derive(Debug, Drop)]
 pub enum DocAnswer {
     /// An order that explains its calls.
@@ -30,7 +30,7 @@ pub enum DocAnswer {
 }
 
 impl DocAnswer {
-    /// The id of the document that it is about.
+    /// Returns the id of the document that it is about.
     pub fn id(&self) -> &DocId
         ensures { result.now ≡ id_of self.now }
     {
@@ -40,7 +40,7 @@ impl DocAnswer {
         }
     }
 
-    /// The records that it is about.
+    /// Returns the records that it is about.
     pub fn records(&self) -> &[Rec]
         ensures { result.now ≡ records_of self.now }
     {
@@ -50,7 +50,7 @@ impl DocAnswer {
         }
     }
 
-    /// How a conflict is read.
+    /// Returns how conflicts are read.
     pub fn conflicts(&self) -> Conflicts
         ensures { result ≡ conflicts_of self.now }
     {
@@ -61,7 +61,7 @@ impl DocAnswer {
     }
 }
 
-// The order of the answered records that the sweep gives; `None` where it finds that there is none.
+// The order of the answered records that the sweep gives; `None` if it finds that there is none.
 fn sweep_order(alloc: Global, records: &[Rec]) -> Result<Option<Vec<Place>>, NoMemory>
     ensures { IfOk result (λ swept. (conflicts : Reading) → MatchOption swept (HasNoOrder conflicts records.now)
         (λ places. IsOfSweep conflicts records.now places.items)) }
@@ -73,7 +73,7 @@ fn sweep_order(alloc: Global, records: &[Rec]) -> Result<Option<Vec<Place>>, NoM
     let stretches = Stretches::of(alloc, records, chain)?;
     match sweep(alloc, records, &stretches)? {
         Some(given) => {
-            // The order doesn't need them, and what they take is as much as its own lists.
+            // The order doesn't need the stretches, and they take as much memory as its own lists.
             drop(stretches);
             Ok(Some(order_of(alloc, records, &given)?))
         }
@@ -81,7 +81,7 @@ fn sweep_order(alloc: Global, records: &[Rec]) -> Result<Option<Vec<Place>>, NoM
     }
 }
 
-// What the check says of places: that they are an order of the document's calls, or that they are none.
+// The result of the check of places: they are an order of the document's calls, or they are not.
 #[derive(Drop)]
 enum Checked {
     Valid(DocWitness),
@@ -108,8 +108,8 @@ fn check_places(
     }
 }
 
-// What is found where the rules find no valid order: an order that completes unanswered writes by a search forward in
-// time, where that is valid.
+// The result if the rules find no valid order: an order that completes unanswered writes by a search forward
+// in time, if that is valid.
 fn answer_forward(
     alloc: Global,
     id: DocId,
@@ -134,8 +134,8 @@ fn answer_forward(
     }
 }
 
-// What is found where no order of the answered calls alone is valid: an order that completes unanswered writes by rules,
-// where that is valid, else by the search forward.
+// The result if no order of the answered calls alone is valid: an order that completes unanswered writes by
+// rules, if that is valid, and otherwise by the search forward.
 fn answer_by_rules(
     alloc: Global,
     id: DocId,
@@ -155,7 +155,7 @@ fn answer_by_rules(
     }
 }
 
-// What is found where the order of the replies is not valid.
+// The result if response order is not valid.
 fn answer_by_sweep(
     alloc: Global,
     id: DocId,
@@ -175,11 +175,11 @@ fn answer_by_sweep(
     }
 }
 
-/// An order of a document's calls that explains them, where one is found.
+/// Returns an order of a document's calls that explains them, if one is found.
 ///
-/// First the order of the replies is tried; then the sweep, which finds an order of the answered calls alone where
-/// there is one; then the rules, which complete unanswered writes; last the search forward in time, which completes them
-/// too. `NoMemory` gives up the id and the records.
+/// Response order is tried first; then the sweep, which finds an order of the answered calls alone if there
+/// is one; then the rules, which complete unanswered writes; and last the search forward in time, which
+/// completes them too. `NoMemory` gives up the id and the records.
 pub fn answer(
     alloc: Global,
     id: DocId,
@@ -198,11 +198,11 @@ pub fn answer(
     }
 }
 
-/// An order of a document's calls that explains them, where the search forward in time finds one that knows which pairs
-/// the documents of the shard use, by rising pair; the document's own may be among them. It invents pairs only where one
-/// is left, and within the limits.
+/// Returns an order of a document's calls that explains them, if the search forward in time finds one. This
+/// search knows which pairs the documents of the shard use, by rising pair; the document's own may be among
+/// them. It invents pairs only if one is left, and within the limits.
 ///
-/// That nothing is found says nothing. `NoMemory` gives up the id and the records.
+/// If nothing is found, this says nothing. `NoMemory` gives up the id and the records.
 pub fn answer_among(
     alloc: Global,
     id: DocId,

@@ -4,7 +4,8 @@ ghost use Rattle.doc_check.specs.NoOrders.{AreSettled};
 use doc_register::Conflicts;
 use history::Rec;
 
-/// Whether of each write a reply tells whether it was performed: under Maybe a conflict doesn't tell it.
+/// Returns whether each write has a reply that says whether it was performed. Under Maybe a conflict doesn't
+/// say it.
 pub fn is_settled(records: &[Rec], conflicts: Conflicts) -> bool
     ensures { IsTrue result ↔ AreSettled conflicts records.now }
 {

@@ -14,27 +14,27 @@ use std::alloc::Global;
 use version_pair::{NoMemory, Pair};
 use write_chain::{pairs_of, states_of};
 
-// How many links below the bound are looked at before the whole chain is searched.
+// The number of links below the bound that are examined before the whole chain is searched.
 const NEAR: usize = 16;
 
-/// The chain of a document, and what each stretch of it allows. Stretch 0 lies before the first write of the chain,
-/// stretch j after the j-th.
+/// The chain of a document, and what each stretch of it allows. Stretch 0 comes before the first write of the
+/// chain, stretch j after the j-th write.
 #[derive(Drop)]
 pub struct Stretches {
-    // The writes of the chain, each the pair and the record.
+    // The writes of the chain, each as its pair and its record.
     chain: Vec<(Pair, usize)>,
     // Their pairs, which rise.
     pairs: Vec<Pair>,
-    // The document in each stretch.
+    // The state of the document in each stretch.
     states: Vec<DocState>,
-    // For each stretch the latest one up to it without the document.
+    // For each stretch, the latest one up to it in which the document does not exist.
     absent: Vec<Option<usize>>,
-    // For each stretch the latest one up to it with the document.
+    // For each stretch, the latest one up to it in which the document exists.
     present: Vec<Option<usize>>,
 }
 
 impl Stretches {
-    /// The stretches of a chain.
+    /// Returns the stretches of a chain.
     pub fn of(
         alloc: Global,
         records: &[Rec],
@@ -58,14 +58,14 @@ impl Stretches {
         })
     }
 
-    /// The number of the last stretch.
+    /// Returns the number of the last stretch.
     pub fn last(&self) -> usize
         ensures { result ≡ length self.now.chain.items }
     {
         self.chain.len()
     }
 
-    // Whether a call that is no performed write can be answered so in the stretch.
+    // Whether a call that is not a performed write can have this reply in the stretch.
     fn allows(&self, found: &Rec, reply: Reply, stretch: usize) -> bool
         requires { stretch < length self.now.states.items }
         ensures { IsTrue result ↔ IsReadIn self.now.states.items found.now.op reply stretch }
@@ -76,7 +76,7 @@ impl Stretches {
         }
     }
 
-    // The link of the chain with this pair, where it is one of the few below the bound.
+    // The link of the chain with this pair, if it is one of the few below the bound.
     fn near_link(&self, pair: Pair, bound: usize) -> Option<usize>
         ensures { IfSome result (λ link. slice_get self.now.pairs.items link ≡ Some pair) }
     {
@@ -91,8 +91,8 @@ impl Stretches {
         None
     }
 
-    // The link of the chain with this pair, looked for below the bound first: calls are answered soon after what they
-    // see, so most pairs stand there.
+    // The link of the chain with this pair. It is searched for below the bound first: calls are answered soon
+    // after what they see, so most pairs are there.
     fn link_of(&self, pair: Pair, bound: usize) -> Result<usize, usize>
         ensures bound { IsSearchInRange result (length self.now.pairs.items) }
         ensures position { IsBinarySearchResult (λ p. pair_cmp p pair) self.now.pairs.items result }
@@ -103,7 +103,7 @@ impl Stretches {
         }
     }
 
-    // The stretch that begins with the write of this pair, which is looked for below the bound first.
+    // The stretch that begins with the write of this pair, which is searched for below the bound first.
     fn of_pair(&self, pair: Pair, bound: usize) -> Option<usize>
         requires { AreLaidOut self.now }
         ensures some { IfSome result
@@ -117,7 +117,8 @@ impl Stretches {
         }
     }
 
-    // The latest stretch up to the bound in which the document does not have just the pair that the call asks for.
+    // The latest stretch up to the bound in which the document does not have exactly the pair that the call
+    // asks for.
     fn other_than_asked(&self, found: &Rec, bound: usize) -> Option<usize>
         requires { bound < length self.now.states.items }
         ensures some { IfSome result
@@ -135,7 +136,8 @@ impl Stretches {
         Some(stretch)
     }
 
-    // The latest stretch up to the bound that may be that of a conflict. A write without a condition never conflicts.
+    // The latest stretch up to the bound that may be that of a conflict. A write without a condition never
+    // conflicts.
     fn of_conflict(&self, found: &Rec, bound: usize) -> Option<usize>
         requires laid_out { AreLaidOut self.now }
         requires bound { bound < length self.now.states.items }
@@ -173,7 +175,7 @@ impl Stretches {
         }
     }
 
-    // The latest stretch up to the bound that may be that of a call that is no performed write.
+    // The latest stretch up to the bound that may be that of a call that is not a performed write.
     fn guess(&self, found: &Rec, reply: Reply, bound: usize) -> Option<usize>
         requires laid_out { AreLaidOut self.now }
         requires bound { bound < length self.now.states.items }
@@ -191,7 +193,7 @@ impl Stretches {
         }
     }
 
-    // The latest stretch up to the bound for a call that is no performed write.
+    // The latest stretch up to the bound for a call that is not a performed write.
     fn of_read(&self, found: &Rec, bound: usize) -> Option<usize>
         requires laid_out { AreLaidOut self.now }
         requires bound { bound < length self.now.states.items }
@@ -216,7 +218,7 @@ impl Stretches {
         }
     }
 
-    // The stretch that begins with the write, where it is not above the bound.
+    // The stretch that begins with the write, if it is not above the bound.
     fn of_write(&self, rec: usize, pair: Pair, bound: usize) -> Option<usize>
         requires { AreLaidOut self.now }
         ensures some { IfSome result (IsLatest (WriteFits self.now.chain.items rec pair) bound) }
@@ -235,7 +237,7 @@ impl Stretches {
         }
     }
 
-    /// The latest stretch up to the bound that the record fits.
+    /// Returns the latest stretch up to the bound that the record fits.
     pub fn latest(&self, rec: usize, found: &Rec, bound: usize) -> Option<usize>
         requires laid_out { AreLaidOut self.now }
         requires bound { bound < length self.now.states.items }

@@ -11,7 +11,7 @@ use history::Rec;
 use std::alloc::Global;
 use version_pair::NoMemory;
 
-// The last stretch for what stands before a record in this stretch: a write is the first of its own.
+// The last stretch for what comes before a record in this stretch: a write is the first of its own stretch.
 fn last_before(found: &Rec, stretch: usize) -> usize
     ensures { result ≡ cap (pair_of found.now.heard) stretch }
 {
@@ -21,7 +21,7 @@ fn last_before(found: &Rec, stretch: usize) -> usize
     }
 }
 
-// The record's stretch once the moment is met, and the bound for all that is met later.
+// The record's stretch after the moment is met, and the bound for all moments that are met later.
 fn meet(
     records: &[Rec],
     stretches: &Stretches,
@@ -61,7 +61,8 @@ fn meet(
     }
 }
 
-/// The latest stretch of each answered record that any order allows it; `None` where some record has none.
+/// Returns, for each answered record, the latest stretch that any order allows it; `None` if some record has
+/// no stretch.
 pub fn sweep(
     alloc: Global,
     records: &[Rec],

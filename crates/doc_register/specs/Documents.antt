@@ -1,4 +1,5 @@
--- Documents of one shard that calls are made on: what each is, the pairs used so far, and what a call is answered.
+-- Documents of one shard that calls are made on: the state of each, the pairs used so far, and the replies to
+-- calls.
 use Rattle.std.specs.Prelude.{◌≡◌, ◌==◌, ℕ, List, [], ◌∷◌, Option, Some, None, IfSome, map, unwrap_or, Result, Ok, Err, Contains}
 use Rattle.std.specs.Cmp.Lexicographic.{pointwise}
 use Rattle.std.specs.List.{filter_map}
@@ -12,16 +13,16 @@ use Rattle.doc_register.specs.declared.reply.Reply.{Reply}
 use Rattle.doc_register.specs.declared.state.DocState.{DocState}
 use Rattle.doc_register.specs.declared.state.DocState.TheVariants.{Never}
 
--- what each document is that was ever written, and the pairs used so far, the last one first
+-- the state of each document that was ever written, and the pairs used so far, the last one first
 pub record Documents : Type 0 where
   pub states : List (List ℕ × DocState)
   pub used : List Pair
 
--- what the document is
+-- the state of the document
 abbrev pub state_of : Documents → List ℕ → DocState
 state_of m d = unwrap_or (lookup (λ e. pointwise ◌==◌ d e) m.states) Never
 
--- the same as the state of all documents: each is of the shard 0
+-- the same as a state of all documents: each is in shard 0
 abbrev pub as_state : Documents → State
 as_state m = record { document = state_of m; used = map (λ q. (0, q)) m.used }
 
@@ -29,7 +30,7 @@ as_state m = record { document = state_of m; used = map (λ q. (0, q)) m.used }
 abbrev pub entry_of : List ℕ → Op → Reply → Entry
 entry_of d op r = record { shard = 0; doc = d; op = op; reply = r; hidden = None }
 
--- the call is a performed write, and its pair is used already, by any document
+-- the call is a performed write, and its pair is already used, by any document
 pub record IsUsedTwice (m : Documents) (d : List ℕ) (op : Op) (q : Pair) : Type 0 where
   pub performed : IsPerformed (state_of m d) op
   pub used : Contains m.used q
@@ -40,7 +41,7 @@ pub record IsTooLow (m : Documents) (d : List ℕ) (op : Op) (q : Pair) : Type 0
   pub unused : ¬ Contains m.used q
   pub low : ¬ Exceeds q (state_of m d)
 
--- the call is a step with this reply, and a pair that the reply carries is that which was handed in
+-- the call is a step with this reply, and if the reply carries a pair, it is the one that was handed in
 pub record Accepts (m : Documents) (d : List ℕ) (op : Op) (q : Pair) (r : Reply) (n : Documents) : Type 0 where
   pub step : Step (as_state m) (entry_of d op r) (as_state n)
   pub carried : IfSome (pair_taken r None) (λ p. p ≡ q)
@@ -53,12 +54,12 @@ pub record Call : Type 0 where
   pub pair : Pair
   pub answer : Result Reply MapFault
 
--- the answer to the call: an accepted one is a step, and a refused one leaves the documents as they were
+-- the result of the call: an accepted call is a step, and a refused one leaves the documents as they were
 abbrev pub IsAnswered : Documents → List ℕ → Op → Pair → Result Reply MapFault → Documents → Type 0
 IsAnswered m d op q (Ok r) n = Accepts m d op q r n
 IsAnswered m d op q (Err fault) n = n ≡ m
 
--- the calls are answered one after another, from m to n
+-- the calls have these results one after another, from m to n
 abbrev pub AreAnswered : Documents → List Call → Documents → Type 0
 AreAnswered m [] n = n ≡ m
 AreAnswered m (c ∷ cs) n = (k : Documents) × IsAnswered m c.doc c.op c.pair c.answer k × AreAnswered k cs n

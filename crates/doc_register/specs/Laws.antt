@@ -14,12 +14,12 @@ use Rattle.doc_register.specs.declared.state.DocState.TheVariants.{Never}
 
 -- ---- one document
 
--- the state, the operation, the reply and the pair that it hides leave at most one state
+-- the state, the operation, the reply and the pair that it hides determine at most one state
 abbrev pub StepIsDecided : Type 0
 StepIsDecided = (s : DocState) (op : Op) (r : Reply) (h : Option Pair) (t u : DocState) → DocStep s op r h t
     → DocStep s op r h u → t ≡ u
 
--- the pair that the entry at the place takes
+-- the pair that the entry at index i takes
 abbrev pub IsPairAt : List Entry → ℕ → Pair → Type 0
 IsPairAt es i p = (e : Entry) × (slice_get es i ≡ Some e) × (pair_taken e.reply e.hidden ≡ Some p)
 
@@ -28,7 +28,8 @@ abbrev pub PairsRise : Type 0
 PairsRise = (s t : DocState) (es : List Entry) → IsDocRun s es t → (i j : ℕ) (p q : Pair) → i < j → IsPairAt es i p
     → IsPairAt es j q → IsBelow p q
 
--- entries of one document, of one shard, that are a run of it alone are a legal run: its pairs rise, so none comes twice
+-- entries of one document, in one shard, that are a run of it alone are a legal run: its pairs rise, so none
+-- is taken twice
 abbrev pub OneDocument : Type 0
 OneDocument = (d : List ℕ) (h : ℕ) (es : List Entry)
     → ((i : ℕ) (e : Entry) → slice_get es i ≡ Some e → (e.doc ≡ d) × (e.shard ≡ h))
@@ -36,16 +37,17 @@ OneDocument = (d : List ℕ) (h : ℕ) (es : List Entry)
 
 -- ---- all documents
 
--- a run determines what each document is after it, and which pairs are used
+-- a run determines the state of each document after it, and which pairs are used
 abbrev pub RunIsDecided : Type 0
 RunIsDecided = (es : List Entry) (t u : State) → IsRun start es t → IsRun start es u
     → ((d : List ℕ) → t.document d ≡ u.document d) × (t.used ≡ u.used)
 
--- in a legal run no two performed entries of a shard carry the same pair, whether their replies show it or hide it
+-- in a legal run no two performed entries of a shard carry the same pair, whether their replies show it or
+-- hide it
 abbrev pub NoPairTwice : Type 0
 NoPairTwice = (es : List Entry) → IsLegalRun es → PairsDistinct es
 
--- the entry is a get, or a write that answers a conflict and was not performed
+-- the entry is a get, or a write that was not performed and whose reply is a conflict
 abbrev pub ChangesNothing : Entry → Type 0
 ChangesNothing e = (e.op ≡ Get) ⊎ ((e.reply ≡ Conflict) × (e.hidden ≡ None))
 
@@ -53,13 +55,14 @@ ChangesNothing e = (e.op ≡ Get) ⊎ ((e.reply ≡ Conflict) × (e.hidden ≡ N
 abbrev pub LeavingOut : Type 0
 LeavingOut = (es fs : List Entry) (e : Entry) → ChangesNothing e → IsLegalRun (es ++ e ∷ fs) → IsLegalRun (es ++ fs)
 
--- entries are a legal run exactly where each document's part of them is a run of it alone, and no pair of a shard is taken twice
+-- entries are a legal run if and only if each document's part of them is a run of it alone, and no pair of a
+-- shard is taken twice
 abbrev pub Locality : Type 0
 Locality = (es : List Entry) → IsLegalRun es
     ↔ (((d : List ℕ) → (t : DocState) × IsDocRun Never (part_of d es) t) × PairsDistinct es)
 
 -- ---- a map of documents
 
--- over any list of calls on a map of documents, those that it accepts are a legal run of one shard
+-- of any list of calls on a map of documents, those that it accepts are a legal run of one shard
 abbrev pub AcceptedAreLegal : Type 0
 AcceptedAreLegal = (n : Documents) (cs : List Call) → AreAnswered no_documents cs n → IsLegalRun (accepted cs)

@@ -32,7 +32,7 @@ fits (Create k) (Found p j) = false
 fits (Create k) Missing = false
 fits (Create k) Conflict = true
 
--- the pair that an index or a delete asks its document to have, where it has a condition
+-- the condition of an index or a delete, if it has one: the pair that its document must have
 abbrev pub condition_of : Op → Option Pair
 condition_of Get = None
 condition_of (Index k c) = c
@@ -54,7 +54,7 @@ pair_of_reply (Found p k) = Some p
 pair_of_reply Missing = None
 pair_of_reply Conflict = None
 
--- what a get shows
+-- the reply of a get
 abbrev pub shown : DocState → Reply
 shown Never = Missing
 shown (Gone p) = Missing
@@ -65,7 +65,7 @@ is_here Never = false
 is_here (Gone p) = false
 is_here (Here p k) = true
 
--- the document is there, and its last change has this pair
+-- the document exists, and its last change has this pair
 abbrev pub HasPair : DocState → Pair → Type 0
 HasPair Never c = ⊥
 HasPair (Gone p) c = ⊥
@@ -83,7 +83,7 @@ Exceeds q Never = Unit {0}
 Exceeds q (Gone p) = IsBelow p q
 Exceeds q (Here p k) = IsBelow p q
 
--- a condition, where there is one, is met
+-- the condition, if there is one, is met
 abbrev pub IsMet : DocState → Option Pair → Type 0
 IsMet s None = Unit {0}
 IsMet s (Some c) = HasPair s c
@@ -95,7 +95,7 @@ IsPerformed s (Index k c) = IsMet s c
 IsPerformed s (Delete c) = IsMet s c
 IsPerformed s (Create k) = is_here s ≡ false
 
--- what a performed write that takes the pair q answers
+-- the reply to a performed write that takes the pair q
 abbrev pub performed_reply : DocState → Op → Pair → Reply
 performed_reply s Get q = Missing
 performed_reply s (Index k c) q = Indexed q (not (is_here s))
@@ -115,7 +115,8 @@ pub record Performs (s : DocState) (op : Op) (q : Pair) (t : DocState) : Type 0 
   pub rises : Exceeds q s
   pub leaves : t ≡ performed_state s op q
 
--- A write's step, by its reply. A conflict with a hidden pair is a performed write whose reply doesn't say so.
+-- A write's step, by its reply. A conflict with a hidden pair is a performed write whose reply does not show
+-- it.
 abbrev pub WriteStep : DocState → Op → Reply → Option Pair → DocState → Type 0
 WriteStep s op (Indexed q created) None t = Performs s op q t × (Indexed q created ≡ performed_reply s op q)
 WriteStep s op (Indexed q created) (Some h) t = ⊥
@@ -126,7 +127,8 @@ WriteStep s op Missing h t = ⊥
 WriteStep s op Conflict None t = (¬ IsPerformed s op) × (t ≡ s)
 WriteStep s op Conflict (Some q) t = Performs s op q t
 
--- A step of one document: the state before it, the operation, its reply, the pair that the reply hides, the state after it.
+-- A step of one document: the state before it, the operation, its reply, the pair that the reply hides, the
+-- state after it.
 abbrev pub DocStep : DocState → Op → Reply → Option Pair → DocState → Type 0
 DocStep s Get r h t = (r ≡ shown s) × (h ≡ None) × (t ≡ s)
 DocStep s (Index k c) r h t = WriteStep s (Index k c) r h t

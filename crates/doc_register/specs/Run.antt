@@ -1,4 +1,4 @@
--- All documents: the state with the pairs used so far, its step, and legal runs.
+-- All documents: their state with the pairs used so far, its step, and legal runs.
 use Rattle.std.specs.Prelude.{◌≡◌, ◌≢◌, ◌==◌, ℕ, List, [], ◌∷◌, ◌++◌, Option, Some, None, IfSome, option_map, option_and_then, slice_get, filter, Contains}
 use Rattle.std.specs.Cmp.Lexicographic.{pointwise}
 use Rattle.std.specs.Option.{option_to_list}
@@ -26,11 +26,11 @@ pair_taken (Found p k) h = None
 pair_taken Missing h = None
 pair_taken Conflict h = h
 
--- the pair that the entry takes, with the shard whose pair it is
+-- the pair that the entry takes, with its shard
 abbrev pub taken : Entry → Option (ℕ × Pair)
 taken e = option_map (λ q. (e.shard, q)) (pair_taken e.reply e.hidden)
 
--- What each document is, and the pairs used so far, each with its shard.
+-- The state of each document, and the pairs used so far, each with its shard.
 pub record State : Type 0 where
   pub document : List ℕ → DocState
   pub used : List (ℕ × Pair)
@@ -39,7 +39,8 @@ pub record State : Type 0 where
 abbrev pub start : State
 start = record { document = λ d. Never; used = [] }
 
--- One step: its document takes a step of its own, the others stay, a pair that it takes wasn't used and is used now.
+-- One step: its document takes a step of its own, the others stay as they were, and a pair that it takes was
+-- unused before and is used now.
 pub record Step (s : State) (e : Entry) (t : State) : Type 0 where
   pub own : DocStep (s.document e.doc) e.op e.reply e.hidden (t.document e.doc)
   pub others : (d : List ℕ) → d ≢ e.doc → t.document d ≡ s.document d
@@ -61,15 +62,16 @@ IsLegalRun es = (t : State) × IsRun start es t
 abbrev pub part_of : List ℕ → List Entry → List Entry
 part_of d es = filter (λ e. pointwise ◌==◌ e.doc d) es
 
--- The entries are steps of one document, one after another, from s to t. Their ids play no part, nor do the pairs used elsewhere.
+-- The entries are steps of one document, one after another, from s to t. Their ids don't matter, nor do the
+-- pairs used elsewhere.
 abbrev pub IsDocRun : DocState → List Entry → DocState → Type 0
 IsDocRun s [] t = t ≡ s
 IsDocRun s (e ∷ es) t = (m : DocState) × DocStep s e.op e.reply e.hidden m × IsDocRun m es t
 
--- the pair that the entry at the place takes, with its shard
+-- the pair that the entry at index i takes, with its shard
 abbrev pub taken_at : List Entry → ℕ → Option (ℕ × Pair)
 taken_at es i = option_and_then taken (slice_get es i)
 
--- no pair of a shard is taken at two places
+-- no pair of a shard is taken by two entries
 abbrev pub PairsDistinct : List Entry → Type 0
 PairsDistinct es = (i j : ℕ) (q : ℕ × Pair) → taken_at es i ≡ Some q → taken_at es j ≡ Some q → i ≡ j

@@ -1,4 +1,4 @@
--- Worked cases: which answers one document can give in a state, and which orders of calls are legal runs.
+-- Worked cases: which replies are legal in a state of one document, and which orders of calls are legal runs.
 use Rattle.std.specs.Prelude.{ℕ, ◌<◌, ◌≤◌, ◌^◌, [], ◌∷◌, true, false, Option, Some, None}
 use Rattle.std.proofs.Common.{lit≤, lit<}
 use Rattle.version_pair.specs.declared.pair.Pair.{Pair}
@@ -27,7 +27,7 @@ two_zero = pair 2 0 (lit≤ tt) (lit< tt) (lit< tt)
 abbrev pub three_two : Pair
 three_two = pair 3 2 (lit≤ tt) (lit< tt) (lit< tt)
 
--- in the state the operation cannot answer so, whatever the document is after it
+-- the operation cannot have this reply in this state, whatever the document is after it
 abbrev pub IsIllegal : DocState → Op → Reply → Option Pair → Type 0
 IsIllegal s op r h = (t : DocState) → ¬ DocStep s op r h t
 
@@ -45,7 +45,7 @@ created_once = entry_of_d (Index 1 None) (Indexed one_zero true) None
 abbrev pub refused : Entry
 refused = entry_of_d (Index 3 (Some one_zero)) Conflict None
 
--- a create of the document "e" of shard 0 that was performed with the pair, although it answers a conflict
+-- a create of the document "e" of shard 0 that was performed with the pair, although its reply is a conflict
 abbrev pub created_unsaid : Pair → Entry
 created_unsaid q = record { shard = 0; doc = 101 ∷ []; op = Create 1; reply = Conflict; hidden = Some q }
 
@@ -58,7 +58,7 @@ pub record WorkedSteps : Type 0 where
   pub get_of_deleted : DocStep (Gone one_zero) Get Missing None (Gone one_zero)
   pub get_misses_document : IsIllegal (Here one_zero 1) Get Missing None
   pub get_hides_pair : IsIllegal (Here one_zero 1) Get (Found one_zero 1) (Some one_one)
-  -- a write without condition
+  -- a write without a condition
   pub index_creates : DocStep Never (Index 1 None) (Indexed one_zero true) None (Here one_zero 1)
   pub index_creates_unsaid : IsIllegal Never (Index 1 None) (Indexed one_zero false) None
   pub index_takes_low_pair : IsIllegal (Here one_one 1) (Index 2 None) (Indexed one_zero false) None

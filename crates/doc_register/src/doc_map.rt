@@ -14,11 +14,11 @@ use std::alloc::Global;
 use std::marker::Model;
 use version_pair::{DocId, Pair};
 
-/// Documents of one shard, with the pairs used so far: a register that answers calls as a cluster does.
+/// The documents of one shard, with the pairs used so far: a register that answers calls as a cluster does.
 #[derive(Debug, Drop)]
 pub struct DocMap {
     states: IndexMap<DocId, DocState>,
-    // The pairs used so far, the first one first.
+    // The pairs used so far, in the order of their use.
     used: IndexSet<Pair>,
 }
 
@@ -31,7 +31,7 @@ impl Model for DocMap {
     ghost view = { λ m. record { states = m.states.entries; used = reverse m.used.keys } };
 }
 
-/// What a get shows.
+/// Returns the reply of a get.
 pub fn shown_reply(state: DocState) -> Reply
     ensures { result ≡ shown state }
 {
@@ -41,7 +41,7 @@ pub fn shown_reply(state: DocState) -> Reply
     }
 }
 
-// The answer to a call that is no performed write.
+// The reply to a call that is not a performed write.
 fn unperformed_reply(state: DocState, op: &Op) -> Reply
     ensures { result ≡ the_unperformed_reply state op.now }
 {
@@ -51,7 +51,7 @@ fn unperformed_reply(state: DocState, op: &Op) -> Reply
     }
 }
 
-/// The document after a performed write that takes the pair; a get leaves it.
+/// Returns the document after a performed write that takes the pair. A get leaves the document as it was.
 pub fn state_after(state: DocState, op: &Op, pair: Pair) -> DocState
     ensures { result ≡ performed_state state op.now pair }
 {
@@ -62,7 +62,7 @@ pub fn state_after(state: DocState, op: &Op, pair: Pair) -> DocState
     }
 }
 
-// Notes what the document is. A refusal changes nothing.
+// Sets the state of the document. If memory is refused, nothing changes.
 fn note_state(
     states: &mut IndexMap<DocId, DocState>,
     id: &DocId,
@@ -82,7 +82,7 @@ fn note_state(
     }
 }
 
-// Notes that the pair is used. There is room for it.
+// Adds the pair to the used ones. There must be room for it.
 fn note_pair(used: &mut IndexSet<Pair>, pair: Pair)
     requires room { 0 < spare used.old }
     requires unused { ¬ Contains used.old.keys pair }
@@ -95,7 +95,7 @@ fn note_pair(used: &mut IndexSet<Pair>, pair: Pair)
 }
 
 impl DocMap {
-    /// No documents. It allocates nothing.
+    /// Returns a map without documents. It allocates nothing.
     pub fn new(alloc: Global) -> DocMap
         ensures { result ≡ no_documents }
     {
@@ -105,7 +105,7 @@ impl DocMap {
         }
     }
 
-    // What the document is.
+    // The state of the document.
     fn state(&self, id: &DocId) -> DocState
         ensures { result ≡ state_of self.now id.now }
     {
@@ -119,7 +119,8 @@ impl DocMap {
         self.used.contains(&pair)
     }
 
-    // Notes what the document is, and that the pair is used. A refusal changes nothing.
+    // Sets the state of the document, and adds the pair to the used ones. If memory is refused, nothing
+    // changes.
     fn note(&mut self, id: &DocId, state: DocState, pair: Pair) -> Result<(), MapFault>
         requires { ¬ Contains self.old.used pair }
         ensures states { OnOk result ((d : List ℕ) → state_of self.new d ≡ cond (pointwise ◌==◌ id.now d) state (state_of self.old d)) }
@@ -135,12 +136,14 @@ impl DocMap {
         Ok(())
     }
 
-    /// The answer to a call, where a write that is performed takes the pair.
+    /// Returns the reply to a call. A write that is performed takes the pair.
     ///
-    /// A get answers what the document shows, and a write that is not performed a conflict; both leave the documents as
-    /// they were, use no pair and are never refused. A performed write is refused with `PairUsed` where its pair is used already, by any
-    /// document; with `PairLow` where it is not greater than that of the document's last change; with `NoMemory` where a
-    /// growth was refused. A refusal changes nothing.
+    /// A get is answered with what the document shows, and a write that is not performed with a conflict.
+    /// Both leave the documents as they were, use no pair and never fail.
+    ///
+    /// Errors of a performed write: `PairUsed` if its pair is already used, by any document; `PairLow` if its
+    /// pair is not greater than that of the document's last change; `NoMemory` if memory was refused. An
+    /// error changes nothing.
     pub fn apply(&mut self, id: &DocId, op: &Op, pair: Pair) -> Result<Reply, MapFault>
         ensures accepted { IfOk result (λ reply. Accepts self.old id.now op.now pair reply self.new) }
         ensures used { (result ≡ Err MapFault.PairUsed) ↔ IsUsedTwice self.old id.now op.now pair }

@@ -1,16 +1,17 @@
-//! Laws of the definitions, each the contract of a function that does nothing.
+//! Laws of the definitions. Each is the contract of a function that does nothing.
 
 ghost use Rattle.doc_register.specs.Laws.{AcceptedAreLegal, LeavingOut, Locality, NoPairTwice, OneDocument, PairsRise, RunIsDecided, StepIsDecided};
 ghost use Rattle.doc_register.specs.WorkedSteps.{WorkedSteps};
 
-/// Shows that the definitions of a step and of a legal run allow and refuse what they should, by worked cases: each
-/// kind of answer, legal and illegal, and eight whole runs.
+/// Shows that the definitions of a step and of a legal run allow and refuse what they should, by worked
+/// cases: each kind of answer, legal and illegal, and eight whole runs.
 #[tactic(auto, using(crate::proofs::WorkedSteps::worked_steps))]
 pub fn worked_steps()
     ensures { WorkedSteps }
 {}
 
-/// Shows that a document before a call, the call, its reply and the pair that it hides leave at most one document.
+/// Shows that the document before a call, the call, its reply and the pair that the reply hides determine at
+/// most one document after it.
 #[tactic(auto, using(crate::proofs::RunLaws::step_decided))]
 pub fn step_decided()
     ensures { StepIsDecided }
@@ -21,37 +22,38 @@ pub fn pairs_rise()
     ensures { PairsRise }
 {}
 
-/// Shows that a run of one document alone, of one shard, is a legal run: the pairs of a document rise, so none comes twice.
+/// Shows that a run of one document alone, in one shard, is a legal run: the pairs of a document rise, so
+/// none is taken twice.
 #[tactic(auto, using(crate::proofs::RunLaws::one_document))]
 pub fn one_document()
     ensures { OneDocument }
 {}
 
-/// Shows that a run determines what each document is after it, and which pairs are used.
+/// Shows that a run determines the state of each document after it, and which pairs are used.
 #[tactic(auto, using(crate::proofs::RunLaws::run_decided))]
 pub fn run_decided()
     ensures { RunIsDecided }
 {}
 
-/// Shows that in a legal run no two performed calls of a shard carry the same pair, whether their replies show it or
-/// hide it.
+/// Shows that in a legal run no two performed calls of a shard carry the same pair, whether their replies
+/// show it or hide it.
 #[tactic(auto, using(crate::proofs::RunLaws::no_pair_twice))]
 pub fn no_pair_twice()
     ensures { NoPairTwice }
 {}
 
-/// Shows that a legal run is one still without a get, and without a conflict that was not performed.
+/// Shows that a legal run stays legal without a get, and without a conflict that was not performed.
 pub fn leaving_out()
     ensures { LeavingOut }
 {}
 
-/// Shows that calls are a legal run exactly where each document's part of them is a run of it alone, and no pair of a
-/// shard is taken twice.
+/// Shows that calls are a legal run if and only if each document's part of them is a run of that document
+/// alone, and no pair of a shard is taken twice.
 pub fn locality()
     ensures { Locality }
 {}
 
-/// Shows that over any list of calls on a `DocMap` the accepted ones are a legal run of one shard.
+/// Shows that, of any list of calls on a `DocMap`, the accepted ones are a legal run of one shard.
 #[tactic(auto, using(crate::proofs::DocumentLemmas::accepted_legal))]
 pub fn accepted_are_legal()
     ensures { AcceptedAreLegal }

@@ -1,5 +1,5 @@
-//! The register of versions that a document is: operations, replies, and the step of one document. All that is judged
-//! elsewhere is judged by this step.
+//! A document as a register of versions: operations, replies, and the step of one document. All other
+//! judgements build on this step.
 //!
 //! ```text
 //! let after = step(DocState::Never, &Op::Get, &Reply::Missing, None); // Some(DocState::Never)

@@ -7,20 +7,21 @@ use version_pair::Pair;
 pub enum Op {
     /// Reads the document.
     Get,
-    /// Writes the document with the number `k`; with a condition only where the document is there and its last
-    /// change has just that pair.
+    /// Writes the document with the number `k`. With a condition, it does so only if the document exists and
+    /// its last change has exactly that pair.
     Index { k: u64, cond: Option<Pair> },
-    /// Deletes the document, under a condition as for `Index`. Without one, a delete of a missing document is a
-    /// change too.
+    /// Deletes the document, under a condition as for `Index`. Without a condition, deleting a missing
+    /// document is a change too.
     Delete { cond: Option<Pair> },
-    /// Writes the document with the number `k` where it is missing or deleted.
+    /// Writes the document with the number `k` if it is missing or deleted.
     Create { k: u64 },
 }
 
 impl Op {
     ghost use Rattle.doc_register.specs.Register.{condition_of, value_of};
 
-    /// The pair that an index or a delete asks its document to have, where it has a condition.
+    /// Returns the condition of an index or a delete: the pair that its document must have. `None` if it has
+    /// no condition.
     pub fn condition(&self) -> Option<Pair>
         ensures { result ≡ condition_of self.now }
     {
@@ -30,7 +31,7 @@ impl Op {
         }
     }
 
-    /// The number that an index or a create gives its document.
+    /// Returns the number that an index or a create gives its document.
     pub fn value(&self) -> Option<u64>
         ensures { result ≡ value_of self.now }
     {

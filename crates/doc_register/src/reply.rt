@@ -3,18 +3,18 @@ ghost use Rattle.std.specs.Prelude.{◌≡◌, None as Nothing};
 use crate::Op;
 use version_pair::Pair;
 
-/// What the cluster answers to an operation.
+/// The cluster's reply to an operation.
 #[derive(Clone, Copy, Debug, PartialEq, Eq)]
 pub enum Reply {
-    /// A write that was performed with this pair; `created` where the document was missing or deleted.
+    /// The write was performed with this pair; `created` if the document was missing or deleted.
     Indexed { pair: Pair, created: bool },
-    /// A delete that was performed with this pair; `found` where the document was there.
+    /// The delete was performed with this pair; `found` if the document existed.
     Deleted { pair: Pair, found: bool },
-    /// The document is there, with the pair of its last change and its number.
+    /// The document exists, with the pair of its last change and its number.
     Found { pair: Pair, k: u64 },
     /// The document is missing or deleted.
     Missing,
-    /// A write that was refused: its condition was not met, or a create found the document.
+    /// The write was refused: its condition was not met, or a create found the document.
     Conflict,
 }
 
@@ -22,8 +22,9 @@ impl Reply {
     ghost use Rattle.doc_register.specs.Register.{fits, pair_of_reply};
     ghost use Rattle.doc_register.specs.Run.{pair_taken};
 
-    /// Whether the operation can have a reply of this kind: a get finds or misses, an index or a create is
-    /// indexed, a delete is deleted, and any write may conflict. A create never replaces.
+    /// Returns whether the operation can have a reply of this kind. A get finds the document or misses it, an
+    /// index or a create is indexed, a delete is deleted, and any write may conflict. A create never replaces
+    /// a document.
     pub fn fits(&self, op: Op) -> bool
         ensures { result ≡ fits op self.now }
     {
@@ -37,7 +38,7 @@ impl Reply {
         }
     }
 
-    /// The pair in the reply: that of a change, or of the document that was found.
+    /// Returns the pair in the reply: that of a change, or of the document that was found.
     pub fn pair(&self) -> Option<Pair>
         ensures { result ≡ pair_of_reply self.now }
     {
@@ -48,7 +49,7 @@ impl Reply {
         }
     }
 
-    /// The pair with which a write was performed, where the reply shows it.
+    /// Returns the pair with which a write was performed, if the reply shows it.
     pub fn pair_taken(&self) -> Option<Pair>
         ensures { result ≡ pair_taken self.now Nothing }
     {

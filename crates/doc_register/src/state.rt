@@ -4,7 +4,7 @@ use crate::op::Op;
 use crate::reply::Reply;
 use version_pair::Pair;
 
-/// What one document is.
+/// The state of one document.
 #[derive(Clone, Copy, Debug, PartialEq, Eq)]
 pub enum DocState {
     /// It was never written.
@@ -18,7 +18,7 @@ pub enum DocState {
 impl DocState {
     ghost use Rattle.doc_register.specs.Register.{DocStep, last_pair};
 
-    /// The pair of the document's last change, if it has one.
+    /// Returns the pair of the document's last change, if it has one.
     pub fn pair(&self) -> Option<Pair>
         ensures { result ≡ last_pair self.now }
     {
@@ -28,8 +28,8 @@ impl DocState {
         }
     }
 
-    /// A write without a condition, and its reply, that make a document that was never written what it is; `None` for one that
-    /// was never written.
+    /// Returns a write without a condition, and its reply, that bring a document that was never written to
+    /// this state; `None` if this document was never written.
     pub fn making(&self) -> Option<(Op, Reply)>
         ensures some { IfSome result (λ made. DocStep DocState.Never made.0 made.1 Nothing self.now) }
         ensures none { IfNone result (self.now ≡ DocState.Never) }
@@ -51,11 +51,11 @@ impl DocState {
     }
 }
 
-/// How a conflict is read.
+/// How to read a conflict.
 #[derive(Clone, Copy, Debug, PartialEq, Eq)]
 pub enum Conflicts {
-    /// A write that answers a conflict was not performed.
+    /// A write whose reply is a conflict was not performed.
     Plain,
-    /// A write that answers a conflict may have been performed, with a pair that the reply does not show.
+    /// A write whose reply is a conflict may have been performed, with a pair that the reply does not show.
     Maybe,
 }

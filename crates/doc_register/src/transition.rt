@@ -6,7 +6,7 @@ ghost use Rattle.doc_register.specs.Register.{DocStep, Exceeds, HasPair, IsMet, 
 use crate::{DocState, Op, Reply};
 use version_pair::Pair;
 
-// Whether a get of the document shows this reply.
+// Whether this is the reply of a get of the document.
 fn shows(state: DocState, reply: Reply) -> bool
     ensures { IsTrue result ↔ (reply ≡ shown state) }
 {
@@ -17,14 +17,15 @@ fn shows(state: DocState, reply: Reply) -> bool
     }
 }
 
-// Whether the document is there.
+// Whether the document exists.
 fn is_live(state: DocState) -> bool
     ensures { result ≡ is_here state }
 {
     matches!(state, DocState::Here(..))
 }
 
-/// Whether the pair is greater than that of the document's last change.
+/// Returns whether the pair is greater than that of the document's last change, or the document was never
+/// written.
 pub fn exceeds(pair: Pair, state: DocState) -> bool
     ensures { IsTrue result ↔ Exceeds pair state }
 {
@@ -34,7 +35,7 @@ pub fn exceeds(pair: Pair, state: DocState) -> bool
     }
 }
 
-// Whether a condition is met, where there is one.
+// Whether a condition, if there is one, is met.
 fn is_met(state: DocState, cond: Option<Pair>) -> bool
     ensures { IsTrue result ↔ IsMet state cond }
 {
@@ -45,7 +46,7 @@ fn is_met(state: DocState, cond: Option<Pair>) -> bool
     }
 }
 
-/// Whether the operation is a write that is performed.
+/// Returns whether the operation is a write that is performed in this state.
 pub fn is_performed(state: DocState, op: Op) -> bool
     ensures { IsTrue result ↔ IsPerformed state op }
 {
@@ -56,8 +57,8 @@ pub fn is_performed(state: DocState, op: Op) -> bool
     }
 }
 
-/// What a performed write answers that takes the pair: whether the document was there is told by `created` or
-/// `found`. A get is no write, and the answer given for it is `Missing`.
+/// Returns the reply to a performed write that takes the pair. Its `created` or `found` says whether the
+/// document existed. A get is not a write; for it the result is `Missing`.
 pub fn performed_reply(state: DocState, op: Op, pair: Pair) -> Reply
     ensures { result ≡ answer state op pair }
 {
@@ -74,7 +75,7 @@ pub fn performed_reply(state: DocState, op: Op, pair: Pair) -> Reply
     }
 }
 
-// The document after the write is performed with the pair; `None` where it is not.
+// The document after the write is performed with the pair; `None` if it is not performed.
 fn perform(state: DocState, op: Op, pair: Pair) -> Option<DocState>
     ensures some { IfSome result (λ after. Performs state op pair after) }
     ensures none { IfNone result ((after : State) → ¬ Performs state op pair after) }
@@ -89,7 +90,7 @@ fn perform(state: DocState, op: Op, pair: Pair) -> Option<DocState>
     }
 }
 
-// The document after a get with this reply, which leaves it; `None` where there is no such step.
+// The document after a get with this reply, which leaves it as it was; `None` if there is no such step.
 fn get(state: DocState, reply: Reply, hidden: Option<Pair>) -> Option<DocState>
     ensures some { IfSome result (λ after. DocStep state Get reply hidden after) }
     ensures none { IfNone result ((after : State) → ¬ DocStep state Get reply hidden after) }
@@ -101,7 +102,7 @@ fn get(state: DocState, reply: Reply, hidden: Option<Pair>) -> Option<DocState>
     }
 }
 
-// The document after a write with this reply; `None` where there is no such step.
+// The document after a write with this reply; `None` if there is no such step.
 fn write(state: DocState, op: Op, reply: Reply, hidden: Option<Pair>) -> Option<DocState>
     ensures some { IfSome result (λ after. WriteStep state op reply hidden after) }
     ensures none { IfNone result ((after : State) → ¬ WriteStep state op reply hidden after) }
@@ -126,13 +127,14 @@ fn write(state: DocState, op: Op, reply: Reply, hidden: Option<Pair>) -> Option<
     }
 }
 
-/// The document after one step, or `None` where the operation cannot answer so in this state.
+/// Returns the document after one step, or `None` if the operation cannot have this reply in this state.
 ///
-/// A get shows the document and leaves it. A write without a condition is performed; one with a condition where
-/// the document is there with just that pair; a create where it is not there. A performed write answers a pair
-/// greater than the document's, and whether the document was there; any other write answers a conflict and
-/// leaves the document. `hidden` is the pair of a write that was performed although it answers a conflict, and
-/// `None` for every other reply.
+/// A get shows the document and leaves it as it was. A write without a condition is performed. A write with a
+/// condition is performed if the document exists with exactly that pair, and a create if the document does
+/// not exist. The reply to a performed write has a pair greater than the document's, and says whether the
+/// document existed. Any other write is answered with a conflict, and leaves the document as it was. `hidden`
+/// is the pair of a write that was performed although its reply is a conflict, and `None` for every other
+/// reply.
 pub fn step(state: DocState, op: &Op, reply: &Reply, hidden: Option<Pair>) -> Option<DocState>
     ensures some { IfSome result (λ after. DocStep state op.now reply.now hidden after) }
     ensures none { IfNone result ((after : State) → ¬ DocStep state op.now reply.now hidden after) }

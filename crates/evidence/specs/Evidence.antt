@@ -21,11 +21,12 @@ use Rattle.evidence.specs.declared.ruling_out.RulingOut.TheVariants.{On}
 
 -- ---- calls
 
--- the pair that the reply to the call numbered n shows, where it has one that was performed
+-- the pair that the reply to the call numbered n shows, if it shows one with which the call was performed
 abbrev pub pair_shown : List Event → ℕ → Option Pair
 pair_shown events n = taken_by (heard_of events n) None
 
--- The call numbered n is a write of the document d, and its reply shows that it was performed with the pair q.
+-- The call numbered n is a write of the document d, and its reply shows that it was performed with the pair
+-- q.
 pub record IsPerformed (events : List Event) (n : ℕ) (d : List ℕ) (q : Pair) : Type 0 where
   pub called : ℕ
   pub shard : ℕ
@@ -33,7 +34,8 @@ pub record IsPerformed (events : List Event) (n : ℕ) (d : List ℕ) (q : Pair)
   pub call : IsCallAt events called n shard d op
   pub shows : pair_shown events n ≡ Some q
 
--- The call numbered n is a get of the document d, and the reply at the place i shows that it found the pair p with the number k.
+-- The call numbered n is a get of the document d, and the reply at the position i shows that it found the
+-- pair p with the number k.
 pub record IsFound (events : List Event) (n : ℕ) (d : List ℕ) (i : ℕ) (p : Pair) (k : ℕ) : Type 0 where
   pub called : ℕ
   pub shard : ℕ
@@ -43,8 +45,8 @@ pub record IsFound (events : List Event) (n : ℕ) (d : List ℕ) (i : ℕ) (p :
 
 -- ---- writers
 
--- What was heard of an index or a create allows that it took the pair p: it was answered with this pair, it is pending, or,
--- under Maybe, it was answered with a conflict.
+-- What was heard of an index or a create allows that it took the pair p: it was answered with this pair, it
+-- is pending, or, under Maybe, it was answered with a conflict.
 abbrev pub MayTake : Conflicts → Option (ℕ × Answer) → Pair → Type 0
 MayTake conflicts None p = Unit {0}
 MayTake conflicts (Some (at, Indexed q created)) p = q ≡ p
@@ -53,7 +55,8 @@ MayTake conflicts (Some (at, Found q k)) p = ⊥
 MayTake conflicts (Some (at, Missing)) p = ⊥
 MayTake conflicts (Some (at, Conflict)) p = conflicts ≡ Maybe
 
--- The call at the place j, before i, is an index or a create which may have given the document d the number k with the pair p.
+-- The call at the position j, before i, is an index or a create that may have given the document d the number
+-- k with the pair p.
 pub record IsWriter (conflicts : Conflicts) (events : List Event) (d : List ℕ) (i : ℕ) (p : Pair) (k j : ℕ) : Type 0 where
   pub before : j < i
   pub number : ℕ
@@ -84,7 +87,7 @@ pub record HasNoWriter (conflicts : Conflicts) (events : List Event) (g : ℕ) :
   pub get : IsFound events g doc replied pair number
   pub none : (j : ℕ) → ¬ IsWriter conflicts events doc replied pair number j
 
--- the get found a pair below that of a write of its document which precedes it
+-- the get found a pair below that of a write of its document that precedes it
 pub record IsStaleGet (events : List Event) (g w : ℕ) : Type 0 where
   pub doc : List ℕ
   pub replied : ℕ
@@ -96,8 +99,8 @@ pub record IsStaleGet (events : List Event) (g w : ℕ) : Type 0 where
   pub first : Precedes events w g
   pub below : IsBelow found pair
 
--- Different writes of one document were performed. The second has a condition below the first one's pair, and the first stands
--- before it: it precedes it, or its pair is below the second one's.
+-- Different writes of one document were performed. The second has a condition below the first one's pair, and
+-- the first comes before it: it precedes it, or its pair is below the second one's.
 pub record IsStaleSwap (events : List Event) (a b : ℕ) : Type 0 where
   pub apart : a ≢ b
   pub doc : List ℕ
@@ -125,7 +128,7 @@ IsDocumentRuledOut conflicts events doc = (n : ℕ) × (is : IsRuledOutIn confli
 abbrev pub IsWithoutRuledOut : Conflicts → List Event → Type 0
 IsWithoutRuledOut conflicts events = (n : ℕ) → ¬ IsRuledOutIn conflicts events n
 
--- each document that is ruled out is among these, by their numbers
+-- each document that is ruled out is among these, which are given by their numbers
 abbrev pub ListsRuledOut : Conflicts → List Event → List ℕ → Type 0
 ListsRuledOut conflicts events docs = (n : ℕ) (is : IsRuledOutIn conflicts events n) → (i : ℕ) × (slice_get docs i ≡ Some is.doc)
 
@@ -143,7 +146,7 @@ Holds conflicts events (evidence.RuledOut n) = IsRuledOutIn conflicts events n
 
 -- ---- what is reported
 
--- the evidence is two calls or one, and not a document that is ruled out
+-- the evidence is one or two calls, and not a document that is ruled out
 abbrev pub IsOfCalls : Refuted → Type 0
 IsOfCalls (evidence.PairTwice a b) = Unit {0}
 IsOfCalls (evidence.NoWriter g) = Unit {0}
@@ -155,7 +158,8 @@ IsOfCalls (evidence.RuledOut n) = ⊥
 abbrev pub IsLeastRuledOut : Conflicts → List Event → ℕ → Type 0
 IsLeastRuledOut conflicts events n = (m : ℕ) → IsRuledOutIn conflicts events m → n ≤ m
 
--- The evidence may be reported: that a document is ruled out only if that is asked for, and by the least call at which one is.
+-- The evidence may be reported. That a document is ruled out may be reported only if that is asked for, and
+-- by the least call at which a document is.
 abbrev pub IsReported : RulingOut → Conflicts → List Event → Refuted → Type 0
 IsReported ruling conflicts events (evidence.PairTwice a b) = Unit {0}
 IsReported ruling conflicts events (evidence.NoWriter g) = Unit {0}

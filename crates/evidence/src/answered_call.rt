@@ -7,30 +7,30 @@ use doc_register::{Op, Reply};
 use history::{Event, History};
 use version_pair::Pair;
 
-/// A get that found its document. Places are numbers of events, from 0.
+/// A get that found its document. Positions are indices of events, from 0.
 #[derive(Clone, Copy, PartialEq, Eq)]
 pub struct FoundGet {
-    /// The place of the call.
+    /// The position of the call.
     pub called: usize,
-    /// The place of the reply.
+    /// The position of the reply.
     pub replied: usize,
     pub pair: Pair,
     pub k: u64,
 }
 
-/// A write whose reply shows the pair with which it was performed. Places are numbers of events, from 0.
+/// A write whose reply shows the pair with which it was performed. Positions are indices of events, from 0.
 #[derive(Clone, Copy, PartialEq, Eq)]
 pub struct PerformedWrite {
-    /// The place of the call.
+    /// The position of the call.
     pub called: usize,
-    /// The place of the reply.
+    /// The position of the reply.
     pub replied: usize,
     pub shard: u32,
     pub op: Op,
     pub pair: Pair,
 }
 
-/// The get with this number, where it found its document.
+/// Returns the get with this number, if it found its document.
 pub fn found_get(history: &History, no: u64) -> Option<FoundGet>
     requires { IsHistory history.now }
     ensures { IsFoundAs history.now no result }
@@ -49,7 +49,7 @@ pub fn found_get(history: &History, no: u64) -> Option<FoundGet>
     }
 }
 
-/// The write with this number, where its reply shows that it was performed.
+/// Returns the write with this number, if its reply shows that it was performed.
 pub fn performed_write(history: &History, no: u64) -> Option<PerformedWrite>
     requires { IsHistory history.now }
     ensures { IsPerformedAs history.now no result }
@@ -75,7 +75,7 @@ pub fn performed_write(history: &History, no: u64) -> Option<PerformedWrite>
     }
 }
 
-/// Whether the calls at two places are of one document.
+/// Returns whether the calls at two positions are on one document.
 pub fn are_of_one_document(history: &History, place: usize, other: usize) -> bool
     requires one { place < length history.now }
     requires two { other < length history.now }

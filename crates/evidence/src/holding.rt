@@ -51,14 +51,16 @@ fn may_take(conflicts: Conflicts, heard: Option<(usize, Reply)>, pair: Pair) -> 
     }
 }
 
-// Whether a write of which this was heard may have given its document the number with the pair that the get found.
+// Whether a write of which this was heard may have given its document the number with the pair that the get
+// found.
 fn may_give(op: Op, heard: Option<(usize, Reply)>, get: FoundGet, conflicts: Conflicts) -> bool
     ensures { IsTrue result ↔ ((value_of op ≡ Some get.k) × MayTake conflicts heard get.pair) }
 {
     op.value() == Some(get.k) && may_take(conflicts, heard, get.pair)
 }
 
-// Whether the call at the place may have given the get's document the number with the pair that the get found.
+// Whether the call at the position may have given the get's document the number with the pair that the get
+// found.
 fn is_writer(history: &History, get: FoundGet, place: usize, conflicts: Conflicts) -> bool
     requires get { get.called < length history.now }
     requires place { place < length history.now }
@@ -101,14 +103,14 @@ fn has_no_writer(history: &History, get: u64, conflicts: Conflicts) -> bool
     }
 }
 
-/// Whether a write precedes a get which found a pair below the write's.
+/// Returns whether a write precedes a get that found a pair below the write's.
 pub fn is_overtaken(get: FoundGet, write: PerformedWrite) -> bool
     ensures { IsTrue result ↔ ((write.replied < get.called) × IsBelow get.pair write.pair) }
 {
     write.replied < get.called && get.pair.is_below(write.pair)
 }
 
-// Whether a get found a pair below that of a write of its document which precedes it.
+// Whether a get found a pair below that of a write of its document that precedes it.
 fn is_stale_get(history: &History, get: u64, write: u64) -> bool
     requires { IsHistory history.now }
     ensures { IsTrue result ↔ IsStaleGet history.now get write }
@@ -122,14 +124,15 @@ fn is_stale_get(history: &History, get: u64, write: u64) -> bool
     is_overtaken(found, newer) && are_of_one_document(history, found.called, newer.called)
 }
 
-// Whether the first write stands before the second: it precedes it, or has the lesser pair.
+// Whether the first write comes before the second: it precedes it, or has the lesser pair.
 fn stands_first(first: PerformedWrite, second: PerformedWrite) -> bool
     ensures { IsTrue result ↔ ((first.replied < second.called) ⊎ IsBelow first.pair second.pair) }
 {
     first.replied < second.called || first.pair.is_below(second.pair)
 }
 
-/// Whether the second write has a condition below the first one's pair although the first stands before it.
+/// Returns whether the second write has a condition below the first one's pair although the first comes
+/// before it.
 pub fn asks_too_little(first: PerformedWrite, second: PerformedWrite) -> bool
     ensures { IsTrue result ↔ AsksTooLittle first second }
 {
@@ -139,8 +142,8 @@ pub fn asks_too_little(first: PerformedWrite, second: PerformedWrite) -> bool
     }
 }
 
-// Whether two different writes of one document were performed, the second with a condition below the first one's pair
-// although the first stands before it.
+// Whether two different writes of one document were performed, the second with a condition below the first
+// one's pair although the first comes before it.
 fn is_stale_swap(history: &History, one: u64, two: u64) -> bool
     requires { IsHistory history.now }
     ensures { IsTrue result ↔ IsStaleSwap history.now one two }
@@ -157,11 +160,12 @@ fn is_stale_swap(history: &History, one: u64, two: u64) -> bool
     asks_too_little(first, second) && are_of_one_document(history, first.called, second.called)
 }
 
-/// Whether the evidence holds in the history, in this reading of conflicts. A call number that the history doesn't have
-/// is no evidence.
+/// Returns whether the evidence holds in the history, in this reading of conflicts. A call number that the
+/// history doesn't have is no evidence.
 ///
-/// Evidence of two calls or one takes one walk over the events at most and no memory. That a document is ruled out takes a walk
-/// over the calls of each document up to that one, which sorts their pairs; only that can be out of memory.
+/// Evidence of one or two calls takes at most one walk over the events, and no memory. Evidence that a
+/// document is ruled out takes a walk over the calls of each document up to that one, and sorts their pairs;
+/// only this can be out of memory.
 pub fn refutes(
     alloc: Global,
     history: &History,
@@ -171,7 +175,7 @@ pub fn refutes(
     ensures holds { IfOk result (λ holds. IsTrue holds ↔ Holds conflicts history.now evidence.now) }
     ensures succeeds { IsOfCalls evidence.now → IsOk result }
 {
-    // A look at the history: that it is one is known from here on.
+    // Calling `len` makes it known from here on that this is a history.
     let _ = history.len();
     match *evidence {
         Refuted::PairTwice(one, two) => Ok(is_pair_twice(history, one, two)),

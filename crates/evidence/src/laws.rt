@@ -1,4 +1,4 @@
-//! The law of evidence, the contract of a function that does nothing.
+//! The law of evidence. It is the contract of a function that does nothing.
 
 ghost use Rattle.evidence.specs.Evidence.{EvidenceRefutes};
 

@@ -1,4 +1,5 @@
-//! Evidence in a history that no order of its calls explains it: what each kind says, whether it holds, and the search for it.
+//! Evidence in a history that no order of its calls explains it: what each kind says, whether it holds, and
+//! the search for it.
 //!
 //! ```text
 //! let found = find_evidence(alloc, &history, Conflicts::Plain)?; // Option<Refuted>

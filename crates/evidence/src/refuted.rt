@@ -5,13 +5,15 @@ pub enum Refuted {
     PairTwice(u64, u64),
     /// A get found a pair with a number, and no write can have given its document both.
     NoWriter(u64),
-    /// A get, and a write of its document that was answered before the get was called: the get found a pair below
-    /// the write's.
+    /// A get, and a write of its document that was answered before the get was called: the get found a pair
+    /// below the write's.
     StaleGet(u64, u64),
-    /// Two writes of one document. The second was performed although its condition asks for a pair below the first
-    /// one's, and the first stands before it: it was answered before the second was called, or has the lesser pair.
+    /// Two writes of one document. The second was performed although its condition asks for a pair below the
+    /// first one's, and the first comes before it: it was answered before the second was called, or has the
+    /// lesser pair.
     StaleSwap(u64, u64),
-    /// A call at which its document is ruled out: whatever became of the calls without a reply, the calls that were answered up
-    /// to this one have no positions among the pairs that replies show.
+    /// A call at which its document is provably not linearizable (ruled out): whatever became of the calls
+    /// without a reply, the calls that were answered up to this one have no positions among the pairs that
+    /// replies show.
     RuledOut(u64),
 }

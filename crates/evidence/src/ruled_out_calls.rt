@@ -26,8 +26,8 @@ fn ruled_out_call(
     ruled_out_at(alloc, &records, conflicts)
 }
 
-/// Whether the document of this number is ruled out, in this reading of conflicts. It takes one walk over its calls, which sorts
-/// their pairs.
+/// Returns whether the document of this number is ruled out, in this reading of conflicts. It takes one walk
+/// over its calls, and sorts their pairs.
 pub fn is_document_ruled_out(
     alloc: Global,
     history: &History,
@@ -37,13 +37,13 @@ pub fn is_document_ruled_out(
     requires { doc < length (documents_of history.now) }
     ensures { IfOk result (λ ruled_out. IsTrue ruled_out ↔ IsDocumentRuledOut conflicts history.now doc) }
 {
-    // A look at the history: that it is one is known from here on.
+    // Calling `len` makes it known from here on that this is a history.
     let _ = history.len();
     let call = ruled_out_call(alloc, history, doc, conflicts)?;
     Ok(call.is_some())
 }
 
-// The lesser of two numbers of calls, if there are two.
+// The lesser of two call numbers, either of which may be missing.
 fn lesser(one: Option<u64>, two: Option<u64>) -> Option<u64>
     ensures { MatchOption result ((one ≡ Nothing) × (two ≡ Nothing))
         (λ n. ((one ≡ Just n) ⊎ (two ≡ Just n)) × IfSome one (λ a. n ≤ a) × IfSome two (λ b. n ≤ b)) }
@@ -55,7 +55,7 @@ fn lesser(one: Option<u64>, two: Option<u64>) -> Option<u64>
     }
 }
 
-/// Whether the document of a call is ruled out at it. It takes one walk over each document.
+/// Returns whether the document of a call is ruled out at it. It takes one walk over each document.
 pub fn is_ruled_out(
     alloc: Global,
     history: &History,
@@ -73,7 +73,8 @@ pub fn is_ruled_out(
     Ok(false)
 }
 
-/// The least call at which a document of the history is ruled out. These are the numbers of all documents that may be.
+/// Returns the least call at which a document of the history is ruled out. `docs` must have the numbers of
+/// all documents that may be ruled out.
 pub fn least_ruled_out(
     alloc: Global,
     history: &History,

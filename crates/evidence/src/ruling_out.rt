@@ -1,8 +1,8 @@
-/// Whether documents are looked at that may be ruled out, where no other evidence is found.
+/// Whether documents are checked for being ruled out if no other evidence is found.
 #[derive(Debug, Clone, Copy, PartialEq, Eq)]
 pub enum RulingOut {
-    /// They aren't.
+    /// They are not checked.
     Off,
-    /// They are.
+    /// They are checked.
     On,
 }

@@ -1,4 +1,5 @@
-//! The search for evidence: what is found is checked again before it is returned, so that only evidence which holds is.
+//! The search for evidence. What is found is checked again before it is returned, so that only evidence that
+//! holds is returned.
 
 mod answered_calls;
 mod lost_updates;
@@ -23,7 +24,7 @@ use std::alloc::Global;
 use unwritten_reads::least_without_writer;
 use version_pair::NoMemory;
 
-// The evidence, where it holds.
+// The evidence, if it holds.
 fn confirm(
     alloc: Global,
     history: &History,
@@ -46,9 +47,9 @@ fn confirm(
     }
 }
 
-/// Evidence that holds in the history, in this reading of conflicts: of the first kind that does, in the order of `Refuted`,
-/// and of that kind the one with the least call numbers, the first number counting first. `None` where no kind holds; documents
-/// that are ruled out are not looked for.
+/// Returns evidence that holds in the history, in this reading of conflicts. It is of the first kind that
+/// holds, in the order of `Refuted`, and of that kind it has the least call numbers, compared by the first
+/// number first. Returns `None` if no kind holds. Documents that are ruled out are not searched for.
 pub fn find_evidence(
     alloc: Global,
     history: &History,
@@ -74,8 +75,9 @@ pub fn find_evidence(
     confirm(alloc, history, swap, conflicts)
 }
 
-/// The evidence that a document of the history is ruled out, in this reading of conflicts: the least call at which one is.
-/// `None` where none is. Only documents of these numbers are looked at, and no other may be ruled out.
+/// Returns the evidence that a document of the history is ruled out, in this reading of conflicts: the least
+/// call at which one is. Returns `None` if no document is. Only the documents of these numbers are checked,
+/// and no other document may be ruled out.
 pub fn rule_out(
     alloc: Global,
     history: &History,
@@ -88,7 +90,7 @@ pub fn rule_out(
     ensures least { IfOk result (λ found. IfSome found (IsReported RulingOut.On conflicts history.now)) }
     ensures none { IfOk result (λ found. found ≡ Nothing → IsWithoutRuledOut conflicts history.now) }
 {
-    // A look at the history: that it is one is known from here on.
+    // Calling `len` makes it known from here on that this is a history.
     let _ = history.len();
     match least_ruled_out(alloc, history, conflicts, docs)? {
         Some(call) => Ok(Some(Refuted::RuledOut(call))),

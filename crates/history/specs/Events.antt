@@ -1,4 +1,4 @@
--- Histories: which lists of events they are, and what they say of calls and documents.
+-- Histories: which lists of events are histories, and what they say of calls and documents.
 use Rattle.std.specs.Prelude.{◌≡◌, ℕ, suc, ◌<◌, ◌==◌, Bool, true, false, List, [], ◌∷◌, Option, Some, None, option_map, option_and_then, if◌then◌else◌, fold, take, filter_map, slice_get}
 use Rattle.std.specs.Cmp.Lexicographic.{pointwise}
 use Rattle.doc_register.specs.declared.op.Op.{Op}
@@ -9,37 +9,37 @@ use Rattle.history.specs.declared.event.Event.{Event}
 use Rattle.history.specs.declared.event.Event.TheVariants.{Call, Reply, Lost}
 use Rattle.history.specs.declared.record.Rec.{Rec}
 
--- two ids are the same bytes
+-- the two ids are the same bytes
 abbrev pub is_same : List ℕ → List ℕ → Bool
 is_same d e = pointwise ◌==◌ d e
 
--- ---- what stands at a place; places are counted from 0
+-- ---- the event at a position; positions are counted from 0
 
--- the call numbered n, of the document d of the shard h
+-- the event is the call numbered n, on the document d of the shard h
 abbrev pub IsCallAt : List Event → ℕ → ℕ → ℕ → List ℕ → Op → Type 0
 IsCallAt events i n h d op = slice_get events i ≡ Some (Call h n d op)
 
--- the reply r to the call numbered n
+-- the event is the reply r to the call numbered n
 abbrev pub IsReplyAt : List Event → ℕ → ℕ → Answer → Type 0
 IsReplyAt events i n r = slice_get events i ≡ Some (Reply n r)
 
--- an event that passes the test
+-- the event passes the test
 abbrev pub PassesAt : (Event → Bool) → List Event → ℕ → Type 0
 PassesAt test events i = option_map test (slice_get events i) ≡ Some true
 
--- the call numbered n
+-- the event is the call numbered n
 abbrev pub is_call : ℕ → Event → Bool
 is_call n (Call h m d op) = m == n
 is_call n (Reply m r) = false
 is_call n (Lost m) = false
 
--- the ending of the call numbered n: its reply, or the news that its outcome is lost
+-- the event is the ending of the call numbered n: its reply, or that its outcome is lost (indeterminate)
 abbrev pub is_ending : ℕ → Event → Bool
 is_ending n (Call h m d op) = false
 is_ending n (Reply m r) = m == n
 is_ending n (Lost m) = m == n
 
--- a call of the document d
+-- the event is a call on the document d
 abbrev pub is_call_of : List ℕ → Event → Bool
 is_call_of d (Call h m e op) = is_same e d
 is_call_of d (Reply m r) = false
@@ -58,8 +58,8 @@ HasShard (Lost n) = Unit {0}
 
 -- ---- histories
 
--- Call numbers are distinct. An ending stands after the call of its number, and a call has at most one. A reply fits
--- its operation. The calls of a document name one shard, 0 to 1,023.
+-- Call numbers are distinct. An ending comes after the call of its number, and a call has at most one ending.
+-- A reply fits its operation. All calls of a document name one shard, 0 to 1,023.
 pub record IsHistory (events : List Event) : Type 0 where
   pub called_once : (n i j : ℕ) → PassesAt (is_call n) events i → PassesAt (is_call n) events j → i ≡ j
   pub ended_once : (n i j : ℕ) → PassesAt (is_ending n) events i → PassesAt (is_ending n) events j → i ≡ j
@@ -71,7 +71,7 @@ pub record IsHistory (events : List Event) : Type 0 where
       → h ≡ g
   pub shards : (i n h : ℕ) (d : List ℕ) (op : Op) → IsCallAt events i n h d op → h < most_shards
 
--- the call numbered a precedes the call numbered b: a's reply stands before b's call
+-- the call numbered a precedes the call numbered b: a's reply comes before b's call
 pub record Precedes (events : List Event) (a b : ℕ) : Type 0 where
   pub answered : ℕ
   pub called : ℕ
@@ -106,28 +106,28 @@ documents_of events = fold with_event [] events
 
 -- ---- records
 
--- the first place at which the test passes
+-- the position of the first event that passes the test
 abbrev pub place_of : (Event → Bool) → List Event → Option ℕ
 place_of test [] = None
 place_of test (e ∷ es) = if test e then Some 0 else option_map suc (place_of test es)
 
--- the places at which the test passes, the first of them being numbered i
+-- the positions of the events that pass the test, if the first event has the position i
 abbrev pub places_from : ℕ → (Event → Bool) → List Event → List ℕ
 places_from i test [] = []
 places_from i test (e ∷ es) = if test e then i ∷ places_from (suc i) test es else places_from (suc i) test es
 
--- the reply at a place, with the place
+-- the reply at a position, with the position
 abbrev pub heard_at : ℕ → Event → Option (ℕ × Answer)
 heard_at i (Call h n d op) = None
 heard_at i (Reply n r) = Some (i, r)
 heard_at i (Lost n) = None
 
--- what was heard of the call numbered n: the place of its reply, and the reply
+-- what was heard of the call numbered n: the position of its reply, and the reply
 abbrev pub heard_of : List Event → ℕ → Option (ℕ × Answer)
 heard_of events n =
     option_and_then (λ i. option_and_then (heard_at i) (slice_get events i)) (place_of (is_ending n) events)
 
--- the call at a place as a record
+-- the call at a position as a record
 abbrev pub record_from : List Event → ℕ → Event → Option Rec
 record_from events i (Call h n d op) = Some (record { no = n; op = op; call_at = i; heard = heard_of events n })
 record_from events i (Reply n r) = None

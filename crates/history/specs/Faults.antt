@@ -1,4 +1,4 @@
--- What is told of a line whose event a history refuses.
+-- What is reported of a line whose event a history refuses.
 use Rattle.api_lines.specs.declared.text_fault.LineFault.{LineFault}
 use Rattle.api_lines.specs.declared.text_fault.LineFault.TheVariants as line
 use Rattle.api_lines.specs.declared.text_fault.TextCause.{TextCause}
@@ -6,8 +6,8 @@ use Rattle.api_lines.specs.declared.text_fault.TextCause.TheVariants.{Shape, Sec
 use Rattle.history.specs.declared.fault.HistFault.{HistFault}
 use Rattle.history.specs.declared.fault.HistFault.TheVariants as event
 
--- The cause of a refusal. A reply of a kind that its call can't have would be of another shape, but the reply table tells
--- none; want of memory is no refusal.
+-- The cause of a refusal. A reply of a kind that its call can't have would be of another shape, but the reply
+-- table gives none; being out of memory is not a refusal.
 abbrev pub cause_of : HistFault → TextCause
 cause_of event.SecondCall = SecondCall
 cause_of event.NoCall = NoCall

@@ -1,4 +1,4 @@
--- What was heard of a call: which pair it took, and whether it tells that a write was performed.
+-- What was heard of a call: which pair it took, and whether the reply says that a write was performed.
 use Rattle.std.specs.Prelude.{◌≡◌, ◌≢◌, ℕ, Option, None, Some, if◌then◌else◌, nat_lt}
 use Rattle.version_pair.specs.declared.pair.Pair.{Pair}
 use Rattle.doc_register.specs.Run.{pair_taken}
@@ -9,12 +9,12 @@ use Rattle.doc_register.specs.declared.state.Conflicts.{Conflicts}
 use Rattle.doc_register.specs.declared.state.Conflicts.TheVariants.{Maybe}
 use Rattle.history.specs.declared.record.Rec.{Rec}
 
--- the pair that a call takes: the one that its reply tells, or the one that is given to its place
+-- the pair that a call takes: the one that its reply shows, or the one that is given to its place
 abbrev pub taken_by : Option (ℕ × Reply) → Option Pair → Option Pair
 taken_by None given = given
 taken_by (Some heard) given = pair_taken heard.1 given
 
--- the pair that an answered write was performed with, as its reply shows
+-- the pair that an answered write was performed with, if its reply shows it
 abbrev pub pair_of : Option (ℕ × Reply) → Option Pair
 pair_of None = None
 pair_of (Some heard) = pair_taken heard.1 None
@@ -28,7 +28,7 @@ heard_before event (Some heard) = if nat_lt heard.0 event then Some heard else N
 abbrev pub known_before : ℕ → Rec → Rec
 known_before event r = record { no = r.no; op = r.op; call_at = r.call_at; heard = heard_before event r.heard }
 
--- a reply was heard, and it tells whether the write was performed: under Maybe a conflict doesn't
+-- a reply was heard, and it says whether the write was performed: under Maybe a conflict doesn't
 abbrev pub IsTold : Conflicts → Option (ℕ × Reply) → Type 0
 IsTold conflicts None = ⊥
 IsTold conflicts (Some heard) = conflicts ≡ Maybe → heard.1 ≢ Conflict

@@ -16,7 +16,7 @@ use Rattle.history.specs.Order.{Explains, IsLinearizable, IsPlainlyRight, Placed
 
 -- ---- precedence
 
--- no call of a history precedes itself, precedence passes on, and a pending call precedes none
+-- no call of a history precedes itself, precedence is transitive, and a pending call precedes none
 pub record PrecedenceIsStrict : Type 0 where
   pub never_itself : (events : List Event) (a : ℕ) → IsHistory events → ¬ Precedes events a a
   pub passes_on : (events : List Event) (a b c : ℕ) → IsHistory events → Precedes events a b → Precedes events b c
@@ -26,36 +26,38 @@ pub record PrecedenceIsStrict : Type 0 where
 
 -- ---- linearizable histories
 
--- a history whose answered calls are a legal run by place of reply is linearizable, whatever conflicts may mean
+-- a history whose answered calls, in response order, are a legal run is linearizable, whatever conflicts may
+-- mean
 abbrev pub PlainlyRightIsLinearizable : Type 0
 PlainlyRightIsLinearizable = (conflicts : Conflicts) (events : List Event) → IsHistory events → IsPlainlyRight events
     → IsLinearizable conflicts events
 
--- an order that explains a history explains it without a pending call that changes nothing
+-- an order that explains a history still explains it without a pending call that changes nothing
 abbrev pub UnansweredLeftOut : Type 0
 UnansweredLeftOut = (conflicts : Conflicts) (events : List Event) (front back : List Placed) (p : Placed)
     → IsPending events p.no → ChangesNothing p.entry → Explains conflicts events (front ++ p ∷ back)
     → Explains conflicts events (front ++ back)
 
--- A prefix of a history is a history, and linearizable where the whole is: calls whose replies are cut off are pending.
+-- A prefix of a history is a history, and linearizable if the whole history is: calls whose replies are cut
+-- off are pending.
 pub record PrefixesStay : Type 0 where
   pub history : (events : List Event) (n : ℕ) → IsHistory events → IsHistory (prefix events n)
   pub linearizable : (conflicts : Conflicts) (events : List Event) (n : ℕ) → IsLinearizable conflicts events
       → IsLinearizable conflicts (prefix events n)
 
--- where no reply stands at the place n or later, a history is plainly right where its first n events are
+-- if no reply is at the position n or later, a history is legal in response order if its first n events are
 abbrev pub LateCallsChangeNothing : Type 0
 LateCallsChangeNothing = (events : List Event) (n : ℕ) → IsHistory events → ((k m : ℕ) (r : Answer) → IsReplyAt events k m r → k < n)
     → IsPlainlyRight (prefix events n) → IsPlainlyRight events
 
 -- ---- the records of documents
 
--- the record stands at the place j among those of the document d
+-- the record has the index j among those of the document d
 abbrev pub IsRecordAt : List Event → List ℕ → ℕ → Rec → Type 0
 IsRecordAt events d j r = slice_get (records_of events d) j ≡ Some r
 
--- Each call has its record among those of its document, and nowhere else. A record tells what was heard of its call.
--- Whether one call of a document precedes another shows in their records.
+-- Each call has its record among those of its document, and nowhere else. A record says what was heard of its
+-- call. Whether one call of a document precedes another shows in their records.
 pub record IsSplitByDocument (events : List Event) : Type 0 where
   pub recorded : (i n h : ℕ) (d : List ℕ) (op : Op) → IsCallAt events i n h d op → (j : ℕ) × (r : Rec)
       × IsRecordAt events d j r × (r.call_at ≡ i)
@@ -81,8 +83,8 @@ abbrev pub TextOfOneHistory : Type 0
 TextOfOneHistory = (bytes : List ℕ) (events others : List Event) → IsHistoryText bytes events
     → IsHistoryText bytes others → events ≡ others
 
--- The line that is told is the first at which the text is none: the text of its lines before is a text of some history,
--- and with this line, and with any lines after it, it is a text of none.
+-- The line reported is the first at which the text is not a history text: the text of the lines before it is
+-- a text of some history, and with this line, and with any lines after it, it is a text of none.
 pub record IsFirstRefused (bytes : List ℕ) (told : TextFault) : Type 0 where
   pub line_from_one : 1 ≤ told.line
   pub before : (front : List ℕ) (n : ℕ) → lines_of front ≡ take n (lines_of bytes) → n < told.line
@@ -90,13 +92,14 @@ pub record IsFirstRefused (bytes : List ℕ) (told : TextFault) : Type 0 where
   pub with_it : (front : List ℕ) (n : ℕ) → lines_of front ≡ take n (lines_of bytes) → told.line ≤ n
       → (events : List Event) → ¬ IsHistoryText front events
 
--- The two definitions of a text agree: a text is read as the history that it is a text of, and as no other; and where it is
--- refused, the line is the first at which it is none.
+-- The two definitions of a text agree: a text is read as the history that it is a text of, and as no other;
+-- and if it is refused, the line reported is the first at which it is not a history text.
 pub record TextsAreRead : Type 0 where
   pub read : (bytes : List ℕ) (events : List Event) → history_text bytes ≡ Ok events → IsHistoryText bytes events
   pub is_read : (bytes : List ℕ) (events : List Event) → IsHistoryText bytes events → history_text bytes ≡ Ok events
   pub refused : (bytes : List ℕ) (told : TextFault) → history_text bytes ≡ Err told → IsFirstRefused bytes told
 
--- Histories are read line by line: the reader that takes one line more tells what is read of the text with that line.
+-- Histories are read line by line: a reader that takes one line more gives what is read of the text with that
+-- line.
 abbrev pub HistoriesLineByLine : Type 0
 HistoriesLineByLine = ReadsLineByLine takes_value []

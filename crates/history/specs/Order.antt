@@ -1,4 +1,4 @@
--- Linearizable histories: orders of a history, which of them respect it, and the order of the replies.
+-- Linearizable histories: orders of a history, which of them respect it, and response order.
 use Rattle.std.specs.Prelude.{◌≡◌, ℕ, ◌<◌, List, Option, Some, None, option_and_then, map, filter_map, slice_get}
 use Rattle.doc_register.specs.declared.reply.Reply.{Reply as Answer}
 use Rattle.doc_register.specs.declared.state.Conflicts.{Conflicts}
@@ -8,7 +8,7 @@ use Rattle.history.specs.declared.event.Event.{Event}
 use Rattle.history.specs.declared.event.Event.TheVariants.{Call, Reply, Lost}
 use Rattle.history.specs.Events.{IsCallAt, IsReplyAt, Precedes, is_call, place_of}
 
--- One call in an order: its number, and the entry that it is in the run.
+-- One call in an order: its number, and its entry in the run.
 pub record Placed : Type 0 where
   pub no : ℕ
   pub entry : Entry
@@ -20,8 +20,8 @@ run_of order = map (λ p. p.entry) order
 abbrev pub IsOfCall : List Event → Placed → Type 0
 IsOfCall events p = (i : ℕ) × IsCallAt events i p.no p.entry.shard p.entry.doc p.entry.op
 
--- An order of a history. A call stands in it at most once, an answered one just once and with its reply, a pending
--- one with any reply or not at all. Under plain conflicts no reply hides a pair.
+-- An order of a history. A call is in it at most once, an answered call exactly once and with its reply, a
+-- pending call with any reply or not at all. Under plain conflicts no reply hides a pair.
 pub record IsOrder (conflicts : Conflicts) (events : List Event) (order : List Placed) : Type 0 where
   pub calls : (i : ℕ) (p : Placed) → slice_get order i ≡ Some p → IsOfCall events p
   pub once : (i j : ℕ) (p q : Placed) → slice_get order i ≡ Some p → slice_get order j ≡ Some q → p.no ≡ q.no → i ≡ j
@@ -29,12 +29,12 @@ pub record IsOrder (conflicts : Conflicts) (events : List Event) (order : List P
       × (slice_get order i ≡ Some p) × (p.no ≡ n) × (p.entry.reply ≡ r)
   pub plain : conflicts ≡ Plain → (i : ℕ) (p : Placed) → slice_get order i ≡ Some p → p.entry.hidden ≡ None
 
--- where one call precedes another and both stand in the order, it stands first
+-- if one call precedes another and both are in the order, it comes first
 abbrev pub Respects : List Event → List Placed → Type 0
 Respects events order = (i j : ℕ) (p q : Placed) → slice_get order i ≡ Some p → slice_get order j ≡ Some q
     → Precedes events p.no q.no → i < j
 
--- the order explains the history: it is an order of it, respects it, and is a legal run
+-- the order explains the history: it is an order of the history, respects it, and is a legal run
 pub record Explains (conflicts : Conflicts) (events : List Event) (order : List Placed) : Type 0 where
   pub is_order : IsOrder conflicts events order
   pub respects : Respects events order
@@ -44,9 +44,9 @@ pub record Explains (conflicts : Conflicts) (events : List Event) (order : List 
 abbrev pub IsLinearizable : Conflicts → List Event → Type 0
 IsLinearizable conflicts events = (order : List Placed) × Explains conflicts events order
 
--- ---- the order of the replies
+-- ---- response order
 
--- a call with the reply r to it, read as not performed where it is a conflict
+-- a call with the reply r to it, read as not performed if it is a conflict
 abbrev pub placed_with : Answer → Event → Option Placed
 placed_with r (Call h n d op) = Some (record { no = n; entry = record { shard = h; doc = d; op = op; reply = r; hidden = None } })
 placed_with r (Reply n s) = None
@@ -63,10 +63,11 @@ answered_by events (Call h n d op) = None
 answered_by events (Reply n r) = call_with events n r
 answered_by events (Lost n) = None
 
--- the answered calls by place of reply
+-- the answered calls in response order: by the positions of their replies
 abbrev pub reply_order : List Event → List Placed
 reply_order events = filter_map (answered_by events) events
 
--- the answered calls by place of reply are a legal run
+-- the history is legal in response order: the answered calls, by the positions of their replies, are a legal
+-- run
 abbrev pub IsPlainlyRight : List Event → Type 0
 IsPlainlyRight events = IsLegalRun (run_of (reply_order events))

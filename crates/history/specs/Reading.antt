@@ -1,4 +1,5 @@
--- How a history text is read: the event that each line tells after the events so far, or the first cause to refuse it.
+-- How a history text is read: the event that each line gives after the events so far, or the first cause to
+-- refuse it.
 use Rattle.std.specs.Prelude.{ℕ, List, [], ◌∷◌, ◌++◌, Option, Some, None, Result, Ok, Err}
 use Rattle.serde_json.specs.Data.{Data}
 use Rattle.api_lines.specs.Faults.{◌>>=◌}
@@ -23,19 +24,19 @@ use Rattle.history.specs.Refusal.{first_event, refusal_of}
 
 -- ---- the event of a line
 
--- what is heard of a call by a status and a body; of no other event anything is
+-- what is heard of a call, by a status and a body; of no other event anything is heard
 abbrev pub heard_of_call : Event → ℕ → BodyValues → Heard
 heard_of_call (Call h n d op) status body = heard op d status body
 heard_of_call (Reply n r) status body = heard.Unknown
 heard_of_call (Lost n) status body = heard.Unknown
 
--- a reply of unknown outcome is a loss
+-- a reply of unknown outcome counts as a loss
 abbrev pub event_heard : ℕ → Heard → Result Event TextCause
 event_heard n (heard.Reply r) = Ok (Reply n r)
 event_heard n heard.Unknown = Ok (Lost n)
 event_heard n heard.Stranger = Err Stranger
 
--- the event of a reply line, by the call of its number and by the ending that this call has
+-- the event of a reply line, by the call with its number and by the ending of this call
 abbrev pub ending_told : ℕ → ℕ → BodyValues → Option Event → Option ℕ → Result Event TextCause
 ending_told n status body None ending = Err NoCall
 ending_told n status body (Some call) (Some place) = Err Ended
@@ -57,7 +58,7 @@ abbrev pub with_more : List Event → Event → Option HistFault → Result (Lis
 with_more events e None = Ok (events ++ e ∷ [])
 with_more events e (Some fault) = Err (cause_of fault)
 
--- the events with one more, where the history doesn't refuse it
+-- the events with one more, if the history doesn't refuse it
 abbrev pub adds : List Event → Event → Result (List Event) TextCause
 adds events e = with_more events e (refusal_of events e)
 

@@ -9,7 +9,7 @@ use Rattle.history.specs.declared.fault.HistFault.{HistFault}
 use Rattle.history.specs.declared.fault.HistFault.TheVariants.{SecondCall, NoCall, Ended, Kind, Full, NoMemory, ShardMoved}
 use Rattle.history.specs.Events.{is_call, is_call_of, is_ending, place_of}
 
--- the most events that a history is kept with, or read from a text
+-- the greatest number of events that a history is kept with, or that is read from a text
 abbrev pub most_events : ℕ
 most_events = 1048576
 
@@ -43,7 +43,7 @@ is_moved events d h = option_map_or (λ s. not (s == h)) (shard_of events d) fal
 abbrev pub when_full : List Event → Option HistFault
 when_full events = if nat_lt (length events) most_events then None else Some Full
 
--- the reasons to refuse an ending, where the operation of its call is known
+-- the reasons to refuse an ending, if the operation of its call is known
 abbrev pub when_ended : List Event → ℕ → Option HistFault → Option HistFault
 when_ended events n later = if is_some (place_of (is_ending n) events) then Some Ended else later
 
@@ -58,7 +58,7 @@ refusal_of events (Reply n r) =
 refusal_of events (Lost n) =
     option_map_or (λ op. when_ended events n (when_full events)) (op_of events n) (Some NoCall)
 
--- the reason that an answer tells; want of memory is none
+-- the reason that an answer reports; being out of memory is none
 abbrev pub reason_told : HistFault → Option HistFault
 reason_told SecondCall = Some SecondCall
 reason_told NoCall = Some NoCall

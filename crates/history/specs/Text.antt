@@ -18,7 +18,7 @@ use Rattle.history.specs.Refusal.{most_events}
 
 -- ---- what a line spells
 
--- the condition of a write, or none
+-- the condition of a write, if it has one
 abbrev pub SpellsCondition : Data → Option Pair → Type 0
 SpellsCondition v None = Lacks (codes "if_seq_no") v × Lacks (codes "if_primary_term") v
 SpellsCondition v (Some p) = HasNumber (codes "if_seq_no") p.seq v × HasNumber (codes "if_primary_term") p.term v
@@ -29,7 +29,7 @@ SpellsOp v (Index k c) = HasText (codes "op") (codes "index") v × HasNumber (co
 SpellsOp v (Delete c) = HasText (codes "op") (codes "delete") v × SpellsCondition v c
 SpellsOp v (Create k) = HasText (codes "op") (codes "create") v × HasNumber (codes "k") k v
 
--- the shard of a call, 0 where it isn't named
+-- the shard of a call, 0 if it isn't named
 abbrev pub SpellsShard : Data → ℕ → Type 0
 SpellsShard v h = (Lacks (codes "shard") v × (h ≡ 0)) ⊎ (HasNumber (codes "shard") h v × (h < most_shards))
 
@@ -41,7 +41,8 @@ pub record SpellsCall (v : Data) (n h : ℕ) (d : List ℕ) (op : Op) : Type 0 w
   pub operation : SpellsOp v op
   pub shard : SpellsShard v h
 
--- A reply line for the call numbered n, which is one of the history: its document, operation and status. The body names no other document.
+-- A reply line for the call numbered n, which is in the history: its document, operation and status. The body
+-- names no other document.
 pub record SpellsReply (events : List Event) (v : Data) (n : ℕ) (op : Op) (status : ℕ) : Type 0 where
   pub kind : HasText (codes "e") (codes "reply") v
   pub number : HasNumber (codes "n") n v
@@ -53,7 +54,7 @@ pub record SpellsLost (v : Data) (n : ℕ) : Type 0 where
   pub kind : HasText (codes "e") (codes "lost") v
   pub number : HasNumber (codes "n") n v
 
--- The event that a value spells. A reply that the table doesn't know is of unknown outcome, as a lost line is.
+-- The event that a value spells. A reply that the table doesn't know is of unknown outcome, like a lost line.
 abbrev pub Spells : List Event → Data → Event → Type 0
 Spells events v (Call h n d op) = SpellsCall v n h d op
 Spells events v (Reply n r) = (op : Op) × (status : ℕ) × SpellsReply events v n op status
@@ -74,8 +75,8 @@ AreLinesOf events [] (e ∷ es) = ⊥
 AreLinesOf events (line ∷ lines) [] = ⊥
 AreLinesOf events (line ∷ lines) (e ∷ es) = IsLineOf events line e × AreLinesOf events lines es
 
--- The bytes are a text of the history: within the limits, its lines that aren't blank spell the events of the history
--- one to one, in order.
+-- The bytes are a text of the history: within the limits, the lines that aren't blank spell the events of the
+-- history one to one, in order.
 pub record IsHistoryText (bytes : List ℕ) (events : List Event) : Type 0 where
   pub history : IsHistory events
   pub events_fit : length events ≤ most_events

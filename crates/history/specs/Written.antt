@@ -12,7 +12,7 @@ use Rattle.history.specs.declared.event.Event.TheVariants.{Call, Reply, Lost}
 use Rattle.history.specs.Events.{is_call}
 use Rattle.history.specs.Refusal.{first_event}
 
--- ---- the value of a line; its keys stand in the order of their bytes
+-- ---- the value of a line; its keys are in the order of their bytes
 
 abbrev pub op_name : Op → List ℕ
 op_name Get = codes "get"
@@ -32,7 +32,7 @@ op_members (Index k c) rest = condition_members c (number_member (codes "k") k r
 op_members (Delete c) rest = condition_members c rest
 op_members (Create k) rest = number_member (codes "k") k rest
 
--- the shard, which isn't named where it is 0
+-- the shard, which isn't named if it is 0
 abbrev pub shard_members : ℕ → Members
 shard_members h = if h == 0 then no_members else number_member (codes "shard") h no_members
 
@@ -40,7 +40,7 @@ shard_members h = if h == 0 then no_members else number_member (codes "shard") h
 abbrev pub call_end : ℕ → List ℕ → ℕ → Members
 call_end n name h = number_member (codes "n") n (member (codes "op") (string name) (shard_members h))
 
--- a call's line: the id of its document, and then these members
+-- a call's line: the id of its document, followed by these members
 abbrev pub call_with : List ℕ → Members → Data
 call_with d rest = object (member (codes "e") (string (codes "call")) (member (codes "id") (string d) rest))
 
@@ -80,6 +80,6 @@ event_value events (Lost n) = lost_value n
 abbrev pub written_values : List Data → List ℕ
 written_values vs = flat_map (λ v. compact_text v ++ 10 ∷ []) vs
 
--- the text of a history: a line for each event
+-- the text of a history: one line for each event
 abbrev pub written_text : List Event → List ℕ
 written_text events = written_values (map (event_value events) events)

@@ -20,21 +20,21 @@ fn is_stranger(heard: &Heard) -> bool
     }
 }
 
-// The place of the first stranger's reply.
+// The index of the first reply of a stranger.
 fn first_stranger(heard: &[Heard]) -> Option<usize>
     ensures { result ≡ position stranger heard.now }
 {
     heard.iter().position(|heard| is_stranger(heard))
 }
 
-// Whether so many calls can be numbered from the first number on.
+// Whether that many calls can be numbered from the first number on.
 fn are_numbered(first: u64, count: usize) -> bool
     ensures { IsTrue result ↔ (first + count ≤ 2 ^ 64) }
 {
     count == 0 || count as u64 - 1 <= u64::MAX - first
 }
 
-// Adds the line of an item's call.
+// Adds the line of the call of an item.
 fn write_call(
     alloc: Global,
     no: u64,
@@ -49,7 +49,7 @@ fn write_call(
     write_value(alloc, &value, text)
 }
 
-// The line of a call's ending, as a value.
+// The line of the ending of a call, as a value.
 fn ending_value(alloc: Global, no: u64, id: &DocId, heard: &Heard) -> Result<Value, NoMemory>
     ensures { IfOk result (λ value. view value ≡ value_of_ending no id.now heard.now) }
 {
@@ -109,7 +109,7 @@ fn write_endings(
     Ok(())
 }
 
-// The lines of the items' calls, and then of their endings.
+// The lines of the items' calls, followed by those of their endings.
 fn written_bulk(
     alloc: Global,
     first: u64,
@@ -127,11 +127,11 @@ fn written_bulk(
     Ok(text)
 }
 
-/// The history text of a bulk request and its reply: the call lines of all items, numbered from `first` on shard 0, and
-/// then a reply or a lost line for each.
+/// Returns the history text of a bulk request and its reply: the call lines of all items, numbered from
+/// `first` on shard 0, followed by a reply or a lost line for each.
 ///
-/// Faults in their order: those of the body, those of the reply, `Kind` for the first item whose reply is a stranger's,
-/// `Count` for a call number past 2^64-1. `NoMemory` is told where a growth was refused.
+/// Errors, in this order: the faults of the body, those of the reply, `Kind` for the first item whose reply
+/// is a stranger's, and `Count` for a call number above 2^64-1. `NoMemory` if memory was refused.
 pub fn bulk_text(
     alloc: Global,
     first: u64,

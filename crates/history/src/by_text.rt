@@ -7,14 +7,14 @@ ghost use Rattle.history.specs.Events.{is_same};
 use indexmap::Equivalent;
 use version_pair::{DocId, IdText};
 
-/// The text of an id, by which the id is found where it is a key.
+/// The text of an id. It finds the id where ids are keys.
 #[derive(Clone, Copy, PartialEq, Eq, Hash)]
 pub(crate) struct ByText<'t> {
     text: &'t str,
 }
 
 impl<'t> ByText<'t> {
-    /// The text of the id.
+    /// Returns the text of the id as a key.
     pub fn of(id: &IdText<'t>) -> ByText<'t>
         ensures { result.text.now ≡ id.now }
     {

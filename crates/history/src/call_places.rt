@@ -11,11 +11,11 @@ use std::collections::BTreeMap;
 use std::marker::Model;
 use version_pair::{DocId, NoMemory};
 
-/// The place of each call, by its number.
+/// The position of each call among the events, by its number.
 ///
-/// Recorders give numbers that rise: those stand in a list, which is searched by halves. A call whose number isn't above
-/// all in the list goes to an ordered map. So no choice of numbers makes a look-up cost more than the logarithm of how
-/// many there are.
+/// Recorders give rising numbers: these are in a list, which is searched by bisection. A call whose number is
+/// not above all numbers in the list goes to an ordered map. So no choice of numbers makes a look-up cost
+/// more than the logarithm of how many there are.
 #[derive(Debug, Drop)]
 pub struct CallPlaces {
     rising: Vec<(u64, usize)>,
@@ -44,8 +44,8 @@ fn is_above_all(calls: &[(u64, usize)], no: u64) -> bool
     }
 }
 
-// The place of the call with this number among those whose numbers rise, where none is left out from it to the last:
-// most recorders count.
+// The position of the call with this number among calls with rising numbers, if no number is left out from it
+// to the last: most recorders count.
 fn counted_place(calls: &[(u64, usize)], no: u64) -> Option<usize>
     requires { AreRising calls.now }
     ensures { IfSome result (λ place. lookup (◌==◌ no) calls.now ≡ Some place) }
@@ -61,7 +61,7 @@ fn counted_place(calls: &[(u64, usize)], no: u64) -> Option<usize>
     if number == no { Some(place) } else { None }
 }
 
-// The place of the call with this number among those whose numbers rise.
+// The position of the call with this number among calls with rising numbers.
 fn rising_place(calls: &[(u64, usize)], no: u64) -> Option<usize>
     requires { AreRising calls.now }
     ensures { result ≡ lookup (◌==◌ no) calls.now }
@@ -79,7 +79,7 @@ fn rising_place(calls: &[(u64, usize)], no: u64) -> Option<usize>
 }
 
 impl CallPlaces {
-    /// No calls. It allocates nothing.
+    /// Returns a map without calls. It allocates nothing.
     pub fn new(alloc: Global) -> CallPlaces
         ensures { result ≡ [] }
     {
@@ -89,7 +89,7 @@ impl CallPlaces {
         }
     }
 
-    /// The place of the call with this number.
+    /// Returns the position of the call with this number.
     pub fn get(&self, no: u64) -> Option<usize>
         ensures { result ≡ lookup (◌==◌ no) self.now }
     {
@@ -99,8 +99,8 @@ impl CallPlaces {
         }
     }
 
-    /// Notes the place of a call under its number, and among those of its document, which stands at `doc`, or goes to the
-    /// end of the documents. Where memory is refused, nothing is noted.
+    /// Adds the position of a call under its number, and to those of its document. The document has the index
+    /// `doc`, or is new and goes to the end of the documents. If memory is refused, nothing is added.
     pub fn note_call(
         &mut self,
         documents: &mut Documents,

@@ -14,14 +14,15 @@ use std::alloc::Global;
 use std::marker::Model;
 use version_pair::{DocId, IdText, NoMemory};
 
-/// A call: its place in the history, and the link of the call before it of its document.
+/// A call: its position in the history, and the link of the previous call of its document.
 #[derive(Clone, Copy, Debug)]
 pub(crate) struct Link {
     place: u32,
     before: u32,
 }
 
-/// The calls of one document: the place of the first, the link of the last, and how many there are.
+/// The calls of one document: the position of the first one, the link of the last one, and how many there
+/// are.
 #[derive(Clone, Copy, Debug)]
 pub(crate) struct Ends {
     first: u32,
@@ -29,15 +30,16 @@ pub(crate) struct Ends {
     count: u32,
 }
 
-/// The documents of a history in the order of their first calls, each with its shard and the places of its calls.
+/// The documents of a history in the order of their first calls, each with its shard and the positions of its
+/// calls.
 ///
-/// The calls of all documents stand in one list, each linked to the one before it of its document. So a document takes no
-/// list of its own, and one more call touches none of the earlier ones. As no history has more than 1,048,576 events,
-/// places and links take 32 bits.
+/// The calls of all documents are in one list, each linked to the previous one of its document. So a document
+/// needs no list of its own, and one more call touches none of the earlier ones. As no history has more than
+/// 1,048,576 events, positions and links take 32 bits.
 #[derive(Debug, Drop)]
 pub(crate) struct Documents {
     shards: IndexMap<DocId, u32, HashKeys>,
-    // The calls of each document, the documents in the same order.
+    // The calls of each document, with the documents in the same order.
     ends: Vec<Ends>,
     links: Vec<Link>,
 }
@@ -54,7 +56,7 @@ impl Model for Documents {
 }
 
 impl Documents {
-    /// No documents. It allocates nothing.
+    /// Returns an empty list of documents. It allocates nothing.
     pub fn with_keys(alloc: Global, keys: HashKeys) -> Documents
         ensures { result ≡ no_documents keys }
     {
@@ -65,35 +67,36 @@ impl Documents {
         }
     }
 
-    /// The keys of the hashes by which documents are found.
+    /// Returns the keys of the hashes by which documents are found.
     pub fn keys(&self) -> HashKeys
         ensures { result ≡ self.now.keys }
     {
         *self.shards.hasher()
     }
 
-    /// How many documents there are.
+    /// Returns the number of documents.
     pub fn len(&self) -> usize
         ensures { result ≡ length self.now.entries }
     {
         self.shards.len()
     }
 
-    /// A document's id and its shard.
+    /// Returns the id of a document and its shard.
     pub fn get(&self, doc: usize) -> Option<(&DocId, &u32)>
         ensures { option_map deref_pair result ≡ slice_get self.now.entries doc }
     {
         self.shards.get_index(doc)
     }
 
-    /// Where the document with this id stands.
+    /// Returns the index of the document with this id.
     pub fn index_of(&self, id: &IdText<'_>) -> Option<usize>
         ensures { result ≡ position (λ d. is_same id.now d.0) self.now.entries }
     {
         self.shards.get_index_of(ByText::of(id))
     }
 
-    // Notes the place of one more call of the document that stands at `doc`. Where memory is refused, nothing is noted.
+    // Adds the position of one more call of the document with the index `doc`. If memory is refused, nothing
+    // is added.
     fn note_known(&mut self, doc: usize, place: usize) -> Result<(), NoMemory>
         requires there { doc < length self.old.lists }
         requires place { place < most_events }
@@ -119,7 +122,8 @@ impl Documents {
         Ok(())
     }
 
-    // Puts a document at the end, with the place of its first call. Where memory is refused, nothing is noted.
+    // Adds a document at the end, with the position of its first call. If memory is refused, nothing is
+    // added.
     fn note_new(&mut self, id: &DocId, shard: u32, place: usize) -> Result<(), NoMemory>
         requires new { is_some (lookup (is_same id.now) self.old.entries) ≡ false }
         requires place { place < most_events }
@@ -148,8 +152,8 @@ impl Documents {
         Ok(())
     }
 
-    /// Notes the place of a call among those of its document, which stands at `doc`, or goes to the end of the documents.
-    /// Where memory is refused, nothing is noted.
+    /// Adds the position of a call to those of its document, which has the index `doc`, or is new and goes to
+    /// the end of the documents. If memory is refused, nothing is added.
     pub fn note_call(
         &mut self,
         doc: Option<usize>,
@@ -173,7 +177,7 @@ impl Documents {
         }
     }
 
-    /// The places of a document's calls, in their order.
+    /// Returns the positions of a document's calls, in their order.
     pub fn calls(&self, doc: usize) -> Result<Vec<usize>, NoMemory>
         requires { doc < length self.now.lists }
         ensures { IfOk result (λ places. slice_get self.now.lists doc ≡ Some places.items) }
@@ -190,7 +194,7 @@ impl Documents {
         Ok(places)
     }
 
-    /// How many documents have their first call before the place, where these are the first ones.
+    /// Returns how many documents have their first call before the position, if these are the first ones.
     pub fn called_before(&self, end: usize) -> usize
         ensures { (count : ℕ) → IsCutAt (starts_below end) self.now.lists count → result ≡ count }
     {

@@ -4,7 +4,8 @@ use version_pair::DocId;
 /// One event of a history.
 #[derive(Debug, Drop)]
 pub enum Event {
-    /// The call numbered `no`, on a document of a shard, was made. The shard stands first: so an event takes 64 bytes.
+    /// The call numbered `no`, on a document of a shard, was made. The shard is the first field, so that an
+    /// event takes 64 bytes.
     Call {
         shard: u32,
         no: u64,
@@ -16,7 +17,7 @@ pub enum Event {
         no: u64,
         reply: Reply,
     },
-    /// The outcome of the call numbered `no` will never be known.
+    /// The outcome of the call numbered `no` will never be known: it is lost (indeterminate).
     Lost {
         no: u64,
     },

@@ -11,14 +11,14 @@ use std::alloc::Global;
 use std::marker::Model;
 use version_pair::{DocId, NoMemory};
 
-/// The first events of a history, as a history of its own, without a copy of them. A reply past its end is not heard,
-/// and a document that is first called past its end is none of its documents.
+/// A prefix of a history, as a history of its own, without a copy of its events. A reply after its end is not
+/// heard, and a document whose first call is after its end is not one of its documents.
 #[derive(Debug, Drop)]
 pub struct Front<'h> {
     history: &'h History,
-    // How many events it has.
+    // The number of its events.
     end: usize,
-    // How many documents are called in it: the first ones of the history.
+    // The number of documents that are called in it: the first ones of the history.
     docs: usize,
 }
 
@@ -36,7 +36,7 @@ impl<'h> Model for Front<'h> {
 }
 
 impl History {
-    /// The whole history as a front.
+    /// Returns the whole history as a prefix.
     pub fn whole(&self) -> Front<'_>
         ensures { result ≡ self.now }
     {
@@ -47,7 +47,8 @@ impl History {
         }
     }
 
-    /// The first `end` events, or all where there are fewer. It costs a binary search among the documents.
+    /// Returns the prefix of the first `end` events, or of all events if there are fewer. It costs a binary
+    /// search among the documents.
     pub fn front(&self, end: usize) -> Front<'_>
         ensures { result ≡ first_events self.now end }
     {
@@ -60,7 +61,7 @@ impl History {
     }
 }
 
-// The number, where it is below the bound.
+// The number, if it is below the bound.
 fn below(number: Option<usize>, bound: usize) -> Option<usize>
     ensures { result ≡ when_below bound number }
 {
@@ -71,23 +72,23 @@ fn below(number: Option<usize>, bound: usize) -> Option<usize>
 }
 
 impl<'h> Front<'h> {
-    /// The keys of the hashes by which documents are found.
+    /// Returns the keys of the hashes by which documents are found.
     pub fn keys(&self) -> HashKeys {
         self.history.keys()
     }
 
-    /// How many events there are, at most 1,048,576.
+    /// Returns the number of events, at most 1,048,576.
     pub fn len(&self) -> usize
         ensures count { result ≡ length self.now }
         ensures within { length self.now ≤ limit }
         ensures history { IsHistory self.now }
     {
-        // What the history's own length tells is known: its events are a history, and within the limit.
+        // Calling `len` makes it known that the history's events are a history, within the limit.
         let _ = self.history.len();
         self.end
     }
 
-    /// The event at a place, from 0.
+    /// Returns the event at a position, from 0.
     pub fn event(&self, place: usize) -> &'h Event
         requires { place < length self.now }
         ensures { slice_get self.now place ≡ Some result.now }
@@ -95,7 +96,7 @@ impl<'h> Front<'h> {
         self.history.event(place)
     }
 
-    /// The place of the ending of the call that stands at this place.
+    /// Returns the position of the ending of the call at this position.
     pub(crate) fn ending_of_call(&self, place: usize) -> Option<usize>
         requires { place < length self.now }
         ensures ending { (n : ℕ) → PassesAt (is_call n) self.now place
@@ -105,19 +106,19 @@ impl<'h> Front<'h> {
         below(self.history.ending_of_call(place), self.end)
     }
 
-    /// The allocator that the history was made with.
+    /// Returns the allocator that the history was made with.
     pub(crate) fn allocator(&self) -> Global {
         self.history.allocator()
     }
 
-    /// How many documents there are.
+    /// Returns the number of documents.
     pub fn docs(&self) -> usize
         ensures { result ≡ length (documents_of self.now) }
     {
         self.docs
     }
 
-    /// The id of a document; documents are numbered from 0 in the order of their first calls.
+    /// Returns the id of a document. Documents are numbered from 0 in the order of their first calls.
     pub fn doc(&self, doc: usize) -> &'h DocId
         requires { doc < length (documents_of self.now) }
         ensures { option_map (λ d. d.0) (slice_get (documents_of self.now) doc) ≡ Some result.now }
@@ -125,14 +126,14 @@ impl<'h> Front<'h> {
         self.history.doc(doc)
     }
 
-    /// The number of the document with this id, where it was called.
+    /// Returns the number of the document with this id, if the prefix has a call on it.
     pub fn doc_of(&self, id: &DocId) -> Option<usize>
         ensures { result ≡ position (λ d. is_same id.now d.0) (documents_of self.now) }
     {
         below(self.history.doc_of(id), self.docs)
     }
 
-    /// The shard of a document, that of its first call: 0 to 1,023.
+    /// Returns the shard of a document, that of its first call: 0 to 1,023.
     pub fn shard(&self, doc: usize) -> u32
         requires { doc < length (documents_of self.now) }
         ensures { option_map (λ d. d.1) (slice_get (documents_of self.now) doc) ≡ Some result }
@@ -140,7 +141,7 @@ impl<'h> Front<'h> {
         self.history.shard(doc)
     }
 
-    /// The places of the calls of a document, in their order.
+    /// Returns the positions of the calls of a document, in their order.
     pub(crate) fn calls_of_document(&self, doc: usize) -> Result<Vec<usize>, NoMemory>
         requires { doc < length (documents_of self.now) }
         ensures { IfOk result (λ places. option_map (λ d. calls_at self.now d.0)

@@ -6,16 +6,17 @@ use std::hash::{BuildHasher, DefaultHasher, Hasher};
 
 /// The keys of the hashes by which documents and versions are found.
 ///
-/// Whoever writes a text and knows the keys can choose ids whose hashes are the same, so that each look-up goes through
-/// many of them. With keys that were drawn at random and kept he can't. What is answered doesn't depend on the keys.
+/// Whoever writes a text and knows the keys can choose ids with equal hashes, so that each look-up goes
+/// through many of them. Keys that were drawn at random and kept secret prevent this. No answer depends on
+/// the keys.
 #[derive(Clone, Copy)]
 pub struct HashKeys {
-    // A hasher that the keys were written to.
+    // A hasher to which the keys were written.
     start: DefaultHasher,
 }
 
 impl HashKeys {
-    /// These keys: each hash begins with the two numbers.
+    /// Returns these keys: each hash begins with the two numbers.
     pub fn new(first: u64, second: u64) -> HashKeys
         ensures { result.start ≡ hasher_of first second }
     {
@@ -25,7 +26,7 @@ impl HashKeys {
         HashKeys { start }
     }
 
-    /// Keys that everyone knows, for texts of whoever runs the program.
+    /// Returns keys that everyone knows, for texts of whoever runs the program.
     pub fn fixed() -> HashKeys
         ensures { result.start ≡ hasher_of 0 0 }
     {
@@ -43,7 +44,7 @@ impl BuildHasher for HashKeys {
     }
 }
 
-// The keys aren't shown.
+// The keys are not shown.
 impl Debug for HashKeys {
     fn fmt<W: fmt::Write>(&self, f: &mut Formatter<W>) -> fmt::Result {
         f.debug_struct("HashKeys").finish_non_exhaustive()

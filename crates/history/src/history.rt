@@ -20,16 +20,18 @@ pub const MOST_EVENTS: usize = 1_048_576;
 
 /// A history: events in the order in which they were recorded.
 ///
-/// Its type keeps that call numbers are distinct, that each call has at most one ending, after it and of a kind
-/// that fits its operation, and that the calls of a document name one shard, 0 to 1,023.
+/// The type guarantees that call numbers are distinct, that each call has at most one ending, which comes
+/// after it and is of a kind that fits its operation, and that all calls of a document name one shard, 0 to
+/// 1,023.
 #[derive(Debug, Drop)]
 pub struct History {
     events: Vec<Event>,
-    // The place of each call, by its number.
+    // The position of each call, by its number.
     calls: CallPlaces,
-    // For each event the place of the ending of the call that stands there, where it is one and has one.
+    // For each event, the position of the ending of the call at that event, if it is a call and has an
+    // ending.
     endings: Vec<Option<u32>>,
-    // The documents in the order of the first calls, each with its shard and the places of its calls.
+    // The documents in the order of their first calls, each with its shard and the positions of its calls.
     documents: Documents,
 }
 
@@ -48,7 +50,8 @@ impl Model for History {
 }
 
 impl History {
-    /// The history without events, whose documents are found by hashes with fixed keys. It allocates nothing.
+    /// Returns the history without events. Its documents are found by hashes with fixed keys. It allocates
+    /// nothing.
     pub fn new(alloc: Global) -> History
         ensures empty { result ≡ [] }
         ensures history { IsHistory result }
@@ -56,7 +59,8 @@ impl History {
         History::with_keys(alloc, HashKeys::fixed())
     }
 
-    /// The history without events, whose documents are found by hashes with these keys. It allocates nothing.
+    /// Returns the history without events. Its documents are found by hashes with these keys. It allocates
+    /// nothing.
     pub fn with_keys(alloc: Global, keys: HashKeys) -> History
         ensures empty { result ≡ [] }
         ensures history { IsHistory result }
@@ -69,12 +73,12 @@ impl History {
         }
     }
 
-    /// The keys of the hashes by which documents are found.
+    /// Returns the keys of the hashes by which documents are found.
     pub fn keys(&self) -> HashKeys {
         self.documents.keys()
     }
 
-    /// How many events there are, at most 1,048,576.
+    /// Returns the number of events, at most 1,048,576.
     pub fn len(&self) -> usize
         ensures count { result ≡ length self.now }
         ensures within { length self.now ≤ limit }
@@ -83,14 +87,14 @@ impl History {
         self.events.len()
     }
 
-    /// Whether there is no event.
+    /// Returns whether there is no event.
     pub fn is_empty(&self) -> bool
         ensures { IsTrue result ↔ (self.now ≡ []) }
     {
         self.events.is_empty()
     }
 
-    /// The event at a place, from 0.
+    /// Returns the event at a position, from 0.
     pub fn event(&self, place: usize) -> &Event
         requires { place < length self.now }
         ensures { slice_get self.now place ≡ Some result.now }
@@ -98,7 +102,7 @@ impl History {
         &self.events[place]
     }
 
-    /// The place of the call with this number.
+    /// Returns the position of the call with this number.
     pub fn call(&self, no: u64) -> Option<usize>
         ensures place { result ≡ place_of (is_call no) self.now }
         ensures within { IfSome result (λ place. place < length self.now) }
@@ -106,7 +110,7 @@ impl History {
         self.calls.get(no)
     }
 
-    /// The place of the ending of the call that stands at this place.
+    /// Returns the position of the ending of the call at this position.
     pub(crate) fn ending_of_call(&self, place: usize) -> Option<usize>
         requires { place < length self.now }
         ensures ending { (n : ℕ) → PassesAt (is_call n) self.now place
@@ -116,12 +120,14 @@ impl History {
         wide(self.endings[place])
     }
 
-    /// The place of the ending of the call with this number: of its reply, or of the news that it is lost.
+    /// Returns the position of the ending of the call with this number: its reply, or the event that it is
+    /// lost.
     pub fn ending(&self, no: u64) -> Option<usize>
         ensures place { result ≡ place_of (is_ending no) self.now }
         ensures within { IfSome result (λ place. place < length self.now) }
     {
-        // A look at a field: what the type keeps is known, that a call which isn't there has no ending.
+        // The access to a field makes the type's invariant known: a call that is not in the history has no
+        // ending.
         let _ = &self.events;
         match self.call(no) {
             Some(place) => self.ending_of_call(place),
@@ -129,7 +135,7 @@ impl History {
         }
     }
 
-    /// The shard of the document, which stands at `doc` where it was called before.
+    /// Returns the shard of the document, which has the index `doc` if it was called before.
     pub(crate) fn known_shard(&self, doc: Option<usize>, id: &IdText<'_>) -> Option<u32>
         requires { doc ≡ position (λ d. is_same id.now d.0) (documents_of self.now) }
         ensures { result ≡ shard_of self.now id.now }
@@ -143,8 +149,8 @@ impl History {
         }
     }
 
-    /// The id of a document's call, which stands at `doc` where it was called before: then a copy of the id that the
-    /// documents have, so that its text is kept once.
+    /// Returns the id for a call on a document, which has the index `doc` if it was called before. In that
+    /// case it is a copy of the id that the documents have, so that its text is kept once.
     pub(crate) fn shared_id(&self, doc: Option<usize>, id: &IdText<'_>) -> Result<DocId, NoMemory>
         requires { doc ≡ position (λ d. is_same id.now d.0) (documents_of self.now) }
         ensures { IfOk result (λ shared. shared ≡ id.now) }
@@ -158,7 +164,8 @@ impl History {
         }
     }
 
-    /// Adds a call that is not refused, unless memory is. Its document stands at `doc`, or is new.
+    /// Adds a call that the history does not refuse. It fails only if memory is refused. The document has the
+    /// index `doc`, or is new.
     #[tactic(auto, using(crate::proofs::PushLemmas::indexed_after_call))]
     pub(crate) fn append_call(
         &mut self,
@@ -186,7 +193,8 @@ impl History {
         Ok(())
     }
 
-    /// Adds an ending of the call at the place, which is not refused, unless memory is.
+    /// Adds an ending of the call at the position, which the history does not refuse. It fails only if memory
+    /// is refused.
     #[tactic(auto, using(crate::proofs::PushLemmas::indexed_after_ending))]
     pub(crate) fn append_ending(&mut self, call: usize, event: Event) -> Result<(), NoMemory>
         requires ends { IsEndingOf self.old call event }
@@ -205,9 +213,10 @@ impl History {
         Ok(())
     }
 
-    /// Adds an event at the end, or refuses it with the first reason that holds: for a call `SecondCall`,
-    /// `ShardMoved`, `Full`; for a reply `NoCall`, `Ended`, `Kind`, `Full`; for a lost call `NoCall`, `Ended`,
-    /// `Full`; last `NoMemory`. A refusal leaves the history as it was. A call names one of the 1,024 shards.
+    /// Adds an event at the end, or refuses it with the first reason that holds. For a call these are
+    /// `SecondCall`, `ShardMoved`, `Full`; for a reply `NoCall`, `Ended`, `Kind`, `Full`; for a lost call
+    /// `NoCall`, `Ended`, `Full`; the last reason is `NoMemory`. A refusal leaves the history as it was. A
+    /// call must name one of the 1,024 shards.
     pub fn push(&mut self, event: Event) -> Result<(), HistFault>
         requires { HasShard event }
         ensures ok { OnOk result (self.new ≡ self.old ++ event ∷ []) }
@@ -221,24 +230,24 @@ impl History {
             Event::Reply { no, reply } => self.push_reply(no, reply),
             Event::Lost { no } => self.push_lost(no),
         };
-        // A look at a field: what the type keeps is known of the history as it is now.
+        // The access to a field makes the type's invariant known of the history as it is now.
         let _ = &self.events;
         pushed
     }
 
-    /// The allocator that the history was made with.
+    /// Returns the allocator that the history was made with.
     pub(crate) fn allocator(&self) -> Global {
         *self.events.allocator()
     }
 
-    /// How many documents there are.
+    /// Returns the number of documents.
     pub fn docs(&self) -> usize
         ensures { result ≡ length (documents_of self.now) }
     {
         self.documents.len()
     }
 
-    /// The id of a document; documents are numbered from 0 in the order of their first calls.
+    /// Returns the id of a document. Documents are numbered from 0 in the order of their first calls.
     pub fn doc(&self, doc: usize) -> &DocId
         requires { doc < length (documents_of self.now) }
         ensures { option_map (λ d. d.0) (slice_get (documents_of self.now) doc) ≡ Some result.now }
@@ -249,21 +258,21 @@ impl History {
         }
     }
 
-    /// The number of the document with this id, where it was called.
+    /// Returns the number of the document with this id, if it was called.
     pub fn doc_of(&self, id: &DocId) -> Option<usize>
         ensures { result ≡ position (λ d. is_same id.now d.0) (documents_of self.now) }
     {
         self.doc_of_text(&id.text())
     }
 
-    /// The number of the document with this id, where it was called.
+    /// Returns the number of the document with this id, if it was called.
     pub(crate) fn doc_of_text(&self, id: &IdText<'_>) -> Option<usize>
         ensures { result ≡ position (λ d. is_same id.now d.0) (documents_of self.now) }
     {
         self.documents.index_of(id)
     }
 
-    /// The places of the calls of a document, in their order.
+    /// Returns the positions of the calls of a document, in their order.
     pub(crate) fn calls_of_document(&self, doc: usize) -> Result<Vec<usize>, NoMemory>
         requires { doc < length (documents_of self.now) }
         ensures { IfOk result (λ places. option_map (λ d. calls_at self.now d.0)
@@ -272,14 +281,14 @@ impl History {
         self.documents.calls(doc)
     }
 
-    /// How many documents have their first call before the place; these are the first ones.
+    /// Returns how many documents have their first call before the position; these are the first ones.
     pub(crate) fn docs_called_before(&self, end: usize) -> usize
         ensures { result ≡ length (documents_of (first_events self.now end)) }
     {
         self.documents.called_before(end)
     }
 
-    /// The shard of a document, that of its first call: 0 to 1,023.
+    /// Returns the shard of a document, that of its first call: 0 to 1,023.
     pub fn shard(&self, doc: usize) -> u32
         requires { doc < length (documents_of self.now) }
         ensures { option_map (λ d. d.1) (slice_get (documents_of self.now) doc) ≡ Some result }
@@ -291,7 +300,7 @@ impl History {
     }
 }
 
-// A place that is kept in few bytes.
+// A position that is kept in few bytes.
 fn wide(place: Option<u32>) -> Option<usize>
     ensures { result ≡ place }
 {

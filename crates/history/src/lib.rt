@@ -1,5 +1,5 @@
-//! Histories of calls and replies: events, well-formed histories, the records of a document, and the text that histories are
-//! read from and written as.
+//! Histories of calls and replies: events, well-formed histories, the records of a document, and the text
+//! that histories are read from and written as.
 //!
 //! ```text
 //! let history = read(alloc, text)?; // or the first line that is refused, with its cause

@@ -9,7 +9,7 @@ use crate::fault::HistFault;
 use crate::history::History;
 use api_lines::{BodyFields, Heard, LineFault, LineSaid, TextCause, heard_of};
 
-// What is heard of a call by a status and a body.
+// What is heard of a call, by a status and a body.
 fn heard_of_event(call: &Event, status: u16, body: &BodyFields<'_>) -> Heard
     ensures { result ≡ heard_of_call call.now status (body_seen body.now) }
 {
@@ -19,7 +19,7 @@ fn heard_of_event(call: &Event, status: u16, body: &BodyFields<'_>) -> Heard
     }
 }
 
-// The answer to an event as one to its line.
+// The result for an event as one for its line.
 fn of_line(pushed: Result<(), HistFault>) -> Result<(), LineFault>
     ensures { result ≡ line_result pushed }
 {
@@ -29,7 +29,7 @@ fn of_line(pushed: Result<(), HistFault>) -> Result<(), LineFault>
     }
 }
 
-// Takes a reply line: `NoCall`, `Ended`, `Stranger`, `Full`. Its call is looked up once.
+// Takes a reply line. Causes to refuse it: `NoCall`, `Ended`, `Stranger`, `Full`. Its call is looked up once.
 fn take_reply(
     history: &mut History,
     no: u64,
@@ -53,10 +53,12 @@ fn take_reply(
     }
 }
 
-/// Takes what a line says by itself, with the body of a reply. A line that is refused leaves the history as it was.
+/// Takes what a line says by itself, with the body of a reply. A line that is refused leaves the history as
+/// it was.
 ///
-/// Causes in their order: for a call `SecondCall`, `ShardMoved`, `Full`; for a reply `NoCall`, `Ended`, `Stranger`,
-/// `Full`; for a lost line `NoCall`, `Ended`, `Full`. A reply of unknown outcome is a loss.
+/// Causes, in their order: for a call `SecondCall`, `ShardMoved`, `Full`; for a reply `NoCall`, `Ended`,
+/// `Stranger`, `Full`; for a lost line `NoCall`, `Ended`, `Full`. A reply of unknown outcome counts as a lost
+/// line.
 pub fn take_said(
     history: &mut History,
     said: LineSaid<'_>,

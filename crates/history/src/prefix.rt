@@ -9,7 +9,7 @@ use std::alloc::AllocError;
 use version_pair::NoMemory;
 
 impl Event {
-    // Another event that says the same.
+    // Returns another event that says the same.
     fn copy(&self) -> Result<Event, NoMemory>
         ensures { IfOk result (λ event. event ≡ self.now) }
     {
@@ -30,7 +30,7 @@ impl Event {
 }
 
 impl History {
-    // Adds an event that is not refused, unless memory is.
+    // Adds an event that the history does not refuse. It fails only if memory is refused.
     fn push_accepted(&mut self, event: Event) -> Result<(), NoMemory>
         requires accepted { refusal_of self.old event ≡ None }
         requires shard { HasShard event }
@@ -45,7 +45,7 @@ impl History {
         }
     }
 
-    /// The history of the first `n` events, or of all where there are fewer.
+    /// Returns the history of the first `n` events, or of all events if there are fewer.
     pub fn prefix(&self, n: usize) -> Result<History, NoMemory>
         ensures { IfOk result (λ history. history ≡ first_events self.now n) }
     {

@@ -11,7 +11,7 @@ use doc_register::{Op, Reply};
 use version_pair::IdText;
 
 impl History {
-    /// Adds a call, or refuses it: `SecondCall`, `ShardMoved`, `Full`, `NoMemory`.
+    /// Adds a call. Reasons to refuse it: `SecondCall`, `ShardMoved`, `Full`, `NoMemory`.
     pub(crate) fn push_call(
         &mut self,
         no: u64,
@@ -37,7 +37,8 @@ impl History {
         }
     }
 
-    /// Adds a reply to the call at the place, which has no ending yet; or refuses it: `Kind`, `Full`, `NoMemory`.
+    /// Adds a reply to the call at the position, which has no ending yet. Reasons to refuse it: `Kind`,
+    /// `Full`, `NoMemory`.
     pub(crate) fn push_answer(
         &mut self,
         call: usize,
@@ -61,7 +62,8 @@ impl History {
         }
     }
 
-    /// Adds the news that the call at the place, which has no ending yet, is lost; or refuses it: `Full`, `NoMemory`.
+    /// Adds the event that the call at the position, which has no ending yet, is lost. Reasons to refuse it:
+    /// `Full`, `NoMemory`.
     pub(crate) fn push_loss(&mut self, call: usize, no: u64) -> Result<(), HistFault>
         requires { open_call_of self.old no ≡ Ok call }
         ensures ok { OnOk result (self.new ≡ self.old ++ Lost no ∷ []) }
@@ -77,7 +79,7 @@ impl History {
         }
     }
 
-    /// Adds a reply, or refuses it: `NoCall`, `Ended`, `Kind`, `Full`, `NoMemory`.
+    /// Adds a reply. Reasons to refuse it: `NoCall`, `Ended`, `Kind`, `Full`, `NoMemory`.
     pub(crate) fn push_reply(&mut self, no: u64, reply: Reply) -> Result<(), HistFault>
         ensures ok { OnOk result (self.new ≡ self.old ++ Answered no reply ∷ []) }
         ensures err { OnErr result (self.new ≡ self.old) }
@@ -89,7 +91,7 @@ impl History {
         }
     }
 
-    /// Adds the news that a call is lost, or refuses it: `NoCall`, `Ended`, `Full`, `NoMemory`.
+    /// Adds the event that a call is lost. Reasons to refuse it: `NoCall`, `Ended`, `Full`, `NoMemory`.
     pub(crate) fn push_lost(&mut self, no: u64) -> Result<(), HistFault>
         ensures ok { OnOk result (self.new ≡ self.old ++ Lost no ∷ []) }
         ensures err { OnErr result (self.new ≡ self.old) }

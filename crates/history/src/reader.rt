@@ -29,7 +29,8 @@ fn take_fields(history: &mut History, line: &LineFields<'_>) -> Result<(), LineF
     }
 }
 
-// Takes the value of one more line, by way of `serde_json`. A line that is refused leaves the history as it was.
+// Takes the value of one more line, by way of `serde_json`. A line that is refused leaves the history as it
+// was.
 fn take_value(
     alloc: Global,
     history: &mut History,
@@ -49,7 +50,8 @@ fn take_value(
     }
 }
 
-// Takes the line with this number, which the quick way doesn't read. A line that is refused leaves the history as it was.
+// Takes the line with this number, which the quick way doesn't read. A line that is refused leaves the
+// history as it was.
 fn take_other_line(
     alloc: Global,
     history: &mut History,
@@ -91,10 +93,10 @@ fn take_line(
     take_other_line(alloc, history, room, number, line)
 }
 
-/// A history that is read line by line.
+/// A reader that takes a history line by line.
 ///
-/// Contracts see the events so far and how many lines were taken. The law `laws::line_by_line` says of texts what `line`
-/// says of these.
+/// Contracts see the events so far and the number of lines taken. The law `laws::line_by_line` states for
+/// texts what `line` states for these.
 #[derive(Debug, Drop)]
 pub struct HistoryReader {
     history: History,
@@ -116,14 +118,14 @@ impl Model for HistoryReader {
 }
 
 impl HistoryReader {
-    /// The reader that has taken no line, of a history with fixed keys. It allocates nothing.
+    /// Returns a reader that has taken no line, for a history with fixed keys. It allocates nothing.
     pub fn new(alloc: Global) -> HistoryReader
         ensures { result ≡ so_far [] 0 }
     {
         HistoryReader::with_keys(alloc, HashKeys::fixed())
     }
 
-    /// The reader that has taken no line, of a history with these keys. It allocates nothing.
+    /// Returns a reader that has taken no line, for a history with these keys. It allocates nothing.
     pub fn with_keys(alloc: Global, keys: HashKeys) -> HistoryReader
         ensures { result ≡ so_far [] 0 }
     {
@@ -134,8 +136,8 @@ impl HistoryReader {
         }
     }
 
-    /// Takes the next line, without its line feed; or refuses it with its first cause, in the order that `read` names.
-    /// `NoMemory` is told where a growth was refused. A line that is refused leaves the reader as it was.
+    /// Takes the next line, without its line feed; or refuses it with its first cause, in the order that
+    /// `read` names. `NoMemory` if memory was refused. A line that is refused leaves the reader as it was.
     pub fn line(&mut self, line: &[u8]) -> Result<(), ReadFault>
         requires { HasNoLineFeed line.now }
         ensures ok { OnOk result (next_line takes_value self.old line.now ≡ Ok self.new) }
@@ -155,7 +157,7 @@ impl HistoryReader {
         }
     }
 
-    /// The history of the lines that were taken. It allocates nothing.
+    /// Returns the history of the lines that were taken. It allocates nothing.
     pub fn finish(self) -> History
         ensures { result ≡ self.state }
     {
@@ -178,11 +180,11 @@ impl LineReader for HistoryReader {
     }
 }
 
-/// The history that a text spells, or the first line that is refused with its first cause.
+/// Returns the history that a text spells, or the first line that is refused, with its first cause.
 ///
-/// Causes are told in this order: `Lines` and `Long`; a blank line is then passed over; `Json`, `Shape`, `Id`,
-/// `Half`, `Range`; for a call `SecondCall`, `ShardMoved`, `Full`; for a reply `NoCall`, `Ended`, `Stranger`, `Full`;
-/// for a lost line `NoCall`, `Ended`, `Full`. `NoMemory` is told where a growth was refused.
+/// Causes are reported in this order: `Lines` and `Long`, after which a blank line is passed over; `Json`,
+/// `Shape`, `Id`, `Half`, `Range`; for a call `SecondCall`, `ShardMoved`, `Full`; for a reply `NoCall`,
+/// `Ended`, `Stranger`, `Full`; for a lost line `NoCall`, `Ended`, `Full`. `NoMemory` if memory was refused.
 pub fn read(alloc: Global, text: &[u8]) -> Result<History, ReadFault>
     ensures ok { IfOk result (λ history. history_text text.now ≡ Ok history) }
     ensures text { IfOk result (IsHistoryText text.now) }

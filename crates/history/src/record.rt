@@ -4,20 +4,20 @@ ghost use Rattle.history.specs.Heard.{IsSettled, known_before, pair_of};
 use doc_register::{Conflicts, Op, Reply};
 use version_pair::Pair;
 
-/// One call of a document, as a history has it. Places are numbers of events, from 0.
+/// One call of a document, as a history has it. Positions are indices of events, from 0.
 #[derive(Clone, Copy, Debug, PartialEq, Eq)]
 pub struct Rec {
     /// The number of the call.
     pub no: u64,
     pub op: Op,
-    /// The place of the call.
+    /// The position of the call.
     pub call_at: usize,
-    /// The place of the reply and the reply, where the call was answered.
+    /// The position of the reply, and the reply, if the call was answered.
     pub heard: Option<(usize, Reply)>,
 }
 
 impl Rec {
-    /// The pair with which it was performed, where its reply shows it.
+    /// Returns the pair with which the call was performed, if its reply shows it.
     pub fn pair_taken(&self) -> Option<Pair>
         ensures { result ≡ pair_of self.now.heard }
     {
@@ -27,7 +27,7 @@ impl Rec {
         }
     }
 
-    /// The call as it was known before an event: without what was heard later.
+    /// Returns the call as it was known before an event: without what was heard later.
     pub fn known_before(self, event: usize) -> Rec
         ensures { result ≡ known_before event self }
     {
@@ -40,7 +40,8 @@ impl Rec {
         }
     }
 
-    /// Whether it is a get, or a reply tells whether the write was performed: under Maybe a conflict doesn't tell it.
+    /// Returns whether the call is a get, or has a reply that says whether the write was performed. Under
+    /// Maybe a conflict doesn't say it.
     pub fn is_settled(&self, conflicts: Conflicts) -> bool
         ensures { IsTrue result ↔ IsSettled conflicts self.now }
     {

@@ -10,7 +10,7 @@ use doc_register::Reply;
 use version_pair::NoMemory;
 
 impl Front<'_> {
-    // What was heard of the call that stands at this place: the place of its reply, and the reply.
+    // What was heard of the call at this position: the position of its reply, and the reply.
     fn heard_at_call(&self, place: usize) -> Option<(usize, Reply)>
         requires { place < length self.now }
         ensures { (n : ℕ) → PassesAt (is_call n) self.now place → result ≡ heard_of self.now n }
@@ -25,7 +25,7 @@ impl Front<'_> {
         }
     }
 
-    // The call at the place as a record.
+    // The call at the position, as a record.
     fn record(&self, place: usize) -> Option<Rec>
         requires { place < length self.now }
         ensures { result ≡ record_at self.now place }
@@ -41,7 +41,7 @@ impl Front<'_> {
         }
     }
 
-    /// The calls of a document in their order, each with what was heard of it.
+    /// Returns the calls of a document in their order, each with what was heard of it.
     pub fn records(&self, doc: usize) -> Result<Vec<Rec>, NoMemory>
         requires { doc < length (documents_of self.now) }
         ensures { IfOk result (λ records. option_map (λ d. records_of self.now d.0)
@@ -57,7 +57,7 @@ impl Front<'_> {
 }
 
 impl History {
-    /// What was heard of the call with this number: the place of its reply, and the reply.
+    /// Returns what was heard of the call with this number: the position of its reply, and the reply.
     pub fn heard(&self, no: u64) -> Option<(usize, Reply)>
         ensures { result ≡ heard_of self.now no }
     {
@@ -70,7 +70,7 @@ impl History {
         }
     }
 
-    /// The call with this number as a record.
+    /// Returns the call with this number as a record.
     pub fn record(&self, no: u64) -> Option<Rec>
         ensures { result ≡ option_and_then (record_at self.now) (place_of (is_call no) self.now) }
     {
@@ -80,7 +80,7 @@ impl History {
         }
     }
 
-    /// The calls of a document in their order, each with what was heard of it.
+    /// Returns the calls of a document in their order, each with what was heard of it.
     pub fn records(&self, doc: usize) -> Result<Vec<Rec>, NoMemory>
         requires { doc < length (documents_of self.now) }
         ensures { IfOk result (λ records. option_map (λ d. records_of self.now d.0)
@@ -90,7 +90,7 @@ impl History {
     }
 }
 
-// Adds the record, where there is one.
+// Adds the record, if there is one.
 fn push_some(records: &mut Vec<Rec>, found: Option<Rec>) -> Result<(), NoMemory>
     ensures ok { OnOk result (records.new.items ≡ records.old.items ++ option_to_list found) }
 {

@@ -12,7 +12,7 @@ use doc_register::Reply;
 use version_pair::IdText;
 
 impl History {
-    /// `Full`, where there is no room for one more event.
+    /// Returns `Full` if there is no room for one more event.
     pub(crate) fn refusal_for_room(&self) -> Option<HistFault>
         ensures { result ≡ when_full self.now }
     {
@@ -23,7 +23,7 @@ impl History {
         }
     }
 
-    /// Why a call is refused, if it is. Its document stands at `doc`, or is new.
+    /// Returns the reason to refuse a call, if there is one. The document has the index `doc`, or is new.
     pub(crate) fn call_refusal(
         &self,
         doc: Option<usize>,
@@ -43,7 +43,7 @@ impl History {
         }
     }
 
-    /// The place of the call with this number, where it has no ending; else `NoCall` or `Ended`.
+    /// Returns the position of the call with this number if it has no ending. Errors: `NoCall`, `Ended`.
     pub(crate) fn open_call(&self, no: u64) -> Result<usize, HistFault>
         ensures { result ≡ open_call_of self.now no }
     {
@@ -56,7 +56,7 @@ impl History {
         }
     }
 
-    /// Whether the call at the place can have the reply.
+    /// Returns whether the call at the position can have the reply.
     pub(crate) fn is_answerable(&self, place: usize, reply: &Reply) -> bool
         requires { place < length self.now }
         ensures { result ≡ answerable self.now place reply.now }

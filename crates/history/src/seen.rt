@@ -6,8 +6,8 @@ use crate::front::Front;
 use crate::history::History;
 use version_pair::Pair;
 
-/// The greatest primary term and the greatest sequence number in any reply or condition of a history; they need not
-/// stand in one pair. Both are 0 where no pair is named, and below 2^63.
+/// The greatest primary term and the greatest sequence number in any reply or condition of a history. They
+/// need not be of one pair. Both are 0 if no pair is named, and below 2^63.
 #[derive(Clone, Copy, Debug, PartialEq, Eq)]
 pub struct Seen {
     /// The greatest primary term.
@@ -17,7 +17,7 @@ pub struct Seen {
 }
 
 impl Seen {
-    // What is seen with one more pair, where there is one.
+    // The greatest numbers with those of one more pair, if there is one.
     fn with(self, pair: Option<Pair>) -> Seen
         ensures { result ≡ seen_with self pair }
     {
@@ -43,7 +43,7 @@ fn event_pair(event: &Event) -> Option<Pair>
 }
 
 impl Front<'_> {
-    /// The greatest primary term and the greatest sequence number in any reply or condition.
+    /// Returns the greatest primary term and the greatest sequence number in any reply or condition.
     pub fn seen(&self) -> Seen
         ensures { result ≡ seen_in self.now }
     {
@@ -56,7 +56,7 @@ impl Front<'_> {
 }
 
 impl History {
-    /// The greatest primary term and the greatest sequence number in any reply or condition.
+    /// Returns the greatest primary term and the greatest sequence number in any reply or condition.
     pub fn seen(&self) -> Seen
         ensures { result ≡ seen_in self.now }
     {

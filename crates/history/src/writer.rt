@@ -52,10 +52,11 @@ fn write_event(
     write_value(alloc, &value, text)
 }
 
-/// The text of a history: compact JSON lines with their keys in byte order, each ended by a line feed. A call names its
-/// shard only where it isn't 0. A reply has the status and the body that `api_lines::write_reply` gives.
+/// Returns the text of a history: compact JSON lines with their keys in byte order, each ended by a line
+/// feed. A call names its shard only if it is not 0. A reply has the status and the body that
+/// `api_lines::write_reply` gives.
 ///
-/// What is written is a history text, and is read back as the same events.
+/// The result is a history text, and is read back as the same events.
 pub fn write(alloc: Global, history: &History) -> Result<Vec<u8>, NoMemory>
     ensures text { IfOk result (λ text. text.items ≡ written_text history.now) }
     ensures is_text { IfOk result (λ text. IsHistoryText text.items history.now) }

@@ -89,7 +89,7 @@ fn conditioned_index(
     }
 }
 
-/// The line of a call, as a value.
+/// Returns the line of a call, as a value.
 pub fn call_value(
     alloc: Global,
     no: u64,
@@ -115,7 +115,7 @@ pub fn call_value(
     }
 }
 
-/// The line of a reply about the document, as a value.
+/// Returns the line of a reply about the document, as a value.
 pub fn reply_value(alloc: Global, no: u64, id: &DocId, reply: Reply) -> Result<Value, NoMemory>
     ensures value { IfOk result (λ value. view value ≡ value_of_reply no id.now reply) }
     ensures in_range { IsInRange (Answered no reply) }
@@ -124,7 +124,7 @@ pub fn reply_value(alloc: Global, no: u64, id: &DocId, reply: Reply) -> Result<V
     json!(in alloc; {"body": body, "e": "reply", "n": no, "status": status})
 }
 
-/// The line of a lost call, as a value.
+/// Returns the line of a lost call, as a value.
 pub fn lost_value(alloc: Global, no: u64) -> Result<Value, NoMemory>
     ensures { IfOk result (λ value. view value ≡ value_of_loss no) }
 {

@@ -3,26 +3,26 @@ use history::Rec;
 use std::alloc::Global;
 use version_pair::NoMemory;
 
-// So many calls before the first one that a window has to hold it holds too: what a reply shows against another one mostly
-// stands near.
+// The number of calls that a window also has before the first one that it must have: what a reply contradicts
+// is mostly near it.
 const MARGIN: usize = 64;
 
-// So many calls are looked at, at the most, for the first one that was open where a window begins.
+// The greatest number of calls that are examined for the first one that was open where a window begins.
 const MOST_OPEN: usize = 1024;
 
-/// What came before a window of a document's calls, in short.
+/// A summary of what came before a window of a document's calls.
 #[derive(Drop)]
 pub struct Past {
-    /// How many calls stand before the window.
+    /// The number of calls before the window.
     pub calls: usize,
-    /// The document as the replies before the window show it.
+    /// The state of the document as the replies before the window show it.
     pub state: DocState,
-    /// Those of the calls that may change the document in the window, in their order: unanswered writes, and those that are
-    /// answered in it.
+    /// Those of the calls that may change the document in the window, in their order: unanswered writes, and
+    /// writes that are answered in it.
     pub open: Vec<Rec>,
 }
 
-// The document after the call, as its reply shows it; `Never` where it doesn't.
+// The state of the document after the call, as its reply shows it; `Never` if it doesn't.
 fn state_shown(op: Op, reply: Reply) -> DocState {
     match reply {
         Reply::Found { pair, k } => DocState::Here(pair, k),
@@ -33,7 +33,7 @@ fn state_shown(op: Op, reply: Reply) -> DocState {
     }
 }
 
-// The same, where the reply stands before the place.
+// The same, if the reply is before the index.
 fn state_shown_before(found: Rec, place: usize) -> DocState {
     match found.heard {
         Some(heard) => {
@@ -47,7 +47,7 @@ fn state_shown_before(found: Rec, place: usize) -> DocState {
     }
 }
 
-// Whether the write may be performed on the document, or after later changes of it.
+// Whether the write may be performed on the document in this state, or after later changes of it.
 fn may_be_performed(op: Op, state: DocState) -> bool {
     match op {
         Op::Get => false,
@@ -58,12 +58,12 @@ fn may_be_performed(op: Op, state: DocState) -> bool {
     }
 }
 
-// Whether the call was answered after the place.
+// Whether the call was answered after the index.
 fn is_answered_after(found: Rec, place: usize) -> bool {
     found.heard.is_some_and(|heard| heard.0 > place)
 }
 
-// How many calls come before a window in which the calls are whole that were open at the place.
+// The number of calls before a window that has all calls that were open at the index.
 fn calls_before(records: &[Rec], place: usize) -> usize {
     let called = records.partition_point(|found| found.call_at <= place);
     for rec in called.saturating_sub(MOST_OPEN)..called {
@@ -77,7 +77,7 @@ fn calls_before(records: &[Rec], place: usize) -> usize {
     called.saturating_sub(MARGIN)
 }
 
-// Whether the call may change the document from this place on, where it was left in this state.
+// Whether the call may change the document from this index on, if it was left in this state.
 fn is_open(found: Rec, place: usize, state: DocState, conflicts: Conflicts) -> bool {
     match found.heard {
         None => may_be_performed(found.op, state),
@@ -90,7 +90,7 @@ fn is_open(found: Rec, place: usize, state: DocState, conflicts: Conflicts) -> b
 }
 
 impl Past {
-    /// Nothing came before the window.
+    /// Returns the past of a window that nothing came before.
     pub fn new(alloc: Global) -> Past {
         Past {
             calls: 0,
@@ -99,7 +99,7 @@ impl Past {
         }
     }
 
-    // Notes what the replies before the place show.
+    // Takes in what the replies before the index show.
     fn note_replies(&mut self, place: usize) {
         for found in &self.open {
             let shown = state_shown_before(*found, place);
@@ -109,7 +109,7 @@ impl Past {
         }
     }
 
-    /// Lets the window begin later: shortly before the calls that were open at the place.
+    /// Lets the window begin later: shortly before the calls that were open at the index.
     pub fn advance(
         &mut self,
         records: &[Rec],

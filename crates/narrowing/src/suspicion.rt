@@ -2,19 +2,19 @@ use history::{History, Rec};
 use std::alloc::Global;
 use version_pair::{NoMemory, Pair};
 
-// The pair that is given to the call, with the place of its reply.
+// The pair that is given to the call, with the index of its reply.
 fn given_to(found: Rec) -> Option<(usize, Pair)> {
     let (place, reply) = found.heard?;
     Some((place, reply.pair_taken()?))
 }
 
-// The pair that the reply to the call shows, with the place of the reply.
+// The pair that the reply to the call shows, with the index of the reply.
 fn shown_to(found: Rec) -> Option<(usize, Pair)> {
     let (place, reply) = found.heard?;
     Some((place, reply.pair()?))
 }
 
-// The lesser of two places, of which one may be none.
+// The lesser of two indices, the second of which may be missing.
 fn earlier(place: usize, other: Option<usize>) -> Option<usize> {
     match other {
         Some(least) => Some(least.min(place)),
@@ -22,7 +22,7 @@ fn earlier(place: usize, other: Option<usize>) -> Option<usize> {
     }
 }
 
-// The greater of two pairs, of which one may be none.
+// The greater of two pairs, the second of which may be missing.
 fn greater(pair: Pair, other: Option<Pair>) -> Pair {
     match other {
         Some(greatest) => { if greatest > pair { greatest } else { pair } }
@@ -30,7 +30,7 @@ fn greater(pair: Pair, other: Option<Pair>) -> Pair {
     }
 }
 
-// The replies of a document that show a pair, by their places.
+// The replies of a document that show a pair, by their indices.
 fn shown_pairs(alloc: Global, records: &[Rec]) -> Result<Vec<(usize, Pair)>, NoMemory> {
     let mut shown = Vec::new(alloc);
     for found in records {
@@ -42,13 +42,13 @@ fn shown_pairs(alloc: Global, records: &[Rec]) -> Result<Vec<(usize, Pair)>, NoM
     Ok(shown)
 }
 
-// The pair that is shown next, where that is before the place.
+// The pair that is shown next, if that is before the index.
 fn shown_before(shown: &[(usize, Pair)], next: usize, place: usize) -> Option<Pair> {
     let entry = *shown.get(next)?;
     if entry.0 < place { Some(entry.1) } else { None }
 }
 
-// The place of the reply to the call, where it shows a pair below this one.
+// The index of the reply to the call, if it shows a pair below this one.
 fn shown_below(found: Rec, greatest: Option<Pair>) -> Option<usize> {
     let (place, pair) = shown_to(found)?;
     if greater(pair, greatest) == pair {
@@ -79,7 +79,7 @@ fn first_below(alloc: Global, records: &[Rec]) -> Result<Option<usize>, NoMemory
     Ok(first)
 }
 
-// Notes the pairs that are given to the calls of a document, with the shard and the places of the replies.
+// Adds the pairs that are given to the calls of a document, with the shard and the indices of the replies.
 fn note_given(
     given: &mut Vec<((u32, Pair), usize)>,
     shard: u32,
@@ -93,7 +93,7 @@ fn note_given(
     Ok(())
 }
 
-// The first reply that gives a pair of its shard for the second time; the list is sorted.
+// The first reply that gives a pair of its shard for the second time. The list must be sorted.
 fn first_given_twice(given: &[((u32, Pair), usize)]) -> Option<usize> {
     let mut first = None;
     for i in 1..given.len() {
@@ -104,9 +104,9 @@ fn first_given_twice(given: &[((u32, Pair), usize)]) -> Option<usize> {
     first
 }
 
-/// The place of the first reply, over all documents, that contradicts an earlier one by the pairs that both show: it shows a
-/// pair of its document below one that was shown before its call, or gives a pair of its shard for the second time. `None`
-/// where there is none. Nothing is promised of it.
+/// Returns the index of the first reply, over all documents, that contradicts an earlier one by the pairs
+/// that both show: it shows a pair of its document below one that was shown before its call, or gives a pair
+/// of its shard for the second time. Returns `None` if there is none. The result comes with no guarantee.
 pub fn first_contradiction(alloc: Global, history: &History) -> Result<Option<usize>, NoMemory> {
     let mut given = Vec::new(alloc);
     let mut first = None;

@@ -19,12 +19,12 @@ struct Unordered<'a> {
     conflicts: Conflicts,
 }
 
-// The place of the reply to the call.
+// The index of the reply to the call.
 fn reply_place(found: Rec) -> Option<usize> {
     found.heard.map(|heard| heard.0)
 }
 
-// The places of the replies to the calls of a document, rising.
+// The indices of the replies to the calls of a document, rising.
 fn reply_places(alloc: Global, records: &[Rec]) -> Result<Vec<usize>, NoMemory> {
     let mut places = Vec::new(alloc);
     for found in records {
@@ -37,7 +37,8 @@ fn reply_places(alloc: Global, records: &[Rec]) -> Result<Vec<usize>, NoMemory> 
 }
 
 impl Unordered<'_> {
-    // Whether the search finds an order of the calls up to this place, as far as those since the past tell.
+    // Whether the search finds an order of the calls up to this index, as far as the calls since the past
+    // show it.
     fn has_order_to(&self, alloc: Global, past: &Past, place: usize) -> Result<bool, NoMemory> {
         let window = window_of(alloc, past, self.records, place, self.conflicts)?;
         match answer(alloc, self.id.copy()?, window, self.seen, self.conflicts)? {
@@ -46,8 +47,8 @@ impl Unordered<'_> {
         }
     }
 
-    // The place of the reply at which the search seems to fail first. The replies are halved, and each time only the calls
-    // from shortly before the last reply with an order on are looked at.
+    // The index of the reply at which the search seems to fail first. It is found by bisection over the
+    // replies; each time only the calls are searched from shortly before the last reply with an order on.
     fn first_failing(&self, alloc: Global) -> Result<Option<usize>, NoMemory> {
         let places = reply_places(alloc, self.records)?;
         let mut past = Past::new(alloc);
@@ -73,7 +74,7 @@ impl Unordered<'_> {
     }
 }
 
-// The place of the reply at which the search for this document seems to fail first, where it fails.
+// The index of the reply at which the search for this document seems to fail first, if it fails.
 fn first_failing_of(
     alloc: Global,
     front: &Front<'_>,
@@ -99,7 +100,8 @@ fn first_failing_of(
     }
 }
 
-// The place of the reply at which the search for the only document seems to fail first, where it fails on these events.
+// The index of the reply at which the search for the only document seems to fail first, if it fails on these
+// events.
 fn first_failing_alone(
     alloc: Global,
     front: &Front<'_>,
@@ -118,7 +120,7 @@ fn first_failing_alone(
     unordered.first_failing(alloc)
 }
 
-// The events before the place, or all where there is none.
+// The events before the index, or all events if there is none.
 fn front_to(history: &History, place: Option<usize>) -> Front<'_> {
     match place {
         Some(place) => history.front(place),
@@ -126,12 +128,13 @@ fn front_to(history: &History, place: Option<usize>) -> Front<'_> {
     }
 }
 
-// A guess at the first reply at which the search finds no order of the events up to it. It is `suspect` if each of these documents has an
-// order of the events before that; of a history without a suspect it may be `None`.
+// A guess at the first reply at which the search finds no order of the events up to it. It is `suspect` if
+// each of these documents has an order of the events before that. For a history without a suspect it may be
+// `None`.
 //
-// Each of the documents is searched once, on the events before the place that the ones before it gave, and if it has no order its
-// replies are halved, on windows of its calls; all windows together cost about one search more. The only document of a
-// history is halved at once.
+// Each of the documents is searched once, on the events before the index that the earlier ones gave. If it has
+// no order, its replies are searched by bisection, on windows of its calls; all windows together cost about
+// one more search. The only document of a history is searched by bisection at once.
 fn narrow(
     alloc: Global,
     history: &History,
@@ -157,10 +160,11 @@ fn narrow(
     Ok(first)
 }
 
-/// A guess at the first reply at which the search finds no order of the events up to it, by its place: one that contradicts
-/// an earlier one by the pairs that both show, or one before that to which halving the replies of a document by itself leads.
-/// The documents are those for which the search finds no order, by their numbers, rising. The guess may be `None`. Nothing is promised
-/// of the place: what came before a window of calls is only summarized.
+/// Returns a guess at the first reply at which the search finds no order of the events up to it, as its
+/// index. It is a reply that contradicts an earlier one by the pairs that both show, or an earlier one to
+/// which bisection over the replies of a document by itself leads. The documents are those for which the
+/// search finds no order, by their numbers, rising. The guess may be `None`. It comes with no guarantee: what
+/// came before a window of calls is only summarised.
 pub fn guess(
     alloc: Global,
     history: &History,

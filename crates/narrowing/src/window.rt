@@ -4,7 +4,7 @@ use history::Rec;
 use std::alloc::Global;
 use version_pair::NoMemory;
 
-// The answered write that makes the document what it is, before all other calls.
+// The answered write that brings the document to this state, before all other calls.
 fn change_to(state: DocState) -> Option<Rec> {
     let (op, reply) = state.making()?;
     Some(Rec {
@@ -15,7 +15,8 @@ fn change_to(state: DocState) -> Option<Rec> {
     })
 }
 
-// The call that reaches into the window, with what is heard of it there; `None` where it can't change the document.
+// The call that reaches into the window, with what is heard of it there; `None` if it can't change the
+// document.
 fn reaching(found: Rec, state: DocState, conflicts: Conflicts) -> Option<Rec> {
     match found.heard {
         Some((_, Reply::Indexed { pair, .. } | Reply::Deleted { pair, .. })) => {
@@ -34,7 +35,8 @@ fn reaching(found: Rec, state: DocState, conflicts: Conflicts) -> Option<Rec> {
     }
 }
 
-// Adds the call, with two places before all others for the change that makes the document what it is.
+// Adds the call, with two indices left free before all others for the change that brings the document to its
+// state.
 fn push_later(window: &mut Vec<Rec>, found: Rec) -> Result<(), NoMemory> {
     window.push(Rec {
         call_at: found.call_at.saturating_add(2),
@@ -46,8 +48,9 @@ fn push_later(window: &mut Vec<Rec>, found: Rec) -> Result<(), NoMemory> {
     Ok(())
 }
 
-/// The calls of a document from the past up to this place, those of the past that reach into them, and before all a write
-/// that makes the document what it was. What was heard after the place isn't.
+/// Returns the calls of a document from the past up to this index, those of the past that reach into them,
+/// and before all of them a write that brings the document to the state that it had. What was heard after the
+/// index is left out.
 pub fn window_of(
     alloc: Global,
     past: &Past,

@@ -6,7 +6,7 @@ use Rattle.page.specs.Markups.{markup_bytes}
 
 -- ---- texts
 
--- a byte of a text as a page has it: an entity where it could be taken for markup
+-- a byte of a text as a page has it: an entity if it could be taken for markup
 abbrev pub escaped_byte : ℕ → List ℕ
 escaped_byte b =
     if b == 60 then codes "&lt;"
@@ -18,7 +18,7 @@ escaped_byte b =
 abbrev pub escaped : List ℕ → List ℕ
 escaped text = flat_map escaped_byte text
 
--- what follows an `&` is the rest of one of the four entities, with anything behind it
+-- what follows an `&` is the rest of one of the four entities, with anything after it
 abbrev pub EndsEntity : List ℕ → Type 0
 EndsEntity rest =
     (after : List ℕ) × ((rest ≡ codes "lt;" ++ after) ⊎ ((rest ≡ codes "gt;" ++ after) ⊎ ((rest ≡ codes "amp;" ++ after) ⊎ (rest ≡ codes "quot;" ++ after))))
@@ -33,7 +33,7 @@ EscapedTextsAreInert = (text : List ℕ) → IsInert (escaped text)
 
 -- ---- pages
 
--- markup is written as it stands, a number by its digits, and a text escaped
+-- markup is written unchanged, a number in decimal digits, and a text escaped
 abbrev pub piece_bytes : Piece → List ℕ
 piece_bytes (Fixed markup) = markup_bytes markup
 piece_bytes (Number n) = decimal n
@@ -42,6 +42,6 @@ piece_bytes (Text text) = escaped (string_bytes text)
 abbrev pub page_bytes : List Piece → List ℕ
 page_bytes pieces = flat_map piece_bytes pieces
 
--- the bytes are those of pieces, one after the other: so texts come into a page by the escaping alone
+-- the bytes are those of pieces, one after the other: so texts come into a page only by the escaping
 abbrev pub IsPage : List ℕ → Type 0
 IsPage bytes = (pieces : List Piece) × (bytes ≡ page_bytes pieces)

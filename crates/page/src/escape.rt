@@ -3,7 +3,7 @@ ghost use Rattle.page.specs.Pages.{escaped, escaped_byte as byte_escaped};
 
 use std::alloc::AllocError;
 
-// Adds a byte of a text, as an entity where it could be taken for markup.
+// Adds a byte of a text, as an entity if it could be taken for markup.
 fn add_escaped_byte(bytes: &mut Vec<u8>, byte: u8) -> Result<(), AllocError>
     ensures { OnOk result (bytes.new.items ≡ bytes.old.items ++ byte_escaped byte) }
 {

@@ -1,7 +1,8 @@
 //! Pages of HTML: lists of pieces, and the one way by which texts come into them, which escapes them.
 //!
 //! ```text
-//! let bytes = page_bytes(alloc, &[Piece::Fixed(Markup::TitleStart), Piece::Text(id), Piece::Fixed(Markup::TitleEnd)])?;
+//! let title = [Piece::Fixed(Markup::TitleStart), Piece::Text(id), Piece::Fixed(Markup::TitleEnd)];
+//! let bytes = page_bytes(alloc, &title)?;
 //! ```
 #![tactic(auto)]
 

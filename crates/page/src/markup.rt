@@ -180,7 +180,7 @@ const WORDS_AT: &str = r#"">"#;
 
 const WORDS_END: &str = "</text>";
 
-/// What may stand in a page beside numbers and texts. It is written as it stands.
+/// What may be in a page beside numbers and texts. It is written unchanged.
 #[derive(Clone, Copy, Debug, PartialEq, Eq)]
 pub enum Markup {
     /// The head of the page.
@@ -202,7 +202,7 @@ pub enum Markup {
     ItemStart,
     ItemEnd,
     ListEnd,
-    /// What is folded away until it is asked for, up to what it is called.
+    /// What is folded away until it is asked for, up to its title.
     FoldStart,
     FoldOpen,
     FoldEnd,
@@ -244,7 +244,7 @@ pub enum Markup {
     LineToX,
     LineToY,
     ShapeEnd,
-    /// A cross, up to its place.
+    /// A cross, up to its position.
     CrossX,
     /// A diamond.
     DiamondX,
@@ -257,7 +257,7 @@ pub enum Markup {
     WordsEnd,
 }
 
-/// The bytes of the markup.
+/// Returns the bytes of the markup.
 pub fn markup_text(markup: Markup) -> &'static str
     ensures { result.now ≡ markup_bytes markup }
 {

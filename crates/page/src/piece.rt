@@ -3,9 +3,9 @@ use crate::markup::Markup;
 /// A piece of a page.
 #[derive(Debug, Drop)]
 pub enum Piece {
-    /// Markup, written as it stands.
+    /// Markup, written unchanged.
     Fixed(Markup),
-    /// A number, written by its digits.
+    /// A number, written in decimal digits.
     Number(u64),
     /// A text, written escaped.
     Text(String),

@@ -15,11 +15,11 @@ use Rattle.recorded_runs.specs.declared.run_setting.RunSetting.{RunSetting}
 use Rattle.stream_io.specs.declared.stream_fault.StreamFault.{StreamFault}
 use Rattle.stream_io.specs.declared.stream_fault.StreamFault.TheVariants.{Read, Write, NoMemory, Worker, Recording, Setting}
 
--- how often a client of a run polls a call at most
+-- the greatest number of times that a client of a run polls a call
 abbrev pub run_polls : ℕ
 run_polls = 1000
 
--- so many copies are not 1 to 5
+-- the number of copies is not 1 to 5
 abbrev pub are_refused : ℕ → Bool
 are_refused copies = copies == 0 || nat_lt 5 copies
 
@@ -31,8 +31,8 @@ is_refused setting = is_some (draw_refusal setting.clients setting.calls setting
 abbrev pub plan_of : RunSetting → List (List Turn)
 plan_of setting = plan_drawn setting.seed setting.clients setting.calls setting.docs
 
--- The group of the setting at its start, and the schedule that the setting draws of the disturbance: one incident for each call of
--- all clients.
+-- The group of the setting at its start, and the schedule that the setting draws for the disturbance: one
+-- incident for each call of all clients.
 abbrev pub group_at_start : RunSetting → Disturbance → DisturbedState
 group_at_start setting disturbance = disturbed_from setting.fault setting.copies setting.seed disturbance (setting.clients * setting.calls)
 
@@ -40,7 +40,8 @@ group_at_start setting disturbance = disturbed_from setting.fault setting.copies
 
 -- What the target issued tickets for, and what it gave when they were polled.
 module _ (issued : Ticket → List ℕ → Op → Type 0) (gave : Ticket → Progress → Type 0) where
-  -- The events are the recording of pens, one for each client of the plan, and the list of each pen is the run of its client.
+  -- The events are the recording of pens, one for each client of the plan, and the list of each pen is the
+  -- run of its client.
   abbrev pub IsRunOf : List (List Turn) → List Event → Type 0
   IsRunOf clients events = AreOfClients issued gave run_polls clients events
 
@@ -52,7 +53,8 @@ module _ (issued : Ticket → List ℕ → Op → Type 0) (gave : Ticket → Pro
 
 -- ---- in turns
 
--- The events are what the clients of the setting's plan record that are played in turns against its group, which is disturbed so.
+-- The events are what the clients of the setting's plan record when they are played in turns against its
+-- group, under this disturbance.
 pub record IsRunInTurns (setting : RunSetting) (disturbance : Disturbance) (events : List Event) : Type 0 where
   pub after : DisturbedState
   pub played : ArePlayed SubmitsTicket TellsProgress run_polls (plan_of setting) (group_at_start setting disturbance) after events
@@ -74,7 +76,7 @@ IsRunFault (Worker doc) = ⊥
 IsRunFault Recording = Unit {0}
 IsRunFault Setting = Unit {0}
 
--- the same of a run of which nothing is written
+-- the same for a run of which nothing is written
 abbrev pub IsOfRun : StreamFault → Type 0
 IsOfRun Read = ⊥
 IsOfRun Write = ⊥

@@ -1,4 +1,5 @@
-//! Runs of clients against a replication group, which is honest or has a fault and may be disturbed, written as history texts.
+//! Runs of clients against a replication group, which is honest or has a fault and may be disturbed, written
+//! as history texts.
 //!
 //! ```text
 //! let setting = RunSetting { seed: 1, clients: 4, calls: 200, docs: 3, copies: 3, fault: Fault::None };

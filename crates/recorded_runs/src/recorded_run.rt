@@ -22,7 +22,7 @@ use std::thread::Threads;
 use stream_io::{Status, StreamFault, write_text};
 use workload::{Plan, PlanFault, Target, play_in_turns, run_clients};
 
-/// How often a client of a run polls a call at most.
+/// The greatest number of times that a client of a run polls a call.
 pub const RUN_POLLS: u32 = 1_000;
 
 // Whether a number of the plan is refused.
@@ -39,7 +39,8 @@ fn is_core_refused(core: &Result<DisturbedCore, CoreFault>) -> bool
     matches!(core, Err(CoreFault::Copies))
 }
 
-// The group of the setting, under the schedule of the disturbance, whose length is the number of all calls.
+// The group of the setting, under the schedule of the disturbance. The length of the schedule is the number
+// of all calls.
 fn core_of(
     alloc: Global,
     setting: &RunSetting,
@@ -60,7 +61,7 @@ fn core_of(
     DisturbedCore::new(alloc, copies, fault, seed, disturbance, clients * calls)
 }
 
-// The plan and the group of the setting. That a number is refused is told before want of memory.
+// The plan and the group of the setting. That a number is refused is reported before `NoMemory`.
 fn plan_and_core(
     alloc: Global,
     setting: &RunSetting,
@@ -118,7 +119,7 @@ fn record_on_threads<T: Threads + Wait + Sync>(
     }
 }
 
-// What the clients of the plan record that are played in turns against the group.
+// What the clients of the plan record when they are played in turns against the group.
 fn record_in_turns(
     alloc: Global,
     plan: &Plan,
@@ -135,9 +136,9 @@ fn record_in_turns(
     }
 }
 
-/// The history that the clients of the setting's plan record against its group, in this manner.
+/// Returns the history that the clients of the setting's plan record against its group, in this manner.
 ///
-/// In turns the setting and the disturbance lead to it; of the faults, see `run_played_stream`.
+/// In turns the setting and the disturbance determine it. For the faults, see `run_played_stream`.
 pub fn run_history<T: Threads + Wait + Sync>(
     rt: &T,
     alloc: Global,
@@ -164,7 +165,7 @@ pub fn run_history<T: Threads + Wait + Sync>(
     }
 }
 
-// The text of the history that is recorded so.
+// The text of the history that is recorded in this manner.
 fn run_text<T: Threads + Wait + Sync>(
     rt: &T,
     alloc: Global,
@@ -183,15 +184,17 @@ fn run_text<T: Threads + Wait + Sync>(
     Ok(text)
 }
 
-/// Runs clients against a replication group in this manner, and writes the text of the history that they recorded.
+/// Runs clients against a replication group in this manner, and writes the text of the history that they
+/// recorded.
 ///
-/// The seed draws the plan of the clients, the steps of the group, and the schedule by which it is disturbed, which has an incident
-/// for each call of all clients. Where the clients run in turns the text depends on the setting and the disturbance alone; where each
-/// runs on a thread of its own that is so of one client, and with more it also depends on which thread was quicker. A client polls a
-/// call 1,000 times at most.
+/// The seed draws the plan of the clients, the steps of the group, and the schedule by which it is disturbed,
+/// which has an incident for each call of all clients. If the clients run in turns, the text depends only on
+/// the setting and the disturbance. If each runs on a thread of its own, that also holds for one client; with
+/// more clients it also depends on which thread was faster. A client polls a call at most 1,000 times.
 ///
-/// `Setting` where a number of the plan or of the group is refused, told before anything else; `NoMemory` where a growth was
-/// refused; `Recording` where an event or an operation was refused otherwise. Closing loses no recording.
+/// Errors: `Setting` if a number of the plan or of the group is refused, reported before anything else;
+/// `NoMemory` if memory was refused; `Recording` if an event or an operation was refused for another reason.
+/// Closing loses no recording.
 pub fn run_played_stream<T: Threads + Wait + Sync, W: Write>(
     rt: &T,
     alloc: Global,
@@ -199,15 +202,15 @@ pub fn run_played_stream<T: Threads + Wait + Sync, W: Write>(
     manner: &Manner,
     writer: &mut W,
 ) -> Result<Status, StreamFault>
-    // Whatever the manner, what it wrote is a history text of a recording of pens, one for each client of the plan that is drawn, whose lists are the
-    // runs of these clients; and it answers yes.
+    // Whatever the manner, the text written is a history text of a recording of pens, one for each client of
+    // the plan that is drawn, whose lists are the runs of these clients; and the status is yes.
     ensures written { IfOk result (λ status. (status ≡ Status.Yes) × HasAnswer (IsRunText
         ⟦<DisturbedGroup as Target>⟧.issued ⟦<DisturbedGroup as Target>⟧.gave setting.now)
         (W.contents writer.old) (W.contents writer.new)) }
-    // In turns it is the text of just the run that the setting and the disturbance lead to.
+    // In turns it is the text of exactly the run that the setting and the disturbance determine.
     ensures in_turns { manner.now.playing ≡ Playing.InTurns → IfOk result (λ _. HasAnswer (IsTextInTurns setting.now
         manner.now.disturbance) (W.contents writer.old) (W.contents writer.new)) }
-    // After a write fault a front of such a text is written, and after any other fault nothing is.
+    // After a write fault a prefix of such a text is written, and after any other fault nothing is.
     ensures cut_off { IsErrOf result StreamFault.Write → HasFront (λ _. IsRunText
         ⟦<DisturbedGroup as Target>⟧.issued ⟦<DisturbedGroup as Target>⟧.gave setting.now)
         (W.contents writer.old) (W.contents writer.new) }
@@ -225,26 +228,28 @@ pub fn run_played_stream<T: Threads + Wait + Sync, W: Write>(
     }
 }
 
-/// Runs clients against a replication group that isn't disturbed, and writes the text of the history that they recorded.
+/// Runs clients against a replication group that isn't disturbed, and writes the text of the history that
+/// they recorded.
 ///
-/// The seed draws the plan of the clients and the steps of the group. Each client runs on a thread of its own where one can be
-/// made, and polls a call 1,000 times at most. With one client the text depends on the setting alone; with more it also depends on
-/// which thread was quicker.
+/// The seed draws the plan of the clients and the steps of the group. Each client runs on a thread of its own
+/// if one can be made, and polls a call at most 1,000 times. With one client the text depends only on the
+/// setting; with more it also depends on which thread was faster.
 ///
-/// `Setting` where a number of the plan or of the group is refused, told before anything else; `NoMemory` where a growth was
-/// refused; `Recording` where an event or an operation was refused otherwise. Closing loses no recording.
+/// Errors: `Setting` if a number of the plan or of the group is refused, reported before anything else;
+/// `NoMemory` if memory was refused; `Recording` if an event or an operation was refused for another reason.
+/// Closing loses no recording.
 pub fn run_stream<T: Threads + Wait + Sync, W: Write>(
     rt: &T,
     alloc: Global,
     setting: &RunSetting,
     writer: &mut W,
 ) -> Result<Status, StreamFault>
-    // What it wrote is a history text of a recording of pens, one for each client of the plan that is drawn, whose lists are the
-    // runs of these clients; and it answers yes.
+    // The text written is a history text of a recording of pens, one for each client of the plan that is
+    // drawn, whose lists are the runs of these clients; and the status is yes.
     ensures written { IfOk result (λ status. (status ≡ Status.Yes) × HasAnswer (IsRunText
         ⟦<DisturbedGroup as Target>⟧.issued ⟦<DisturbedGroup as Target>⟧.gave setting.now)
         (W.contents writer.old) (W.contents writer.new)) }
-    // After a write fault a front of such a text is written, and after any other fault nothing is.
+    // After a write fault a prefix of such a text is written, and after any other fault nothing is.
     ensures cut_off { IsErrOf result StreamFault.Write → HasFront (λ _. IsRunText
         ⟦<DisturbedGroup as Target>⟧.issued ⟦<DisturbedGroup as Target>⟧.gave setting.now)
         (W.contents writer.old) (W.contents writer.new) }

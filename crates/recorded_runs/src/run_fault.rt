@@ -6,7 +6,7 @@ use recorder::RecFault;
 use stream_io::StreamFault;
 use workload::{PlayFault, RunFault, TargetFault};
 
-/// A fault of a run of clients as one of a stream.
+/// Returns a fault of a run of clients as one of a stream.
 pub fn stream_fault(fault: RunFault) -> StreamFault
     ensures { result ≡ stream_fault_of fault }
 {
@@ -18,7 +18,7 @@ pub fn stream_fault(fault: RunFault) -> StreamFault
     }
 }
 
-/// A fault of clients that are played as one of a stream.
+/// Returns a fault of clients that are played as one of a stream.
 pub fn play_fault(fault: PlayFault) -> StreamFault
     ensures { result ≡ stream_fault_of_play fault }
 {

@@ -11,11 +11,11 @@ use Rattle.recorder.specs.Pens.{PenState, new_pen}
 
 -- ---- views
 
--- the most pens that a recorder is started with
+-- the greatest number of pens that a recorder can be started with
 abbrev pub most_pens : ℕ
 most_pens = 8
 
--- a seat with a view, and no more: a seat of the clock word holds nothing else
+-- a seat with a view and nothing more: a seat of the clock word holds nothing else
 abbrev pub seat_with : ClockView → Me (Unit {0}) ClockView
 seat_with v = (v, [])
 
@@ -29,7 +29,7 @@ numbers_in Spent = []
 abbrev pub numbers_below : ℕ → List ℕ
 numbers_below n = range_with_len 0 n
 
--- a number that is no event's: there are only so many
+-- a number that is above those of events: there are only so many events
 abbrev pub is_past : ℕ → Bool
 is_past n = not (nat_lt n most_events)
 
@@ -38,7 +38,7 @@ is_spent (Maker split_off joined gained) = false
 is_spent (Drew drawn) = false
 is_spent Spent = true
 
--- the seat draws no more: its view is spent, or holds a number that is no event's
+-- the seat draws no more: its view is spent, or holds a number that is above those of events
 abbrev pub is_over : ClockView → Bool
 is_over (Maker split_off joined gained) = false
 is_over (Drew drawn) = list_any is_past drawn
@@ -54,7 +54,7 @@ abbrev pub one_if : Bool → ℕ
 one_if true = 1
 one_if false = 0
 
--- how many views pass the test
+-- the number of views that pass the test
 abbrev pub how_many : (ClockView → Bool) → List ClockView → ℕ
 how_many test [] = 0
 how_many test (v ∷ vs) = one_if (test v) + how_many test vs
@@ -75,7 +75,8 @@ abbrev pub Draws : Step (Unit {0}) → Me (Unit {0}) ClockView → ℕ → Me (U
 Draws step before found after =
     (after ≡ seat_with (Drew (numbers_in before.0 ++ found ∷ []))) × All (λ n. n < found) (numbers_in before.0)
 
--- Join: the maker's seat gains the numbers of the joined one, and has joined one more; the joined seat's view is spent.
+-- Join: the maker's seat gains the numbers of the joined one, and has joined one more; the joined seat's view
+-- is spent.
 abbrev pub with_joined : ClockView → ClockView → ClockView
 with_joined (Maker split_off joined gained) other = Maker split_off (joined + 1) (gained ++ numbers_in other)
 with_joined (Drew drawn) other = Drew drawn
@@ -98,14 +99,14 @@ pub record IsClock (state : State (Unit {0}) ClockView) : Type 0 where
   pub few : split_off ≤ most_pens
   -- as many views are spent as seats were joined
   pub spent : how_many is_spent others ≡ joined
-  -- the views hold together each number below the word, once
+  -- the views together hold each number below the word, once
   pub dense : IsPermutation (flat_map numbers_in state.views) (numbers_below word)
-  -- the word is past the most events by no more than there are seats that draw no more
+  -- the word is above the greatest number of events by no more than the number of seats that draw no more
   pub bounded : word ≤ most_events + how_many is_over others
 
 -- ---- what contracts see of a clock recorder and of its pens
 
--- a clock recorder: how many pens it was started with, and its clock word
+-- a clock recorder: the number of pens that it was started with, and its clock word
 pub record ClockRecorderState : Type 0 where
   pub pens : ℕ
   pub clock : TableId

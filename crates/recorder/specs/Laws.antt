@@ -3,14 +3,14 @@ use Rattle.std.specs.Prelude.{◌≡◌, ℕ, List, Some, Contains, length, slic
 use Rattle.history.specs.declared.event.Event.{Event}
 use Rattle.recorder.specs.Recordings.{IsRecordingOf, entries_of}
 
--- each entry's event stands at its number, each event is in an entry with its place, and there are as many entries as
--- events
+-- each entry's event is at its number, each event is in an entry with its index, and there are as many
+-- entries as events
 pub record IsByNumber (entries : List (ℕ × Event)) (events : List Event) : Type 0 where
   pub placed : (n : ℕ) (e : Event) → Contains entries (n, e) → slice_get events n ≡ Some e
   pub entered : (n : ℕ) (e : Event) → slice_get events n ≡ Some e → Contains entries (n, e)
   pub count : length entries ≡ length events
 
--- a recording is by number, and lists have one recording at most
+-- a recording is by number, and lists have at most one recording
 pub record RecordingsAreByNumber : Type 0 where
   pub by_number : (lists : List (List (ℕ × Event))) (events : List Event) → IsRecordingOf lists events
       → IsByNumber (entries_of lists) events

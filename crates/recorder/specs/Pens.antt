@@ -1,4 +1,4 @@
--- Pens: what was recorded through a pen, what its list refuses, and what a recording tells.
+-- Pens: what was recorded through a pen, what its list refuses, and what a recording reports.
 use Rattle.std.specs.Prelude.{◌≡◌, ℕ, ◌<◌, ◌≤◌, ◌||◌, Bool, true, false, List, [], ◌∷◌, ◌++◌, Option, Some, None, Result, Ok, Err, IfOk, OnErr, All, AllPairs, Any, if◌then◌else◌, map}
 use Rattle.std.specs.List.{list_any}
 use Rattle.std.specs.Option.{option_map_or}
@@ -10,8 +10,8 @@ use Rattle.history.specs.Refusal.{most_events, op_of}
 use Rattle.recorder.specs.declared.fault.RecFault.{RecFault}
 use Rattle.recorder.specs.declared.fault.RecFault.TheVariants.{NotMine, Ended, Kind, Full, NoMemory, Rewound}
 
--- What is known of a pen: its list, the events that were recorded through it in their order, each with its number; and
--- whether a recording through it was answered that the recording is full.
+-- What is known of a pen: its list, which has the events that were recorded through it in their order, each
+-- with its number; and whether a recording through it reported that the recording is full.
 pub record PenState : Type 0 where
   pub list : List (ℕ × Event)
   pub is_full : Bool
@@ -38,8 +38,8 @@ is_ended list n = list_any (is_ending n) (events_in list)
 abbrev pub IsUnused : ℕ → List (ℕ × Event) → Type 0
 IsUnused n list = (op_of (events_in list) n ≡ None) × (is_ended list n ≡ false)
 
--- the first reason that a pen's list has to refuse an event: for an ending that its call isn't in the list, that it was
--- ended, that the reply doesn't fit its operation
+-- the first reason of a pen's list to refuse an event: for an ending, that its call isn't in the list, that
+-- it has an ending already, or that the reply doesn't fit its operation
 abbrev pub refusal_of : List (ℕ × Event) → Event → Option RecFault
 refusal_of list (Call h n d op) = None
 refusal_of list (Reply n r) =
@@ -48,7 +48,7 @@ refusal_of list (Reply n r) =
 refusal_of list (Lost n) =
     option_map_or (λ op. if is_ended list n then Some Ended else None) (op_of (events_in list) n) (Some NotMine)
 
--- the reason by the pen's list that an answer tells
+-- the reason by the pen's list that an answer reports
 abbrev pub told_by_list : Result ℕ RecFault → Option RecFault
 told_by_list (Ok n) = None
 told_by_list (Err NotMine) = Some NotMine
@@ -58,7 +58,7 @@ told_by_list (Err Full) = None
 told_by_list (Err NoMemory) = None
 told_by_list (Err (Rewound n)) = None
 
--- ---- what a recording tells
+-- ---- what a recording reports
 
 abbrev pub tells_full : Result ℕ RecFault → Bool
 tells_full (Ok n) = false
@@ -69,21 +69,22 @@ tells_full (Err Full) = true
 tells_full (Err NoMemory) = false
 tells_full (Err (Rewound n)) = false
 
--- What a recording answers, and what it makes of the pen. Recorded is the event that there is at each number; the reason
--- is the one for which the pen's list refuses it, if it does.
+-- What a recording returns, and how it changes the pen. `recorded` is the event at each number; the reason is
+-- the one for which the pen's list refuses it, if it does.
 pub record Records (old : PenState) (reason : Option RecFault) (recorded : ℕ → Event) (answer : Result ℕ RecFault) (new : PenState) : Type 0 where
-  -- where a number is answered, the list grows by the number and its event; else it stays
+  -- if a number is returned, the list grows by the number and its event; otherwise it stays as it was
   pub grows : IfOk answer (λ n. new.list ≡ old.list ++ (n, recorded n) ∷ [])
   pub stays : OnErr answer (new.list ≡ old.list)
-  -- the number is above all in the list, and below the most events that there are
+  -- the number is above all in the list, and below the greatest number of events
   pub above : IfOk answer (λ n. All (λ entry. entry.0 < n) old.list)
   pub below : IfOk answer (λ n. n < most_events)
   -- it is the number of no call in the list
   pub unused : IfOk answer (λ n. IsUnused n old.list)
-  -- a reason by the list is told just where the list has it
+  -- a reason by the list is reported if and only if the list has it
   pub by_list : told_by_list answer ≡ reason
-  -- a pen that was answered Full is full from then on, and is answered so where its list refuses nothing
+  -- after Full was returned for a pen, the pen is full, and Full is returned for it whenever its list refuses
+  -- nothing
   pub full : reason ≡ None → old.is_full ≡ true → answer ≡ Err Full
   pub full_from_then : new.is_full ≡ (old.is_full || tells_full answer)
-  -- that there are only n events is told only where the pen's list has a number of at least n
+  -- that there are only n events is reported only if the pen's list has a number of at least n
   pub rewound : (n : ℕ) → answer ≡ Err (Rewound n) → Any (λ entry. n ≤ entry.0) old.list

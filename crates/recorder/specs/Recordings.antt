@@ -13,8 +13,8 @@ lists_of pens = map (λ pen. pen.list) pens
 abbrev pub entries_of : List (List (ℕ × Event)) → List (ℕ × Event)
 entries_of lists = flat_map (λ list. list) lists
 
--- The events are the recording of the lists: the entries of all lists are, in some order, the events with their places,
--- counted from 0. So the numbers together are those below the number of events, each once, and the event at a place is
--- the one with that number.
+-- The events are the recording of the lists: the entries of all lists are, in some order, the events with
+-- their indices, counted from 0. So the numbers together are those below the number of events, each once, and
+-- the event at an index is the one with that number.
 abbrev pub IsRecordingOf : List (List (ℕ × Event)) → List Event → Type 0
 IsRecordingOf lists events = IsPermutation (entries_of lists) (enumerate_from 0 events)

@@ -55,10 +55,10 @@ impl Join<ClockView> for Gather {
     ghost spent = { Spent };
 }
 
-/// A seat of the clock word: the maker's, or a pen's. It has no bytes.
+/// A seat of the clock word: the maker's, or that of a pen. It takes no bytes.
 pub type ClockSeat = Seat<(), ClockView>;
 
-/// The clock word: the next number that is drawn. Contracts see which word it is.
+/// The clock word: the next number to draw. Contracts see which word it is.
 #[derive(Drop)]
 pub struct Clock {
     table: Table<(), ClockView, (), ClockRule, Global>,
@@ -77,7 +77,7 @@ impl Model for Clock {
 }
 
 impl Clock {
-    /// A clock word at 0, and the maker's seat.
+    /// Returns a clock word at 0, and the maker's seat.
     pub fn start(alloc: Global) -> Result<(Clock, ClockSeat), NoMemory>
         ensures clock { IfOk result (λ made. made.1.table_id ≡ made.0) }
         ensures view { IfOk result (λ made. made.1.me ≡ seat_with (Maker 0 0 [])) }
@@ -86,7 +86,7 @@ impl Clock {
         Ok((Clock { table }, maker))
     }
 
-    /// Splits a pen's seat off the maker's, which has split off fewer than eight.
+    /// Splits a pen's seat off the maker's, which must have split off fewer than eight.
     pub fn split_off(&self, maker: &mut ClockSeat) -> ClockSeat
         requires clock { maker.old.table_id ≡ self.now }
         requires maker { (k : ℕ) × (k < most_pens) × (maker.old.me ≡ seat_with (Maker k 0 [])) }
@@ -97,7 +97,8 @@ impl Clock {
         self.table.shared.split_seat::<SplitOff>(maker)
     }
 
-    /// The next number. It is above all that the seat drew before, of which none is past those of events.
+    /// Draws the next number. It is above all numbers that the seat drew before, which must all be numbers of
+    /// events.
     pub fn draw(&self, pen: &mut ClockSeat) -> u64
         requires clock { pen.old.table_id ≡ self.now }
         requires pen { (drawn : List ℕ) × All (λ n. n < most_events) drawn × (pen.old.me ≡ seat_with (Drew drawn)) }
@@ -119,8 +120,8 @@ impl Clock {
         self.table.shared.join_seat::<Gather>(maker, pen);
     }
 
-    /// How many numbers were drawn, where each seat that the maker split off was joined. The maker's seat has just the
-    /// numbers below that one, each once.
+    /// Returns how many numbers were drawn, after each seat that the maker split off was joined. The maker's
+    /// seat has exactly the numbers below the result, each once.
     pub fn stop(self, maker: ClockSeat) -> u64
         requires clock { maker.table_id ≡ self }
         requires maker { (k j : ℕ) × (g : List ℕ) × (k ≤ j) × (maker.me ≡ seat_with (Maker k j g)) }

@@ -15,8 +15,8 @@ use history::MOST_EVENTS;
 use std::alloc::Global;
 use std::marker::Model;
 
-/// What one client thread records through where a clock word numbers the events: it keeps a list of all that was recorded
-/// through it, each event with its number.
+/// A pen of a recorder whose clock word numbers the events. One client thread records through it. It keeps a
+/// list of all that was recorded through it, each event with its number.
 #[derive(Drop)]
 pub struct ClockPen {
     pub(crate) notes: Notes,
@@ -34,7 +34,7 @@ impl Model for ClockPen {
     ghost invariant = { λ p. HasDrawn p.notes.pen p.seat.me };
 }
 
-// What the drawn number is to an event: its own, or, past those of events, that the recording is full.
+// The number of an event, if the drawn number is one; otherwise `Full`: the recording is full.
 fn number_of_event(drawn: u64) -> Result<u64, RecFault>
     ensures { result ≡ (if nat_lt drawn most_events then Ok drawn else Err recording.Full) }
 {
@@ -46,7 +46,7 @@ fn number_of_event(drawn: u64) -> Result<u64, RecFault>
 }
 
 impl ClockPen {
-    /// A pen with this seat, which drew nothing. It allocates nothing.
+    /// Returns a pen with this seat, which must have drawn nothing. It allocates nothing.
     pub(crate) fn new(alloc: Global, seat: ClockSeat) -> ClockPen
         requires { seat.me ≡ seat_with nothing_drawn }
         ensures { result ≡ new_clock_pen seat.table_id }
@@ -57,8 +57,8 @@ impl ClockPen {
         }
     }
 
-    /// Records what the list does not refuse. The list is ready to grow before a number is drawn, so each number that is
-    /// an event's has its event.
+    /// Records what the list does not refuse. The list has room to grow before a number is drawn, so each
+    /// number of an event has its event.
     pub(crate) fn record(&mut self, clock: &Clock, event: Unnumbered) -> Result<u64, RecFault>
         requires clock { self.old.clock ≡ clock.now }
         requires accepted { (n : ℕ) → refusal_of self.old.pen.list (numbered event n) ≡ None }
@@ -75,7 +75,7 @@ impl ClockPen {
         answer
     }
 
-    /// The list as a strand, and the seat.
+    /// Returns the list as a strand, and the seat.
     pub(crate) fn into_parts(self) -> (Strand, ClockSeat)
         ensures list { (result.0 ≡ self.pen.list) × IsPenList self.pen.list }
         ensures seat { (result.1.table_id ≡ self.clock) × IsSeatFor self.pen result.1.me }

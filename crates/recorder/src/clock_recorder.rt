@@ -24,8 +24,9 @@ use version_pair::{DocId, NoMemory};
 
 /// A recorder whose pens number their events by one clock word, without a lock.
 ///
-/// An event is recorded at one moment, in which its pen adds 1 to the word, and its number is what the word was. No call
-/// waits for another. Contracts see a recorder as the number of pens that it was started with, and its clock word.
+/// An event is recorded at one moment, in which its pen adds 1 to the word; the event's number is the
+/// previous value of the word. No call waits for another. Contracts see a recorder as the number of pens that
+/// it was started with, and its clock word.
 #[derive(Drop)]
 pub struct ClockRecorder {
     pens: usize,
@@ -46,7 +47,8 @@ impl Model for ClockRecorder {
 }
 
 impl ClockRecorder {
-    /// A recorder with this many pens, 1 to 8, through which nothing was recorded; else `Count`. Last `NoMemory`.
+    /// Returns a recorder with this many pens, 1 to 8, through which nothing was recorded. Errors: `Count`
+    /// for another number of pens; last `NoMemory`.
     pub fn start(alloc: Global, pens: usize) -> Result<(ClockRecorder, Vec<ClockPen>), StartFault>
         ensures ok { IfOk result (λ started. (started.0.pens ≡ pens)
             × (started.1.items ≡ replicate pens (new_clock_pen started.0.clock))) }
@@ -68,11 +70,12 @@ impl ClockRecorder {
         Ok((recorder, started))
     }
 
-    /// Records that an operation on a document is called, and answers the event's number, which is the call's; or
-    /// refuses it: `Full` where the pen was answered so before, `NoMemory` of the pen's list, `Full`.
+    /// Records that an operation on a document is called, and returns the event's number, which is the
+    /// call's.
     ///
-    /// A refusal leaves the pen's list as it was. A pen that was answered `Full` is answered so from then on, and draws
-    /// no number.
+    /// Errors, in this order: `Full` if it was returned for the pen before, `NoMemory` for the pen's list,
+    /// `Full`. An error leaves the pen's list as it was. After `Full` was returned for a pen, it is returned
+    /// for that pen from then on, and the pen draws no number.
     pub fn call(&self, pen: &mut ClockPen, id: DocId, op: Op) -> Result<u64, RecFault>
         requires { pen.old.clock ≡ self.now.clock }
         ensures records { Records pen.old.pen None (λ n. Call 0 n id op) result pen.new.pen }
@@ -82,8 +85,8 @@ impl ClockRecorder {
         pen.record(&self.clock, Unnumbered::Call { id, op })
     }
 
-    /// Records the reply to the call numbered `no` of this pen, and answers the event's number; or refuses it:
-    /// `NotMine`, `Ended`, `Kind`, then as `call` does.
+    /// Records the reply to the call numbered `no` of this pen, and returns the event's number. Errors, in
+    /// this order: `NotMine`, `Ended`, `Kind`, then those of `call`.
     pub fn reply(&self, pen: &mut ClockPen, no: u64, reply: Reply) -> Result<u64, RecFault>
         requires { pen.old.clock ≡ self.now.clock }
         ensures records { Records pen.old.pen (refusal_of pen.old.pen.list (Answered no reply))
@@ -97,8 +100,8 @@ impl ClockRecorder {
         pen.record(&self.clock, Unnumbered::Reply { no, reply })
     }
 
-    /// Records that the outcome of the call numbered `no` of this pen will never be known, and answers the event's
-    /// number; or refuses it: `NotMine`, `Ended`, then as `call` does.
+    /// Records that the outcome of the call numbered `no` of this pen will never be known, and returns the
+    /// event's number. Errors, in this order: `NotMine`, `Ended`, then those of `call`.
     pub fn lost(&self, pen: &mut ClockPen, no: u64) -> Result<u64, RecFault>
         requires { pen.old.clock ≡ self.now.clock }
         ensures records { Records pen.old.pen (refusal_of pen.old.pen.list (Missed no)) (λ _. Missed no) result
@@ -112,7 +115,7 @@ impl ClockRecorder {
         pen.record(&self.clock, Unnumbered::Lost { no })
     }
 
-    // Joins the seats of all pens, and gives their lists.
+    // Joins the seats of all pens, and returns their lists.
     fn gather(self, alloc: Global, pens: Vec<ClockPen>) -> Result<Vec<Strand>, NoMemory>
         requires mine { All (λ pen. pen.clock ≡ self.clock) pens.items }
         requires all { self.pens ≤ vec_len pens }
@@ -138,15 +141,15 @@ impl ClockRecorder {
         Ok(strands)
     }
 
-    /// The history that the pens recorded together; or `PenMissing`, with both handed back, where fewer pens come than
-    /// were started; `NoMemory`, where the recording is lost.
+    /// Returns the history that the pens recorded together. Errors: `PenMissing`, with both handed back, if
+    /// fewer pens come than were started; `NoMemory`, after which the recording is lost.
     pub fn close(self, pens: Vec<ClockPen>) -> Result<History, CloseFault<ClockRecorder, ClockPen>>
         requires { All (λ pen. pen.clock ≡ self.clock) pens.items }
         ensures recording { IfOk result (λ history. IsRecordingOf (lists_of (pens_of pens.items)) history) }
         ensures missing { IsPenMissing result ↔ (vec_len pens < self.pens) }
         ensures handed_back { IsPenMissing result → result ≡ Err (CloseFault.PenMissing self pens) }
         ensures agreed { result ≢ Err CloseFault.Mismatch }
-        // A pen is answered `Full` only where so many events are recorded.
+        // `Full` is returned for a pen only if that many events are recorded.
         ensures full { has_full (pens_of pens.items) ≡ true → IfOk result (λ history. length history ≡ most_events) }
     {
         if pens.len() < self.pens {

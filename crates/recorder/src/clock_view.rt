@@ -1,8 +1,9 @@
 use std::collections::LinkedList;
 
-/// What a seat of the clock word knows. Proofs alone read it; no value of it is made.
+/// What a seat of the clock word knows. Only proofs read it; no value of it is made.
 pub enum ClockView {
-    /// The maker's seat: how many seats were split off, how many were joined, and the numbers that those had drawn.
+    /// The maker's seat: how many seats were split off, how many were joined, and the numbers that those had
+    /// drawn.
     Maker {
         split_off: u64,
         joined: u64,

@@ -14,7 +14,7 @@ use history::{Event, HistFault, History, MOST_EVENTS};
 use std::alloc::Global;
 use version_pair::NoMemory;
 
-/// The lists of the pens, in their order.
+/// Returns the lists of the pens, in their order.
 pub fn strands_of(alloc: Global, pens: Vec<Pen>) -> Result<Vec<Strand>, NoMemory>
     ensures { IfOk result (λ strands. strands.items ≡ lists_of pens.items) }
 {
@@ -25,15 +25,15 @@ pub fn strands_of(alloc: Global, pens: Vec<Pen>) -> Result<Vec<Strand>, NoMemory
     Ok(strands)
 }
 
-/// Whether a recording through one of the pens was answered that the recording is full.
+/// Returns whether a recording through one of the pens reported that the recording is full.
 pub fn is_any_full(pens: &[Pen]) -> bool
     ensures { result ≡ has_full pens.now }
 {
     pens.iter().any(|pen| pen.notes.is_full())
 }
 
-/// Whether these events are the recording of the strands, whose numbers rise. The entries that were met are taken from
-/// the strands.
+/// Returns whether these events are the recording of the strands, whose numbers must rise. The entries that
+/// were met are taken from the strands.
 pub fn is_recording(strands: &mut Vec<Strand>, events: &[Event]) -> bool
     ensures recording { IsTrue result → IsRecordingOf strands.old.items events.now }
     ensures found { All IsRising strands.old.items → IsRecordingOf strands.old.items events.now → IsTrue result }
@@ -50,7 +50,7 @@ pub fn is_recording(strands: &mut Vec<Strand>, events: &[Event]) -> bool
     are_all_met(strands)
 }
 
-/// The events of the strands in the order of their numbers.
+/// Returns the events of the strands in the order of their numbers.
 pub fn merge(alloc: Global, mut strands: Vec<Strand>) -> Result<Vec<Event>, NoMemory>
     requires rising { All IsRising strands.items }
     requires dense { AreDense strands.items }
@@ -68,7 +68,7 @@ pub fn merge(alloc: Global, mut strands: Vec<Strand>) -> Result<Vec<Event>, NoMe
     Ok(events)
 }
 
-/// The history of these events, or the first refusal of one.
+/// Returns the history of these events, or the first refusal of one.
 pub fn history_of(alloc: Global, events: Vec<Event>) -> Result<History, HistFault>
     requires { All HasShard events.items }
     ensures history { IfOk result (λ history. history ≡ events.items) }

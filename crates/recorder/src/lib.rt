@@ -1,5 +1,5 @@
-//! A recorder of histories: client threads record calls, replies and lost calls through pens, and what all pens recorded
-//! becomes one history. `Recorder` has one lock, `ClockRecorder` one atomic number.
+//! A recorder of histories. Client threads record calls, replies and lost calls through pens, and what all
+//! pens recorded becomes one history. `Recorder` has one lock, `ClockRecorder` one atomic number.
 //!
 //! ```text
 //! let (recorder, mut pens) = ClockRecorder::start(alloc, 4)?;

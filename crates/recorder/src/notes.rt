@@ -17,7 +17,7 @@ use std::alloc::Global;
 use std::marker::Model;
 use version_pair::NoMemory;
 
-/// What a pen keeps of its own: its list, its calls by their numbers, and whether it was answered `Full`.
+/// What a pen keeps of its own: its list, its calls by their numbers, and whether `Full` was returned for it.
 #[derive(Debug, Drop)]
 pub struct Notes {
     list: Vec<(u64, Event)>,
@@ -43,7 +43,7 @@ impl Model for Notes {
 }
 
 impl Notes {
-    /// Nothing. It allocates nothing.
+    /// Returns empty notes. It allocates nothing.
     pub fn new(alloc: Global) -> Notes
         ensures { result.pen ≡ new_pen }
     {
@@ -54,21 +54,21 @@ impl Notes {
         }
     }
 
-    /// Whether the pen was answered `Full`.
+    /// Returns whether `Full` was returned for the pen.
     pub fn is_full(&self) -> bool
         ensures { result ≡ self.now.pen.is_full }
     {
         self.is_full
     }
 
-    /// From now on the pen was answered `Full`.
+    /// Records that `Full` was returned for the pen.
     pub fn note_full(&mut self)
         ensures list { self.new.pen ≡ record self.old.pen { is_full = true } }
     {
         self.is_full = true;
     }
 
-    /// Why a reply is refused by the list, if it is: `NotMine`, `Ended`, `Kind`.
+    /// Returns the reason why the list refuses a reply, if it does: `NotMine`, `Ended`, `Kind`.
     pub fn reply_refusal(&self, no: u64, reply: &Reply) -> Option<RecFault>
         ensures { result ≡ refusal_of self.now.pen.list (Answered no reply.now) }
     {
@@ -80,7 +80,7 @@ impl Notes {
         }
     }
 
-    /// Why the news that a call is lost is refused by the list, if it is: `NotMine`, `Ended`.
+    /// Returns the reason why the list refuses the event that a call is lost, if it does: `NotMine`, `Ended`.
     pub fn lost_refusal(&self, no: u64) -> Option<RecFault>
         ensures { result ≡ refusal_of self.now.pen.list (Lost no) }
     {
@@ -91,7 +91,7 @@ impl Notes {
         }
     }
 
-    /// The number of the last entry, which is the greatest.
+    /// Returns the number of the last entry, which is the greatest.
     pub fn last_number(&self) -> Option<u64>
         ensures above { (n : ℕ) → (IfSome result (λ last. last < n)) → All (λ entry. entry.0 < n) self.now.pen.list }
         ensures reached { IfSome result (λ last. (n : ℕ) → n ≤ last → Any (λ entry. n ≤ entry.0) self.now.pen.list) }
@@ -109,7 +109,8 @@ impl Notes {
         self.calls.reserve(1)
     }
 
-    /// Adds an event with its number, which is above all in the list. The list does not refuse it, and there is room.
+    /// Adds an event with its number, which must be above all in the list. The list must not refuse it, and
+    /// there must be room.
     pub fn note(&mut self, number: u64, event: Unnumbered)
         requires room { self.old.has_room ≡ true }
         requires above { All (λ entry. entry.0 < number) self.old.pen.list }
@@ -122,8 +123,8 @@ impl Notes {
         self.list.push_reserved((number, event.with_number(number)));
     }
 
-    /// Adds the event where the recording of it was answered a number, and keeps that it was answered `Full`. The list
-    /// does not refuse the event, and there is room.
+    /// Adds the event if the recording of it returned a number, and keeps whether it returned `Full`. The
+    /// list must not refuse the event, and there must be room.
     pub fn settle(&mut self, answer: Result<u64, RecFault>, event: Unnumbered)
         requires room { self.old.has_room ≡ true }
         requires above { IfOk answer (λ n. All (λ entry. entry.0 < n) self.old.pen.list) }
@@ -140,7 +141,7 @@ impl Notes {
         }
     }
 
-    /// The list as a strand.
+    /// Returns the list as a strand.
     pub fn into_strand(self) -> Strand
         ensures list { result ≡ self.pen.list }
         ensures kept { IsPenList self.pen.list }
@@ -150,7 +151,7 @@ impl Notes {
     }
 }
 
-// Notes an event of this number. There is room for one more call.
+// Adds an event of this number. There must be room for one more call.
 fn note_event(calls: &mut IndexMap<u64, OwnCall>, number: u64, event: &Unnumbered)
     requires { 0 < spare calls.old }
     ensures { NotesEvent event.now number calls.old.entries calls.new.entries }
@@ -168,7 +169,7 @@ fn note_event(calls: &mut IndexMap<u64, OwnCall>, number: u64, event: &Unnumbere
     }
 }
 
-// Notes a call under its number. There is room for it.
+// Adds a call under its number. There must be room for it.
 fn note_call(calls: &mut IndexMap<u64, OwnCall>, number: u64, call: OwnCall)
     requires { 0 < spare calls.old }
     ensures { IsNotedAt number call calls.old.entries calls.new.entries }
@@ -179,7 +180,7 @@ fn note_call(calls: &mut IndexMap<u64, OwnCall>, number: u64, call: OwnCall)
     }
 }
 
-// Notes that the call of this number has its ending. There is room for one more.
+// Records that the call of this number has its ending. There must be room for one more.
 fn note_ending(calls: &mut IndexMap<u64, OwnCall>, no: u64)
     requires { 0 < spare calls.old }
     ensures { (call : OwnCall) → lookup (◌==◌ no) calls.old.entries ≡ Some call

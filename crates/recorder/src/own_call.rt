@@ -1,6 +1,6 @@
 use doc_register::Op;
 
-/// What a pen notes of a call of its own.
+/// What a pen keeps of a call of its own.
 #[derive(Clone, Copy, Debug, PartialEq, Eq)]
 pub struct OwnCall {
     pub op: Op,

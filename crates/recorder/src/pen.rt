@@ -6,8 +6,8 @@ use crate::strand::Strand;
 use std::alloc::Global;
 use std::marker::Model;
 
-/// What one client thread records through: it keeps a list of all that was recorded through it, each event with its
-/// number.
+/// A pen, through which one client thread records. It keeps a list of all that was recorded through it, each
+/// event with its number.
 #[derive(Debug, Drop)]
 pub struct Pen {
     pub(crate) notes: Notes,
@@ -22,7 +22,7 @@ impl Model for Pen {
 }
 
 impl Pen {
-    /// A pen through which nothing was recorded. It allocates nothing.
+    /// Returns a pen through which nothing was recorded. It allocates nothing.
     pub(crate) fn new(alloc: Global) -> Pen
         ensures { result ≡ new_pen }
     {
@@ -31,7 +31,7 @@ impl Pen {
         }
     }
 
-    /// The list as a strand.
+    /// Returns the list as a strand.
     pub(crate) fn into_strand(self) -> Strand
         ensures { result ≡ self.list }
     {

@@ -9,7 +9,8 @@ use history::{Event, MOST_EVENTS};
 use std::alloc::Global;
 use std::marker::Model;
 
-/// The recording under the lock: the events of all pens, at most 1,048,576, in the order of their numbers from 0.
+/// The recording under the lock: the events of all pens, at most 1,048,576, in the order of their numbers
+/// from 0.
 #[derive(Drop)]
 pub struct Recorded {
     events: Vec<Event>,
@@ -30,7 +31,7 @@ impl Model for Recorded {
 }
 
 impl Recorded {
-    /// The recording without events. It allocates nothing.
+    /// Returns the recording without events. It allocates nothing.
     pub fn new(alloc: Global) -> Recorded
         ensures { result ≡ [] }
     {
@@ -39,7 +40,8 @@ impl Recorded {
         }
     }
 
-    /// Why an event of a pen with this last number is refused, if it is: `Rewound`, `Full`.
+    /// Returns the reason to refuse an event of a pen with this last number, if there is one: `Rewound`,
+    /// `Full`.
     fn refusal(&self, last: Option<u64>) -> Option<RecFault>
         ensures { result ≡ append_refusal self.now last }
     {
@@ -56,8 +58,8 @@ impl Recorded {
         }
     }
 
-    /// Adds an event of a pen with this last number at the end and answers its number, which is how many events there
-    /// were; or refuses it: `Rewound`, `Full`, `NoMemory`.
+    /// Adds an event of a pen with this last number at the end, and returns its number, which is how many
+    /// events there were. Errors, in this order: `Rewound`, `Full`, `NoMemory`.
     pub fn append(&mut self, last: Option<u64>, event: Unnumbered) -> Result<u64, RecFault>
         ensures ok { IfOk result (λ n. self.new ≡ self.old ++ numbered event n ∷ []) }
         ensures number { IfOk result (λ n. (n ≡ length self.old) × (n < limit)) }
@@ -73,7 +75,7 @@ impl Recorded {
         Ok(number)
     }
 
-    /// The events.
+    /// Returns the events.
     pub fn into_events(self) -> Vec<Event>
         ensures { result.items ≡ self }
     {

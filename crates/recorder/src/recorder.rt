@@ -18,13 +18,13 @@ use std::marker::Model;
 use std::sync::{Mutex, Wait};
 use version_pair::DocId;
 
-/// The most pens that a recorder is started with.
+/// The greatest number of pens that a recorder can be started with.
 pub const MOST_PENS: usize = 8;
 
 /// A recorder whose pens record under one lock.
 ///
-/// An event is recorded at one moment, while the lock is held, and its number is how many were recorded before it.
-/// Contracts see a recorder as the number of pens that it was started with.
+/// An event is recorded at one moment, while the lock is held, and its number is how many were recorded
+/// before it. Contracts see a recorder as the number of pens that it was started with.
 #[derive(Drop)]
 pub struct Recorder {
     pens: usize,
@@ -40,7 +40,8 @@ impl Model for Recorder {
 }
 
 impl Recorder {
-    /// A recorder with this many pens, 1 to 8, through which nothing was recorded; else `Count`. Last `NoMemory`.
+    /// Returns a recorder with this many pens, 1 to 8, through which nothing was recorded. Errors: `Count`
+    /// for another number of pens; last `NoMemory`.
     pub fn start(alloc: Global, pens: usize) -> Result<(Recorder, Vec<Pen>), StartFault>
         ensures ok { IfOk result (λ started. (started.0 ≡ pens) × (started.1.items ≡ replicate pens new_pen)) }
         ensures count { (result ≡ Err StartFault.Count) ↔ ((pens ≡ 0) ⊎ (8 < pens)) }
@@ -77,20 +78,20 @@ impl Recorder {
         answer
     }
 
-    /// Records that an operation on a document is called, and answers the event's number, which is the call's; or
-    /// refuses it: `Full` where the pen was answered so before, `NoMemory` of the pen's list, `Rewound`, `Full`,
-    /// `NoMemory` of the recording.
+    /// Records that an operation on a document is called, and returns the event's number, which is the
+    /// call's. It may wait for the lock.
     ///
-    /// It may wait for the lock. A refusal leaves the pen's list as it was. A pen that was answered `Full` is answered
-    /// so from then on.
+    /// Errors, in this order: `Full` if it was returned for the pen before, `NoMemory` for the pen's list,
+    /// `Rewound`, `Full`, `NoMemory` for the recording. An error leaves the pen's list as it was. After
+    /// `Full` was returned for a pen, it is returned for that pen from then on.
     pub fn call<R: Wait>(&self, rt: &R, pen: &mut Pen, id: DocId, op: Op) -> Result<u64, RecFault>
         ensures { Records pen.old None (λ n. Call 0 n id op) result pen.new }
     {
         self.record(rt, pen, Unnumbered::Call { id, op })
     }
 
-    /// Records the reply to the call numbered `no` of this pen, and answers the event's number; or refuses it:
-    /// `NotMine`, `Ended`, `Kind`, then as `call` does.
+    /// Records the reply to the call numbered `no` of this pen, and returns the event's number. Errors, in
+    /// this order: `NotMine`, `Ended`, `Kind`, then those of `call`.
     pub fn reply<R: Wait>(
         &self,
         rt: &R,
@@ -107,8 +108,8 @@ impl Recorder {
         self.record(rt, pen, Unnumbered::Reply { no, reply })
     }
 
-    /// Records that the outcome of the call numbered `no` of this pen will never be known, and answers the event's
-    /// number; or refuses it: `NotMine`, `Ended`, then as `call` does.
+    /// Records that the outcome of the call numbered `no` of this pen will never be known, and returns the
+    /// event's number. Errors, in this order: `NotMine`, `Ended`, then those of `call`.
     pub fn lost<R: Wait>(&self, rt: &R, pen: &mut Pen, no: u64) -> Result<u64, RecFault>
         ensures { Records pen.old (refusal_of pen.old.list (Missed no)) (λ _. Missed no) result pen.new }
     {
@@ -118,14 +119,14 @@ impl Recorder {
         self.record(rt, pen, Unnumbered::Lost { no })
     }
 
-    /// The history that the pens recorded together; or `PenMissing`, with both handed back, where fewer pens come than
-    /// were started; `Mismatch` where what the pens were answered and what was recorded under the lock disagree;
-    /// `NoMemory`. Where `Mismatch` or `NoMemory` is answered the recording is lost.
+    /// Returns the history that the pens recorded together. Errors: `PenMissing`, with both handed back, if
+    /// fewer pens come than were started; `Mismatch` if the numbers that the pens got and the recording under
+    /// the lock disagree; `NoMemory`. After `Mismatch` or `NoMemory` the recording is lost.
     pub fn close(self, pens: Vec<Pen>) -> Result<History, CloseFault<Recorder, Pen>>
         ensures recording { IfOk result (λ history. IsRecordingOf (lists_of pens.items) history) }
         ensures missing { IsPenMissing result ↔ (vec_len pens < self) }
         ensures handed_back { IsPenMissing result → result ≡ Err (CloseFault.PenMissing self pens) }
-        // A pen is answered `Full` only where so many events are recorded.
+        // `Full` is returned for a pen only if that many events are recorded.
         ensures full { has_full pens.items ≡ true → IfOk result (λ history. length history ≡ most_events) }
     {
         if pens.len() < self.pens {

@@ -16,28 +16,29 @@ use version_pair::DocId;
 pub trait Recording {
     type Pen;
 
-    /// A pen's list, and whether it was answered `Full`.
+    /// A pen's list, and whether `Full` was returned for it.
     ghost pen_state: { Self.Pen → PenState };
 
     /// Whether a pen is this recorder's.
     ghost has_pen: { Self → Self.Pen → Type 0 };
 
-    /// Whether this recorder may tell `Rewound`.
+    /// Whether this recorder may return `Rewound`.
     ghost may_rewind: { Self → Type 0 };
 
-    /// Records that an operation on a document is called, and answers the event's number, which is the call's; or
-    /// refuses it: `Full` where the pen was answered so before, `NoMemory` of the pen's list, `Rewound`, `Full`,
-    /// `NoMemory` of what the pens share.
+    /// Records that an operation on a document is called, and returns the event's number, which is the
+    /// call's.
     ///
-    /// A refusal leaves the pen's list as it was. A pen that was answered `Full` is answered so from then on.
+    /// Errors, in this order: `Full` if it was returned for the pen before, `NoMemory` for the pen's list,
+    /// `Rewound`, `Full`, `NoMemory` for what the pens share. An error leaves the pen's list as it was. After
+    /// `Full` was returned for a pen, it is returned for that pen from then on.
     fn call<R: Wait>(&self, rt: &R, pen: &mut Self::Pen, id: DocId, op: Op) -> Result<u64, RecFault>
         requires { has_pen self.now pen.old }
         ensures records { Records (pen_state pen.old) None (λ n. Call 0 n id op) result (pen_state pen.new) }
         ensures keeps { has_pen self.now pen.new }
         ensures forward { (n : ℕ) → result ≡ Err (recording.Rewound n) → may_rewind self.now };
 
-    /// Records the reply to the call numbered `no` of this pen, and answers the event's number; or refuses it:
-    /// `NotMine`, `Ended`, `Kind`, then as `call` does.
+    /// Records the reply to the call numbered `no` of this pen, and returns the event's number. Errors, in
+    /// this order: `NotMine`, `Ended`, `Kind`, then those of `call`.
     fn reply<R: Wait>(
         &self,
         rt: &R,
@@ -51,8 +52,8 @@ pub trait Recording {
         ensures keeps { has_pen self.now pen.new }
         ensures forward { (n : ℕ) → result ≡ Err (recording.Rewound n) → may_rewind self.now };
 
-    /// Records that the outcome of the call numbered `no` of this pen will never be known, and answers the event's
-    /// number; or refuses it: `NotMine`, `Ended`, then as `call` does.
+    /// Records that the outcome of the call numbered `no` of this pen will never be known, and returns the
+    /// event's number. Errors, in this order: `NotMine`, `Ended`, then those of `call`.
     fn lost<R: Wait>(&self, rt: &R, pen: &mut Self::Pen, no: u64) -> Result<u64, RecFault>
         requires { has_pen self.now pen.old }
         ensures records { Records (pen_state pen.old) (refusal_of (pen_state pen.old).list (Missed no))

@@ -64,7 +64,7 @@ fn is_same_reply(left: Reply, right: Reply) -> bool
     }
 }
 
-/// Whether two events are the same.
+/// Returns whether two events are the same.
 pub fn is_same_event(left: &Event, right: &Event) -> bool
     ensures { IsTrue result ↔ (left.now ≡ right.now) }
 {

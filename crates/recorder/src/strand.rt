@@ -31,7 +31,7 @@ impl Model for Strand {
 }
 
 impl Strand {
-    /// The strand of a whole list.
+    /// Returns the strand of a whole list.
     pub fn new(list: Vec<(u64, Event)>) -> Strand
         requires { All (λ entry. IsEntryAt entry.0 entry.1) list.items }
         ensures { result ≡ list.items }
@@ -41,14 +41,14 @@ impl Strand {
         }
     }
 
-    /// Whether each entry was met.
+    /// Returns whether each entry was met.
     pub fn is_empty(&self) -> bool
         ensures { IsTrue result ↔ (self.now ≡ []) }
     {
         self.entries.is_empty()
     }
 
-    /// Whether the next entry has this number.
+    /// Returns whether the next entry has this number.
     pub fn is_next(&self, number: u64) -> bool
         ensures { IsTrue result ↔ (next_number self.now ≡ Some number) }
     {
@@ -85,7 +85,7 @@ pub fn take_numbered(strands: &mut Vec<Strand>, number: u64) -> Option<Event>
     Some(event)
 }
 
-/// Whether each entry of each strand was met.
+/// Returns whether each entry of each strand was met.
 #[tactic(auto, using(crate::proofs::MergeLemmas::entries_none))]
 pub fn are_all_met(strands: &[Strand]) -> bool
     ensures { IsTrue result ↔ (entries_of strands.now ≡ []) }

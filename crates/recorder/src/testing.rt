@@ -1,4 +1,4 @@
-//! What tests share: a document, and a history in short words.
+//! What tests share: a document, and the short form of a history.
 
 use crate::fault::{CloseFault, RecFault};
 use crate::recording::Recording;
@@ -10,12 +10,12 @@ use std::sync::Wait;
 use std::test::Fail;
 use version_pair::DocId;
 
-/// The document `d`.
+/// Returns the document `d`.
 pub fn document(alloc: Global) -> Result<DocId, Fail> {
     Ok(DocId::new(alloc, "d")?)
 }
 
-// An event in short words.
+// The short form of an event.
 fn told(alloc: Global, event: &Event) -> Result<String, Fail> {
     Ok(match event {
         Event::Call { no, shard, id, op } => {
@@ -27,7 +27,7 @@ fn told(alloc: Global, event: &Event) -> Result<String, Fail> {
     })
 }
 
-/// The events in short words, each ended by a semicolon.
+/// Returns the short forms of the events, each ended by a semicolon.
 pub fn events_told(alloc: Global, history: &History) -> Result<String, Fail> {
     let mut text = String::new(alloc);
     for place in 0..history.len() {
@@ -38,7 +38,7 @@ pub fn events_told(alloc: Global, history: &History) -> Result<String, Fail> {
     Ok(text)
 }
 
-/// What closing answers, in short words.
+/// Returns the short form of the result of closing.
 pub fn close_told<R: Drop, P: Drop>(
     alloc: Global,
     closed: Result<History, CloseFault<R, P>>,
@@ -57,8 +57,8 @@ pub fn close_told<R: Drop, P: Drop>(
 /// What two pens record in turns.
 pub const TOLD: &str = "call 0 of d on 0: Get; call 1 of d on 0: Get; reply 0: Missing; lost 1; ";
 
-/// Two pens of any recorder record in turns what `TOLD` says, with refusals in between. Each number is answered at its
-/// call.
+/// Two pens of any recorder record in turns what `TOLD` says, with refusals in between. The number of each
+/// event is checked at its call.
 pub fn record_in_turns<X: Recording, R: Wait + Abort>(
     rt: &R,
     alloc: Global,
@@ -86,7 +86,7 @@ pub fn record_in_turns<X: Recording, R: Wait + Abort>(
     Ok(())
 }
 
-/// Records gets of `d`, in turns answered and lost, through any recorder; tells whether all were recorded.
+/// Records gets of `d`, in turns answered and lost, through any recorder. Returns whether all were recorded.
 pub fn record_gets<X: Recording, R: Wait>(
     rt: &R,
     alloc: Global,
@@ -116,7 +116,7 @@ pub fn record_gets<X: Recording, R: Wait>(
     true
 }
 
-// Records one get of `d` with a reply; answers the reply's number.
+// Records one get of `d` with a reply. Returns the reply's number.
 fn record_answered_get<X: Recording, R: Wait>(
     rt: &R,
     alloc: Global,
@@ -131,7 +131,7 @@ fn record_answered_get<X: Recording, R: Wait>(
     recorder.reply(rt, pen, no, Reply::Missing).ok()
 }
 
-/// Fills any recorder's recording by gets of `d`, each called and answered; tells the last number.
+/// Fills any recorder's recording by gets of `d`, each called and answered. Returns the last number.
 pub fn fill<X: Recording, R: Wait>(
     rt: &R,
     alloc: Global,

@@ -14,7 +14,7 @@ pub enum Unnumbered {
 }
 
 impl Unnumbered {
-    /// The event under this number. A call is numbered by it, on shard 0.
+    /// Returns the event under this number. A call is numbered by it, on shard 0.
     pub fn with_number(self, number: u64) -> Event
         ensures { result ≡ event_at self number }
     {
@@ -30,7 +30,7 @@ impl Unnumbered {
         }
     }
 
-    /// The same event once more.
+    /// Returns the same event once more.
     pub fn copy(&self) -> Result<Unnumbered, NoMemory>
         ensures { IfOk result (λ event. event ≡ self.now) }
     {

@@ -7,8 +7,8 @@ use Rattle.doc_register.specs.declared.state.DocState.{DocState}
 use Rattle.doc_register.specs.declared.state.DocState.TheVariants.{Never, Gone, Here}
 use Rattle.repl_group.specs.declared.held_write.HeldWrite.{HeldWrite}
 
--- a copy of the shard that a group keeps: what it holds, whether it is cut off from the others, and whether each
--- acknowledged write has to be on it
+-- a copy of the shard that a group keeps: what it holds, whether it is cut off from the others, and whether
+-- each acknowledged write must be on it
 pub record ShardCopy : Type 0 where
   pub writes : List (ℕ × HeldWrite)
   pub is_cut : Bool
@@ -18,7 +18,7 @@ pub record ShardCopy : Type 0 where
 abbrev pub holds : List (ℕ × HeldWrite) → ℕ → Bool
 holds writes t = is_some (lookup (◌==◌ t) writes)
 
--- the writes, with that of the ticket, which comes last where it was not held yet
+-- the writes, with that of the ticket, which comes last if it was not held yet
 abbrev pub with_write : List (ℕ × HeldWrite) → ℕ → HeldWrite → List (ℕ × HeldWrite)
 with_write writes t write = if holds writes t then writes else writes ++ (t, write) ∷ []
 
@@ -34,18 +34,20 @@ is_above q Never = true
 is_above q (Gone p) = is_below p q
 is_above q (Here p k) = is_below p q
 
--- what the write makes of its document
+-- the state of its document after the write
 abbrev pub made_by : HeldWrite → DocState
 made_by write = performed_state Never write.op write.pair
 
--- the document numbered d is made by the write, where that is a write on it with a greater pair than the last one
+-- the document numbered d after the write: if that is a write on it with a greater pair than the last one,
+-- the write determines its state
 abbrev pub document_after : ℕ → DocState → HeldWrite → DocState
 document_after d state write = if write.doc == d && is_above write.pair state then made_by write else state
 
--- The document numbered d, made by the write with the greatest pair.
+-- The document numbered d, as determined by the write with the greatest pair.
 abbrev pub document_in : List (ℕ × HeldWrite) → ℕ → DocState
 document_in writes d = fold (λ state entry. document_after d state entry.1) Never writes
 
--- the sequence number of the next write: 0 where nothing is held, else one more than the greatest that is held
+-- the sequence number of the next write: 0 if nothing is held, otherwise one more than the greatest that is
+-- held
 abbrev pub next_seq : List (ℕ × HeldWrite) → ℕ
 next_seq writes = fold (λ next entry. max next (entry.1.pair.seq + 1)) 0 writes

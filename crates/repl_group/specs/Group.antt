@@ -23,8 +23,8 @@ use Rattle.repl_group.specs.Faults.{is_blind, is_dirty, is_early, is_same_term, 
 use Rattle.repl_group.specs.Operations.{is_get, unconditional}
 use Rattle.repl_group.specs.Requests.{answer_in, flight_of, is_busy, is_queued, with_flights_lost, with_stage}
 
--- A group: what it does wrong, its term, the number of its primary copy, the documents in the order in which they were
--- first named, of which each is numbered by its place, the request of each ticket, and the copies.
+-- A group: what it does wrong, its term, the number of its primary copy, the documents in the order in which
+-- they were first named, each numbered by its index, the request of each ticket, and the copies.
 pub record GroupState : Type 0 where
   pub fault : Fault
   pub term : ℕ
@@ -38,7 +38,7 @@ pub record IsCopyCount (count : ℕ) : Type 0 where
   pub some : 0 < count
   pub few : count ≤ 5
 
--- the most tickets that a group gives
+-- the greatest number of tickets that a group gives
 abbrev pub most_tickets : ℕ
 most_tickets = 524288
 
@@ -50,7 +50,7 @@ greatest = 0x7fff_ffff_ffff_ffff
 abbrev pub new_copy : ShardCopy
 new_copy = record { writes = []; is_cut = false; is_in_sync = true }
 
--- a group with so many copies, all in sync, of which the first is the primary, and nothing submitted
+-- a group with that many copies, all in sync, of which the first is the primary, and nothing submitted
 abbrev pub start : Fault → ℕ → GroupState
 start fault count = record {
   fault = fault;
@@ -61,7 +61,7 @@ start fault count = record {
   copies = replicate count new_copy;
 }
 
--- ---- what is looked at
+-- ---- what steps look up
 
 -- the writes that the copy numbered c holds
 abbrev pub writes_at : GroupState → ℕ → List (ℕ × HeldWrite)
@@ -74,7 +74,7 @@ document_at w c d = document_in (writes_at w c) d
 abbrev pub is_primary_cut : GroupState → Bool
 is_primary_cut w = option_map_or (λ y. y.is_cut) (slice_get w.copies w.primary) false
 
--- the copy numbered c is in sync; false where there is none
+-- the copy numbered c is in sync; false if there is none
 abbrev pub is_in_sync : GroupState → ℕ → Bool
 is_in_sync w c = option_map_or (λ y. y.is_in_sync) (slice_get w.copies c) false
 
@@ -87,17 +87,17 @@ is_held w t =
 abbrev pub op_read : GroupState → Request → Op
 op_read w x = if is_blind w.fault then unconditional x.op else x.op
 
--- the reply to the ticket, where it is answered
+-- the reply to the ticket, if it is answered
 abbrev pub result_of : GroupState → ℕ → Option Reply
 result_of w t = option_and_then (λ x. answer_in x.stage) (slice_get w.requests t)
 
 -- ---- what is changed
 
--- the group, where the ticket's request x is answered r
+-- the group after the reply r to the ticket's request x
 abbrev pub answered : GroupState → ℕ → Request → Reply → GroupState
 answered w t x r = record w { requests = with_stage w.requests t x (Answered r) }
 
--- the group, where the copy numbered c is y
+-- the group in which the copy numbered c is y
 abbrev pub with_copy : GroupState → ℕ → ShardCopy → GroupState
 with_copy w c y = record w { copies = slice_set w.copies c y }
 
@@ -109,21 +109,22 @@ write_of x q = record { doc = x.doc; op = x.op; pair = q }
 abbrev pub copy_with : ShardCopy → ℕ → HeldWrite → ShardCopy
 copy_with y t write = record y { writes = with_write y.writes t write }
 
--- the group, with one more ticket
+-- the group with one more ticket
 abbrev pub submitted : GroupState → List ℕ → Op → GroupState
 submitted w id op = record w {
   docs = insert_key (λ d e. pointwise ◌==◌ d e) w.docs id;
   requests = w.requests ++ record { doc = position_or_len (λ d. pointwise ◌==◌ id d) w.docs; op = op; stage = Queued } ∷ [];
 }
 
--- the group, where the primary y performed the ticket's request x, which is a write, with the pair q
+-- the group after the primary y performed the ticket's request x, which is a write, with the pair q
 abbrev pub performed : GroupState → ℕ → Request → ShardCopy → Pair → GroupState
 performed w t x y q = record w {
   requests = with_stage w.requests t x (InFlight q (document_in y.writes x.doc));
   copies = slice_set w.copies w.primary (copy_with y t (write_of x q));
 }
 
--- the group, where the copy y numbered c is not cut, and takes what the primary holds where it can
+-- the group after the copy y numbered c was reached again: it is not cut, and takes what the primary holds if
+-- it can
 abbrev pub healed : GroupState → ℕ → ShardCopy → GroupState
 healed w c y =
     with_copy w c (
@@ -131,13 +132,13 @@ healed w c y =
     then record y { is_cut = false }
     else record { writes = writes_at w w.primary; is_cut = false; is_in_sync = true })
 
--- a copy where another one that holds these writes becomes the primary: where it is in sync it takes them; where it is
--- cut it is not in sync any more
+-- a copy after another one that holds these writes became the primary: if it is in sync and not cut, it takes
+-- them; if it is in sync and cut, it is not in sync any more
 abbrev pub led_by : List (ℕ × HeldWrite) → ShardCopy → ShardCopy
 led_by writes z =
     if z.is_in_sync then (if z.is_cut then record z { is_in_sync = false } else record z { writes = writes }) else z
 
--- the group, where the copy y numbered c is the primary
+-- the group in which the copy y numbered c is the primary
 abbrev pub promoted : GroupState → ℕ → ShardCopy → GroupState
 promoted w c y = record w {
   term = if is_same_term w.fault then w.term else w.term + 1;
@@ -146,47 +147,49 @@ promoted w c y = record w {
   copies = map (led_by y.writes) w.copies;
 }
 
--- ---- what a step does, and what it is answered
+-- ---- what a step does, and its answer
 
--- the step is refused so, and changes nothing
+-- the step is refused for this reason, and changes nothing
 abbrev pub Refuses : Answer → GroupState → Answer → GroupState → Type 0
 Refuses reason w a n = (a ≡ reason) × (n ≡ w)
 
--- the step is done, and leaves the group so
+-- the step is done, and this is the group after it
 abbrev pub Does : GroupState → Answer → GroupState → Type 0
 Does after a n = (a ≡ Done) × (n ≡ after)
 
--- the step is done where it may be, else not now
+-- the step is done if it may be; otherwise the answer is NotNow
 abbrev pub DoesWhere : Bool → GroupState → GroupState → Answer → GroupState → Type 0
 DoesWhere may after w a n = MatchBool may (Does after a n) (Refuses NotNow w a n)
 
--- there is such a ticket, and the step does so with its request; else not now
+-- there is such a ticket, and the step does this with its request; otherwise the answer is NotNow
 abbrev pub OnRequest : (Request → Answer → GroupState → Type 0) → GroupState → ℕ → Answer → GroupState → Type 0
 OnRequest Acts w t a n = MatchOption (slice_get w.requests t) (Refuses NotNow w a n) (λ x. Acts x a n)
 
--- there is such a copy, and the step does so with it; else not now
+-- there is such a copy, and the step does this with it; otherwise the answer is NotNow
 abbrev pub OnCopy : (ShardCopy → Answer → GroupState → Type 0) → GroupState → ℕ → Answer → GroupState → Type 0
 OnCopy Acts w c a n = MatchOption (slice_get w.copies c) (Refuses NotNow w a n) (λ y. Acts y a n)
 
--- the get x of the ticket is answered by what the copy numbered c shows
+-- the get x of the ticket is answered with what the copy numbered c shows
 abbrev pub Shows : GroupState → ℕ → Request → ℕ → Answer → GroupState → Type 0
 Shows w t x c a n = Does (answered w t x (shown (document_at w c x.doc))) a n
 
--- A get is served by the primary, which may not be cut, and waits for a write in flight on its document. With the fault
--- Dirty it does not wait. With the fault Stale any copy serves it, cut or not, and it does not wait.
+-- A get is served by the primary, which may not be cut, and waits for a write in flight on its document. With
+-- the fault Dirty it does not wait. With the fault Stale any copy serves it, cut or not, and it does not
+-- wait.
 abbrev pub ServesGet : GroupState → ℕ → Request → Answer → GroupState → Type 0
 ServesGet w t x a n =
     MatchBool (is_stale w.fault) (Shows w t x (t % length w.copies) a n)
     (MatchBool (is_primary_cut w) (Refuses NotNow w a n)
     (MatchBool (is_busy w.requests x.doc && not (is_dirty w.fault)) (Refuses Waits w a n) (Shows w t x w.primary a n)))
 
--- the primary y performs the write x of the ticket with its next pair, where a sequence number is left
+-- the primary y performs the write x of the ticket with its next pair, if a sequence number is left
 abbrev pub Performs : GroupState → ℕ → Request → ShardCopy → Answer → GroupState → Type 0
 Performs w t x y a n =
     MatchBool (nat_lt greatest (next_seq y.writes)) (Refuses NotNow w a n)
     ((q : Pair) × (q.term ≡ w.term) × (q.seq ≡ next_seq y.writes) × Does (performed w t x y q) a n)
 
--- the primary y performs a write that may be performed in its state of the document, and answers Conflict to any other
+-- the primary y performs a write that may be performed in its state of the document, and answers any other
+-- with Conflict
 abbrev pub Writes : GroupState → ℕ → Request → ShardCopy → Answer → GroupState → Type 0
 Writes w t x y a n =
     (IsPerformed (document_in y.writes x.doc) (op_read w x) × Performs w t x y a n)
@@ -203,21 +206,21 @@ abbrev pub Serves : GroupState → ℕ → Request → Answer → GroupState →
 Serves w t x a n =
     MatchBool (is_queued x.stage) (MatchBool (is_get x.op) (ServesGet w t x a n) (ServesWrite w t x a n)) (Refuses NotNow w a n)
 
--- the copy y numbered c holds the write of the ticket, where that is in flight, the copy is in sync, and neither it nor
--- the primary is cut
+-- the copy y numbered c takes the write of the ticket, if that is in flight, the copy is in sync, and neither
+-- it nor the primary is cut
 abbrev pub CopiesTo : GroupState → ℕ → Request → ℕ → ShardCopy → Answer → GroupState → Type 0
 CopiesTo w t x c y a n =
     MatchOption (flight_of x.stage) (Refuses NotNow w a n)
     (λ flight. DoesWhere (y.is_in_sync && not y.is_cut && not (is_primary_cut w)) (with_copy w c (copy_with y t (write_of x flight.0))) w a n)
 
--- the write of the ticket is answered Indexed or Deleted, with the flag of the moment at which it was performed, where it
--- is in flight, the primary is not cut, and each copy in sync holds it
+-- the write of the ticket is answered with Indexed or Deleted, with the flag of the moment at which it was
+-- performed, if it is in flight, the primary is not cut, and each copy in sync holds it
 abbrev pub Acknowledges : GroupState → ℕ → Request → Answer → GroupState → Type 0
 Acknowledges w t x a n =
     MatchOption (flight_of x.stage) (Refuses NotNow w a n)
     (λ flight. DoesWhere (not (is_primary_cut w) && is_held w t) (answered w t x (performed_reply flight.1 x.op flight.0)) w a n)
 
--- what the step is answered in w, and the group after it
+-- the answer to the step in w, and the group after it
 abbrev pub Gives : GroupState → Step → Answer → GroupState → Type 0
 Gives w (step.Submit id op) a n =
     MatchBool (nat_lt (length w.requests) most_tickets) ((a ≡ Ticket (length w.requests)) × (n ≡ submitted w id op)) (Refuses Full w a n)
@@ -231,11 +234,12 @@ Gives w (step.Drop c) a n =
 Gives w (step.Promote c) a n =
     OnCopy (λ y. DoesWhere (y.is_in_sync && not y.is_cut && not (c == w.primary) && nat_lt w.term greatest) (promoted w c y) w) w c a n
 
--- From w the group takes the step, answers it so, and is n.
+-- From w the group takes the step with this answer, and is n.
 pub record Takes (w : GroupState) (s : Step) (a : Answer) (n : GroupState) : Type 0 where
   pub gives : Gives w s a n
 
--- The table lets w take the step: a submission where a ticket is left, any other step where it is answered that it is done.
+-- The table lets w take the step: a submission if a ticket is left, any other step if its answer is that it
+-- is done.
 abbrev pub MayTake : GroupState → Step → Type 0
 MayTake w (step.Submit id op) = length w.requests < most_tickets
 MayTake w (step.Serve t) = (n : GroupState) × Gives w (step.Serve t) Done n

@@ -11,8 +11,8 @@ use Rattle.repl_group.specs.Copies.{ShardCopy}
 use Rattle.repl_group.specs.declared.step.Step.{Step}
 use Rattle.repl_group.specs.Group.{GroupState, IsRun, start, write_of}
 
--- the pair that was given to the ticket, if one was: while it is in flight, when it is answered Indexed or Deleted, and
--- after it is lost
+-- the pair that was given to the ticket, if one was: while it is in flight, when it is answered Indexed or
+-- Deleted, and after it is lost
 abbrev pub pair_given : Stage → Option Pair
 pair_given Queued = None
 pair_given (InFlight q before) = Some q
@@ -40,10 +40,10 @@ pub record IsHonest (w : GroupState) : Type 0 where
   pub pairs : GivesNoPairTwice w
   pub acknowledged : HoldsAcknowledged w
 
--- where the group does nothing wrong, no pair is given twice, and what is acknowledged is held
+-- if the group does nothing wrong, no pair is given twice, and what is acknowledged is held
 abbrev pub IsHonestUnlessFaulty : GroupState → Type 0
 IsHonestUnlessFaulty w = w.fault ≡ fault.None → IsHonest w
 
--- whatever steps an honest group takes from its start
+-- whatever steps an honest group takes from its start, it is honest after them
 pub record HonestGroups : Type 0 where
   pub always : (count : ℕ) (steps : List Step) (n : GroupState) → 0 < count → IsRun (start fault.None count) steps n → IsHonest n

@@ -20,12 +20,12 @@ use Rattle.repl_group.specs.Requests.{in_flight_from}
 abbrev pub generator_of : ℕ → Lcg
 generator_of seed = started 64 multiplier_64 seed (increment_of 64 55)
 
--- the ticket in flight at y modulo their number, in rising order; none where none is in flight
+-- the ticket in flight at y modulo their number, in rising order; none if none is in flight
 abbrev pub flight_drawn : GroupState → ℕ → Option ℕ
 flight_drawn w y = slice_get (in_flight_from 0 w.requests) (y % length (in_flight_from 0 w.requests))
 
--- The step of a poll of the ticket t, by its kind, the copy c and the number y that were drawn. Copy and Ack are no step
--- where nothing is in flight.
+-- The step of a poll of the ticket t, by its kind, the copy c and the number y that were drawn. Copy and Ack
+-- are no step if nothing is in flight.
 abbrev pub step_of_kind : GroupState → ℕ → ℕ → ℕ → ℕ → Option Step
 step_of_kind w t kind c y =
     if nat_lt kind 24 then Some (step.Serve t)
@@ -35,30 +35,30 @@ step_of_kind w t kind c y =
     else (if nat_lt kind 63 then Some (step.Heal c)
     else (if y % 2 == 0 then Some (step.Drop c) else Some (step.Promote c))))))
 
--- The step of a poll of the ticket t that draws the word: the word modulo 64 is the kind; what is left, modulo the number of
--- copies, is the copy, and divided by it the number y.
+-- The step of a poll of the ticket t that draws the word: the word modulo 64 is the kind; the rest modulo the
+-- number of copies is the copy, and the rest divided by it the number y.
 abbrev pub step_drawn : GroupState → ℕ → ℕ → Option Step
 step_drawn w t word = step_of_kind w t (word % 64) (word / 64 % length w.copies) (word / 64 / length w.copies)
 
--- it is not told that the outcome will never be known
+-- the report is not that the outcome will never be known
 abbrev pub IsKnown : Progress → Type 0
 IsKnown progress.Waiting = Unit {0}
 IsKnown (progress.Done r) = Unit {0}
 IsKnown progress.Unknown = ⊥
 
--- what is told of the ticket: its reply, or that it waits
+-- what is reported of the ticket: its reply, or that it waits
 abbrev pub progress_of : GroupState → ℕ → Progress
 progress_of w t = option_map_or progress.Done (result_of w t) progress.Waiting
 
--- The step is taken, and it is told what has become of the ticket; or, where the table lets the group take it, it is refused memory,
--- which changes nothing.
+-- The step is taken, and the poll reports what has become of the ticket; or the step, which the table lets
+-- the group take, is refused memory, which changes nothing.
 abbrev pub TellsAfter : GroupState → Step → ℕ → Result Progress TargetFault → GroupState → Type 0
 TellsAfter w s t told n =
     MatchResult told (λ p. (a : Answer) × Takes w s a n × (p ≡ progress_of n t))
     (λ fault. (fault ≡ refusal.NoMemory) × (n ≡ w) × MayTake w s)
 
--- A poll of a ticket with a result tells it, and changes nothing. Any other draws one word, and makes the step that the
--- word says, if it says one.
+-- A poll of a ticket with a result reports it, and changes nothing. Any other poll draws one word, and takes
+-- the step that the word determines, if it determines one.
 abbrev pub Polls : GroupState → Lcg → ℕ → Result Progress TargetFault → GroupState → Lcg → Type 0
 Polls w random t told n random' =
     MatchOption (result_of w t)
@@ -70,8 +70,8 @@ abbrev pub RefusesSubmission : GroupState → List ℕ → Op → TargetFault �
 RefusesSubmission w id op refusal.Full n = Takes w (step.Submit id op) answer.Full n
 RefusesSubmission w id op refusal.NoMemory n = (n ≡ w) × (length w.requests < most_tickets)
 
--- A submission makes the step Submit, and answers its ticket or Full; or, where a ticket is left, it is refused memory, which
--- changes nothing.
+-- A submission takes the step Submit, and returns its ticket or Full; or, if a ticket is left, it is refused
+-- memory, which changes nothing.
 abbrev pub Submits : GroupState → List ℕ → Op → Result Ticket TargetFault → GroupState → Type 0
 Submits w id op told n =
     MatchResult told (λ ticket. Takes w (step.Submit id op) (answer.Ticket ticket.0) n) (λ fault. RefusesSubmission w id op fault n)

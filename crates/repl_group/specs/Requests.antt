@@ -1,4 +1,4 @@
--- What tickets stand for, and how far they have come.
+-- What tickets refer to, and how far they have come.
 use Rattle.std.specs.Prelude.{ℕ, ◌+◌, ◌==◌, ◌&&◌, Bool, true, false, List, [], ◌∷◌, Option, Some, None, if◌then◌else◌, map, slice_set}
 use Rattle.std.specs.List.{list_any}
 use Rattle.version_pair.specs.declared.pair.Pair.{Pair}
@@ -20,14 +20,14 @@ is_in_flight (InFlight q before) = true
 is_in_flight (Answered r) = false
 is_in_flight (Lost q) = false
 
--- the pair that the write took, and what its document was before, where it is in flight
+-- the pair that the write took, and its document before it, if it is in flight
 abbrev pub flight_of : Stage → Option (Pair × DocState)
 flight_of Queued = None
 flight_of (InFlight q before) = Some (q, before)
 flight_of (Answered r) = None
 flight_of (Lost q) = None
 
--- the reply, where the operation is answered
+-- the reply, if the operation is answered
 abbrev pub answer_in : Stage → Option Reply
 answer_in Queued = None
 answer_in (InFlight q before) = None
@@ -38,7 +38,7 @@ answer_in (Lost q) = None
 abbrev pub is_busy : List Request → ℕ → Bool
 is_busy requests d = list_any (λ x. is_in_flight x.stage && (d == x.doc)) requests
 
--- the tickets in flight, in rising order, where the first ticket counts as i
+-- the tickets in flight, in rising order, if the first ticket counts as i
 abbrev pub in_flight_from : ℕ → List Request → List ℕ
 in_flight_from i [] = []
 in_flight_from i (x ∷ xs) = if is_in_flight x.stage then i ∷ in_flight_from (i + 1) xs else in_flight_from (i + 1) xs
@@ -57,6 +57,6 @@ lost_from (Lost q) = Lost q
 abbrev pub lost_request : Request → Request
 lost_request x = record x { stage = lost_from x.stage }
 
--- the requests, of which none is in flight any more
+-- the requests, none of which is in flight any more
 abbrev pub with_flights_lost : List Request → List Request
 with_flights_lost requests = map lost_request requests

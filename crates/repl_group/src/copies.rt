@@ -17,8 +17,9 @@ use version_pair::NoMemory;
 
 /// The copies of a group, numbered from 0.
 ///
-/// What they hold stands in one log, of which each copy has its place. So to let a copy hold what another one holds is to
-/// give it the other's place, and takes no time for the writes. Contracts see the list of the copies.
+/// What they hold is in one log, in which each copy has its position. So a copy takes over what another one
+/// holds by taking over its position, which takes no time for the writes. Contracts see the list of the
+/// copies.
 #[derive(Debug, Drop)]
 pub struct Copies {
     log: WriteLog,
@@ -39,7 +40,7 @@ impl Model for Copies {
 }
 
 impl Copies {
-    /// This many copies that hold nothing, in sync and reached.
+    /// Returns this many copies that hold nothing, in sync and reached.
     pub fn new(alloc: Global, count: u32) -> Result<Copies, NoMemory>
         ensures { IfOk result (λ copies. copies ≡ replicate count new_copy) }
     {
@@ -50,14 +51,14 @@ impl Copies {
         })
     }
 
-    /// How many there are.
+    /// Returns the number of copies.
     pub fn len(&self) -> usize
         ensures { result ≡ length self.now }
     {
         self.list.len()
     }
 
-    /// Whether the copy of this number is cut off, and whether it is in sync.
+    /// Returns whether the copy of this number is cut off, and whether it is in sync.
     pub fn find(&self, copy: u32) -> Option<Standing>
         ensures { result ≡ option_map standing_of (slice_get self.now copy) }
     {
@@ -68,7 +69,7 @@ impl Copies {
         })
     }
 
-    /// Whether a copy holds the write of the ticket.
+    /// Returns whether a copy holds the write of the ticket.
     pub fn holds(&self, copy: u32, ticket: u64) -> bool
         ensures { result ≡ is_held (option_map_or (λ y. y.writes) (slice_get self.now copy) []) ticket }
     {
@@ -78,7 +79,7 @@ impl Copies {
         }
     }
 
-    /// The document of this number, as a copy has it.
+    /// Returns the document of this number, as a copy has it.
     pub fn document(&self, copy: u32, doc: usize) -> DocState
         ensures { result ≡ document_in (option_map_or (λ y. y.writes) (slice_get self.now copy) []) doc }
     {
@@ -88,7 +89,8 @@ impl Copies {
         }
     }
 
-    /// The sequence number of the next write at a copy, at most 2^63, which is none any more.
+    /// Returns the sequence number of the next write at a copy, at most 2^63; 2^63 itself is no longer a
+    /// sequence number.
     pub fn next_seq(&self, copy: u32) -> u64
         ensures { result ≡ next_of (option_map_or (λ y. y.writes) (slice_get self.now copy) []) }
     {
@@ -98,7 +100,7 @@ impl Copies {
         }
     }
 
-    /// Whether each copy in sync holds the write of the ticket.
+    /// Returns whether each copy in sync holds the write of the ticket.
     pub fn is_on_all_in_sync(&self, ticket: u64) -> bool
         ensures { result ≡ list_all (λ y. not y.is_in_sync || is_held y.writes ticket) self.now }
     {
@@ -110,7 +112,8 @@ impl Copies {
         true
     }
 
-    /// Adds the write of a ticket to a copy, where it does not hold it yet. A refusal changes nothing.
+    /// Adds the write of a ticket to a copy, if it does not hold it yet. If memory is refused, nothing
+    /// changes.
     pub fn add_write(&mut self, copy: u32, ticket: u64, write: HeldWrite) -> Result<(), NoMemory>
         requires { copy < length self.old }
         ensures ok { OnOk result ((y : ShardCopy) → slice_get self.old copy ≡ Some y
@@ -147,8 +150,8 @@ impl Copies {
         self.list[copy as usize].is_in_sync = is_in_sync;
     }
 
-    /// Lets a copy hold what the primary holds, reached again and in sync. A refusal changes nothing. It takes the time
-    /// of the documents.
+    /// Lets a copy hold what the primary holds, reached again and in sync. If memory is refused, nothing
+    /// changes. The time is proportional to the number of documents.
     pub fn renew(&mut self, copy: u32, primary: u32) -> Result<(), NoMemory>
         requires copy { copy < length self.old }
         requires primary { primary < length self.old }
@@ -165,8 +168,9 @@ impl Copies {
         Ok(())
     }
 
-    /// Lets the copies that are in sync and not cut hold what the new primary holds, which is one of them; the cut ones
-    /// are not in sync any more. A refusal changes nothing. It takes the time of the documents for each of these copies.
+    /// Lets the copies that are in sync and not cut hold what the new primary holds, which is one of them;
+    /// the cut copies are not in sync any more. If memory is refused, nothing changes. For each of these
+    /// copies the time is proportional to the number of documents.
     pub fn follow(&mut self, primary: u32) -> Result<(), NoMemory>
         requires there { primary < length self.old }
         requires follows { (y : ShardCopy) → slice_get self.old primary ≡ Some y → (y.is_in_sync && not y.is_cut) ≡ true }

@@ -15,7 +15,7 @@ pub enum Fault {
     SameTerm,
     /// A get is served by any copy, from its own writes.
     Stale,
-    /// The condition of a write is not looked at.
+    /// The condition of a write is ignored.
     Blind,
 }
 
@@ -53,13 +53,13 @@ impl Fault {
     }
 }
 
-/// Why a group was not made.
+/// The reason why a group was not made.
 #[derive(Clone, Copy, Debug, PartialEq, Eq, Error)]
 pub enum CoreFault {
     /// The number of copies is not 1 to 5.
     #[error("a group has 1 to 5 copies")]
     Copies,
-    /// A growth was refused memory.
+    /// Memory was refused.
     #[error("no memory")]
     NoMemory,
 }

@@ -11,11 +11,11 @@ use std::sync::{Mutex, Wait};
 use version_pair::DocId;
 use workload::{Progress, Target, TargetFault, Ticket};
 
-// The stream of words from which a group draws its steps.
+// The stream of generator words from which a group draws its steps.
 const STREAM: u64 = 55;
 
-// What lies under the lock of a group: its core, and the generator from which its steps are drawn. Where the core has no
-// fault, it is honest each time the lock is taken.
+// What is under the lock of a group: its core, and the generator from which its steps are drawn. If the core
+// has no fault, it is honest each time the lock is taken.
 #[derive(Drop)]
 struct Locked {
     core: Core,
@@ -38,7 +38,7 @@ impl Locked {
     ghost use Rattle.repl_group.specs.Group.{start};
     ghost use Rattle.repl_group.specs.Polling.{Polls, Submits, generator_of};
 
-    // What a group of so many copies begins with, whose steps are drawn from the seed.
+    // The state in which a group of that many copies begins. Its steps are drawn from the seed.
     fn new(alloc: Global, copies: u32, fault: Fault, seed: u64) -> Result<Locked, CoreFault>
         ensures core { IfOk result (λ locked. locked.0 ≡ start fault copies) }
         ensures random { IfOk result (λ locked. locked.1 ≡ generator_of seed) }
@@ -64,17 +64,18 @@ impl Locked {
     }
 }
 
-/// A replication group that threads share as a target: each submission and each poll is one hold of its lock.
+/// A replication group that threads share as a target. Each submission and each poll is one hold of its lock.
 ///
-/// A poll makes the group take a step that is drawn at random from its seed, so the group goes on as it is polled.
+/// A poll makes the group take a step that is drawn at random from its seed, so the group proceeds as it is
+/// polled.
 #[derive(Drop)]
 pub struct Group {
     locked: Mutex<Locked>,
 }
 
 impl Group {
-    /// A group with so many copies, 1 to 5, at the start, whose steps are drawn from the seed; else `Copies`. Last
-    /// `NoMemory`.
+    /// Returns a group with that many copies, 1 to 5, at the start. Its steps are drawn from the seed.
+    /// Errors: `Copies` for another number of copies; last `NoMemory`.
     pub fn new(alloc: Global, copies: u32, fault: Fault, seed: u64) -> Result<Group, CoreFault>
         ensures { (result ≡ Err CoreFault.Copies) ↔ ((copies ≡ 0) ⊎ (5 < copies)) }
     {
@@ -93,10 +94,10 @@ impl Target for Group {
     // Only tickets that a group has are issued.
     ghost issued = { λ ticket _ _. ticket.0 < most_tickets };
 
-    // Of a group nothing is known through its lock where it has given all its tickets.
+    // Through its lock nothing is known of a group that has given all its tickets.
     ghost all_given = { Unit {0} };
 
-    // A group never tells that an outcome is unknown.
+    // A group never reports that an outcome is unknown.
     ghost gave = { λ _ progress. IsKnown progress };
 
     fn submit<R: Wait>(&self, rt: &R, id: &DocId, op: &Op) -> Result<Ticket, TargetFault> {

@@ -11,7 +11,7 @@ use std::alloc::Global;
 use std::marker::Model;
 use version_pair::NoMemory;
 
-/// The most copies that a group has.
+/// The greatest number of copies of a group.
 pub const MOST_COPIES: u32 = 5;
 
 /// The core of a replication group: a state machine that takes one step at a time.
@@ -35,8 +35,9 @@ impl Model for Core {
 }
 
 impl Core {
-    /// The core of a group with so many copies, 1 to 5, at the start: term 1, copy 0 the primary, all copies in sync, none
-    /// cut off, nothing submitted; else `Copies`. Last `NoMemory`.
+    /// Returns the core of a group with that many copies, 1 to 5, at the start: term 1, copy 0 the primary,
+    /// all copies in sync, none cut off, nothing submitted. Errors: `Copies` for another number of copies;
+    /// last `NoMemory`.
     pub fn new(alloc: Global, copies: u32, fault: Fault) -> Result<Core, CoreFault>
         ensures ok { IfOk result (λ core. core ≡ start fault copies) }
         ensures copies { (result ≡ Err CoreFault.Copies) ↔ ((copies ≡ 0) ⊎ (5 < copies)) }
@@ -51,12 +52,15 @@ impl Core {
         }
     }
 
-    /// Takes one step, or refuses it for want of memory: only one that the table lets the group take.
+    /// Takes one step, and returns its answer. It fails only if memory is refused, and only at a step that
+    /// the table lets the group take.
     ///
-    /// Every answer but `Ticket` and `Done` leaves the group as it was, and so does a refusal. A step takes the time of
-    /// looking its documents, tickets and copies up, and at most that of the tickets in flight; `Copy` and `Ack` also that
-    /// of the writes that a copy took since the ticket was first performed; `Heal` and `Promote` that of the documents, for
-    /// each copy that takes them. No step takes longer for the writes and the tickets that the group has had.
+    /// Every answer but `Ticket` and `Done` leaves the group as it was, and so does an error. A step takes
+    /// the time of looking up its documents, tickets and copies, and at most a time proportional to the
+    /// number of tickets in flight. `Copy` and `Ack` also take a time proportional to the number of writes
+    /// that a copy took since the ticket was first performed; `Heal` and `Promote` one proportional to the
+    /// number of documents, for each copy that takes them. No step takes longer because of the writes and the
+    /// tickets that the group has had.
     pub fn step(&mut self, step: Step) -> Result<Answer, NoMemory>
         ensures ok { IfOk result (λ answer. Takes self.old step answer self.new) }
         ensures err { OnErr result (self.new ≡ self.old) }
@@ -66,7 +70,7 @@ impl Core {
         self.machine.step(step)
     }
 
-    /// The reply to a ticket, where it is answered; `None` too where there is no such ticket.
+    /// Returns the reply to a ticket, if it is answered; `None` also if there is no such ticket.
     pub fn result(&self, ticket: u64) -> Option<Reply>
         ensures reply { result ≡ result_of self.now ticket }
         ensures honest { IsHonestUnlessFaulty self.now }
@@ -74,28 +78,28 @@ impl Core {
         self.machine.result(ticket)
     }
 
-    /// The term.
+    /// Returns the term.
     pub fn term(&self) -> u64
         ensures { result ≡ self.now.term }
     {
         self.machine.term()
     }
 
-    /// The number of the primary.
+    /// Returns the number of the primary.
     pub fn primary(&self) -> u32
         ensures { result ≡ self.now.primary }
     {
         self.machine.primary()
     }
 
-    /// Whether a copy is in sync; false where there is no such copy.
+    /// Returns whether a copy is in sync; `false` if there is no such copy.
     pub fn in_sync(&self, copy: u32) -> bool
         ensures { result ≡ is_in_sync self.now copy }
     {
         self.machine.in_sync(copy)
     }
 
-    // Whether no more tickets are given.
+    // Returns whether all tickets have been given.
     pub(crate) fn is_full(&self) -> bool
         ensures full { result ≡ not (nat_lt (length self.now.requests) most_tickets) }
         ensures honest { IsHonestUnlessFaulty self.now }
@@ -103,7 +107,7 @@ impl Core {
         self.machine.is_full()
     }
 
-    /// How many copies there are, 1 to 5.
+    /// Returns the number of copies, 1 to 5.
     pub fn copy_count(&self) -> u32
         ensures count { result ≡ length self.now.copies }
         ensures range { IsCopyCount result }
@@ -111,14 +115,14 @@ impl Core {
         self.machine.copy_count()
     }
 
-    // How many tickets are in flight.
+    // Returns the number of tickets in flight.
     pub(crate) fn in_flight_len(&self) -> usize
         ensures { result ≡ length (in_flight_from 0 self.now.requests) }
     {
         self.machine.in_flight_len()
     }
 
-    // The ticket at this place of those in flight, in rising order.
+    // Returns the ticket at this index of those in flight, in rising order.
     pub(crate) fn in_flight_at(&self, place: usize) -> Option<u64>
         ensures { result ≡ slice_get (in_flight_from 0 self.now.requests) place }
     {

@@ -9,9 +9,10 @@ use std::alloc::Global;
 use std::marker::Model;
 use version_pair::{NoMemory, Pair};
 
-/// What a copy holds: its place in the log of the group.
+/// What a copy holds: its position in the log of the group.
 ///
-/// Beside it is noted what each document is there, and the next sequence number, so that no look-up walks over the writes.
+/// The state of each document there and the next sequence number are kept beside it, so that no look-up walks
+/// over the writes.
 #[derive(Debug, Drop)]
 pub struct Held {
     place: usize,
@@ -34,14 +35,14 @@ fn is_above(pair: Pair, state: DocState) -> bool
     exceeds(pair, state)
 }
 
-// What the write makes of its document.
+// The state of its document after the write.
 fn state_made(write: HeldWrite) -> DocState
     ensures { result ≡ made_by write }
 {
     state_after(DocState::Never, &write.op, write.pair)
 }
 
-// Notes what the write makes of its document. A refusal changes nothing.
+// Sets the state of its document after the write. If memory is refused, nothing changes.
 fn note_document(
     documents: &mut IndexMap<usize, DocState>,
     write: HeldWrite,
@@ -61,7 +62,7 @@ fn note_document(
 }
 
 impl Held {
-    /// Nothing, which is place 0 of the log. It allocates nothing.
+    /// Returns the value that holds nothing, which is position 0 of the log. It allocates nothing.
     pub fn new(alloc: Global) -> Held
         ensures { result ≡ record { place = 0; documents = []; next_seq = 0 } }
     {
@@ -72,28 +73,29 @@ impl Held {
         }
     }
 
-    /// The place in the log.
+    /// Returns the position in the log.
     pub fn place(&self) -> usize
         ensures { result ≡ self.now.place }
     {
         self.place
     }
 
-    /// The document of this number.
+    /// Returns the document of this number.
     pub fn document(&self, doc: usize) -> DocState
         ensures { result ≡ unwrap_or (lookup (◌==◌ doc) self.now.documents) DocState.Never }
     {
         self.documents.get(&doc).copied().unwrap_or(DocState::Never)
     }
 
-    /// The sequence number of the next write, at most 2^63, which is none any more.
+    /// Returns the sequence number of the next write, at most 2^63; 2^63 itself is no longer a sequence
+    /// number.
     pub fn next_seq(&self) -> u64
         ensures { result ≡ self.now.next_seq }
     {
         self.next_seq
     }
 
-    /// Goes on to a place of the log at which one write more is held. A refusal changes nothing.
+    /// Moves to a position of the log at which one more write is held. If memory is refused, nothing changes.
     pub fn add(&mut self, place: usize, write: HeldWrite) -> Result<(), NoMemory>
         ensures place { OnOk result (self.new.place ≡ place) }
         ensures documents { OnOk result ((d : ℕ) → unwrap_or (lookup (◌==◌ d) self.new.documents) DocState.Never
@@ -107,7 +109,7 @@ impl Held {
         Ok(())
     }
 
-    /// The same once more. It takes the time of the documents.
+    /// Returns the same value once more. The time is proportional to the number of documents.
     pub fn copy(&self) -> Result<Held, NoMemory>
         ensures { IfOk result (λ held. held ≡ self.now) }
     {

@@ -1,5 +1,5 @@
-//! A replication group: copies of a shard that serve submitted operations step by step, honestly or with a fault. A `Core`
-//! takes its steps by name, a `Group` draws them from a seed and is a target of clients.
+//! A replication group: copies of a shard that serve submitted operations step by step, honestly or with a
+//! fault. A `Core` takes its steps by name; a `Group` draws them from a seed and is a target of clients.
 //!
 //! ```text
 //! let mut core = Core::new(alloc, 3, Fault::None)?;

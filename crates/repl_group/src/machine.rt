@@ -18,7 +18,7 @@ use std::alloc::Global;
 use std::marker::Model;
 use version_pair::{DocId, NoMemory, Pair};
 
-/// The most tickets that a group gives.
+/// The greatest number of tickets that a group gives.
 pub const MOST_TICKETS: usize = 524_288;
 
 // The greatest term.
@@ -55,7 +55,7 @@ impl Model for Machine {
 }
 
 impl Machine {
-    /// The machine of a group with 1 to 5 copies, at the start.
+    /// Returns the machine of a group with 1 to 5 copies, at the start.
     pub fn new(alloc: Global, count: u32, fault: Fault) -> Result<Machine, NoMemory>
         requires { IsCopyCount count }
         ensures { IfOk result (λ machine. machine ≡ start fault count) }
@@ -71,7 +71,7 @@ impl Machine {
         })
     }
 
-    /// Whether the primary is cut off.
+    /// Returns whether the primary is cut off.
     fn is_primary_cut(&self) -> bool
         ensures { result ≡ primary_cut self.now }
     {
@@ -81,14 +81,14 @@ impl Machine {
         }
     }
 
-    /// The document of this number, as a copy has it.
+    /// Returns the document of this number, as a copy has it.
     fn document_at(&self, copy: u32, doc: usize) -> DocState
         ensures { result ≡ document_seen self.now copy doc }
     {
         self.copies.document(copy, doc)
     }
 
-    /// Whether the write of a ticket may be acknowledged.
+    /// Returns whether the write of a ticket may be acknowledged.
     fn is_held(&self, ticket: u64) -> bool
         ensures { result ≡ held self.now ticket }
     {
@@ -98,7 +98,7 @@ impl Machine {
         self.copies.holds(self.primary, ticket)
     }
 
-    /// The operation as the primary reads it.
+    /// Returns the operation as the primary reads it.
     fn op_read(&self, request: Request) -> Op
         ensures { result ≡ read_of self.now request }
     {
@@ -109,35 +109,35 @@ impl Machine {
         }
     }
 
-    /// Whether a copy may take a write in flight.
+    /// Returns whether a copy may take a write in flight.
     fn may_take_write(&self, copy: Standing) -> bool
         ensures { result ≡ (copy.is_in_sync && not copy.is_cut && not (primary_cut self.now)) }
     {
         copy.is_in_sync && !copy.is_cut && !self.is_primary_cut()
     }
 
-    /// Whether the copy of this number takes nothing from the primary when it is reached again.
+    /// Returns whether the copy of this number takes nothing from the primary when it is reached again.
     fn is_left_alone(&self, number: u32) -> bool
         ensures { result ≡ ((number == self.now.primary) || primary_cut self.now) }
     {
         number == self.primary || self.is_primary_cut()
     }
 
-    /// Whether the copy of this number may leave those in sync.
+    /// Returns whether the copy of this number may leave those in sync.
     fn may_drop(&self, number: u32, copy: Standing) -> bool
         ensures { result ≡ (copy.is_in_sync && copy.is_cut && not (number == self.now.primary) && not (primary_cut self.now)) }
     {
         copy.is_in_sync && copy.is_cut && number != self.primary && !self.is_primary_cut()
     }
 
-    /// Whether the copy of this number may become the primary.
+    /// Returns whether the copy of this number may become the primary.
     fn may_lead(&self, number: u32, copy: Standing) -> bool
         ensures { result ≡ (copy.is_in_sync && not copy.is_cut && not (number == self.now.primary) && nat_lt self.now.term greatest) }
     {
         copy.is_in_sync && !copy.is_cut && number != self.primary && self.term < GREATEST_TERM
     }
 
-    /// Submits an operation. A refusal changes nothing.
+    /// Submits an operation. If memory is refused, nothing changes.
     fn submit(&mut self, id: DocId, op: Op) -> Result<Answer, NoMemory>
         ensures ok { IfOk result (λ answer. Gives self.old (steps.Submit id op) answer self.new) }
         ensures err { OnErr result (self.new ≡ self.old) }
@@ -157,7 +157,7 @@ impl Machine {
         Ok(Answer::Ticket(ticket as u64))
     }
 
-    /// Answers a queued get by what a copy shows.
+    /// Answers a queued get with what a copy shows.
     fn show(&mut self, ticket: u64, request: Request, copy: u32) -> Answer
         requires found { slice_get self.old.requests ticket ≡ Some request }
         requires is_queued { queued request.stage ≡ true }
@@ -187,8 +187,8 @@ impl Machine {
         self.show(ticket, request, self.primary)
     }
 
-    /// Performs a queued write at the primary, where a sequence number is left. No write is in flight on its document,
-    /// which was so before. A refusal changes nothing.
+    /// Performs a queued write at the primary, if a sequence number is left. No write must be in flight on
+    /// its document; `before` is the document before the write. If memory is refused, nothing changes.
     fn perform(
         &mut self,
         ticket: u64,
@@ -217,7 +217,7 @@ impl Machine {
         Ok(Answer::Done)
     }
 
-    /// Serves a queued write. A refusal changes nothing.
+    /// Serves a queued write. If memory is refused, nothing changes.
     fn serve_write(&mut self, ticket: u64, request: Request) -> Result<Answer, NoMemory>
         requires found { slice_get self.old.requests ticket ≡ Some request }
         requires is_queued { queued request.stage ≡ true }
@@ -243,7 +243,7 @@ impl Machine {
         Ok(Answer::Done)
     }
 
-    /// Serves the operation of a ticket. A refusal changes nothing.
+    /// Serves the operation of a ticket. If memory is refused, nothing changes.
     fn serve(&mut self, ticket: u64) -> Result<Answer, NoMemory>
         ensures ok { IfOk result (λ answer. Gives self.old (steps.Serve ticket) answer self.new) }
         ensures err { OnErr result (self.new ≡ self.old) }
@@ -261,7 +261,7 @@ impl Machine {
         self.serve_write(ticket, request)
     }
 
-    /// Copies the write of a ticket. A refusal changes nothing.
+    /// Copies the write of a ticket. If memory is refused, nothing changes.
     fn copy(&mut self, ticket: u64, copy: u32) -> Result<Answer, NoMemory>
         ensures ok { IfOk result (λ answer. Gives self.old (steps.Copy ticket copy) answer self.new) }
         ensures err { OnErr result (self.new ≡ self.old) }
@@ -316,8 +316,8 @@ impl Machine {
         Answer::Done
     }
 
-    /// Reaches a copy again. A refusal changes nothing. Where the copy takes what the primary holds, it takes the time of
-    /// the documents.
+    /// Reaches a copy again. If memory is refused, nothing changes. If the copy takes what the primary holds,
+    /// the time is proportional to the number of documents.
     fn heal(&mut self, copy: u32) -> Result<Answer, NoMemory>
         ensures ok { IfOk result (λ answer. Gives self.old (steps.Heal copy) answer self.new) }
         ensures err { OnErr result (self.new ≡ self.old) }
@@ -334,7 +334,7 @@ impl Machine {
         Ok(Answer::Done)
     }
 
-    /// Gives a copy that is cut off out of those in sync.
+    /// Removes a copy that is cut off from those in sync.
     fn drop_copy(&mut self, copy: u32) -> Answer
         ensures { Gives self.old (steps.Drop copy) result self.new }
     {
@@ -348,8 +348,8 @@ impl Machine {
         Answer::Done
     }
 
-    /// Makes a copy the primary. A refusal changes nothing. It takes the time of the documents, for each copy that follows,
-    /// and of the writes in flight.
+    /// Makes a copy the primary. If memory is refused, nothing changes. The time is proportional to the
+    /// number of documents, for each copy that follows, and to the number of writes in flight.
     fn promote(&mut self, copy: u32) -> Result<Answer, NoMemory>
         ensures ok { IfOk result (λ answer. Gives self.old (steps.Promote copy) answer self.new) }
         ensures err { OnErr result (self.new ≡ self.old) }
@@ -370,7 +370,7 @@ impl Machine {
         Ok(Answer::Done)
     }
 
-    /// Gives one step. A refusal changes nothing.
+    /// Gives one step to the group. If memory is refused, nothing changes.
     pub fn step(&mut self, step: Step) -> Result<Answer, NoMemory>
         ensures ok { IfOk result (λ answer. Gives self.old step answer self.new) }
         ensures err { OnErr result (self.new ≡ self.old) }
@@ -388,28 +388,28 @@ impl Machine {
         }
     }
 
-    /// The reply to a ticket, where it is answered.
+    /// Returns the reply to a ticket, if it is answered.
     pub fn result(&self, ticket: u64) -> Option<Reply>
         ensures { result ≡ result_of self.now ticket }
     {
         self.requests.get(ticket)?.stage.answer()
     }
 
-    /// The term.
+    /// Returns the term.
     pub fn term(&self) -> u64
         ensures { result ≡ self.now.term }
     {
         self.term
     }
 
-    /// The number of the primary.
+    /// Returns the number of the primary.
     pub fn primary(&self) -> u32
         ensures { result ≡ self.now.primary }
     {
         self.primary
     }
 
-    /// Whether a copy is in sync; false where there is none.
+    /// Returns whether a copy is in sync; `false` if there is no such copy.
     pub fn in_sync(&self, copy: u32) -> bool
         ensures { result ≡ is_in_sync self.now copy }
     {
@@ -419,14 +419,14 @@ impl Machine {
         }
     }
 
-    /// Whether no more tickets are given.
+    /// Returns whether all tickets have been given.
     pub fn is_full(&self) -> bool
         ensures { result ≡ not (nat_lt (length self.now.requests) most_tickets) }
     {
         self.requests.len() >= MOST_TICKETS
     }
 
-    /// How many copies there are, 1 to 5.
+    /// Returns the number of copies, 1 to 5.
     pub fn copy_count(&self) -> u32
         ensures count { result ≡ length self.now.copies }
         ensures range { IsCopyCount result }
@@ -434,14 +434,14 @@ impl Machine {
         self.copies.len() as u32
     }
 
-    /// How many tickets are in flight.
+    /// Returns the number of tickets in flight.
     pub fn in_flight_len(&self) -> usize
         ensures { result ≡ length (in_flight_from 0 self.now.requests) }
     {
         self.requests.in_flight_len()
     }
 
-    /// The ticket at this place of those in flight, in rising order.
+    /// Returns the ticket at this index of those in flight, in rising order.
     pub fn in_flight_at(&self, place: usize) -> Option<u64>
         ensures { result ≡ slice_get (in_flight_from 0 self.now.requests) place }
     {

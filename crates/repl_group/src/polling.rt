@@ -10,7 +10,7 @@ use rand_pcg::Lcg64Xsh32;
 use version_pair::DocId;
 use workload::{Progress, TargetFault, Ticket};
 
-// The ticket in flight at this number, modulo how many there are.
+// The ticket in flight at this number modulo their count.
 fn flight_drawn(core: &Core, number: u32) -> Option<u64>
     ensures { result ≡ flight_by core.now number }
 {
@@ -58,7 +58,7 @@ fn step_drawn(core: &Core, ticket: u64, word: u32) -> Option<Step>
     step_of_kind(core, ticket, word % 64, rest % copies, rest / copies)
 }
 
-// What is told of a ticket.
+// What a poll reports of a ticket.
 fn progress(core: &Core, ticket: u64) -> Progress
     ensures { result ≡ progress_of core.now ticket }
 {
@@ -68,7 +68,8 @@ fn progress(core: &Core, ticket: u64) -> Progress
     }
 }
 
-/// What a submission does in one hold of the group's lock: the step `Submit`. `Full` is told before want of memory.
+/// Does what a submission does in one hold of the group's lock: the step `Submit`. `Full` is reported before
+/// `NoMemory`.
 pub fn submit_step(core: &mut Core, id: &DocId, op: &Op) -> Result<Ticket, TargetFault>
     ensures submits { Submits core.old id.now op.now result core.new }
     ensures honest { IsHonestUnlessFaulty core.new }
@@ -86,10 +87,12 @@ pub fn submit_step(core: &mut Core, id: &DocId, op: &Op) -> Result<Ticket, Targe
     }
 }
 
-/// What a poll does in one hold of the group's lock: one step at most, which a word of the generator says.
+/// Does what a poll does in one hold of the group's lock: at most one step, which a word of the generator
+/// determines.
 ///
-/// A ticket with a result is told it, and no word is drawn. Where the step is refused memory the core stays as it was, and
-/// the word is spent. A ticket that the group does not know makes its step too, and is told to wait.
+/// For a ticket with a result the poll returns it, and no word is drawn. If the step is refused memory, the
+/// core stays as it was, and the word is spent. A poll of a ticket that the group does not know takes its
+/// step too, and reports that the ticket waits.
 pub fn poll_step(
     core: &mut Core,
     random: &mut Lcg64Xsh32,

@@ -6,6 +6,6 @@ pub struct Replica {
     pub held: Held,
     /// Whether it is cut off from the others.
     pub is_cut: bool,
-    /// Whether each acknowledged write has to be on it.
+    /// Whether each acknowledged write must be on it.
     pub is_in_sync: bool,
 }

@@ -11,7 +11,7 @@ use std::alloc::Global;
 use std::mem;
 use version_pair::NoMemory;
 
-/// This many copies that hold nothing, in sync and reached.
+/// Returns this many copies that hold nothing, in sync and reached.
 pub fn new_replicas(alloc: Global, count: u32) -> Result<Vec<Replica>, NoMemory>
     ensures { IfOk result (λ replicas. replicas.items ≡ replicate count new_replica) }
 {
@@ -26,14 +26,14 @@ pub fn new_replicas(alloc: Global, count: u32) -> Result<Vec<Replica>, NoMemory>
     Ok(replicas)
 }
 
-/// The copy of this number.
+/// Returns the copy of this number.
 pub fn find_replica(replicas: &[Replica], copy: u32) -> Option<&Replica>
     ensures { option_copied result ≡ slice_get replicas.now copy }
 {
     replicas.get(copy as usize)
 }
 
-/// A copy that is reached again, in sync, holding so.
+/// Reaches a copy again, in sync, and lets it hold this.
 pub fn renew(replicas: &mut Vec<Replica>, copy: u32, held: Held)
     requires { copy < vec_len replicas.old }
     ensures { replicas.new.items ≡ slice_set replicas.old.items copy (record { held = held; is_cut = false; is_in_sync = true }) }
@@ -52,7 +52,7 @@ fn is_follower(replica: &Replica) -> bool
     replica.is_in_sync && !replica.is_cut
 }
 
-// How many copies take what a new primary holds.
+// The number of copies that take what a new primary holds.
 fn follower_count(replicas: &[Replica]) -> usize
     ensures { result ≡ count_by follows replicas.now }
 {
@@ -65,7 +65,7 @@ fn follower_count(replicas: &[Replica]) -> usize
     count
 }
 
-// So many copies of what is held.
+// That many copies of what is held.
 fn copies_of(alloc: Global, held: &Held, count: usize) -> Result<Vec<Held>, NoMemory>
     ensures { IfOk result (λ sets. sets.items ≡ replicate count held.now) }
 {
@@ -76,8 +76,8 @@ fn copies_of(alloc: Global, held: &Held, count: usize) -> Result<Vec<Held>, NoMe
     Ok(sets)
 }
 
-// Leads a copy by one of the sets, all of which are what the new primary holds; a copy that is cut is not in sync any
-// more.
+// Gives a copy one of the sets, all of which are what the new primary holds; a copy that is cut is not in
+// sync any more.
 fn lead(replica: &mut Replica, sets: &mut Vec<Held>)
     ensures { (held : HeldState) (n : ℕ) → sets.old.items ≡ replicate (n + cond (follows replica.old) 1 0) held
         → (replica.new ≡ taken_by held replica.old) × (sets.new.items ≡ replicate n held) }
@@ -91,7 +91,7 @@ fn lead(replica: &mut Replica, sets: &mut Vec<Held>)
     }
 }
 
-// Leads each copy by one of the sets.
+// Gives each copy one of the sets.
 fn hand_over(replicas: &mut Vec<Replica>, mut sets: Vec<Held>)
     ensures { (held : HeldState) → sets.items ≡ replicate (count_by follows replicas.old.items) held
         → replicas.new.items ≡ map (taken_by held) replicas.old.items }
@@ -101,8 +101,9 @@ fn hand_over(replicas: &mut Vec<Replica>, mut sets: Vec<Held>)
     }
 }
 
-/// Lets the copies that are in sync and not cut hold what the new primary holds, which is one of them; the cut ones are
-/// not in sync any more. A refusal changes nothing. It takes the time of the documents for each of these copies.
+/// Lets the copies that are in sync and not cut hold what the new primary holds, which is one of them; the
+/// cut copies are not in sync any more. If memory is refused, nothing changes. For each of these copies the
+/// time is proportional to the number of documents.
 pub fn follow(replicas: &mut Vec<Replica>, primary: u32) -> Result<(), NoMemory>
     requires { primary < vec_len replicas.old }
     ensures ok { OnOk result ((y : Kept) → slice_get replicas.old.items primary ≡ Some y → follows y ≡ true

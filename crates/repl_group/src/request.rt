@@ -10,25 +10,26 @@ use version_pair::Pair;
 pub enum Stage {
     /// It was not served yet.
     Queued,
-    /// It is a write that the primary performed with this pair; the document was so before.
+    /// It is a write that the primary performed with this pair; the second value is the document before it.
     InFlight(Pair, DocState),
     /// It is answered.
     Answered(Reply),
-    /// It is a write that was in flight with this pair when another copy became the primary: it is never answered.
+    /// It is a write that was in flight with this pair when another copy became the primary. It is never
+    /// answered.
     Lost(Pair),
 }
 
 impl Stage {
     ghost use Rattle.repl_group.specs.Requests as requests;
 
-    /// Whether it was not served yet.
+    /// Returns whether it was not served yet.
     pub fn is_queued(self) -> bool
         ensures { result ≡ requests.is_queued self }
     {
         matches!(self, Stage::Queued)
     }
 
-    /// The pair that the write took and what its document was before, where it is in flight.
+    /// Returns the pair that the write took and the document before it, if it is in flight.
     pub fn flight(self) -> Option<(Pair, DocState)>
         ensures { result ≡ requests.flight_of self }
     {
@@ -38,7 +39,7 @@ impl Stage {
         }
     }
 
-    /// The reply, where there is one.
+    /// Returns the reply, if there is one.
     pub fn answer(self) -> Option<Reply>
         ensures { result ≡ requests.answer_in self }
     {
@@ -49,7 +50,7 @@ impl Stage {
     }
 }
 
-/// What a ticket stands for: an operation on a document, which is named by its number.
+/// What a ticket refers to: an operation on a document, which is given by its number.
 #[derive(Clone, Copy, Debug, PartialEq, Eq)]
 pub struct Request {
     pub doc: usize,
@@ -60,7 +61,7 @@ pub struct Request {
 impl Request {
     ghost use Rattle.repl_group.specs.Group.{write_of};
 
-    /// The write that it asks for, with a pair.
+    /// Returns the write that it asks for, with a pair.
     pub fn write(self, pair: Pair) -> HeldWrite
         ensures { result ≡ write_of self pair }
     {
@@ -72,14 +73,14 @@ impl Request {
     }
 }
 
-/// Whether the operation is a get.
+/// Returns whether the operation is a get.
 pub fn is_get(op: Op) -> bool
     ensures { result ≡ reads op }
 {
     matches!(op, Op::Get)
 }
 
-/// The operation without its condition, if it has one.
+/// Returns the operation without its condition, if it has one.
 pub fn unconditional(op: Op) -> Op
     ensures { result ≡ without_condition op }
 {

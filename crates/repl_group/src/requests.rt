@@ -13,7 +13,8 @@ use version_pair::{NoMemory, Pair};
 
 /// The requests of all tickets.
 ///
-/// Beside them are kept the tickets in flight, in rising order, and the numbers of the documents that they are on.
+/// The tickets in flight, in rising order, and the numbers of the documents that they are on are kept beside
+/// them.
 #[derive(Debug, Drop)]
 pub struct Requests {
     list: Vec<Request>,
@@ -38,14 +39,14 @@ impl Model for Requests {
     ghost invariant = { λ r. AreListed r.list.items r.in_flight.items r.busy.keys };
 }
 
-// The place of the first ticket that is greater.
+// The index of the first ticket that is greater.
 fn first_greater(tickets: &[u64], ticket: u64) -> Option<usize>
     ensures { result ≡ position (nat_lt ticket) tickets.now }
 {
     tickets.iter().position(|other| ticket < *other)
 }
 
-// Puts a ticket before the first one that is greater. There is room for it.
+// Inserts a ticket before the first one that is greater. There must be room for it.
 fn put_in_order(tickets: &mut Vec<u64>, ticket: u64)
     requires { vec_len tickets.old < vec_capacity tickets.old }
     ensures { tickets.new.items ≡ put ticket tickets.old.items }
@@ -57,7 +58,7 @@ fn put_in_order(tickets: &mut Vec<u64>, ticket: u64)
     }
 }
 
-// Takes a ticket out.
+// Removes a ticket.
 fn take_out(tickets: &mut Vec<u64>, ticket: u64)
     ensures { tickets.new.items ≡ filter (λ other. not (other == ticket)) tickets.old.items }
 {
@@ -72,7 +73,7 @@ fn set_stage(list: &mut Vec<Request>, ticket: u64, request: Request, stage: Stag
     list[ticket as usize] = Request { stage, ..request };
 }
 
-// The request, which is lost where it is in flight.
+// The request, which becomes lost if it is in flight.
 fn lost(request: Request) -> Request
     ensures { result ≡ lost_request request }
 {
@@ -85,7 +86,7 @@ fn lost(request: Request) -> Request
     }
 }
 
-// Loses what is in flight, which are these tickets.
+// Makes the requests in flight lost, which are those of these tickets.
 fn lose(list: &mut Vec<Request>, tickets: &[u64])
     requires { tickets.now ≡ in_flight_from 0 list.old.items }
     ensures { list.new.items ≡ with_flights_lost list.old.items }
@@ -97,7 +98,7 @@ fn lose(list: &mut Vec<Request>, tickets: &[u64])
 }
 
 impl Requests {
-    /// No requests. It allocates nothing.
+    /// Returns a list without requests. It allocates nothing.
     pub fn new(alloc: Global) -> Requests
         ensures { result.list ≡ [] }
     {
@@ -108,42 +109,42 @@ impl Requests {
         }
     }
 
-    /// How many tickets there are.
+    /// Returns the number of tickets.
     pub fn len(&self) -> usize
         ensures { result ≡ length self.now.list }
     {
         self.list.len()
     }
 
-    /// The request of a ticket.
+    /// Returns the request of a ticket.
     pub fn get(&self, ticket: u64) -> Option<Request>
         ensures { result ≡ slice_get self.now.list ticket }
     {
         self.list.get(ticket as usize).copied()
     }
 
-    /// Whether a write is in flight on the document of this number.
+    /// Returns whether a write is in flight on the document of this number.
     pub fn is_busy(&self, doc: usize) -> bool
         ensures { result ≡ busy self.now.list doc }
     {
         self.busy.contains(&doc)
     }
 
-    /// How many tickets are in flight.
+    /// Returns the number of tickets in flight.
     pub fn in_flight_len(&self) -> usize
         ensures { result ≡ length (in_flight_from 0 self.now.list) }
     {
         self.in_flight.len()
     }
 
-    /// The ticket at this place of those in flight, in rising order.
+    /// Returns the ticket at this index of those in flight, in rising order.
     pub fn in_flight_at(&self, place: usize) -> Option<u64>
         ensures { result ≡ slice_get (in_flight_from 0 self.now.list) place }
     {
         self.in_flight.get(place).copied()
     }
 
-    /// Adds a queued request. A refusal changes nothing.
+    /// Adds a queued request. If memory is refused, nothing changes.
     pub fn add(&mut self, doc: usize, op: Op) -> Result<(), NoMemory>
         ensures ok { OnOk result (self.new.list ≡ self.old.list ++ queued_request doc op ∷ []) }
         ensures err { OnErr result (self.new.list ≡ self.old.list) }
@@ -174,8 +175,9 @@ impl Requests {
         self.busy.reserve(1)
     }
 
-    /// A queued write is in flight from now on, with a pair; its document was so before. No other write is in flight on
-    /// its document, and there is room. It takes the time of the writes in flight.
+    /// Puts a queued write in flight, with a pair; `before` is its document before it. No other write may be
+    /// in flight on its document, and there must be room. The time is proportional to the number of writes in
+    /// flight.
     pub fn launch(&mut self, ticket: u64, request: Request, pair: Pair, before: DocState)
         requires room { self.old.has_room ≡ true }
         requires found { slice_get self.old.list ticket ≡ Some request }
@@ -196,7 +198,7 @@ impl Requests {
         }
     }
 
-    /// Answers a write in flight. It takes the time of the writes in flight.
+    /// Answers a write in flight. The time is proportional to the number of writes in flight.
     pub fn acknowledge(&mut self, ticket: u64, request: Request, reply: Reply)
         requires found { slice_get self.old.list ticket ≡ Some request }
         requires flying { is_in_flight request.stage ≡ true }
@@ -207,7 +209,7 @@ impl Requests {
         self.busy.swap_remove(&request.doc);
     }
 
-    /// Loses what is in flight. It takes the time of the writes in flight.
+    /// Makes all writes in flight lost. The time is proportional to their number.
     pub fn lose_flights(&mut self)
         ensures { self.new.list ≡ with_flights_lost self.old.list }
     {

@@ -1,7 +1,7 @@
 use doc_register::Op;
 use version_pair::DocId;
 
-/// One step of a replication group. Tickets and copies are named by their numbers, from 0.
+/// One step of a replication group. Tickets and copies are given by their numbers, from 0.
 #[derive(Debug, Drop)]
 pub enum Step {
     /// An operation on a document is submitted.
@@ -22,7 +22,7 @@ pub enum Step {
     Promote(u32),
 }
 
-/// What a step is answered.
+/// The answer to a step.
 #[derive(Clone, Copy, Debug, PartialEq, Eq)]
 pub enum Answer {
     /// The operation was submitted under this ticket.

@@ -9,7 +9,7 @@ use std::alloc::Global;
 use std::marker::Model;
 use version_pair::NoMemory;
 
-/// A write of the log, under the ticket that asked for it, behind what is held at an earlier place.
+/// A write of the log, under the ticket that asked for it, after what is held at an earlier position.
 #[derive(Debug, Drop)]
 pub struct Logged {
     pub ticket: u64,
@@ -17,10 +17,12 @@ pub struct Logged {
     pub before: usize,
 }
 
-/// The writes that copies took, each behind what its copy held before, so that copies share what they hold alike.
+/// The writes that copies took, each after what its copy held before, so that copies share what they hold in
+/// common.
 ///
-/// At place 0 nothing is held. Each write makes the next place: there it is held, and all that was held at the place
-/// behind which it came. Contracts see what is held at each place, in the order in which it came.
+/// At position 0 nothing is held. Each write makes the next position, which holds the write, and all that was
+/// held at the position after which it came. Contracts see what is held at each position, in the order in
+/// which it came.
 #[derive(Debug, Drop)]
 pub struct WriteLog {
     entries: Vec<Logged>,
@@ -41,7 +43,7 @@ impl Model for WriteLog {
     ghost invariant = { λ l. IsLog l.entries.items l.first.entries };
 }
 
-// Notes the number of the first entry of a ticket, where none is noted yet. A refusal changes nothing.
+// Sets the number of the first entry of a ticket, if none is set yet. If memory is refused, nothing changes.
 fn note_first(first: &mut IndexMap<u64, usize>, ticket: u64, number: usize) -> Result<(), NoMemory>
     ensures ok { OnOk result ((t : ℕ) → lookup (◌==◌ t) first.new.entries
         ≡ (if is_some (lookup (◌==◌ ticket) first.old.entries) then lookup (◌==◌ t) first.old.entries
@@ -55,7 +57,7 @@ fn note_first(first: &mut IndexMap<u64, usize>, ticket: u64, number: usize) -> R
 }
 
 impl WriteLog {
-    /// A log without writes. It allocates nothing.
+    /// Returns a log without writes. It allocates nothing.
     pub fn new(alloc: Global) -> WriteLog
         ensures { result ≡ [] ∷ [] }
     {
@@ -65,8 +67,8 @@ impl WriteLog {
         }
     }
 
-    /// Whether the write of the ticket is held at the place. It takes the time of the writes that came to the place after
-    /// the first entry of the ticket.
+    /// Returns whether the write of the ticket is held at the position. The time is proportional to the
+    /// number of writes that came to the position after the first entry of the ticket.
     pub fn holds(&self, place: usize, ticket: u64) -> bool
         requires { place < length self.now }
         ensures { result ≡ is_held (held_at self.now place) ticket }
@@ -85,7 +87,8 @@ impl WriteLog {
         false
     }
 
-    /// Adds the write of a ticket behind a place, and answers its own place, the next one. A refusal changes nothing.
+    /// Adds the write of a ticket after a position, and returns its own position, the next one. If memory is
+    /// refused, nothing changes.
     pub fn push(&mut self, place: usize, ticket: u64, write: HeldWrite) -> Result<usize, NoMemory>
         requires { place < length self.old }
         ensures place { IfOk result (λ next. next ≡ length self.old) }

@@ -11,8 +11,9 @@ use Rattle.history.specs.Order.{Explains, IsLinearizable, IsOfCall, Placed, Resp
 use Rattle.ruled_out.specs.Told.{told}
 use Rattle.ruled_out.specs.Placings.{IsPlacing, IsRuledOut}
 
--- The order explains the document, be there calls of other documents in it or not: a call stands in it at most once, each answered
--- call of the document with its reply; under plain conflicts no reply hides a pair; it respects the history; and it is a legal run.
+-- The order explains the document, whether it has calls of other documents or not: a call is in it at most
+-- once, each answered call of the document with its reply; under plain conflicts no reply hides a pair; it
+-- respects the history; and it is a legal run.
 pub record ExplainsWithin (conflicts : Conflicts) (events : List Event) (d : List ℕ) (order : List Placed) : Type 0 where
   pub calls : (i : ℕ) (p : Placed) → slice_get order i ≡ Some p → IsOfCall events p
   pub once : (i j : ℕ) (p q : Placed) → slice_get order i ≡ Some p → slice_get order j ≡ Some q → p.no ≡ q.no → i ≡ j
@@ -22,18 +23,19 @@ pub record ExplainsWithin (conflicts : Conflicts) (events : List Event) (d : Lis
   pub respects : Respects events order
   pub legal : IsLegalRun (run_of order)
 
--- where an order explains a document, the document is not ruled out
+-- if an order explains a document, the document is not ruled out
 abbrev pub OrderedAreNotRuledOut : Type 0
 OrderedAreNotRuledOut = (conflicts : Conflicts) (events : List Event) (d : List ℕ) (order : List Placed) (no : ℕ) → IsHistory events
     → ExplainsWithin conflicts events d order → ¬ IsRuledOut (told conflicts (records_of events d)) no
 
--- where an order explains a history, each of its documents has a placing of all its answered calls
+-- if an order explains a history, each of its documents has a placing of all its answered calls
 abbrev pub ExplainedHavePlacings : Type 0
 ExplainedHavePlacings = (conflicts : Conflicts) (events : List Event) (order : List Placed) (d : List ℕ) → IsHistory events
     → Explains conflicts events order
     → (floor : ℕ → ℕ) × ((event : ℕ) → IsPlacing (told conflicts (records_of events d)) event floor)
 
--- where a document of a history is ruled out, no order explains the history, however its pending calls are completed
+-- if a document of a history is ruled out, no order explains the history, however its pending calls are
+-- completed
 abbrev pub RuledOutHaveNoOrder : Type 0
 RuledOutHaveNoOrder = (conflicts : Conflicts) (events : List Event) (d : List ℕ) (no : ℕ) → IsHistory events
     → IsRuledOut (told conflicts (records_of events d)) no → ¬ IsLinearizable conflicts events

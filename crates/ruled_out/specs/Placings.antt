@@ -1,5 +1,5 @@
--- Placings of a document: positions at which its answered calls may stand, whatever became of the calls without a reply; and
--- where a document is ruled out, having none.
+-- Placings of a document: positions at which its answered calls may be, whatever became of the calls without
+-- a reply. A document is ruled out if it has none.
 use Rattle.std.specs.Prelude.{◌≡◌, ◌≢◌, ◌<◌, ◌≤◌, ◌⊎◌, ℕ, suc, Bool, true, false, not, List, Option, None, Some, slice_get}
 use Rattle.version_pair.specs.declared.pair.Pair.{Pair}
 use Rattle.version_pair.specs.PairOrder.{IsBelow}
@@ -13,14 +13,14 @@ use Rattle.history.specs.Heard.{pair_of}
 use Rattle.ruled_out.specs.Told.{IsFoundWith, IsGone, IsKnown, IsToldOf}
 use Rattle.ruled_out.specs.Positions.{IsNext, gap_of, position_after, version_of}
 
--- The records are those of a document as they are told. The floor of each record, by its number, is a position that the document
--- has reached when the call is made: no call that is made then stands below it.
+-- The records are those of a document as reported. The floor of each record, by its number, is a position
+-- that the document has reached when the call is made: no call that is made then is below it.
 
 -- ---- what calls without a reply may do
 
--- The i-th call, w, has no reply, and may have taken the pair before the event: it was made by then, its floor is no bar, and where
--- it has a condition, the condition is below the pair, with no known pair between. That another call needs it too, with another
--- pair, is no hindrance.
+-- The i-th call, w, has no reply, and may have taken the pair before the event: it was made by then, its
+-- floor does not prevent it, and if it has a condition, the condition is below the pair, with no known pair
+-- between. It doesn't matter whether another call needs it too, with another pair.
 pub record MayTake (records : List Rec) (floor : ℕ → ℕ) (event i : ℕ) (w : Rec) (p : Pair) : Type 0 where
   pub at : slice_get records i ≡ Some w
   pub unanswered : w.heard ≡ None
@@ -28,7 +28,7 @@ pub record MayTake (records : List Rec) (floor : ℕ → ℕ) (event i : ℕ) (w
   pub above : floor i ≤ gap_of records p
   pub condition : (c : Pair) → condition_of w.op ≡ Some c → IsBelow c p × IsNext records c p
 
--- a call without a reply may have taken a pair that isn't known, and that has the position n
+-- a call without a reply may have taken an unknown pair that has the position n
 pub record MayChange (records : List Rec) (floor : ℕ → ℕ) (event n : ℕ) : Type 0 where
   pub number : ℕ
   pub call : Rec
@@ -51,17 +51,20 @@ pub record MayGive (records : List Rec) (floor : ℕ → ℕ) (event n : ℕ) : 
 
 -- ---- what the document may be at a position, before the event
 
--- it was never written, or it was deleted with the known pair of the position, or a call without a reply may have deleted it
+-- it was never written, or it was deleted with the known pair of the position, or a call without a reply may
+-- have deleted it
 abbrev pub MayBeAbsent : List Rec → (ℕ → ℕ) → ℕ → ℕ → Type 0
 MayBeAbsent records floor event n =
     (n ≡ 0) ⊎ ((v : Pair) × IsGone records v × (n ≡ version_of records v)) ⊎ MayDelete records floor event n
 
--- it has the known pair of the position and wasn't deleted with it, or a call without a reply may have written it
+-- it has the known pair of the position and was not deleted with it, or a call without a reply may have
+-- written it
 abbrev pub MayBePresent : List Rec → (ℕ → ℕ) → ℕ → ℕ → Type 0
 MayBePresent records floor event n =
     ((v : Pair) × IsKnown records v × (¬ IsGone records v) × (n ≡ version_of records v)) ⊎ MayGive records floor event n
 
--- an index or a create without a reply may have taken the pair, giving the number that was found with it, if one was
+-- an index or a create without a reply may have taken the pair, giving the number that was found with it, if
+-- one was
 pub record HasWriter (records : List Rec) (floor : ℕ → ℕ) (event : ℕ) (v : Pair) : Type 0 where
   pub number : ℕ
   pub call : Rec
@@ -70,16 +73,17 @@ pub record HasWriter (records : List Rec) (floor : ℕ → ℕ) (event : ℕ) (v
   pub gives : value_of call.op ≡ Some value
   pub found : (k : ℕ) → IsFoundWith records v k → k ≡ value
 
--- each known pair up to the position has a call that took it: the one that is told, or one that may have taken it
+-- each known pair up to the position has a call that took it: the one that a reply names, or one that may
+-- have taken it
 abbrev pub IsReached : List Rec → (ℕ → ℕ) → ℕ → ℕ → Type 0
 IsReached records floor event n = (v : Pair) → IsKnown records v → (¬ IsToldOf records v) → version_of records v ≤ n
     → HasWriter records floor event v
 
--- ---- where an answered call may stand
+-- ---- the positions that an answered call may have
 
--- A write that was performed with the pair q, on a document that was absent or wasn't, as its reply tells: it stands before q and
--- after each known pair below it; the document may be as is told; and a condition is the pair of the position, and the document
--- is there.
+-- A write that was performed with the pair q, on a document that was absent or not, as its reply says: it
+-- comes before q and after each known pair below q; the document may be as the reply says; and a condition is
+-- the pair of the position, and the document exists.
 pub record MayWrite (records : List Rec) (floor : ℕ → ℕ) (event : ℕ) (c : Rec) (q : Pair) (absent : Bool) (n : ℕ) : Type 0 where
   pub before : n ≤ gap_of records q
   pub after : (v : Pair) → IsKnown records v → IsBelow v q → version_of records v ≤ n
@@ -87,7 +91,7 @@ pub record MayWrite (records : List Rec) (floor : ℕ → ℕ) (event : ℕ) (c 
   pub was_present : absent ≡ false → MayBePresent records floor event n
   pub condition : (b : Pair) → condition_of c.op ≡ Some b → IsBelow b q × (n ≡ version_of records b) × (absent ≡ false)
 
--- a write with the condition b may be refused: the document may be there or not, but not there with b
+-- a write with the condition b may be refused: the document may exist or not, but it may not exist with b
 pub record MayRefuse (records : List Rec) (floor : ℕ → ℕ) (event : ℕ) (b : Pair) (n : ℕ) : Type 0 where
   pub some : MayBeAbsent records floor event n ⊎ MayBePresent records floor event n
   pub other : IsKnown records b → (¬ IsGone records b) → n ≢ version_of records b
@@ -100,7 +104,7 @@ MayConflict records floor event (Delete None) n = ⊥
 MayConflict records floor event (Delete (Some b)) n = MayRefuse records floor event b n
 MayConflict records floor event (Create k) n = MayBePresent records floor event n
 
--- the call may be answered so at the position
+-- the call may have this reply at the position
 abbrev pub MayAnswer : List Rec → (ℕ → ℕ) → ℕ → Rec → Reply → ℕ → Type 0
 MayAnswer records floor event c (Indexed q created) n = MayWrite records floor event c q created n
 MayAnswer records floor event c (Deleted q found) n = MayWrite records floor event c q (not found) n
@@ -108,8 +112,8 @@ MayAnswer records floor event c (Found p k) n = n ≡ version_of records p
 MayAnswer records floor event c Missing n = MayBeAbsent records floor event n
 MayAnswer records floor event c Conflict n = MayConflict records floor event c.op n
 
--- The i-th call, c, answered at the event, may stand at the position: it isn't below its floor (`above`), each known pair up to it
--- has a call that took it (`reached`), and the call may be answered so there (`answers`).
+-- The i-th call, c, answered at the event, may be at the position: it is not below its floor (`above`), each
+-- known pair up to it has a call that took it (`reached`), and the call may have its reply there (`answers`).
 pub record MayStand (records : List Rec) (floor : ℕ → ℕ) (i : ℕ) (c : Rec) (event : ℕ) (reply : Reply) (n : ℕ) : Type 0 where
   pub above : floor i ≤ n
   pub reached : IsReached records floor event n
@@ -117,20 +121,20 @@ pub record MayStand (records : List Rec) (floor : ℕ → ℕ) (i : ℕ) (c : Re
 
 -- ---- placings
 
--- where a call that was answered at the event stands at n, each call that is made later has a floor that is no lower
+-- if a call that was answered at the event is at n, each call that is made later has a floor that is no lower
 abbrev pub Lifts : List Rec → (ℕ → ℕ) → Rec → ℕ → ℕ → Type 0
 Lifts records floor c event n = (j : ℕ) (r : Rec) → slice_get records j ≡ Some r → event < r.call_at
     → position_after records (pair_of c.heard) n ≤ floor j
 
--- The floors are those of a placing of the calls that were answered before the event: each of these may stand at a position, and
--- lifts the floors of the calls that are made after its reply.
+-- The floors are those of a placing of the calls that were answered before the event: each of these may be at
+-- some position, and lifts the floors of the calls that are made after its reply.
 abbrev pub IsPlacing : List Rec → ℕ → (ℕ → ℕ) → Type 0
 IsPlacing records event floor = (i : ℕ) (c : Rec) (replied : ℕ) (reply : Reply) → slice_get records i ≡ Some c
     → c.heard ≡ Some (replied, reply) → replied < event
     → (n : ℕ) × MayStand records floor i c replied reply n × Lifts records floor c replied n
 
--- The document is ruled out at the call with the number no: the calls that were answered before it have a placing, and with it
--- they have none.
+-- The document is ruled out at the call with the number no: the calls that were answered before it have a
+-- placing, and together with it they have none.
 pub record IsRuledOut (records : List Rec) (no : ℕ) : Type 0 where
   pub number : ℕ
   pub call : Rec
@@ -142,14 +146,15 @@ pub record IsRuledOut (records : List Rec) (no : ℕ) : Type 0 where
   pub first : (floor : ℕ → ℕ) × IsPlacing records replied floor
   pub none : (floor : ℕ → ℕ) → ¬ IsPlacing records (suc replied) floor
 
--- the call at which the document is ruled out; where none is given, it isn't
+-- the call at which the document is ruled out; if none is given, it isn't
 abbrev pub IsRuledOutAt : List Rec → Option ℕ → Type 0
 IsRuledOutAt records None = (n : ℕ) → ¬ IsRuledOut records n
 IsRuledOutAt records (Some n) = IsRuledOut records n
 
 -- ---- records of a history
 
--- The records stand by place of call, each reply stands after its call, and no two events have one place.
+-- The records are in the order of their calls, each reply comes after its call, and no two events have the
+-- same index.
 pub record AreInOrder (records : List Rec) : Type 0 where
   pub calls : (i j : ℕ) (r s : Rec) → slice_get records i ≡ Some r → slice_get records j ≡ Some s → i < j → r.call_at < s.call_at
   pub replies : (i : ℕ) (r : Rec) (y : ℕ) (reply : Reply) → slice_get records i ≡ Some r → r.heard ≡ Some (y, reply) → r.call_at < y

@@ -1,6 +1,7 @@
--- Positions of a document's calls among its known pairs. 0 is that of a document which was never written. Where n known pairs
--- are below a pair, a call that takes it has the position 2n + 1; a document that has it has the position 2n + 2 where the pair
--- is known, and else 2n + 1. So positions don't fall along an order of the calls.
+-- Positions of a document's calls among its known pairs. 0 is the position of a document that was never
+-- written. If n known pairs are below a pair, a call that takes it has the position 2n + 1; a document that
+-- has it has the position 2n + 2 if the pair is known, and otherwise 2n + 1. So positions don't fall along an
+-- order of the calls.
 use Rattle.std.specs.Prelude.{◌*◌, ◌==◌, ◌&&◌, ◌||◌, ℕ, suc, Bool, List, [], ◌∷◌, cond, nat_lt, Option, None, Some}
 use Rattle.version_pair.specs.declared.pair.Pair.{Pair}
 use Rattle.version_pair.specs.PairOrder.{IsBelow}
@@ -11,12 +12,12 @@ use Rattle.ruled_out.specs.Told.{IsKnown, known_pairs}
 abbrev pub is_below : Pair → Pair → Bool
 is_below p q = nat_lt p.term q.term || (p.term == q.term && nat_lt p.seq q.seq)
 
--- how many of the pairs are below p
+-- the number of the pairs below p
 abbrev pub count_below : List Pair → Pair → ℕ
 count_below [] p = 0
 count_below (v ∷ vs) p = cond (is_below v p) (suc (count_below vs p)) (count_below vs p)
 
--- the position of a call that takes the pair; and of a document that has it, where it isn't known
+-- the position of a call that takes the pair; and of a document that has the pair, if it is unknown
 abbrev pub gap_of : List Rec → Pair → ℕ
 gap_of records p = suc (2 * count_below (known_pairs records) p)
 
@@ -24,11 +25,11 @@ gap_of records p = suc (2 * count_below (known_pairs records) p)
 abbrev pub version_of : List Rec → Pair → ℕ
 version_of records p = suc (gap_of records p)
 
--- no known pair lies between the two
+-- no known pair is between the two
 abbrev pub IsNext : List Rec → Pair → Pair → Type 0
 IsNext records p q = (v : Pair) → IsKnown records v → IsBelow p v → ¬ IsBelow v q
 
--- the position of the document after a call that stood at n, and took this pair, if any
+-- the position of the document after a call that was at n, and took this pair, if any
 abbrev pub position_after : List Rec → Option Pair → ℕ → ℕ
 position_after records None n = n
 position_after records (Some q) n = version_of records q

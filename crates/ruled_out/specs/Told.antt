@@ -1,4 +1,4 @@
--- What the replies to a document's calls tell of it.
+-- What the replies to a document's calls say of it.
 use Rattle.std.specs.Prelude.{◌≡◌, ◌++◌, ℕ, Bool, List, [], ◌∷◌, Option, None, Some, map, option_and_then, slice_get}
 use Rattle.std.specs.Option.{option_to_list}
 use Rattle.version_pair.specs.declared.pair.Pair.{Pair}
@@ -10,9 +10,10 @@ use Rattle.doc_register.specs.Register.{condition_of, pair_of_reply}
 use Rattle.history.specs.declared.record.Rec.{Rec}
 use Rattle.history.specs.Heard.{pair_of}
 
--- ---- the calls as they are told
+-- ---- the calls as reported
 
--- what was heard, but for a conflict under Maybe: it tells nothing, since the write may have been performed or not
+-- what was heard, except that a conflict under Maybe says nothing, since the write may have been performed or
+-- not
 abbrev pub told_of : Conflicts → Option (ℕ × Reply) → Option (ℕ × Reply)
 told_of conflicts None = None
 told_of conflicts (Some (at, Indexed q created)) = Some (at, Indexed q created)
@@ -22,11 +23,12 @@ told_of conflicts (Some (at, Missing)) = Some (at, Missing)
 told_of Plain (Some (at, Conflict)) = Some (at, Conflict)
 told_of Maybe (Some (at, Conflict)) = None
 
--- the call with what is told of it; under Maybe one that was answered with a conflict counts as one without a reply
+-- the call with what is reported of it; under Maybe a call that was answered with a conflict counts as one
+-- without a reply
 abbrev pub as_told : Conflicts → Rec → Rec
 as_told conflicts r = record { no = r.no; op = r.op; call_at = r.call_at; heard = told_of conflicts r.heard }
 
--- the calls of a document as they are told
+-- the calls of a document as reported
 abbrev pub told : Conflicts → List Rec → List Rec
 told conflicts records = map (as_told conflicts) records
 
@@ -40,24 +42,24 @@ IsListed records r = (i : ℕ) × (slice_get records i ≡ Some r)
 abbrev pub pair_shown : Option (ℕ × Reply) → Option Pair
 pair_shown heard = option_and_then (λ h. pair_of_reply h.1) heard
 
--- the condition under which a write was performed: the document was there with this pair
+-- the condition under which a write was performed: the document existed with this pair
 abbrev pub condition_met : Rec → Option Pair
 condition_met r = option_and_then (λ q. condition_of r.op) (pair_of r.heard)
 
--- the pairs that replies show to be those of changes of the document, each as often as a reply shows it
+-- the pairs that replies show to be pairs of changes of the document, each as often as a reply shows it
 abbrev pub known_pairs : List Rec → List Pair
 known_pairs [] = []
 known_pairs (r ∷ rs) = (option_to_list (pair_shown r.heard) ++ option_to_list (condition_met r)) ++ known_pairs rs
 
--- the pair is known: a change of the document has it, as a reply shows
+-- the pair is known: a reply shows that a change of the document has it
 abbrev pub IsKnown : List Rec → Pair → Type 0
 IsKnown records p = (i : ℕ) × (slice_get (known_pairs records) i ≡ Some p)
 
--- a reply tells which call took the pair
+-- a reply says which call took the pair
 abbrev pub IsToldOf : List Rec → Pair → Type 0
 IsToldOf records p = (r : Rec) × IsListed records r × (pair_of r.heard ≡ Some p)
 
--- a reply tells that the document was deleted with the pair
+-- a reply says that the document was deleted with the pair
 pub record IsGone (records : List Rec) (p : Pair) : Type 0 where
   pub call : Rec
   pub listed : IsListed records call
@@ -65,7 +67,7 @@ pub record IsGone (records : List Rec) (p : Pair) : Type 0 where
   pub found : Bool
   pub heard : call.heard ≡ Some (replied, Deleted p found)
 
--- a reply tells that the document had the number with the pair
+-- a reply says that the document had the number with the pair
 pub record IsFoundWith (records : List Rec) (p : Pair) (k : ℕ) : Type 0 where
   pub call : Rec
   pub listed : IsListed records call

@@ -1,4 +1,5 @@
--- Worked cases: documents that are ruled out. A store that answers so broke its promise, whatever became of its lost calls.
+-- Worked cases: documents that are ruled out. A store that gives these replies broke its promise, whatever
+-- became of its lost calls.
 use Rattle.std.specs.Prelude.{ℕ, [], ◌∷◌, true, false, Some, None}
 use Rattle.doc_register.specs.WorkedSteps.{one_one, one_zero}
 use Rattle.doc_register.specs.declared.op.Op.{Op}
@@ -8,11 +9,12 @@ use Rattle.doc_register.specs.declared.reply.Reply.TheVariants.{Indexed, Found, 
 use Rattle.history.specs.declared.record.Rec.{Rec}
 use Rattle.ruled_out.specs.Placings.{IsRuledOut}
 
--- the call of that number and place, answered at the place after it
+-- the call with that number and index in the history, answered at the given index
 abbrev pub answered : (n called replied : ℕ) → Op → Reply → Rec
 answered n called replied op reply = record { no = n; op = op; call_at = called; heard = Some (replied, reply) }
 
--- an index that created the document with the pair (1,0), and one that replaced it with (1,1), each answered before the next call
+-- an index that created the document with the pair (1,0), and one that replaced it with (1,1), each answered
+-- before the next call
 abbrev pub created : Rec
 created = answered 0 0 1 (Index 1 None) (Indexed one_zero true)
 

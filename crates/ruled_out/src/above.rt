@@ -2,7 +2,7 @@ ghost use Rattle.ruled_out.specs.aids.Above.{IsLeastAbove};
 
 use version_pair::Pair;
 
-/// The least pair above another one, or the least of all; `None` where no pair is above it.
+/// Returns the least pair above another one, or the least of all pairs; `None` if no pair is above it.
 pub fn least_above(lower: Option<Pair>) -> Option<Pair>
     ensures { IsLeastAbove lower result }
 {

@@ -5,10 +5,10 @@ use history::Rec;
 use std::alloc::Global;
 use version_pair::NoMemory;
 
-/// An answered call: the place of its reply in the history, and the number of its record.
+/// An answered call: the index of its reply in the history, and the number of its record.
 pub type Answer = (usize, usize);
 
-// The answered calls by the numbers of their records.
+// The answered calls in the order of their records.
 fn answered_calls(alloc: Global, records: &[Rec]) -> Result<Vec<Answer>, NoMemory>
     ensures { IfOk result (λ answers. answers.items ≡ answers_from 0 records.now) }
 {
@@ -21,7 +21,7 @@ fn answered_calls(alloc: Global, records: &[Rec]) -> Result<Vec<Answer>, NoMemor
     Ok(answers)
 }
 
-/// The answered calls by the places of their replies.
+/// Returns the answered calls in response order.
 pub fn answers_of(alloc: Global, records: &[Rec]) -> Result<Vec<Answer>, NoMemory>
     ensures { IfOk result (λ answers. AreAnswers records.now answers.items) }
 {

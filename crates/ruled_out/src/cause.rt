@@ -4,22 +4,23 @@ use doc_register::{Op, Reply};
 use history::Rec;
 use version_pair::Pair;
 
-/// Why a call has no place, for people. Nothing is promised of it.
+/// The reason why a call has no position, for people. No contract covers it.
 #[derive(Clone, Copy, Debug, PartialEq, Eq)]
 pub enum Cause {
-    /// A write without a condition was refused, which no version refuses.
+    /// A write without a condition was refused; no version refuses such a write.
     NeverRefused,
-    /// A write was refused under this condition, and the document had just this version.
+    /// A write was refused under this condition, and the document had exactly this version.
     StillThere(Pair),
-    /// A create was refused, and the document wasn't there.
+    /// A create was refused, and the document did not exist.
     NotThere,
-    /// A get missed the document, and it was there.
+    /// A get missed the document, and the document existed.
     There,
-    /// The reply shows this version, and the document had passed it as the call was made.
+    /// The reply shows this version, and the document had passed it when the call was made.
     Passed(Pair),
-    /// The write took this version and tells that the document was absent before it, and it was there.
+    /// The write took this version and reports that the document was absent before it, and the document
+    /// existed.
     WasThere(Pair),
-    /// The write took this version and tells that the document was there before it, and it was absent.
+    /// The write took this version and reports that the document existed before it, and it was absent.
     WasAbsent(Pair),
     /// The write was performed, and its condition can't have been met.
     Unmet(Unmet),
@@ -27,18 +28,18 @@ pub enum Cause {
     Unwritten(Pair),
 }
 
-/// Why the condition of a write that was performed can't have been met.
+/// The reason why the condition of a write that was performed can't have been met.
 #[derive(Clone, Copy, Debug, PartialEq, Eq)]
 pub enum Unmet {
-    /// It tells that the document was absent before it.
+    /// The write reports that the document was absent before it.
     Created,
-    /// The version that it asks for isn't below its own.
+    /// The version that it asks for is not below its own.
     NotBelow,
-    /// This version lies between the one that it asks for and its own.
+    /// This version is between the one that it asks for and its own.
     Replaced(Pair),
     /// The document was deleted with the version that it asks for.
     Deleted,
-    /// A call without a reply had changed the document behind the version that it asks for.
+    /// A call without a reply had changed the document after the version that it asks for.
     Changed,
 }
 
@@ -47,7 +48,7 @@ pub enum Unmet {
 struct Write {
     condition: Option<Pair>,
     pair: Pair,
-    // Whether its reply tells that the document was absent before it.
+    // Whether its reply says that the document was absent before it.
     absent: bool,
 }
 
@@ -66,7 +67,7 @@ fn unmet_by(versions: &Versions, write: Write, asked: Pair) -> Unmet {
     }
 }
 
-// Why a write that was performed has no place.
+// Why a write that was performed has no position.
 fn written_cause(versions: &Versions, write: Write, floor: usize) -> Cause {
     if floor > versions.known.gap_of(write.pair) {
         return Cause::Passed(write.pair);
@@ -78,7 +79,7 @@ fn written_cause(versions: &Versions, write: Write, floor: usize) -> Cause {
     }
 }
 
-// Why a write that was refused has no place.
+// Why a write that was refused has no position.
 fn refused_cause(op: Op) -> Cause {
     match (op, op.condition()) {
         (Op::Create { .. }, _) => Cause::NotThere,
@@ -87,7 +88,8 @@ fn refused_cause(op: Op) -> Cause {
     }
 }
 
-/// Why the call has no place, which was made when the document had reached the floor.
+/// Returns the reason why the call has no position. The call was made when the document had reached the
+/// floor.
 pub fn cause_of(walk: &Walk, call: &Rec, reply: Reply, floor: usize) -> Cause {
     if let (Some(_), Some(pair)) = (walk.first_permitted(call, reply, floor), walk.unwritten()) {
         return Cause::Unwritten(pair);

@@ -12,7 +12,7 @@ use history::Rec;
 use std::alloc::Global;
 use version_pair::NoMemory;
 
-// The number of the first call, in the order of the replies, that has no position.
+// The number of the first call, in response order, that has no position.
 fn first_without_position(
     walk: &mut Walk,
     told: &[Rec],
@@ -36,7 +36,7 @@ fn first_without_position(
     Ok(None)
 }
 
-// The number of the call at which the document is ruled out, by its calls as they are told.
+// The number of the call at which the document is ruled out, by its calls as reported.
 fn ruled_out_as_told(alloc: Global, told: &[Rec]) -> Result<Option<u64>, NoMemory>
     requires { AreInOrder told.now }
     ensures { IfOk result (IsRuledOutAt told.now) }
@@ -46,8 +46,9 @@ fn ruled_out_as_told(alloc: Global, told: &[Rec]) -> Result<Option<u64>, NoMemor
     first_without_position(&mut walk, told, &answers)
 }
 
-/// The number of the call at which the document of the records is ruled out, where it is: its answered calls are taken in the
-/// order of their replies, each with the least position that it may have, and this one has none.
+/// Returns the number of the call at which the document of the records is provably not linearizable (ruled
+/// out), if it is. The answered calls are taken in response order, each with the least position that it may
+/// have; the call returned has none.
 pub fn ruled_out_at(
     alloc: Global,
     records: &[Rec],
@@ -57,7 +58,7 @@ pub fn ruled_out_at(
     ensures { IfOk result (IsRuledOutAt (told conflicts records.now)) }
 {
     match conflicts {
-        // Each call is told as it is.
+        // Each call is reported as it is.
         Conflicts::Plain => ruled_out_as_told(alloc, records),
         Conflicts::Maybe => {
             let told = told_records(alloc, records, conflicts)?;

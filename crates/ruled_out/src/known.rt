@@ -12,16 +12,17 @@ use history::Rec;
 use std::alloc::Global;
 use version_pair::{NoMemory, Pair};
 
-// Where a pair stands among the known ones.
+// The place of a pair among the known ones.
 #[derive(Clone, Copy)]
 struct Place {
-    // How many known pairs are below it.
+    // The number of known pairs below it.
     below: usize,
     // Whether it is known.
     known: bool,
 }
 
-/// The known pairs of a document: those that replies show to be those of its changes, each as often as a reply shows it.
+/// The known pairs of a document: those that replies show to be pairs of its changes, each as often as a
+/// reply shows it.
 #[derive(Drop)]
 pub struct Known {
     // In the order of pairs.
@@ -48,7 +49,7 @@ fn condition_met(call: Rec) -> Option<Pair>
     }
 }
 
-// Adds the pair, where there is one.
+// Adds the pair, if there is one.
 fn push_some(pairs: &mut Vec<Pair>, found: Option<Pair>) -> Result<(), NoMemory>
     ensures ok { OnOk result (pairs.new.items ≡ pairs.old.items ++ option_to_list found) }
 {
@@ -71,7 +72,7 @@ fn shown_pairs(alloc: Global, records: &[Rec]) -> Result<Vec<Pair>, NoMemory>
 }
 
 impl Known {
-    /// The known pairs of a document's records.
+    /// Returns the known pairs of a document's records.
     pub fn of(alloc: Global, records: &[Rec]) -> Result<Known, NoMemory>
         ensures { IfOk result (λ known. AreKnown records.now known.pairs.items) }
     {
@@ -80,7 +81,7 @@ impl Known {
         Ok(Known { pairs })
     }
 
-    /// How many known pairs are below the pair.
+    /// Returns the number of known pairs below the pair.
     pub fn count_below(&self, pair: Pair) -> usize
         ensures exact { (records : List Record) → AreKnown records self.now.pairs.items
             → result ≡ count_below (known_pairs records) pair }
@@ -89,21 +90,21 @@ impl Known {
         self.pairs.partition_point(|known| known.is_below(pair))
     }
 
-    /// The known pairs in their order.
+    /// Returns the known pairs in their order.
     pub fn pairs(&self) -> &[Pair]
         ensures { result.now ≡ self.now.pairs.items }
     {
         &self.pairs
     }
 
-    /// The position of a call that takes the pair.
+    /// Returns the position of a call that takes the pair.
     pub fn gap_of(&self, pair: Pair) -> usize
         ensures { (records : List Record) → AreKnown records self.now.pairs.items → result ≡ gap_of records pair }
     {
         2 * self.count_below(pair) + 1
     }
 
-    // Where the pair stands among the known ones.
+    // The place of the pair among the known ones.
     fn find(&self, pair: Pair) -> Place
         ensures exact { (records : List Record) → AreKnown records self.now.pairs.items → IsPlaceOf records pair result }
         ensures fits { 2 * result.below + 1 < 2 ^ 64 }
@@ -114,7 +115,7 @@ impl Known {
         Place { below, known }
     }
 
-    /// The position of a document that has the pair, where it is known.
+    /// Returns the position of a document that has the pair, if the pair is known.
     pub fn version_of(&self, pair: Pair) -> Option<usize>
         ensures exact { (records : List Record) → AreKnown records self.now.pairs.items
             → IsVersionOf records pair result }
@@ -128,7 +129,7 @@ impl Known {
         }
     }
 
-    /// Whether the pair at the place is that of the place before it.
+    /// Returns whether the pair at the index is equal to the one before it.
     pub fn is_repeated(&self, place: usize) -> bool
         requires { place < length self.now.pairs.items }
         ensures { IsRepeated self.now.pairs.items place result }
@@ -136,8 +137,8 @@ impl Known {
         place > 0 && self.pairs[place - 1] == self.pairs[place]
     }
 
-    /// The position of the calls that may take a pair which isn't known, and which lies behind the lower one, if there is one,
-    /// with no known pair between; `None` where there is no such pair.
+    /// Returns the position of the calls that may take an unknown pair above the lower one, if there is one,
+    /// with no known pair between. Returns `None` if there is no such pair.
     pub fn gap_above(&self, lower: Option<Pair>) -> Option<usize>
         ensures { (records : List Record) → AreKnown records self.now.pairs.items → IsGapAbove records lower result }
     {
@@ -150,8 +151,9 @@ impl Known {
         }
     }
 
-    /// The position of the calls that may take a pair which isn't known behind the known pair at the place, with no known pair
-    /// between; `None` where there is no such pair, and where the place before has the same pair.
+    /// Returns the position of the calls that may take an unknown pair above the known pair at the index,
+    /// with no known pair between. Returns `None` if there is no such pair, or if the pair before it is the
+    /// same.
     pub fn gap_behind(&self, place: usize) -> Option<usize>
         requires { place < length self.now.pairs.items }
         ensures { (records : List Record) → AreKnown records self.now.pairs.items
@@ -164,7 +166,7 @@ impl Known {
         }
     }
 
-    /// The least known pair above the pair.
+    /// Returns the least known pair above the pair.
     pub fn next_above(&self, pair: Pair) -> Option<Pair>
         ensures { (records : List Record) → AreKnown records self.now.pairs.items → IsNextKnown records pair result }
     {
@@ -172,7 +174,7 @@ impl Known {
         self.pairs.get(self.count_below(next)).copied()
     }
 
-    /// The greatest known pair below the pair.
+    /// Returns the greatest known pair below the pair.
     pub fn last_below(&self, pair: Pair) -> Option<Pair>
         ensures { (records : List Record) → AreKnown records self.now.pairs.items → IsLastKnown records pair result }
     {

@@ -1,4 +1,4 @@
-//! Laws of placings, each the contract of a function that does nothing.
+//! Laws of placings. Each is the contract of a function that does nothing.
 
 ghost use Rattle.ruled_out.specs.Laws.{ExplainedHavePlacings, OrderedAreNotRuledOut, RuledOutHaveNoOrder};
 ghost use Rattle.ruled_out.specs.Worked.{WorkedRulings};
@@ -8,18 +8,20 @@ pub fn explained_have_placings()
     ensures { ExplainedHavePlacings }
 {}
 
-/// Shows that a document which an order of its calls explains is not ruled out.
+/// Shows that a document is not ruled out if an order of its calls explains it.
 pub fn ordered_are_not_ruled_out()
     ensures { OrderedAreNotRuledOut }
 {}
 
-/// Shows that a history with a document that is ruled out is not linearizable, however its pending calls are completed.
+/// Shows that a history with a document that is ruled out is not linearizable, however its pending calls are
+/// completed.
 pub fn ruled_out_have_no_order()
     ensures { RuledOutHaveNoOrder }
 {}
 
-/// Shows that documents of four worked cases are ruled out: a conflict without a condition, a conflict on a version that stood all the
-/// time, a miss of a document that was there, and a read of an older version.
+/// Shows that the documents of four worked cases are ruled out: a conflict without a condition, a conflict on
+/// a version that the document had all the time, a miss of a document that existed, and a read of an older
+/// version.
 pub fn worked_rulings()
     ensures { WorkedRulings }
 {}

@@ -1,9 +1,10 @@
-//! Documents that no order explains, whatever became of the calls without a reply: the call at which the answered calls of a
-//! document have no positions any more, and the laws of it.
+//! Documents that no order explains, whatever became of the calls without a reply: the call at which the
+//! answered calls of a document have no positions any more, and the laws of it.
 //!
 //! ```text
 //! let records = history.records(doc)?;
-//! let call = ruled_out_at(alloc, &records, Conflicts::Plain)?; // Option<u64>: the call at which the document is ruled out
+//! // Option<u64>: the call at which the document is ruled out.
+//! let call = ruled_out_at(alloc, &records, Conflicts::Plain)?;
 //! ```
 #![tactic(auto)]
 

@@ -12,7 +12,7 @@ pub fn insert_position(positions: &mut BTreeSet<usize>, n: usize) -> Result<(), 
     Ok(())
 }
 
-/// The least position of the set from one on.
+/// Returns the least position of the set that is not below `least`.
 pub fn first_from(positions: &BTreeSet<usize>, least: usize) -> Option<usize>
     ensures { IsLeastFrom (IsIn positions.now) least result }
 {

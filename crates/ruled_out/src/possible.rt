@@ -9,7 +9,7 @@ use std::alloc::Global;
 use std::collections::BTreeSet;
 use version_pair::{NoMemory, Pair};
 
-/// The positions at which a document may be absent, or there.
+/// The positions at which a document may be absent, or those at which it may exist.
 #[derive(Drop)]
 pub struct Possible {
     positions: BTreeSet<usize>,
@@ -20,7 +20,7 @@ pub struct Possible {
 impl Possible {
     ghost use Rattle.ruled_out.specs.aids.Offers.{KeepsRooms, MakesOffer};
 
-    /// No positions.
+    /// Returns an empty set of positions.
     pub fn new(alloc: Global) -> Possible
         ensures rooms { (records : List Record) → KeepsRooms records result }
         ensures none { (n : ℕ) → ¬ IsIn result.positions n }
@@ -39,7 +39,7 @@ impl Possible {
         insert_position(&mut self.positions, n)
     }
 
-    /// Adds the position, where there is one.
+    /// Adds the position, if there is one.
     pub fn insert_some(&mut self, found: Option<usize>) -> Result<(), NoMemory>
         ensures rooms { OnOk result ((records : List Record) → KeepsRooms records self.old → KeepsRooms records self.new) }
         ensures added { OnOk result (IsWithSome self.old.positions self.new.positions found) }
@@ -50,7 +50,7 @@ impl Possible {
         Ok(())
     }
 
-    /// The least position from one on.
+    /// Returns the least position that is not below `least`.
     pub fn first_from(&self, least: usize) -> Option<usize>
         ensures { IsLeastFrom (IsIn self.now.positions) least result }
     {
@@ -102,7 +102,7 @@ impl Possible {
         Ok(())
     }
 
-    /// Adds the positions that a write may take which was made when the document had reached the floor.
+    /// Adds the positions that a write may take that was made when the document had reached the floor.
     pub fn offer(
         &mut self,
         versions: &Versions,

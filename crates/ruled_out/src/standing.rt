@@ -1,31 +1,32 @@
 use crate::known::Known;
 use version_pair::Pair;
 
-/// Where an answered call of a document stands at the earliest, for people. Nothing is promised of it.
+/// The earliest position of an answered call of a document, for people. No contract covers it.
 #[derive(Clone, Copy, Debug, PartialEq, Eq)]
 pub struct Standing {
     /// The number of its record, from 0.
     pub record: usize,
-    /// The position that the document had reached as it was made.
+    /// The position that the document had reached when the call was made.
     pub floor: usize,
-    /// Which of the standings first brought the document to that position; none where it had come nowhere.
+    /// Which of the standings first brought the document to that position; `None` if it was still at position
+    /// 0.
     pub bound: Option<usize>,
-    /// Its earliest position; none where it has none, so that the document is ruled out at it.
+    /// Its earliest position; `None` if it has none, so that the document is ruled out at it.
     pub earliest: Option<usize>,
 }
 
-/// What a document is at a position, as far as it is known.
+/// The state of a document at a position, as far as it is known.
 #[derive(Clone, Copy, Debug, PartialEq, Eq)]
 pub enum Stage {
     /// It was never written.
     Never,
     /// It has this version.
     At(Pair),
-    /// A call without a reply changed it, behind this version; behind none where no version stands before.
+    /// A call without a reply changed it, after this version; `None` if no version is before it.
     Behind(Option<Pair>),
 }
 
-/// What the document is at the position.
+/// Returns the state of the document at the position.
 pub fn stage_of(known: &Known, position: usize) -> Stage {
     let Some(before) = position.checked_sub(1) else {
         return Stage::Never;

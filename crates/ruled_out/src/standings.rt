@@ -9,10 +9,11 @@ use history::Rec;
 use std::alloc::Global;
 use version_pair::{NoMemory, Pair};
 
-/// Where the answered calls of a document stand at the earliest, and why the walk over them stops, where it does: what
-/// `ruled_out_at` goes by, kept to be told to people.
+/// The earliest positions of the answered calls of a document, and why the walk over them stops, if it does:
+/// what `ruled_out_at` goes by, kept for explanations to people.
 ///
-/// Nothing is promised of what is told here. That a document is ruled out is what `ruled_out_at` promises.
+/// No contract covers what is reported here. That a document is ruled out is what the contract of
+/// `ruled_out_at` says.
 #[derive(Drop)]
 pub struct Standings {
     told: Vec<Rec>,
@@ -21,7 +22,8 @@ pub struct Standings {
     cause: Option<Cause>,
 }
 
-// Which standing first brought the document to the floor, where each raise has the position and the standing that brought it there.
+// Which standing first brought the document to the floor. Each raise has the position and the standing that
+// brought the document there.
 fn bound_of(raises: &[(usize, usize)], floor: usize) -> Option<usize> {
     if floor == 0 {
         return None;
@@ -31,7 +33,7 @@ fn bound_of(raises: &[(usize, usize)], floor: usize) -> Option<usize> {
 }
 
 impl Standings {
-    /// Of the records of a document.
+    /// Returns the standings for the records of a document.
     pub fn of(alloc: Global, records: &[Rec], conflicts: Conflicts) -> Result<Standings, NoMemory> {
         let told = told_records(alloc, records, conflicts)?;
         let answers = answers_of(alloc, &told)?;
@@ -63,7 +65,8 @@ impl Standings {
         Ok(())
     }
 
-    // Lets the answered call with this number stand, which is bound by that standing; tells whether it has a position.
+    // Gives the answered call with this number its position; that standing bounds it. Returns whether it has
+    // a position.
     fn stand(&mut self, number: usize, bound: Option<usize>) -> Result<bool, NoMemory> {
         let Some(call) = self.told.get(number).copied() else {
             return Ok(false);
@@ -86,28 +89,29 @@ impl Standings {
         Ok(stands)
     }
 
-    /// The standings in the order of the replies, up to the one that has no position.
+    /// Returns the standings in response order, up to the one that has no position.
     pub fn standings(&self) -> &[Standing] {
         &self.standings
     }
 
-    /// The standing that has no position, and why, where the document is ruled out.
+    /// Returns the standing that has no position, and why, if the document is ruled out.
     pub fn stop(&self) -> Option<(Standing, Cause)> {
         let last = self.standings.last().copied()?;
         Some((last, self.cause?))
     }
 
-    /// What the document is at the position.
+    /// Returns the state of the document at the position.
     pub fn stage(&self, position: usize) -> Stage {
         stage_of(&self.walk.versions().known, position)
     }
 
-    /// The greatest version below this one that a reply shows.
+    /// Returns the greatest version below this one that a reply shows.
     pub fn last_below(&self, pair: Pair) -> Option<Pair> {
         self.walk.versions().known.last_below(pair)
     }
 
-    /// Whether the record is of a write that may have been performed with a pair that nobody was told.
+    /// Returns whether the record is of a write that may have been performed with a pair that no reply
+    /// reported.
     pub fn is_untold(&self, number: usize) -> bool {
         match self.told.get(number) {
             Some(call) => call.heard.is_none() && call.op != Op::Get,
@@ -115,7 +119,8 @@ impl Standings {
         }
     }
 
-    /// Why the write of this record, of which no reply tells, doesn't give a place to the call at which the document is ruled out.
+    /// Returns the reason why the write of this record, which no reply reports, does not give a position to
+    /// the call at which the document is ruled out.
     pub fn unhelpful(&self, number: usize) -> Option<Unhelpful> {
         let (stop, cause) = self.stop()?;
         let event = self.told.get(stop.record)?.heard.map(|heard| heard.0)?;

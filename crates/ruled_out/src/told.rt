@@ -6,7 +6,7 @@ use history::Rec;
 use std::alloc::Global;
 use version_pair::NoMemory;
 
-// What was heard, but for a conflict under Maybe, which tells nothing.
+// What was heard, except that a conflict under Maybe says nothing.
 fn told_of(conflicts: Conflicts, heard: Option<(usize, Reply)>) -> Option<(usize, Reply)>
     ensures { result ≡ told_of conflicts heard }
 {
@@ -16,7 +16,7 @@ fn told_of(conflicts: Conflicts, heard: Option<(usize, Reply)>) -> Option<(usize
     }
 }
 
-// The call with what is told of it.
+// The call with what is reported of it.
 fn as_told(conflicts: Conflicts, call: Rec) -> Rec
     ensures { result ≡ as_told conflicts call }
 {
@@ -26,8 +26,8 @@ fn as_told(conflicts: Conflicts, call: Rec) -> Rec
     }
 }
 
-/// The calls of a document as they are told: under Maybe one that was answered with a conflict counts as one without a reply,
-/// since the write may have been performed or not.
+/// Returns the calls of a document as reported. Under Maybe a call that was answered with a conflict counts
+/// as a call without a reply, since the write may have been performed or not.
 pub fn told_records(
     alloc: Global,
     records: &[Rec],

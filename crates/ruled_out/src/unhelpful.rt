@@ -4,30 +4,30 @@ use doc_register::Op;
 use history::Rec;
 use version_pair::Pair;
 
-/// Why a write without a reply gives no place to the call at which a document is ruled out, for people. Nothing is promised of
-/// it.
+/// The reason why a write without a reply gives no position to the call at which a document is ruled out, for
+/// people. No contract covers it.
 #[derive(Clone, Copy, Debug, PartialEq, Eq)]
 pub enum Unhelpful {
     /// It was made after the reply to that call.
     Late,
     /// No write would help.
     Vain,
-    /// It writes the document, and a delete is needed.
+    /// It writes the document, but a delete is needed.
     Writes,
-    /// It deletes the document, and a write is needed that gives it a number.
+    /// It deletes the document, but a write is needed that gives it a number.
     Deletes,
     /// It gives another number than the one that was found.
     OtherNumber,
-    /// It asks for another version than the one behind which a change is needed.
+    /// It asks for another version than the one after which a change is needed.
     OtherVersion,
     /// No version is free for it between these two, or below the second one.
     NoRoom(Option<Pair>, Pair),
-    /// The document had passed that version as it was made.
+    /// The document had passed that version when it was made.
     Passed,
 }
 
-/// What a write without a reply is looked at for: that a call has no place, for this cause, which was made when the document had
-/// reached the floor, and was answered at the event.
+/// What a write without a reply is examined for: a call has no position, for this cause; it was made when the
+/// document had reached the floor, and was answered at the event.
 #[derive(Clone, Copy)]
 pub struct Wanted {
     pub cause: Cause,
@@ -62,7 +62,7 @@ fn not_written(versions: &Versions, write: &Rec, floor: usize, pair: Pair) -> Un
     }
 }
 
-// Behind which version the write may change the document, where it can only be behind one.
+// The version after which the write may change the document, if there is only one.
 fn place_of(versions: &Versions, write: &Rec, cause: Cause) -> Option<Option<Pair>> {
     match (write.op.condition(), cause) {
         (Some(asked), _) => Some(Some(asked)),
@@ -73,7 +73,7 @@ fn place_of(versions: &Versions, write: &Rec, cause: Cause) -> Option<Option<Pai
     }
 }
 
-// Whether a change at the position is what is wanted.
+// Whether a change at the position is what is needed.
 fn is_wanted_at(versions: &Versions, wanted: Wanted, position: usize) -> bool {
     match wanted.cause {
         Cause::WasThere(pair) | Cause::WasAbsent(pair) => position == versions.known.gap_of(pair),
@@ -89,7 +89,7 @@ fn next_known(versions: &Versions, last: Option<Pair>) -> Option<Pair> {
     }
 }
 
-// Why the write can't have changed the document where a change is wanted.
+// Why the write can't have changed the document where a change is needed.
 fn not_changed(versions: &Versions, write: &Rec, floor: usize, wanted: Wanted) -> Unhelpful {
     let Some(last) = place_of(versions, write, wanted.cause) else {
         return Unhelpful::Vain;
@@ -109,7 +109,8 @@ fn not_changed(versions: &Versions, write: &Rec, floor: usize, wanted: Wanted) -
     }
 }
 
-/// Why the write without a reply, which was made when the document had reached this floor, doesn't help.
+/// Returns the reason why the write without a reply, which was made when the document had reached this floor,
+/// doesn't help.
 pub fn unhelpful_for(versions: &Versions, write: &Rec, floor: usize, wanted: Wanted) -> Unhelpful {
     if write.call_at >= wanted.event {
         return Unhelpful::Late;

@@ -13,18 +13,18 @@ pub enum Number {
     Several,
 }
 
-/// What replies tell of a known pair.
+/// What replies say of a known pair.
 #[derive(Clone, Copy)]
 pub struct Version {
-    /// Whether a reply tells which call took the pair.
+    /// Whether a reply says which call took the pair.
     pub told: bool,
-    /// Whether a reply tells that the document was deleted with the pair.
+    /// Whether a reply says that the document was deleted with the pair.
     pub gone: bool,
     /// What gets found with the pair.
     pub number: Number,
 }
 
-/// The version of a pair of which nothing is told.
+/// The version of a pair of which no reply says anything.
 pub const UNTOLD: Version = Version {
     told: false,
     gone: false,
@@ -34,7 +34,7 @@ pub const UNTOLD: Version = Version {
 impl Number {
     ghost use Rattle.ruled_out.specs.aids.Versions.{allows, number_with};
 
-    /// The numbers with one more.
+    /// Returns the numbers with one more.
     pub fn with(self, k: u64) -> Number
         ensures { result ≡ number_with self k }
     {
@@ -51,7 +51,7 @@ impl Number {
         }
     }
 
-    /// Whether a write of this number may have taken the pair.
+    /// Returns whether a write of this number may have taken the pair.
     pub fn allows(self, k: u64) -> bool
         ensures { result ≡ allows self k }
     {
@@ -66,7 +66,7 @@ impl Number {
 impl Version {
     ghost use Rattle.ruled_out.specs.aids.Versions.{version_with};
 
-    /// What is told of the pair, with one more reply that shows it.
+    /// Returns what is known of the pair, with one more reply that shows it.
     pub fn with(self, reply: Reply) -> Version
         ensures { result ≡ version_with self reply }
     {

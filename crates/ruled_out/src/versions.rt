@@ -12,17 +12,17 @@ use history::Rec;
 use std::alloc::Global;
 use version_pair::{NoMemory, Pair};
 
-/// The known pairs of a document, what replies tell of each, and where there is room for more.
+/// The known pairs of a document, what replies say of each, and where there is room for more.
 #[derive(Drop)]
 pub struct Versions {
     pub known: Known,
-    // What is told of each known pair, by the number of known pairs below it.
+    // What replies say of each known pair, by the number of known pairs below it.
     told: Vec<Version>,
-    /// The positions of calls that may take a pair which isn't known.
+    /// The positions of calls that may take an unknown pair.
     pub rooms: Vec<usize>,
 }
 
-// Notes what was heard of a call.
+// Adds what was heard of a call.
 fn note_reply(versions: &mut Vec<Version>, known: &Known, call: Rec)
     ensures { (records : List Record) → AreKnown records known.now.pairs.items
         → IsNoted records call.heard versions.old.items versions.new.items }
@@ -37,7 +37,7 @@ fn note_reply(versions: &mut Vec<Version>, known: &Known, call: Rec)
     }
 }
 
-// What the replies tell of the known pairs.
+// What the replies say of the known pairs.
 fn versions_told(alloc: Global, known: &Known, records: &[Rec]) -> Result<Vec<Version>, NoMemory>
     ensures { IfOk result (λ versions. AreKnown records.now known.now.pairs.items
         → AreVersions records.now versions.items) }
@@ -49,7 +49,7 @@ fn versions_told(alloc: Global, known: &Known, records: &[Rec]) -> Result<Vec<Ve
     Ok(versions)
 }
 
-// Adds the position, where there is one.
+// Adds the position, if there is one.
 fn push_room(rooms: &mut Vec<usize>, found: Option<usize>) -> Result<(), NoMemory>
     ensures { OnOk result (rooms.new.items ≡ rooms.old.items ++ option_to_list found) }
 {
@@ -59,7 +59,7 @@ fn push_room(rooms: &mut Vec<usize>, found: Option<usize>) -> Result<(), NoMemor
     Ok(())
 }
 
-// Where there is room for a pair that isn't known.
+// Where there is room for an unknown pair.
 fn rooms_among(alloc: Global, known: &Known) -> Result<Vec<usize>, NoMemory>
     ensures { IfOk result (λ rooms. (records : List Record) → AreKnown records known.now.pairs.items
         → AreRooms records rooms.items) }
@@ -76,7 +76,7 @@ impl Versions {
     ghost use Rattle.ruled_out.specs.aids.VersionsOf.{AreOf, IsLeastAfter, IsPresentWith};
     ghost use Rattle.ruled_out.specs.aids.Places.{Gives, GoneAt, IsVersionAt, PresentAt};
 
-    /// The versions of a document's records.
+    /// Returns the versions of a document's records.
     pub fn of(alloc: Global, records: &[Rec]) -> Result<Versions, NoMemory>
         ensures { IfOk result (AreOf records.now) }
     {
@@ -86,7 +86,7 @@ impl Versions {
         Ok(Versions { known, told, rooms })
     }
 
-    /// What is told of a pair, where it is known.
+    /// Returns what replies say of a pair, if the pair is known.
     pub fn told_of(&self, pair: Pair) -> Version
         ensures { (records : List Record) → AreOf records self.now → IsKnown records pair
             → result ≡ version_told untold pair records }
@@ -98,7 +98,7 @@ impl Versions {
         }
     }
 
-    // What is told of the known pair at the place; `None` where the place before has the same pair.
+    // What replies say of the known pair at the index; `None` if the pair before it is the same.
     fn version_at(&self, place: usize) -> Option<Version>
         requires { place < length self.now.known.pairs.items }
         ensures { (records : List Record) → AreOf records self.now
@@ -111,8 +111,8 @@ impl Versions {
         }
     }
 
-    /// The position of a document that has the known pair at the place, where a reply tells that it was deleted with it; `None`
-    /// where none does, and where the place before has the same pair.
+    /// Returns the position of a document that has the known pair at the index, if a reply says that the
+    /// document was deleted with it. Returns `None` if no reply does, or if the pair before it is the same.
     pub fn gone_at(&self, place: usize) -> Option<usize>
         requires { place < length self.now.known.pairs.items }
         ensures { (records : List Record) → AreOf records self.now
@@ -126,8 +126,8 @@ impl Versions {
         }
     }
 
-    /// The position of a document that has the known pair at the place, where no reply tells that it was deleted with it; `None`
-    /// where one does, and where the place before has the same pair.
+    /// Returns the position of a document that has the known pair at the index, if no reply says that the
+    /// document was deleted with it. Returns `None` if one does, or if the pair before it is the same.
     pub fn present_at(&self, place: usize) -> Option<usize>
         requires { place < length self.now.known.pairs.items }
         ensures { (records : List Record) → AreOf records self.now
@@ -141,7 +141,8 @@ impl Versions {
         }
     }
 
-    /// The position of a document that has the pair, where it is known and no reply tells that the document was deleted with it.
+    /// Returns the position of a document that has the pair, if the pair is known and no reply says that the
+    /// document was deleted with it.
     pub fn present_with(&self, pair: Pair) -> Option<usize>
         ensures exact { (records : List Record) → AreOf records self.now → IsPresentWith records pair result }
         ensures fits { IfSome result (λ n. n + 1 < 2 ^ 64) }
@@ -154,7 +155,7 @@ impl Versions {
         }
     }
 
-    /// The least position at which each known pair below the pair was taken.
+    /// Returns the least position at which each known pair below the pair was taken.
     pub fn after_known_below(&self, pair: Pair) -> usize
         ensures { (records : List Record) → AreOf records self.now → IsLeastAfter records pair result }
     {

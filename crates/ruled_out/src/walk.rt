@@ -19,22 +19,23 @@ use history::Rec;
 use std::alloc::Global;
 use version_pair::{NoMemory, Pair};
 
-/// The walk over the events of a document: the calls that were made so far, and where the document may be.
+/// The walk over the events of a document: the calls that were made so far, and the positions at which the
+/// document may be.
 #[derive(Drop)]
 pub struct Walk {
     versions: Versions,
     absent: Possible,
     present: Possible,
     writers: Writers,
-    // The position that the document had reached as each call was made.
+    // The position that the document had reached when each call was made.
     floors: Vec<usize>,
     // The position that it has reached now.
     reached: usize,
-    // Each of so many known pairs, in their order, has a call that may have taken it.
+    // Each of the first known pairs, this many, has a call that may have taken it.
     settled: usize,
 }
 
-// The positions at which the document may be absent by what replies tell alone.
+// The positions at which the document may be absent, by the replies alone.
 fn told_absent(alloc: Global, versions: &Versions) -> Result<Possible, NoMemory>
     ensures rooms { IfOk result (λ away. (records : List Record) → KeepsRooms records away) }
     ensures told { IfOk result (λ away. (records : List Record) → AreOf records versions.now
@@ -48,7 +49,7 @@ fn told_absent(alloc: Global, versions: &Versions) -> Result<Possible, NoMemory>
     Ok(away)
 }
 
-// The positions at which it may be there by what replies tell alone.
+// The positions at which it may exist, by the replies alone.
 fn told_present(alloc: Global, versions: &Versions) -> Result<Possible, NoMemory>
     ensures rooms { IfOk result (λ there. (records : List Record) → KeepsRooms records there) }
     ensures told { IfOk result (λ there. (records : List Record) → AreOf records versions.now
@@ -64,7 +65,7 @@ fn told_present(alloc: Global, versions: &Versions) -> Result<Possible, NoMemory
 impl Walk {
     ghost use Rattle.ruled_out.specs.aids.States.{AreEarlier, IsAt, KeepsFloors, Offers, PassesCall, PassesCalls};
 
-    /// The walk before the first event.
+    /// Returns the walk before the first event.
     pub fn new(alloc: Global, records: &[Rec]) -> Result<Walk, NoMemory>
         ensures known { IfOk result (IsAt records.now) }
         ensures start { IfOk result (λ walk. (length walk.floors.items ≡ 0) × (walk.reached ≡ 0)) }
@@ -84,7 +85,7 @@ impl Walk {
         })
     }
 
-    // Notes what a delete without a reply may do.
+    // Adds what a delete without a reply may do.
     fn offer_delete(&mut self, condition: Option<Pair>) -> Result<(), NoMemory>
         ensures keeps { OnOk result (KeepsFloors self.old self.new) }
         ensures known { OnOk result ((records : List Record) (w : Record) → IsAt records self.old
@@ -95,7 +96,7 @@ impl Walk {
         Ok(())
     }
 
-    // Notes what a write without a reply may do that gives a number.
+    // Adds what a write without a reply may do that gives a number.
     fn offer_write(&mut self, k: u64, condition: Option<Pair>) -> Result<(), NoMemory>
         ensures keeps { OnOk result (KeepsFloors self.old self.new) }
         ensures known { OnOk result ((records : List Record) (w : Record) → IsAt records self.old
@@ -108,7 +109,7 @@ impl Walk {
         Ok(())
     }
 
-    // Notes what the next call may do, where it has no reply.
+    // Adds what the next call may do, if it has no reply.
     fn offer(&mut self, call: &Rec) -> Result<(), NoMemory>
         ensures keeps { OnOk result (KeepsFloors self.old self.new) }
         ensures known { OnOk result ((records : List Record) → IsAt records self.old

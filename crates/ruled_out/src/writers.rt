@@ -15,7 +15,7 @@ use std::alloc::Global;
 use std::collections::BTreeMap;
 use version_pair::{NoMemory, Pair};
 
-/// What the writes without a reply may have written that were made so far.
+/// What the writes without a reply that were made so far may have written.
 #[derive(Drop)]
 pub struct Writers {
     // The least floor of a write without a condition.
@@ -26,7 +26,7 @@ pub struct Writers {
     swapped: Vec<bool>,
 }
 
-// Whether there is a floor, and it isn't above the position.
+// Whether there is a floor, and it is not above the position.
 fn is_from(floor: Option<usize>, n: usize) -> bool
     ensures { IsTrue result ↔ IsFrom floor n }
 {
@@ -55,7 +55,8 @@ fn set_floor(floors: &mut BTreeMap<u64, usize>, k: u64, floor: usize) -> Result<
     Ok(())
 }
 
-// Whether a write of the number that was made with the floor may have taken the known pair, but for its condition.
+// Whether a write of the number that was made with the floor may have taken the known pair, apart from its
+// condition.
 fn may_take(versions: &Versions, pair: Pair, k: u64, floor: usize) -> bool
     ensures { (records : List Record) → AreOf records versions.now → IsKnown records pair
         → (IsTrue result ↔ ((floor ≤ gap_of records pair) × ((n : ℕ) → IsFoundWith records pair n → n ≡ k))) }
@@ -67,7 +68,7 @@ impl Writers {
     ghost use Rattle.ruled_out.specs.aids.Versions.{allows};
     ghost use Rattle.ruled_out.specs.aids.Writing.{AreWriters, IsGiven, IsSwapped};
 
-    /// No writes.
+    /// Returns the writers before any write.
     pub fn new(alloc: Global, versions: &Versions) -> Result<Writers, NoMemory>
         ensures { IfOk result (λ writers. (records : List Record) → AreOf records versions.now
             → AreWriters records [] writers) }
@@ -80,7 +81,7 @@ impl Writers {
         })
     }
 
-    // Notes a write without a condition.
+    // Adds a write without a condition.
     fn note_free(&mut self, k: u64, floor: usize) -> Result<(), NoMemory>
         ensures { OnOk result ((records : List Record) (floors : List ℕ) (w : Record)
             → slice_get records (length floors) ≡ Just w → w.heard ≡ Nothing → value_of w.op ≡ Just k → condition_of w.op ≡ Nothing
@@ -92,7 +93,7 @@ impl Writers {
         Ok(())
     }
 
-    // Notes a write under a condition.
+    // Adds a write under a condition.
     fn note_swap(&mut self, versions: &Versions, k: u64, condition: Pair, floor: usize)
         ensures { (records : List Record) (floors : List ℕ) (w : Record) → AreOf records versions.now
             → slice_get records (length floors) ≡ Just w → w.heard ≡ Nothing → value_of w.op ≡ Just k
@@ -108,7 +109,8 @@ impl Writers {
         }
     }
 
-    /// Notes a write without a reply, which gives the number and was made when the document had reached the floor.
+    /// Adds a write without a reply that gives the number and was made when the document had reached the
+    /// floor.
     pub fn note(
         &mut self,
         versions: &Versions,
@@ -130,7 +132,8 @@ impl Writers {
         }
     }
 
-    // Whether a write without a condition may have taken a pair of the position, with which these numbers were found.
+    // Whether a write without a condition may have taken a pair of the position, with which these numbers
+    // were found.
     fn may_give(&self, number: Number, gap: usize) -> bool
         ensures { (records : List Record) (floors : List ℕ) → AreWriters records floors self.now
             → (IsTrue result ↔ ((k : ℕ) × (allows number k ≡ true) × IsGiven records floors k gap)) }
@@ -154,7 +157,8 @@ impl Writers {
         }
     }
 
-    /// Whether one of the writes may have taken the pair, giving the number that was found with it, if one was.
+    /// Returns whether one of the writes may have taken the pair, giving the number that was found with it,
+    /// if one was.
     pub fn may_write(&self, versions: &Versions, pair: Pair) -> bool
         ensures { (records : List Record) (floors : List ℕ) → AreOf records versions.now
             → AreWriters records floors self.now → IsKnown records pair

@@ -1,4 +1,4 @@
--- Which faults a stream answers.
+-- Which faults a stream returns.
 use Rattle.std.specs.Prelude.{◌⊎◌, ◌≡◌}
 use Rattle.api_lines.specs.declared.line_input.InputFault.{InputFault}
 use Rattle.api_lines.specs.declared.line_input.InputFault.TheVariants as input
@@ -10,7 +10,7 @@ abbrev pub input_fault : InputFault → StreamFault
 input_fault input.Read = Read
 input_fault input.NoMemory = NoMemory
 
--- the reader failed, or a growth was refused
+-- the reader failed, or memory was refused
 abbrev pub IsReadingFault : StreamFault → Type 0
 IsReadingFault Read = Unit {0}
 IsReadingFault Write = ⊥

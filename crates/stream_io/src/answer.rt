@@ -3,7 +3,7 @@ ghost use Rattle.std.specs.Prelude.{◌≡◌, ◌++◌, IfOk, string_bytes};
 use crate::status::Status;
 use version_pair::NoMemory;
 
-/// A text to be written, with the status that it tells.
+/// A text to write, with the status that it states.
 #[derive(Drop)]
 pub struct Answer {
     pub status: Status,
@@ -11,7 +11,7 @@ pub struct Answer {
 }
 
 impl Answer {
-    /// The answer of a line.
+    /// Returns the answer of a line.
     pub fn of(status: Status, line: String) -> Answer
         ensures status { result.status ≡ status }
         ensures text { result.text.items ≡ string_bytes line }
@@ -22,7 +22,7 @@ impl Answer {
         }
     }
 
-    /// The answer with a text behind its own.
+    /// Returns the answer followed by a text.
     pub fn followed_by(self, more: &[u8]) -> Result<Answer, NoMemory>
         ensures status { IfOk result (λ told. told.status ≡ self.status) }
         ensures text { IfOk result (λ told. told.text.items ≡ self.text.items ++ more.now) }

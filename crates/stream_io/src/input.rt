@@ -13,9 +13,9 @@ use std::io::Read;
 use version_pair::DocId;
 use witness::{Place, read_witness_from};
 
-/// The history, with these keys, whose text the reader has to its end; or the first line that is refused. Nothing after that line
-/// is taken but what the last read brought, which is asked for 32,768 bytes. A fault of the reader of any kind, an interruption
-/// too, ends the reading.
+/// Reads the text of the reader to its end, and returns its history, with these keys; or the first line that
+/// is refused. No bytes after that line are taken but those that the last read brought, which is asked for
+/// 32,768 bytes. A fault of the reader of any kind, an interruption included, ends the reading.
 pub fn read_history<R: Read>(
     alloc: Global,
     keys: HashKeys,
@@ -33,9 +33,9 @@ pub fn read_history<R: Read>(
     read_from(alloc, keys, reader)
 }
 
-/// The entries of the witness text that the reader has to its end; or the first line that is refused. Nothing after that line is
-/// taken but what the last read brought, which is asked for 32,768 bytes. A fault of the reader of any kind, an interruption
-/// too, ends the reading.
+/// Reads the witness text of the reader to its end, and returns its entries; or the first line that is
+/// refused. No bytes after that line are taken but those that the last read brought, which is asked for
+/// 32,768 bytes. A fault of the reader of any kind, an interruption included, ends the reading.
 pub fn read_entries<R: Read>(
     alloc: Global,
     reader: &mut R,
@@ -50,8 +50,8 @@ pub fn read_entries<R: Read>(
     read_witness_from(alloc, reader)
 }
 
-/// All bytes of the reader to its end, of which 32,768 are asked for at once. A fault of the reader of any kind, an interruption
-/// too, ends the reading: then some front of them is taken.
+/// Returns all bytes of the reader to its end. It asks for 32,768 bytes at once. A fault of the reader of any
+/// kind, an interruption included, ends the reading; some prefix of the bytes is then taken.
 pub fn read_all<R: Read>(alloc: Global, reader: &mut R) -> Result<Vec<u8>, InputFault>
     ensures all { IfOk result (λ bytes. IfSome (R.remaining reader.old) (λ input. bytes.items ≡ input)) }
     ensures end { OnOk result (OnSome (R.remaining reader.old) (IsAtEnd (R.remaining reader.new))) }

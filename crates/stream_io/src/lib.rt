@@ -1,5 +1,5 @@
-//! What streams read and write: texts taken from readers, and answers given to writers. Why a stream ends without its answer
-//! is told by one enum, `StreamFault`.
+//! What streams read and write: texts taken from readers, and answers given to writers. One enum,
+//! `StreamFault`, has the reasons why a stream ends without its answer.
 //!
 //! ```text
 //! let told = read_history(alloc, keys, &mut reader)?; // Result<History, TextFault>

@@ -6,7 +6,8 @@ use crate::status::Status;
 use crate::stream_fault::StreamFault;
 use std::io::Write;
 
-// Writes some front of a text that is not empty, and says how many bytes; `None` where the writer fails or takes none.
+// Writes some prefix of a text that is not empty, and returns its number of bytes; `None` if the writer fails
+// or takes none.
 fn write_some<W: Write>(writer: &mut W, text: &[u8]) -> Option<usize>
     ensures within { IfSome result (λ n. (0 < n) × (n ≤ length text.now)) }
     ensures some { IfSome result (λ n. Appends (W.contents writer.old) (W.contents writer.new)
@@ -19,7 +20,7 @@ fn write_some<W: Write>(writer: &mut W, text: &[u8]) -> Option<usize>
     }
 }
 
-/// Writes the text. Where the writer fails or takes no byte, it holds a front of the text, and `Write` is told.
+/// Writes the text. Errors: `Write` if the writer fails or takes no byte; it then holds a prefix of the text.
 pub fn write_text<W: Write>(writer: &mut W, text: &[u8]) -> Result<(), StreamFault>
     ensures ok { OnOk result (Appends (W.contents writer.old) (W.contents writer.new) text.now) }
     ensures err { OnErr result ((n : ℕ) × Appends (W.contents writer.old) (W.contents writer.new)
@@ -36,7 +37,7 @@ pub fn write_text<W: Write>(writer: &mut W, text: &[u8]) -> Result<(), StreamFau
     Ok(())
 }
 
-/// Writes the answer, and tells its status. After a write fault a front of its text is written.
+/// Writes the answer, and returns its status. After a write fault a prefix of its text is written.
 pub fn write_answer<W: Write>(writer: &mut W, answer: &Answer) -> Result<Status, StreamFault>
     ensures { MatchResult result
         (λ status. (status ≡ answer.now.status) × Appends (W.contents writer.old)

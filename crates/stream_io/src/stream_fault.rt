@@ -6,25 +6,25 @@ use api_lines::InputFault;
 use std::alloc::AllocError;
 use thiserror::Error;
 
-/// Why a stream ended without its answer.
+/// The reason why a stream ended without its answer.
 #[derive(Clone, Copy, Debug, PartialEq, Eq, Error)]
 pub enum StreamFault {
     /// The reader failed. Nothing was written.
     #[error("read fault")]
     Read,
-    /// The writer failed, or took no byte. A front of the line may have been written.
+    /// The writer failed, or took no byte. A prefix of the line may have been written.
     #[error("write fault")]
     Write,
-    /// A growth was refused memory. Nothing was written.
+    /// Memory was refused. Nothing was written.
     #[error("no memory")]
     NoMemory,
-    /// A worker gave no answer for the document of this number, or not just one for it. Nothing was written.
+    /// A worker gave no answer for the document of this number, or not exactly one. Nothing was written.
     #[error("worker lost")]
     Worker(usize),
     /// An event of a run was not recorded, or its recording was lost. Nothing was written.
     #[error("recording lost")]
     Recording,
-    /// A number of a run's plan or group is refused. Nothing was written.
+    /// A number of a run's plan or group was refused. Nothing was written.
     #[error("setting")]
     Setting,
 }

@@ -1,7 +1,7 @@
 -- Which texts are document ids.
 use Rattle.std.specs.Prelude.{ℕ, ◌<◌, ◌≤◌}
 
--- the most bytes of a document id
+-- the greatest length of a document id, in bytes
 abbrev pub longest_id : ℕ
 longest_id = 512
 

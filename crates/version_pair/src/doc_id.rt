@@ -13,13 +13,13 @@ use std::marker::Model;
 use std::sync::ArcStr;
 use thiserror::Error;
 
-/// What a call answers that was refused memory and can be refused nothing else.
+/// The error of a call that fails only if it is refused memory.
 pub type NoMemory = AllocError;
 
-/// The most bytes that a document id has.
+/// The greatest length of a document id, in bytes.
 pub const LONGEST_ID: usize = 512;
 
-/// Why a text is no document id.
+/// The reason why a text is not a document id.
 #[derive(Clone, Copy, Debug, PartialEq, Eq, Error)]
 pub enum IdFault {
     /// The text has no byte.
@@ -28,12 +28,12 @@ pub enum IdFault {
     /// The text has more than 512 bytes.
     #[error("a document's id has at most 512 bytes")]
     TooLong,
-    /// The copy of the text was refused memory.
+    /// Memory for the copy of the text was refused.
     #[error("no memory")]
     NoMemory,
 }
 
-/// A text that is a document's id, one of 1 to 512 bytes, where it stands.
+/// A borrowed text that is a document id: it has 1 to 512 bytes.
 #[derive(Debug, Drop)]
 pub struct IdText<'t> {
     text: &'t str,
@@ -48,7 +48,7 @@ impl<'t> Model for IdText<'t> {
 }
 
 impl<'t> IdText<'t> {
-    /// The text as an id, where it has 1 to 512 bytes.
+    /// Returns the text as an id, or `None` unless it has 1 to 512 bytes.
     pub fn new(text: &'t str) -> Option<IdText<'t>>
         ensures some { IfSome result (λ id. (id ≡ text.now) × IsIdLength (length text.now)) }
         ensures none { (result ≡ None) ↔ ((length text.now ≡ 0) ⊎ (512 < length text.now)) }
@@ -59,7 +59,7 @@ impl<'t> IdText<'t> {
         Some(IdText { text })
     }
 
-    /// The id as text.
+    /// Returns the id as text.
     pub fn as_str(&self) -> &'t str
         ensures same { result.now ≡ self.now }
         ensures id { IsIdLength (length self.now) }
@@ -67,7 +67,7 @@ impl<'t> IdText<'t> {
         self.text
     }
 
-    /// The id with these bytes, in memory of its own.
+    /// Returns the id with the same bytes, in memory of its own.
     pub fn to_id(&self, alloc: Global) -> Result<DocId, NoMemory>
         ensures { IfOk result (λ id. id ≡ self.now) }
     {
@@ -92,7 +92,8 @@ impl Model for DocId {
 }
 
 impl DocId {
-    /// The id with the bytes of the text; or `Empty` for the empty text, `TooLong` for one of more than 512 bytes, `NoMemory`.
+    /// Returns the id with the bytes of the text. Errors: `Empty` for the empty text, `TooLong` for a text of
+    /// more than 512 bytes, `NoMemory` if memory was refused.
     pub fn new(alloc: Global, text: &str) -> Result<DocId, IdFault>
         ensures ok { IfOk result (λ id. (id ≡ text.now) × IsIdLength (length text.now)) }
         ensures empty { IsErrOf result IdFault.Empty ↔ (length text.now ≡ 0) }
@@ -108,7 +109,7 @@ impl DocId {
         id.to_id(alloc).map_err(|_| IdFault::NoMemory)
     }
 
-    /// The text of the id, where the id keeps it.
+    /// Returns the text of the id, borrowed from the id.
     pub fn text(&self) -> IdText<'_>
         ensures { result ≡ self.now }
     {
@@ -117,7 +118,7 @@ impl DocId {
         }
     }
 
-    /// The id as text.
+    /// Returns the id as text.
     pub fn as_str(&self) -> &str
         ensures same { result.now ≡ self.now }
         ensures id { IsIdLength (length self.now) }
@@ -125,7 +126,7 @@ impl DocId {
         self.text.as_str()
     }
 
-    /// Another id with the same bytes.
+    /// Returns another id with the same bytes.
     pub fn copy(&self) -> Result<DocId, NoMemory>
         ensures { IfOk result (λ id. id ≡ self.now) }
     {

@@ -1,7 +1,7 @@
 //! What names a version of a document: pairs of a primary term and a sequence number, and document ids.
 //!
 //! ```text
-//! let pair = Pair::new(1, 7); // term 1, sequence number 7; None where one is out of range
+//! let pair = Pair::new(1, 7); // term 1, sequence number 7; None if one is out of range
 //! let id = DocId::new(alloc, "cart-17")?;
 //! ```
 #![tactic(auto)]

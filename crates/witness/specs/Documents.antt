@@ -1,4 +1,4 @@
--- The documents of witness texts as the code has them.
+-- The documents of witness texts, as the code has them.
 use Rattle.std.specs.Prelude.{ℕ, List, Vec}
 use Rattle.std.specs.declared.alloc.Global.{Global}
 use Rattle.witness.specs.declared.place.Place.{Place}

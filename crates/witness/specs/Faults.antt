@@ -13,12 +13,12 @@ use Rattle.witness.specs.Places.{AreRight, GivesAsMay, IsHeardBefore, IsNamed, I
 abbrev pub IsStranger : List Rec → Place → Type 0
 IsStranger records p = (r : Rec) → IsPlaceOf records p r → IsUnansweredGet r
 
--- the place stands at i, and all places before it are right
+-- the place p has the index i, and all places before it are right
 pub record IsReached (conflicts : Conflicts) (records : List Rec) (places : List Place) (i : ℕ) (p : Place) : Type 0 where
   pub here : slice_get places i ≡ Some p
   pub right : AreRight conflicts records (take i places)
 
--- it is reached, and it names a record that may be named and is not named before
+-- the place is reached, and it names a record that may be named and that no earlier place names
 pub record IsFresh (conflicts : Conflicts) (records : List Rec) (places : List Place) (i : ℕ) (p : Place) (r : Rec) : Type 0 where
   pub reached : IsReached conflicts records places i p
   pub names : IsPlaceOf records p r
@@ -32,8 +32,8 @@ IsLate records places i r =
     ⊎ ((j : ℕ) × (q : Place) × (s : Rec) × (slice_get (take i places) j ≡ Some q) × IsPlaceOf records q s
     × IsHeardBefore r.heard s.call_at)
 
--- The fault holds, and none that is told before it: place by place stranger, twice, pair missing, pair given, late,
--- illegal; last the least answered record that is absent.
+-- The fault holds, and no fault that is reported before it: place by place stranger, twice, pair missing,
+-- pair given, late, illegal; last the least answered record that is absent.
 abbrev pub IsFirstFault : Conflicts → List Rec → List Place → Broken → Type 0
 IsFirstFault conflicts records places (Stranger i) = (p : Place) × IsReached conflicts records places i p × IsStranger records p
 IsFirstFault conflicts records places (Twice i) =

@@ -1,4 +1,4 @@
--- Orders of one document's calls, what places tell of them, and the law that valid places are such orders.
+-- Orders of one document's calls, what places say of them, and the law that valid places are such orders.
 use Rattle.std.specs.Prelude.{◌≡◌, ℕ, List, [], ◌∷◌, Option, Some, None, IsSome, slice_get}
 use Rattle.version_pair.specs.declared.pair.Pair.{Pair}
 use Rattle.doc_register.specs.declared.op.Op.{Op}
@@ -16,8 +16,8 @@ use Rattle.witness.specs.Places.{AreValid, IsPlaceOf}
 use Rattle.api_lines.specs.Texts.{ReadsLineByLine}
 use Rattle.witness.specs.Text.{takes_value}
 
--- The order explains the document of the history: it is an order of the document's calls, as one of the whole history
--- would be, but of no other document's; it respects the history; and it is a legal run.
+-- The order explains the document of the history. It is an order of the document's calls, as one of the whole
+-- history would be, but has no calls of other documents; it respects the history; and it is a legal run.
 pub record ExplainsDocument (conflicts : Conflicts) (events : List Event) (d : List ℕ) (order : List Placed) : Type 0 where
   pub calls : (i : ℕ) (p : Placed) → slice_get order i ≡ Some p → IsOfCall events p × (p.entry.doc ≡ d)
   pub once : (i j : ℕ) (p q : Placed) → slice_get order i ≡ Some p → slice_get order j ≡ Some q → p.no ≡ q.no → i ≡ j
@@ -27,13 +27,13 @@ pub record ExplainsDocument (conflicts : Conflicts) (events : List Event) (d : L
   pub respects : Respects events order
   pub legal : IsLegalRun (run_of order)
 
--- what a record and its place tell of the call in the run: the reply that was heard, with the pair that it hides; or,
--- where none was heard, the pair that the call takes
+-- what a record and its place say of the call in the run: the reply that was heard, with the pair that it
+-- hides; or, if none was heard, the pair that the call takes
 abbrev pub TellsOf : Option (ℕ × Answer) → Option Pair → Entry → Type 0
 TellsOf None pair e = IsSome pair × (pair_taken e.reply e.hidden ≡ pair)
 TellsOf (Some (at, reply)) pair e = (e.reply ≡ reply) × (e.hidden ≡ pair)
 
--- the place tells of the call that stands in the order
+-- the place says this of the call in the order
 pub record IsPlacedBy (records : List Rec) (p : Place) (q : Placed) : Type 0 where
   pub named : Rec
   pub names : IsPlaceOf records p named
@@ -48,13 +48,13 @@ ArePlacedBy records [] (q ∷ qs) = ⊥
 ArePlacedBy records (p ∷ ps) [] = ⊥
 ArePlacedBy records (p ∷ ps) (q ∷ qs) = IsPlacedBy records p q × ArePlacedBy records ps qs
 
--- no unanswered call stands in the order that changes nothing there
+-- no unanswered call of the order changes nothing there
 abbrev pub AllChange : List Event → List Placed → Type 0
 AllChange events order = (i : ℕ) (p : Placed) → slice_get order i ≡ Some p → IsPending events p.no
     → ¬ ChangesNothing p.entry
 
--- Valid places of a document's records are an order that explains the document; and an order that explains it, without
--- unanswered calls that change nothing, is one of valid places.
+-- Valid places of a document's records are an order that explains the document; and an order that explains
+-- it, without unanswered calls that change nothing, is one of valid places.
 pub record PlacesAreOrders : Type 0 where
   pub explains : (conflicts : Conflicts) (events : List Event) (d : List ℕ) (places : List Place) → IsHistory events
       → AreValid conflicts (records_of events d) places
@@ -64,6 +64,7 @@ pub record PlacesAreOrders : Type 0 where
       → (places : List Place) × AreValid conflicts (records_of events d) places
       × ArePlacedBy (records_of events d) places order
 
--- Witnesses are read line by line: the reader that takes one line more tells what is read of the text with that line.
+-- Witnesses are read line by line: a reader that takes one line more gives what is read of the text with that
+-- line.
 abbrev pub WitnessesLineByLine : Type 0
 WitnessesLineByLine = ReadsLineByLine takes_value []

@@ -21,8 +21,8 @@ IsPlaceOf records p r = slice_get records p.rec ≡ Some r
 abbrev pub IsUnansweredGet : Rec → Type 0
 IsUnansweredGet r = (r.op ≡ Get) × (r.heard ≡ None)
 
--- The place of an unanswered call gives a pair, and that of an answered one gives none, but that under Maybe the place
--- of a conflict may give one.
+-- The place of an unanswered call gives a pair, and that of an answered call gives none, except that under
+-- Maybe the place of a conflict may give one.
 abbrev pub GivesAsMay : Conflicts → Option (ℕ × Reply) → Option Pair → Type 0
 GivesAsMay conflicts None pair = IsSome pair
 GivesAsMay conflicts (Some (at, Indexed q created)) pair = pair ≡ None
@@ -31,14 +31,14 @@ GivesAsMay conflicts (Some (at, Found q k)) pair = pair ≡ None
 GivesAsMay conflicts (Some (at, Missing)) pair = pair ≡ None
 GivesAsMay conflicts (Some (at, Conflict)) pair = conflicts ≡ Plain → pair ≡ None
 
--- The call of a place is a step: with the reply that was heard, a pair given to it being hidden; or, unanswered, with
--- the reply of a performed write that takes the pair given.
+-- The call of a place is a step. An answered call steps with the reply that was heard, which hides a pair
+-- given to the place; an unanswered one with the reply of a performed write that takes the pair given.
 abbrev pub StepsAt : DocState → Op → Option (ℕ × Reply) → Option Pair → DocState → Type 0
 StepsAt s op (Some (at, reply)) pair t = DocStep s op reply pair t
 StepsAt s op None (Some q) t = DocStep s op (performed_reply s op q) None t
 StepsAt s op None None t = ⊥
 
--- a reply was heard, and before the place
+-- a reply was heard, and before the position
 abbrev pub IsHeardBefore : Option (ℕ × Reply) → ℕ → Type 0
 IsHeardBefore None place = ⊥
 IsHeardBefore (Some (at, reply)) place = at < place
@@ -49,9 +49,10 @@ IsPlaceRun records s [] t = t ≡ s
 IsPlaceRun records s (p ∷ ps) t = (m : DocState) × (r : Rec) × IsPlaceOf records p r × StepsAt s r.op r.heard p.pair m
     × IsPlaceRun records m ps t
 
--- All that valid places have, but that each answered call stands in them: each names a record, none an unanswered get and
--- none a record twice; pairs are given as they may be; no place's reply was heard before the call of its own or of an
--- earlier place; and the calls are steps one after another, from a document that was never written.
+-- All that valid places have, except that each answered call has a place: each place names a record, none an
+-- unanswered get and no two the same record; pairs are given as they may be; no place's reply was heard
+-- before the call of its own or of an earlier place; and the calls are steps one after another, from a
+-- document that was never written.
 pub record AreRight (conflicts : Conflicts) (records : List Rec) (places : List Place) : Type 0 where
   pub known : (i : ℕ) (p : Place) → slice_get places i ≡ Some p → (r : Rec) × IsPlaceOf records p r
       × (¬ IsUnansweredGet r)

@@ -48,7 +48,8 @@ place_numbered true rec seq term = do
   n ← record_told rec
   Ok (line.Place (record { rec = n; pair = pair }))
 
--- a place's line: all kinds, then that a document was begun, then the halves of its pair, then the ranges
+-- a place's line; checked first are the kinds of all fields, then that a document was begun, then the halves
+-- of its pair, then the ranges
 abbrev pub place_told : Bool → FieldValue → FieldValue → FieldValue → Result WitnessLine TextCause
 place_told begun rec seq term = do
   r ← required_number rec
@@ -70,7 +71,7 @@ says begun v = says_by begun v (field (codes "doc") v)
 
 -- ---- reading
 
--- how many documents and places there are
+-- the number of documents and places
 abbrev pub items_in : List DocPlaces → ℕ
 items_in [] = 0
 items_in (d ∷ ds) = suc (length d.places) + items_in ds
@@ -82,14 +83,14 @@ abbrev pub is_begun : List DocPlaces → Bool
 is_begun [] = false
 is_begun (d ∷ ds) = true
 
--- the documents with what one more line says: a place goes to the last of them
+-- the documents with what one more line says: a place goes to the last document
 abbrev pub with_said : List DocPlaces → WitnessLine → List DocPlaces
 with_said ds (line.Document d) = ds ++ record { doc = d; places = [] } ∷ []
 with_said [] (line.Place p) = []
 with_said (d ∷ []) (line.Place p) = record { doc = d.doc; places = d.places ++ p ∷ [] } ∷ []
 with_said (d ∷ e ∷ ds) (line.Place p) = d ∷ with_said (e ∷ ds) (line.Place p)
 
--- the documents after what a line says, where there is room
+-- the documents after what a line says, if there is room
 abbrev pub takes : List DocPlaces → WitnessLine → Result (List DocPlaces) TextCause
 takes ds said = if nat_lt (items_in ds) most_items then Ok (with_said ds said) else Err Full
 
@@ -97,7 +98,7 @@ takes ds said = if nat_lt (items_in ds) most_items then Ok (with_said ds said) e
 abbrev pub takes_value : List DocPlaces → Data → Result (List DocPlaces) TextCause
 takes_value ds v = says (is_begun ds) v >>= takes ds
 
--- what a witness text gives: its documents with their places; or the first line that is refused, with its first cause
+-- the documents of a witness text, with their places; or the first line that is refused, with its first cause
 abbrev pub witness_text : List ℕ → Result (List DocPlaces) TextFault
 witness_text bytes = read_lines takes_value 1 [] (lines_of bytes)
 

@@ -1,6 +1,6 @@
 use thiserror::Error;
 
-/// Why places are not valid: the first fault. Places and records are numbered from 0.
+/// The first fault of places that are not valid. Places and records are numbered from 0.
 #[derive(Clone, Copy, Debug, PartialEq, Eq, Error)]
 pub enum Broken {
     /// The place names no record, or an unanswered get.
@@ -12,7 +12,7 @@ pub enum Broken {
     /// No place names this record, whose call was answered.
     #[error("the answered call of record {0} has no place")]
     Absent(usize),
-    /// The call of this place was answered before an earlier place's call, or its own, was made.
+    /// The call of this place was answered before the call of an earlier place, or its own call, was made.
     #[error("the call of place {0} was answered before an earlier place's call was made")]
     Late(usize),
     /// The place of an unanswered write gives no pair.
@@ -21,10 +21,10 @@ pub enum Broken {
     /// The place of an answered call gives a pair that it may not give.
     #[error("place {0} gives a pair that it may not give")]
     PairGiven(usize),
-    /// The call of this place can't be answered so after the places before it.
+    /// The call of this place can't have its reply after the places before it.
     #[error("the call of place {0} can't be answered so there")]
     Illegal(usize),
-    /// A growth was refused memory.
+    /// Memory was refused.
     #[error("no memory")]
     NoMemory,
 }

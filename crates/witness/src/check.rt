@@ -12,7 +12,7 @@ use history::Rec;
 use std::alloc::Global;
 use version_pair::NoMemory;
 
-/// The walk over no place.
+/// Returns the walk over no place.
 pub fn start(alloc: Global, records: &[Rec]) -> Result<Walk, NoMemory>
     ensures { IfOk result
         (λ walk. (conflicts : Reading)
@@ -41,7 +41,8 @@ fn absent(records: &[Rec], marks: &[bool]) -> Option<usize>
     None
 }
 
-/// The first fault of the places, if they are not valid. The walk is the one over no place.
+/// Returns the first fault of the places, or `None` if they are valid. The walk must be the one over no
+/// place.
 pub fn first_fault(
     start: Walk,
     records: &[Rec],

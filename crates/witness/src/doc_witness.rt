@@ -12,9 +12,9 @@ use std::alloc::Global;
 use std::marker::Model;
 use version_pair::DocId;
 
-/// An order of one document's calls that explains them.
+/// An order of the calls of one document that explains them.
 ///
-/// Its type keeps that its places are valid for its records in its reading of conflicts.
+/// The type guarantees that its places are valid for its records in its reading of conflicts.
 #[derive(Debug, Drop)]
 pub struct DocWitness {
     id: DocId,
@@ -40,11 +40,11 @@ impl Model for DocWitness {
 }
 
 impl DocWitness {
-    /// The witness of these places, where they are valid for the records; else the first fault, with all that was
-    /// handed in.
+    /// Returns the witness of these places if they are valid for the records. Otherwise returns the first
+    /// fault, with all that was handed in.
     ///
-    /// `NoMemory` is told first, where a growth was refused. Then place by place: `Stranger`, `Twice`,
-    /// `PairMissing`, `PairGiven`, `Late`, `Illegal`. Last `Absent`, with the least record.
+    /// `NoMemory` is reported first, if memory was refused. Then, place by place: `Stranger`, `Twice`,
+    /// `PairMissing`, `PairGiven`, `Late`, `Illegal`. Last comes `Absent`, with the least record.
     pub fn check(
         alloc: Global,
         id: DocId,
@@ -81,34 +81,34 @@ impl DocWitness {
         }
     }
 
-    /// The document's id.
+    /// Returns the document's id.
     pub fn id(&self) -> &DocId
         ensures { result.now ≡ self.now.doc }
     {
         &self.id
     }
 
-    /// The document's calls, in their order in the history.
+    /// Returns the document's calls, in their order in the history.
     pub fn records(&self) -> &[Rec]
         ensures same { result.now ≡ self.now.records }
         ensures valid { AreValid self.now.conflicts self.now.records self.now.places }
     {
-        // A look at a field: what the type keeps is known from here on.
+        // The access to a field makes the type's invariant known from here on.
         let _ = &self.id;
         &self.records
     }
 
-    /// The order that explains them.
+    /// Returns the order that explains the calls.
     pub fn places(&self) -> &[Place]
         ensures same { result.now ≡ self.now.places }
         ensures valid { AreValid self.now.conflicts self.now.records self.now.places }
     {
-        // A look at a field: what the type keeps is known from here on.
+        // The access to a field makes the type's invariant known from here on.
         let _ = &self.id;
         &self.places
     }
 
-    /// The document's id, its calls, and the order that explains them.
+    /// Returns the document's id, its calls, and the order that explains them.
     pub fn into_parts(self) -> (DocId, Vec<Rec>, Vec<Place>)
         ensures id { result.0 ≡ self.doc }
         ensures records { result.1.items ≡ self.records }
@@ -117,7 +117,7 @@ impl DocWitness {
         (self.id, self.records, self.places)
     }
 
-    /// How a conflict is read.
+    /// Returns how conflicts are read.
     pub fn conflicts(&self) -> Conflicts
         ensures { result ≡ self.now.conflicts }
     {

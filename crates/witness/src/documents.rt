@@ -14,14 +14,14 @@ use std::alloc::Global;
 use std::marker::Model;
 use version_pair::DocId;
 
-/// The most documents and places of a witness text.
+/// The greatest number of documents and places, together, of a witness text.
 pub const MOST_ITEMS: usize = 2_097_152;
 
 /// The documents of the lines so far, each with its places.
 #[derive(Debug, Drop)]
 pub struct Documents {
     documents: Vec<(DocId, Vec<Place>)>,
-    // How many documents and places there are.
+    // The number of documents and places.
     items: usize,
 }
 
@@ -39,7 +39,7 @@ impl Model for Documents {
 }
 
 impl Documents {
-    /// No document.
+    /// Returns a list of no documents.
     pub fn new(alloc: Global) -> Documents
         ensures { result ≡ [] }
     {
@@ -49,7 +49,7 @@ impl Documents {
         }
     }
 
-    /// Where its memory comes from.
+    /// Returns the allocator of its memory.
     pub fn allocator(&self) -> Global {
         *self.documents.allocator()
     }
@@ -61,7 +61,7 @@ impl Documents {
         !self.documents.is_empty()
     }
 
-    // Begins a document, where there is room.
+    // Begins a document, if there is room.
     fn begin(&mut self, id: DocId) -> Result<(), LineFault>
         ensures ok { OnOk result (takes self.old (WitnessLine.Document id) ≡ Ok self.new) }
         ensures err { IfErr result
@@ -81,7 +81,7 @@ impl Documents {
         }
     }
 
-    // Adds a place to the last document, where there is one, and room.
+    // Adds a place to the last document, if there is one, and room.
     fn add(&mut self, place: Place) -> Result<(), LineFault>
         ensures ok { OnOk result (takes self.old (WitnessLine.Place place) ≡ Ok self.new) }
         ensures err { IfErr result
@@ -147,7 +147,7 @@ impl Documents {
         }
     }
 
-    /// The documents as a list.
+    /// Returns the documents as a list.
     pub fn into_list(self) -> Vec<(DocId, Vec<Place>)>
         ensures { map doc_places result.items ≡ self }
     {

@@ -1,4 +1,5 @@
-//! Witnesses: the order that was found for the calls of one document, checked by itself, and the text of such orders.
+//! Witnesses: the order that was found for the calls of one document, checked by itself, and the text of such
+//! orders.
 //!
 //! ```text
 //! // A witness; or the first fault, and all that was handed in.

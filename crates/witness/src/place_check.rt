@@ -7,14 +7,14 @@ use doc_register::{Conflicts, DocState, Op, Reply, performed_reply, step};
 use history::Rec;
 use version_pair::Pair;
 
-/// The record that the place names.
+/// Returns the record that the place names.
 pub fn named_record(records: &[Rec], place: Place) -> Option<Rec>
     ensures { result ≡ slice_get records.now place.rec }
 {
     records.get(place.rec).copied()
 }
 
-/// Whether the place of such a call gives a pair just where it has to, or may.
+/// Returns whether the place of such a call gives a pair if it must, and gives none if it must not.
 pub fn gives_as_may(conflicts: Conflicts, heard: Option<(usize, Reply)>, pair: Option<Pair>) -> bool
     ensures { IsTrue result ↔ GivesAsMay conflicts heard pair }
 {
@@ -34,7 +34,7 @@ fn complete(state: DocState, op: &Op, pair: Pair) -> Option<DocState>
     step(state, op, &performed_reply(state, *op, pair), None)
 }
 
-/// The document after the call of a place; `None` where the call can't be answered so.
+/// Returns the document after the call of a place, or `None` if the call can't have its reply there.
 pub fn step_at(state: DocState, found: Rec, pair: Option<Pair>) -> Option<DocState>
     ensures some { IfSome result (StepsAt state found.op found.heard pair) }
     ensures none { IfNone result ((after : State)

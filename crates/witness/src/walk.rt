@@ -15,7 +15,7 @@ use history::Rec;
 pub struct Walk {
     /// Which records are named.
     pub marks: Vec<bool>,
-    /// The greatest place of a call among those of the records that are named, 0 where none is.
+    /// The greatest position of a call among those of the records that are named, 0 if no record is named.
     pub latest: usize,
     /// The document after the calls of the places.
     pub state: DocState,
@@ -28,7 +28,7 @@ fn is_unanswered_get(found: Rec) -> bool
     found.op == Op::Get && found.heard.is_none()
 }
 
-// Whether a reply was heard, and before the place.
+// Whether a reply was heard, and before the position.
 fn is_before(heard: Option<(usize, Reply)>, place: usize) -> bool
     ensures { IsTrue result ↔ IsHeardBefore heard place }
 {
@@ -38,7 +38,7 @@ fn is_before(heard: Option<(usize, Reply)>, place: usize) -> bool
     }
 }
 
-// Whether the record's reply was heard before its own call, or before the place.
+// Whether the record's reply was heard before its own call, or before the position.
 fn is_late(found: Rec, place: usize) -> bool
     ensures { IsTrue result
         ↔ (IsHeardBefore found.heard found.call_at ⊎ IsHeardBefore found.heard place) }
@@ -46,7 +46,7 @@ fn is_late(found: Rec, place: usize) -> bool
     is_before(found.heard, found.call_at) || is_before(found.heard, place)
 }
 
-// The fault of a place that gives a pair where it may not, or none where it has to.
+// The fault of a place that gives a pair although it may not, or gives none although it must.
 fn pair_fault(heard: Option<(usize, Reply)>, i: usize) -> Broken
     ensures { MatchOption heard (result ≡ PairMissing i) (λ _. result ≡ PairGiven i) }
 {
@@ -56,7 +56,8 @@ fn pair_fault(heard: Option<(usize, Reply)>, i: usize) -> Broken
     }
 }
 
-/// The record of the next place, and the document after its call; or the first fault, which is this place's.
+/// Returns the record of the next place, and the document after its call; or the first fault, which is that
+/// of this place.
 pub fn next_step(
     records: &[Rec],
     places: &[Place],
@@ -102,7 +103,7 @@ impl Walk {
         self.marks[rec]
     }
 
-    /// Walks on over one more place.
+    /// Continues the walk over one more place.
     pub fn advance(&mut self, place: Place, found: Rec, state: DocState)
         requires { place.rec < length self.old.marks.items }
         ensures marks { self.new.marks.items ≡ set self.old.marks.items place.rec true }

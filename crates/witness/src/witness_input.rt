@@ -11,15 +11,17 @@ use std::alloc::Global;
 use std::io::Read;
 use version_pair::DocId;
 
-/// The documents of the witness text that a reader has to its end, each with its places; or the first line that is refused,
-/// with its first cause, as `read_witness` tells them of the text.
+/// Reads the witness text of a reader to its end, and returns its documents, each with its places; or the
+/// first line that is refused, with its first cause, as `read_witness` reports them of the text.
 ///
-/// The reader is asked for 32,768 bytes at a time, and for none behind the line that is refused: nothing after that line is
-/// taken but what the last read brought. Of a line that is too long 65,537 bytes are taken, and of the 4,194,305th none.
+/// The reader is asked for 32,768 bytes at a time, and for none after the line that is refused: no bytes
+/// after that line are taken but those that the last read brought. Of a line that is too long 65,537 bytes
+/// are taken, and of the 4,194,305th line none.
 ///
-/// A line at most is held, and no more than 65,537 bytes of one. `Read` is told where the reader failed, an interruption too,
-/// `NoMemory` where a growth was refused: then the lines before the one at which it stopped are taken, and maybe a front of
-/// that one.
+/// At most one line is held, and no more than 65,537 bytes of one.
+///
+/// Errors: `Read` if the reader failed, an interruption included; `NoMemory` if memory was refused. In both
+/// cases the lines before the one at which it stopped are taken, and maybe a prefix of that one.
 pub fn read_witness_from<R: Read>(
     alloc: Global,
     input: &mut R,

@@ -10,7 +10,7 @@ use serde_json::Value;
 use std::alloc::Global;
 use version_pair::DocId;
 
-/// How many records a place can name: their numbers are below 2^32.
+/// The number of records that a place can name: record numbers are below 2^32.
 const RECORDS: u64 = 0x1_0000_0000;
 
 /// What a line of a witness text says.
@@ -22,7 +22,7 @@ pub enum WitnessLine {
     Place(Place),
 }
 
-// The record that a number names, else `Range`.
+// The record that a number names, or `Range`.
 fn record(number: Number) -> Result<usize, TextCause>
     ensures { result ≡ record_told number }
 {
@@ -34,8 +34,8 @@ fn record(number: Number) -> Result<usize, TextCause>
     }
 }
 
-// The place that a line gives. Faults in their order: `Shape` for any field, and where no document was begun; `Half`;
-// `Range`.
+// The place that a line gives. Faults in their order: `Shape` for any field, and if no document was begun;
+// `Half`; `Range`.
 fn place(
     rec: Field<'_>,
     seq: Field<'_>,
@@ -56,7 +56,7 @@ fn place(
     Ok(WitnessLine::Place(Place { rec, pair }))
 }
 
-// The document that a line begins, else `Id`.
+// The document that a line begins, or `Id`.
 fn document(alloc: Global, id: &str) -> Result<WitnessLine, LineFault>
     ensures { MatchResult result (λ line. document_told id.now ≡ Ok line)
         (λ fault. IfTold fault (λ cause. document_told id.now ≡ Err cause)) }
@@ -65,7 +65,8 @@ fn document(alloc: Global, id: &str) -> Result<WitnessLine, LineFault>
     Ok(WitnessLine::Document(id))
 }
 
-/// What a line says, after a document's line or before any. Faults in their order: `Shape`, `Id`, `Half`, `Range`.
+/// Returns what a line says, after a document's line or before any. Faults in their order: `Shape`, `Id`,
+/// `Half`, `Range`.
 pub fn line_says(alloc: Global, value: &Value, begun: bool) -> Result<WitnessLine, LineFault>
     ensures { MatchResult result (λ line. says begun (view value.now) ≡ Ok line)
         (λ fault. IfTold fault (λ cause. says begun (view value.now) ≡ Err cause)) }

@@ -12,10 +12,10 @@ use std::alloc::Global;
 use std::marker::Model;
 use version_pair::DocId;
 
-/// A witness text that is read line by line.
+/// A reader that takes a witness text line by line.
 ///
-/// Contracts see the documents so far, each with its places, and how many lines were taken. The law `laws::line_by_line` says
-/// of texts what `line` says of these.
+/// Contracts see the documents so far, each with its places, and the number of lines taken. The law
+/// `laws::line_by_line` states for texts what `line` states for these.
 #[derive(Debug, Drop)]
 pub struct WitnessReader {
     documents: Documents,
@@ -36,7 +36,7 @@ impl Model for WitnessReader {
 }
 
 impl WitnessReader {
-    /// The reader that has taken no line. It allocates nothing.
+    /// Returns a reader that has taken no line. It allocates nothing.
     pub fn new(alloc: Global) -> WitnessReader
         ensures { result ≡ so_far [] 0 }
     {
@@ -46,8 +46,9 @@ impl WitnessReader {
         }
     }
 
-    /// Takes the next line, without its line feed; or refuses it with its first cause, in the order that `read_witness` names.
-    /// `NoMemory` is told where a growth was refused. A line that is refused leaves the reader as it was.
+    /// Takes the next line, without its line feed; or refuses it with its first cause, in the order that
+    /// `read_witness` names. `NoMemory` if memory was refused. A line that is refused leaves the reader as it
+    /// was.
     pub fn line(&mut self, line: &[u8]) -> Result<(), ReadFault>
         requires { HasNoLineFeed line.now }
         ensures ok { OnOk result (next_line takes_value self.old line.now ≡ Ok self.new) }
@@ -67,7 +68,7 @@ impl WitnessReader {
         }
     }
 
-    /// The documents of the lines that were taken, each with its places. It allocates nothing.
+    /// Returns the documents of the lines that were taken, each with its places. It allocates nothing.
     pub fn finish(self) -> Vec<(DocId, Vec<Place>)>
         ensures { map doc_places result.items ≡ self.state }
     {
@@ -90,12 +91,15 @@ impl LineReader for WitnessReader {
     }
 }
 
-/// The documents of a witness text, each with its places; or the first line that is refused, with its first cause.
+/// Returns the documents of a witness text, each with its places; or the first line that is refused, with its
+/// first cause.
 ///
-/// A line `{"doc":"d"}` begins a document; then each line `{"rec":0}` is a place of it, or, with a pair,
-/// `{"rec":1,"seq":2,"term":3}`. Causes are told in this order: `Lines` and `Long`; a blank line is then passed over;
-/// `Json`; `Shape`, also for a place before any document; `Id`; `Half`, for one of `seq` and `term`; `Range`; `Full`,
-/// past 2,097,152 documents and places. `NoMemory` is told where a growth was refused.
+/// A line `{"doc":"d"}` begins a document. Each line `{"rec":0}` after it is a place of the document, or,
+/// with a pair, `{"rec":1,"seq":2,"term":3}`.
+///
+/// Causes are reported in this order: `Lines` and `Long`, after which a blank line is passed over; `Json`;
+/// `Shape`, also for a place before any document; `Id`; `Half`, if only one of `seq` and `term` is given;
+/// `Range`; `Full`, after 2,097,152 documents and places. `NoMemory` if memory was refused.
 pub fn read_witness(alloc: Global, text: &[u8]) -> Result<Vec<(DocId, Vec<Place>)>, ReadFault>
     ensures ok { IfOk result
         (λ documents. witness_text text.now ≡ Ok (map doc_places documents.items)) }

@@ -92,11 +92,12 @@ fn write_one(alloc: Global, witness: &DocWitness, text: &mut Vec<u8>) -> Result<
     Ok(())
 }
 
-/// The text of the witnesses: for each a line of its document, as `{"doc":"d"}`, and then a line for each of its places,
-/// as `{"rec":0}`, or, where the place gives a pair, `{"rec":1,"seq":2,"term":3}`.
+/// Returns the text of the witnesses. For each it has a line of its document, as `{"doc":"d"}`, followed by a
+/// line for each of its places, as `{"rec":0}`, or, if the place gives a pair, as
+/// `{"rec":1,"seq":2,"term":3}`.
 ///
-/// What is written is read back, where there are at most 2,097,152 documents and places, and record numbers are below
-/// 2^32.
+/// The text is read back as the same witnesses if there are at most 2,097,152 documents and places, and
+/// record numbers are below 2^32.
 pub fn write_witness(alloc: Global, witnesses: &[DocWitness]) -> Result<Vec<u8>, NoMemory>
     ensures text { IfOk result
         (λ bytes. bytes.items ≡ written (said_by (map witness_places witnesses.now))) }

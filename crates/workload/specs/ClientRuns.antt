@@ -19,24 +19,24 @@ use Rattle.workload.specs.declared.turn.Turn.{Turn}
 
 -- ---- what a client knows, and what it asks for
 
--- what a client knows: for each document by its number the pair last told of it, if there is one
+-- what a client knows: for each document, by its number, the pair last reported of it, if there is one
 abbrev pub Known : Type 0
 Known = ℕ → Option Pair
 
 abbrev pub nothing_known : Known
 nothing_known doc = None
 
--- what is known after a reply about the document: of that document what the reply tells
+-- what is known after a reply about the document: of that document what the reply reports
 abbrev pub after_reply : Known → ℕ → Answer → Known
 after_reply known doc r = λ other. if other == doc then pair_of_reply r else known other
 
--- what is known after the ending of a call of the document; a lost call leaves it
+-- what is known after the ending of a call of the document; a lost call leaves it as it was
 abbrev pub after_ending : Known → ℕ → Event → Known
 after_ending known doc (Call h n d op) = known
 after_ending known doc (Reply n r) = after_reply known doc r
 after_ending known doc (Lost n) = known
 
--- the pair that a list of pairs has of a document; none past its end
+-- the pair that a list of pairs has of a document; none after its end
 abbrev pub pair_in : List (Option Pair) → Known
 pair_in pairs doc = unwrap_or (slice_get pairs doc) None
 
@@ -49,7 +49,8 @@ ending_of n (Some r) = Reply n r
 abbrev pub doc_name : ℕ → List ℕ
 doc_name doc = codes "d" ++ decimal doc
 
--- What is asked for at a turn, where this pair is known of its document, if one is; k is the number that a write writes.
+-- The operation of a turn, if this pair, or none, is known of its document; k is the number that a write
+-- writes.
 abbrev pub op_of : Kind → Option Pair → ℕ → Op
 op_of kind.Get seen k = Get
 op_of kind.Put seen k = Index k None
@@ -61,8 +62,8 @@ op_of kind.DeleteIfSeen (Some p) k = Delete (Some p)
 
 -- ---- the run of one client
 
--- Of a target: for which document and operation it issued a ticket, and what it gave when a ticket was polled. Of a client: how
--- often it polls a call at most.
+-- Of a target: for which document and operation it issued a ticket, and what it gave when a ticket was
+-- polled. Of a client: the greatest number of polls of a call.
 module _ (issued : Ticket → List ℕ → Op → Type 0) (gave : Ticket → Progress → Type 0) (polls : ℕ) where
   -- the reply is one that the target gave to a ticket that it issued for that document and operation
   pub record IsAnswered (d : List ℕ) (op : Op) (r : Answer) : Type 0 where
@@ -70,8 +71,8 @@ module _ (issued : Ticket → List ℕ → Op → Type 0) (gave : Ticket → Pro
     pub was_issued : issued ticket d op
     pub was_given : gave ticket (Done r)
 
-  -- to a ticket that it issued for that document and operation the target gave that it waits, or that its outcome is unknown;
-  -- where calls aren't polled at all, it gave nothing
+  -- for a ticket that it issued for that document and operation the target gave that it waits, or that its
+  -- outcome is unknown; if calls aren't polled at all, nothing is required of what it gave
   pub record IsUnanswered (d : List ℕ) (op : Op) : Type 0 where
     pub ticket : Ticket
     pub was_issued : issued ticket d op
@@ -83,14 +84,14 @@ module _ (issued : Ticket → List ℕ → Op → Type 0) (gave : Ticket → Pro
   Ends n d op (Reply m r) = (m ≡ n) × IsAnswered d op r
   Ends n d op (Lost m) = (m ≡ n) × IsUnanswered d op
 
-  -- What is recorded of one turn: a call, which is numbered by its own number, of what is asked for at that turn, and its
-  -- ending.
+  -- What is recorded of one turn: a call, whose number is that of its own event, of the operation of that
+  -- turn, and its ending.
   pub record IsTurn (known : Known) (k : ℕ) (turn : Turn) (call ending : ℕ × Event) : Type 0 where
     pub called : call.1 ≡ Call 0 call.0 (doc_name turn.doc) (op_of turn.kind (known turn.doc) k)
     pub ended : Ends call.0 (doc_name turn.doc) (op_of turn.kind (known turn.doc) k) ending.1
 
-  -- What is recorded of turns, one after the other, by a client that knows this before them; the write of the first of them
-  -- writes the number k, each later one a number more.
+  -- What is recorded of turns, one after the other, by a client that knows this before them. The write of the
+  -- first turn writes the number k, each later one a number that is greater by one.
   unfoldable pub IsRunFrom : Known → ℕ → List Turn → List (ℕ × Event) → Type 0
   IsRunFrom known k [] [] = Unit {0}
   IsRunFrom known k [] (entry ∷ entries) = ⊥
@@ -99,15 +100,16 @@ module _ (issued : Ticket → List ℕ → Op → Type 0) (gave : Ticket → Pro
   IsRunFrom known k (turn ∷ turns) (call ∷ ending ∷ entries) =
       IsTurn known k turn call ending × IsRunFrom (after_ending known turn.doc ending.1) (suc k) turns entries
 
-  -- The run of the client of that number: it takes its turns, knowing nothing before them, and its events come one after the
-  -- other. Numbers that are written count all turns of the plan, those of earlier clients first, from 1.
+  -- The run of the client of that number: it takes its turns, knowing nothing before them, and the numbers of
+  -- its events rise. The numbers that are written count all turns of the plan, those of earlier clients
+  -- first, from 1.
   pub record IsClientRun (clients : List (List Turn)) (client : ℕ) (entries : List (ℕ × Event)) : Type 0 where
     pub turns : List Turn
     pub turns_are : slice_get clients client ≡ Some turns
     pub run : IsRunFrom nothing_known (1 + turn_count (take client clients)) turns entries
     pub rising : IsRising entries
 
-  -- Each pen's list is longer by the run of the client of its number; where it rose, it rises still.
+  -- Each pen's list is longer by the run of the client of its number; if it was rising, it still is.
   pub record AreLongerByRuns (clients : List (List Turn)) (old new : List PenState) : Type 0 where
     pub count : length new ≡ length old
     pub each : (client : ℕ) (before after : PenState) → slice_get old client ≡ Some before → slice_get new client ≡ Some after
@@ -119,7 +121,8 @@ module _ (issued : Ticket → List ℕ → Op → Type 0) (gave : Ticket → Pro
     pub count : length lists ≡ length clients
     pub each : (client : ℕ) (list : List (ℕ × Event)) → slice_get lists client ≡ Some list → IsClientRun clients client list
 
-  -- The events are the recording of pens, one for each client of the plan, and the list of each pen is the run of its client.
+  -- The events are the recording of pens, one for each client of the plan, and the list of each pen is the
+  -- run of its client.
   pub record AreOfClients (clients : List (List Turn)) (events : List Event) : Type 0 where
     pub lists : List (List (ℕ × Event))
     pub runs : AreClientRuns clients lists

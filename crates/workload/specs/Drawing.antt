@@ -9,7 +9,7 @@ use Rattle.workload.specs.declared.turn.Kind.{Kind}
 use Rattle.workload.specs.declared.turn.Kind.TheVariants.{Get, Put, PutIfSeen, Delete, DeleteIfSeen}
 use Rattle.workload.specs.declared.turn.Turn.{Turn}
 
--- the first reason to draw no plan with so many clients, calls of each and documents
+-- the first reason to draw no plan with that many clients, calls of each and documents
 abbrev pub draw_refusal : ℕ → ℕ → ℕ → Option PlanFault
 draw_refusal clients calls docs =
     if clients == 0 || calls == 0 || docs == 0 then Some Zero
@@ -21,7 +21,8 @@ kind_numbered n =
     if nat_lt n 3 then Get
     else (if nat_lt n 5 then PutIfSeen else (if n == 5 then Put else (if n == 6 then DeleteIfSeen else Delete)))
 
--- One turn takes two words: the first, modulo the number of documents, is the document, the second, modulo 8, is the kind.
+-- One turn takes two words: the first, modulo the number of documents, is the document, the second, modulo 8,
+-- is the kind.
 unfoldable pub turn_drawn : ℕ → Lcg → Turn
 turn_drawn docs g = record { doc = (pcg32 g).0 % docs; kind = kind_numbered ((pcg32 (pcg32 g).1).0 % 8) }
 
@@ -29,7 +30,7 @@ turn_drawn docs g = record { doc = (pcg32 g).0 % docs; kind = kind_numbered ((pc
 unfoldable pub after_turn : Lcg → Lcg
 after_turn g = (pcg32 (pcg32 g).1).1
 
--- so many turns of a client, and the generator after them
+-- that many turns of a client, and the generator after them
 unfoldable pub turns_drawn : ℕ → ℕ → Lcg → List Turn
 turns_drawn docs zero g = []
 turns_drawn docs (suc n) g = turn_drawn docs g ∷ turns_drawn docs n (after_turn g)
@@ -38,7 +39,7 @@ unfoldable pub after_turns : ℕ → Lcg → Lcg
 after_turns zero g = g
 after_turns (suc n) g = after_turns n (after_turn g)
 
--- the turns of so many clients, of so many calls each, client by client
+-- the turns of that many clients, with that many calls each, client by client
 unfoldable pub clients_drawn : ℕ → ℕ → ℕ → Lcg → List (List Turn)
 clients_drawn docs calls zero g = []
 clients_drawn docs calls (suc n) g = turns_drawn docs calls g ∷ clients_drawn docs calls n (after_turns calls g)

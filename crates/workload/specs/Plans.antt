@@ -1,11 +1,11 @@
--- Plans: the turns of each client, and which lists of turns are no plan.
+-- Plans: the turns of each client, and which lists of turns are not a plan.
 use Rattle.std.specs.Prelude.{ℕ, ◌==◌, ◌||◌, Bool, List, Option, Some, None, Result, Ok, Err, if◌then◌else◌, length, nat_le, nat_lt, option_and_then, slice_get, sum_by}
 use Rattle.std.specs.List.{list_any}
 use Rattle.workload.specs.declared.plan_fault.PlanFault.{PlanFault}
 use Rattle.workload.specs.declared.plan_fault.PlanFault.TheVariants.{Zero, TooMany, NoMemory}
 use Rattle.workload.specs.declared.turn.Turn.{Turn}
 
--- the most clients, turns of all clients together, and documents of a plan
+-- the greatest numbers of clients, of turns of all clients together, and of documents of a plan
 abbrev pub most_clients : ℕ
 most_clients = 8
 
@@ -19,11 +19,11 @@ most_docs = 1024
 abbrev pub is_idle : List Turn → Bool
 is_idle turns = length turns == 0
 
--- a turn of a document past the most that there may be
+-- a turn with a document number above those that there may be
 abbrev pub is_far : Turn → Bool
 is_far turn = nat_le most_docs turn.doc
 
--- how many turns all clients have together
+-- the number of turns that all clients have together
 abbrev pub turn_count : List (List Turn) → ℕ
 turn_count clients = sum_by length clients
 
@@ -40,13 +40,13 @@ is_too_large clients =
 abbrev pub refusal_of : List (List Turn) → Option PlanFault
 refusal_of clients = if lacks_turns clients then Some Zero else (if is_too_large clients then Some TooMany else None)
 
--- the reason that an answer tells; want of memory is none
+-- the reason that an answer reports; being out of memory is none
 abbrev pub refusal_told : {X : Type 0} → Result X PlanFault → Option PlanFault
 refusal_told (Ok x) = None
 refusal_told (Err Zero) = Some Zero
 refusal_told (Err TooMany) = Some TooMany
 refusal_told (Err NoMemory) = None
 
--- the turn of a client at a place; none past the last
+-- the turn of a client at an index; none after the last
 abbrev pub turn_at : List (List Turn) → ℕ → ℕ → Option Turn
 turn_at clients client i = option_and_then (λ turns. slice_get turns i) (slice_get clients client)

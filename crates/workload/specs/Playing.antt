@@ -1,4 +1,5 @@
--- Clients that are played in turns against a target that nobody else asks: what their visits record, one after the other.
+-- Clients that are played in turns against a target that nobody else asks: what their visits record, one
+-- after the other.
 use Rattle.std.specs.Prelude.{◌≡◌, ℕ, zero, suc, ◌+◌, ◌-◌, All, List, [], ◌∷◌, ◌++◌, MatchBool, Option, Some, None, if◌then◌else◌, length, nat_lt, slice_get, slice_set, take}
 use Rattle.doc_register.specs.declared.op.Op.{Op}
 use Rattle.doc_register.specs.declared.reply.Reply.{Reply as Answer}
@@ -25,7 +26,7 @@ pub record IsNewPlayer (client : ℕ) (player : Player) : Type 0 where
   pub begun_is : player.begun ≡ 0
   pub is_idle : player.open_call ≡ None
 
--- so many clients in their order, before their first turns
+-- that many clients in their order, before their first turns
 pub record AreNewPlayers (count : ℕ) (players : List Player) : Type 0 where
   pub count_is : length players ≡ count
   pub each : (i : ℕ) (player : Player) → slice_get players i ≡ Some player → IsNewPlayer i player
@@ -35,19 +36,21 @@ pub record IsPlayedOut (clients : List (List Turn)) (player : Player) : Type 0 w
   pub is_idle : player.open_call ≡ None
   pub is_at_end : turn_at clients player.client player.begun ≡ None
 
--- What is asked for at this turn, the client's next: its write writes a number that counts all turns of the plan, those of
--- earlier clients first, from 1.
+-- The operation of this turn, the client's next one. The numbers that writes write count all turns of the
+-- plan, those of earlier clients first, from 1.
 abbrev pub asked_at : List (List Turn) → Player → Turn → Op
 asked_at clients player turn =
     op_of turn.kind (pair_in player.known turn.doc) (1 + turn_count (take player.client clients) + player.begun)
 
--- What a poll comes to of a call that may be polled so often yet: it waits on, or it ends, with the reply that was told, or lost.
+-- The result of a poll of a call that may be polled this many more times: it waits on, or it ends, with the
+-- reply that was reported, or lost.
 abbrev pub polled_to : ℕ → Progress → Polled
 polled_to left Waiting = if nat_lt 1 left then Waits else Ends None
 polled_to left (Done r) = Ends (Some r)
 polled_to left Unknown = Ends None
 
--- The open call ends: its ending is recorded, a reply or that it is lost, and the client knows what the reply tells.
+-- The open call ends: its ending is recorded, a reply or that it is lost, and the client knows what the reply
+-- reports.
 pub record EndsCall (call : OpenCall) (heard : Option Answer) (old : Player) (before : List Event) (new : Player) (after : List Event) : Type 0 where
   pub recorded : after ≡ before ++ ending_of call.no heard ∷ []
   pub knows : pair_in new.known ≡ after_ending (pair_in old.known) call.doc (ending_of call.no heard)
@@ -59,7 +62,7 @@ GoesOn polled Waits old before new after =
     (new ≡ record old { open_call = Some (record polled { polls_left = polled.polls_left - 1 }) }) × (after ≡ before)
 GoesOn polled (Ends heard) old before new after = EndsCall polled.call heard old before new after
 
--- The open call is polled once, and what the target tells decides how it goes on.
+-- The open call is polled once, and what the target reports decides how it goes on.
 pub record PollsCall {S : Type 0} (tells : S → Ticket → Progress → S → Type 0) (polled : PolledCall) (w : S) (old : Player) (before : List Event) (w' : S) (new : Player) (after : List Event) : Type 0 where
   pub progress : Progress
   pub told : tells w polled.call.ticket progress w'
@@ -71,16 +74,18 @@ LosesCall polled w old before w' new after = (w' ≡ w) × EndsCall polled.call 
 
 -- ---- all clients, and the target
 
--- What there is between two visits: the target, the clients in their order, and the events that were recorded, in theirs.
+-- The state between two visits: the target, the clients in their order, and the events that were recorded, in
+-- their order.
 pub record PlayState (S : Type 0) : Type 0 where
   pub target : S
   pub players : List Player
   pub events : List Event
 
--- Of a target: to which state it goes from which where it answers a ticket to an operation on a document, and where it tells
--- of a ticket. Of the clients: how often each polls a call at most, and their turns.
+-- Of a target: its state before and after it returns a ticket for an operation on a document, and before and
+-- after it reports on a ticket. Of the clients: the greatest number of polls of a call, and their turns.
 module _ {S : Type 0} (takes : S → List ℕ → Op → Ticket → S → Type 0) (tells : S → Ticket → Progress → S → Type 0) (polls : ℕ) (clients : List (List Turn)) where
-  -- The client begins this turn: its call is recorded, numbered by how many events there are, then it is submitted.
+  -- The client begins this turn: its call is recorded, numbered by how many events there are, and then
+  -- submitted.
   pub record BeginsCall (turn : Turn) (w : S) (old : Player) (before : List Event) (w' : S) (new : Player) (after : List Event) : Type 0 where
     pub call : OpenCall
     pub numbered : call.no ≡ length before
@@ -89,8 +94,8 @@ module _ {S : Type 0} (takes : S → List ℕ → Op → Ticket → S → Type 0
     pub submitted : takes w (doc_name turn.doc) (asked_at clients old turn) call.ticket w'
     pub opened : new ≡ record old { begun = old.begun + 1; open_call = Some (record { call = call; polls_left = polls }) }
 
-  -- A visit to a client with this open call and this next turn, if it has them: the open call is polled, or lost where it may
-  -- not be polled; else the next turn is begun; else nothing happens.
+  -- A visit to a client with this open call and this next turn, if it has them: the open call is polled, or
+  -- lost if it may not be polled; otherwise the next turn is begun; otherwise nothing happens.
   abbrev pub VisitsWith : Option PolledCall → Option Turn → S → Player → List Event → S → Player → List Event → Type 0
   VisitsWith (Some polled) turn w old before w' new after =
       MatchBool (nat_lt 0 polled.polls_left) (PollsCall tells polled w old before w' new after) (LosesCall polled w old before w' new after)
@@ -101,7 +106,7 @@ module _ {S : Type 0} (takes : S → List ℕ → Op → Ticket → S → Type 0
   abbrev pub VisitsPlayer : S → Player → List Event → S → Player → List Event → Type 0
   VisitsPlayer w old before w' new after = VisitsWith old.open_call (turn_at clients old.client old.begun) w old before w' new after
 
-  -- the client at this place is visited, and the others stay
+  -- the client at this index is visited, and the others stay as they were
   pub record VisitsAt (i : ℕ) (old new : PlayState S) : Type 0 where
     pub before : Player
     pub after : Player
@@ -109,18 +114,18 @@ module _ {S : Type 0} (takes : S → List ℕ → Op → Ticket → S → Type 0
     pub visited : VisitsPlayer old.target before old.events new.target after new.events
     pub others_stay : new.players ≡ slice_set old.players i after
 
-  -- the first clients, so many, are visited in their order
+  -- the first clients, this many, are visited in their order
   unfoldable pub AreVisited : ℕ → PlayState S → PlayState S → Type 0
   AreVisited zero old new = new ≡ old
   AreVisited (suc i) old new = (between : PlayState S) × AreVisited i old between × VisitsAt i between new
 
-  -- So many rounds: each visits each client once, in their order.
+  -- This many rounds: each visits each client once, in their order.
   unfoldable pub AreRounds : ℕ → PlayState S → PlayState S → Type 0
   AreRounds zero old new = new ≡ old
   AreRounds (suc n) old new = (between : PlayState S) × AreRounds n old between × AreVisited (length clients) between new
 
-  -- The clients are played: they are new, nothing is recorded, and the target is the first; rounds follow until all are done.
-  -- Then the target is the last, and these events are recorded.
+  -- The clients are played. At first they are new, nothing is recorded, and the target is the first one;
+  -- rounds follow until all are done. Then the target is the last one, and these events are recorded.
   pub record ArePlayed (first last : S) (events : List Event) : Type 0 where
     pub new : List Player
     pub are_new : AreNewPlayers (length clients) new

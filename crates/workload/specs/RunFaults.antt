@@ -1,4 +1,4 @@
--- Run faults: what the faults of a run of clients come of.
+-- Run faults: the causes of the faults of a run of clients.
 use Rattle.std.specs.Prelude.{◌≡◌, ℕ, ◌≤◌, Any, List, false, true}
 use Rattle.doc_register.specs.declared.op.Op.{Op}
 use Rattle.doc_register.specs.declared.reply.Reply.{Reply as Answer}
@@ -13,7 +13,7 @@ use Rattle.workload.specs.declared.target.Progress.TheVariants.{Done}
 use Rattle.workload.specs.declared.target.TargetFault.TheVariants as target
 use Rattle.workload.specs.declared.target.Ticket.{Ticket}
 
--- To a ticket that it issued for an operation the target gave a reply that such an operation doesn't have.
+-- For a ticket that it issued for an operation the target gave a reply that such an operation doesn't have.
 pub record IsMisfit (issued : Ticket → List ℕ → Op → Type 0) (gave : Ticket → Progress → Type 0) : Type 0 where
   pub ticket : Ticket
   pub document : List ℕ
@@ -23,11 +23,12 @@ pub record IsMisfit (issued : Ticket → List ℕ → Op → Type 0) (gave : Tic
   pub was_given : gave ticket (Done reply)
   pub misfits : fits op reply ≡ false
 
--- Of a target: whether it gave a reply that misfits, and what is so where it has given all its tickets. Of a recorder: whether it
--- may tell that the recording was rewound, what is known of its pens, and which pens are its own.
+-- Of a target: whether it gave a reply that misfits, and what holds if it has given all its tickets. Of a
+-- recorder: whether it may report that the recording was rewound, what is known of its pens, and which pens
+-- are its own.
 module _ (misfit all_given may_rewind : Type 0) {P : Type 0} (state : P → PenState) (is_ours : P → Type 0) where
-  -- What it comes of that the recorder refuses an event of a client. Each ending is of the client's own open call, so this is
-  -- neither a stranger nor ended. Want of memory may come at any time.
+  -- The cause if the recorder refuses an event of a client. Each ending is of the client's own open call, so
+  -- this is neither a stranger nor ended. Memory may be refused at any time.
   abbrev pub HasRecordingCause : RecFault → Type 0
   HasRecordingCause recording.NotMine = ⊥
   HasRecordingCause recording.Ended = ⊥
@@ -36,7 +37,7 @@ module _ (misfit all_given may_rewind : Type 0) {P : Type 0} (state : P → PenS
   HasRecordingCause recording.NoMemory = Unit {0}
   HasRecordingCause (recording.Rewound n) = may_rewind × ((pen : P) × is_ours pen × Any (λ entry. n ≤ entry.0) (state pen).list)
 
-  -- What a fault of a run comes of.
+  -- The cause of a fault of a run.
   abbrev pub HasCause : RunFault → Type 0
   HasCause (run.Record fault) = HasRecordingCause fault
   HasCause (run.Target target.Full) = all_given

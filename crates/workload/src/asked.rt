@@ -7,7 +7,8 @@ use std::alloc::{AllocError, Global};
 use version_pair::{DocId, IdFault, Pair};
 
 impl Turn {
-    /// What is asked for at this turn, where this pair is known of its document, if one is. A write writes the number `k`.
+    /// Returns the operation of this turn, if this pair, or none, is known of its document. A write writes
+    /// the number `k`.
     pub(crate) fn operation(self, seen: Option<Pair>, k: u64) -> Op
         ensures { result ≡ op_of self.kind seen k }
     {
@@ -24,7 +25,7 @@ impl Turn {
     }
 }
 
-/// The id of the document of this number: a `d`, and the number in decimal.
+/// Returns the id of the document of this number: a `d`, and the number in decimal.
 pub fn doc_name(alloc: Global, doc: u32) -> Result<DocId, AllocError>
     ensures { IfOk result (λ id. id ≡ name_of doc) }
 {

@@ -19,7 +19,7 @@ use recorder::{RecFault, Recording};
 use std::alloc::Global;
 use std::sync::Wait;
 
-// What is heard of a ticket that is polled so often at most: its reply, or nothing.
+// What is heard of a ticket that is polled at most this often: its reply, or nothing.
 fn hear<R: Wait, T: Target>(
     rt: &R,
     target: &T,
@@ -90,8 +90,8 @@ pub fn begin_turn<R: Wait, T: Target, X: Recording>(
     })
 }
 
-/// Ends a turn: records what was heard of its call, and knows from then on what the reply tells. Where nothing was heard,
-/// the call is lost.
+/// Ends a turn: records what was heard of its call, and from then on knows what the reply says. If nothing
+/// was heard, the call is lost.
 pub fn end_turn<R: Wait, X: Recording>(
     rt: &R,
     recorder: &X,
@@ -116,7 +116,8 @@ pub fn end_turn<R: Wait, X: Recording>(
     Ok(())
 }
 
-/// Takes one turn: records the call before it is submitted, and its reply, or that it is lost, after it was polled.
+/// Takes one turn: records the call before it is submitted, and after it was polled its reply, or that it is
+/// lost.
 pub fn take_turn<R: Wait, T: Target, X: Recording>(
     rt: &R,
     alloc: Global,
@@ -141,8 +142,8 @@ pub fn take_turn<R: Wait, T: Target, X: Recording>(
     end_turn(rt, recorder, pen, known, call, heard)
 }
 
-/// Takes the turns, one after the other; the first writes the number `first`, each later one a number more. Answers the
-/// pen, through which each call and its ending were recorded.
+/// Takes the turns, one after the other. The first writes the number `first`, each later one a number that is
+/// greater by one. Returns the pen, through which each call and its ending were recorded.
 pub fn run_client<R: Wait, T: Target, X: Recording>(
     rt: &R,
     alloc: Global,

@@ -6,10 +6,10 @@ use rand_core::utils::NextWord;
 use rand_pcg::Lcg64Xsh32;
 use std::alloc::{AllocError, Global};
 
-// The stream of words from which a plan is drawn.
+// The stream of generator words from which a plan is drawn.
 const STREAM: u64 = 54;
 
-/// The generator of the seed from which a plan is drawn.
+/// Returns the generator of the seed from which a plan is drawn.
 pub fn generator(seed: u64) -> Lcg64Xsh32
     ensures { result ≡ generator_of seed }
 {
@@ -29,7 +29,7 @@ fn kind_numbered(number: u32) -> Kind
     }
 }
 
-// A turn of one of so many documents.
+// A turn, with that many documents to choose from.
 #[tactic(auto, unfolding(crate::specs::Drawing::turn_drawn, crate::specs::Drawing::after_turn))]
 fn draw_turn(random: &mut Lcg64Xsh32, docs: u32) -> Turn
     requires { 0 < docs }
@@ -41,7 +41,7 @@ fn draw_turn(random: &mut Lcg64Xsh32, docs: u32) -> Turn
     Turn { doc, kind }
 }
 
-// The turns of a client of so many calls.
+// The turns of a client with that many calls.
 #[tactic(auto, using(crate::proofs::DrawingLemmas::more_turns), unfolding(crate::specs::Drawing::turns_drawn, crate::specs::Drawing::after_turns))]
 fn draw_turns(
     alloc: Global,
@@ -60,7 +60,7 @@ fn draw_turns(
     Ok(turns)
 }
 
-/// The turns of so many clients of so many calls each, drawn client by client.
+/// Returns the turns of that many clients with that many calls each, drawn client by client.
 #[tactic(auto, using(crate::proofs::DrawingLemmas::more_clients), unfolding(crate::specs::Drawing::clients_drawn, crate::proofs::DrawingLemmas::after_clients))]
 pub fn draw_clients(
     alloc: Global,

@@ -8,7 +8,7 @@ use std::alloc::{AllocError, Global};
 use std::marker::Model;
 use version_pair::Pair;
 
-/// What a client knows: for each document that there may be the pair last told of it, if there is one.
+/// What a client knows: for each document that there may be, the pair last reported of it, if there is one.
 ///
 /// Contracts see the list of these pairs, which `pair_in` reads by the number of a document.
 #[derive(Drop)]
@@ -29,7 +29,7 @@ impl Model for Known {
 }
 
 impl Known {
-    /// Nothing is known.
+    /// Returns the value in which nothing is known.
     pub fn nothing(alloc: Global) -> Result<Known, AllocError>
         ensures { IfOk result (λ known. pair_in known ≡ nothing_known) }
     {
@@ -40,14 +40,14 @@ impl Known {
         Ok(Known { pairs })
     }
 
-    /// The pair last told of a document, if there is one.
+    /// Returns the pair last reported of a document, if there is one.
     pub fn pair(&self, doc: u32) -> Option<Pair>
         ensures { result ≡ pair_in self.now doc }
     {
         self.pairs.get(doc as usize).copied().unwrap_or(None)
     }
 
-    /// From now on the document has the pair that the reply tells, or none.
+    /// Takes in a reply: from now on the document has the pair that the reply reports, or none.
     pub fn hear(&mut self, doc: u32, reply: &Reply)
         requires { doc < most_docs }
         ensures { pair_in self.new ≡ after_reply (pair_in self.old) doc reply.now }

@@ -1,9 +1,9 @@
-//! The workload: what a target of recorded calls is, plans of what clients ask of it, and clients that run on threads or in
-//! turns.
+//! The workload: what a target of recorded calls is, plans of what clients ask of it, and clients that run on
+//! threads or in turns.
 //!
 //! ```text
 //! let plan = Plan::draw(alloc, 1, 4, 200, 3)?; // the seed, clients, calls of each, documents
-//! let pens = run_clients(rt, alloc, &plan, &target, &recorder, pens, 1_000)?; // polls a call 1,000 times at most
+//! let pens = run_clients(rt, alloc, &plan, &target, &recorder, pens, 1_000)?; // at most 1,000 polls a call
 //! ```
 #![tactic(auto)]
 

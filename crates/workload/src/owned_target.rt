@@ -2,26 +2,27 @@ use crate::target::{Progress, TargetFault, Ticket};
 use doc_register::Op;
 use version_pair::DocId;
 
-/// A target that one caller owns: nobody else asks it, so contracts see what each submission and each poll makes of it.
+/// A target that one caller owns. Nobody else asks it, so contracts see how each submission and each poll
+/// changes it.
 pub trait OwnedTarget {
     ghost use Rattle.std.specs.Prelude.{List, ℕ};
     ghost use Rattle.doc_register.specs.declared.op.Op.{Op};
     ghost use Rattle.workload.specs.declared.target.Progress.{Progress};
     ghost use Rattle.workload.specs.declared.target.Ticket.{Ticket};
 
-    /// What this target goes to where it answers a ticket to an operation on a document.
+    /// The state of this target after it returned a ticket for an operation on a document.
     ghost takes: { Self → List ℕ → Op → Ticket → Self → Type 0 };
 
-    /// What this target goes to where it tells so much of a ticket.
+    /// The state of this target after it reported this progress of a ticket.
     ghost tells: { Self → Ticket → Progress → Self → Type 0 };
 
     ghost use Rattle.std.specs.Prelude.{◌≡◌, IfErr, IfOk};
 
-    /// Submits an operation on a document, and answers its ticket; or refuses it: `Full`, `NoMemory`.
+    /// Submits an operation on a document, and returns its ticket. Errors: `Full`, `NoMemory`.
     fn submit(&mut self, id: &DocId, op: &Op) -> Result<Ticket, TargetFault>
         ensures takes { IfOk result (λ ticket. takes self.old id.now op.now ticket self.new) };
 
-    /// Tells what has become of a submitted operation, or that memory was refused.
+    /// Returns what has become of a submitted operation, or that memory was refused.
     fn poll(&mut self, ticket: Ticket) -> Result<Progress, TargetFault>
         ensures tells { IfOk result (λ progress. tells self.old ticket progress self.new) }
         ensures refused { IfErr result (λ fault. fault ≡ TargetFault.NoMemory) };

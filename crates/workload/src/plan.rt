@@ -10,19 +10,19 @@ use crate::turn::Turn;
 use std::alloc::Global;
 use std::marker::Model;
 
-/// The most clients of a plan.
+/// The greatest number of clients of a plan.
 pub const MOST_CLIENTS: usize = 8;
 
-/// The most turns that all clients of a plan have together.
+/// The greatest number of turns that all clients of a plan have together.
 pub const MOST_TURNS: usize = 524_288;
 
-/// The most documents of a plan: their numbers are below this one.
+/// The greatest number of documents of a plan: document numbers are below it.
 pub const MOST_DOCS: u32 = 1_024;
 
 /// What each of some clients does: its turns, one after the other.
 ///
-/// There are 1 to 8 clients, each with some turn, 524,288 turns at most in all, of at most 1,024 documents. Contracts see a
-/// plan as the list of its clients' lists of turns.
+/// There are 1 to 8 clients, each with at least one turn, at most 524,288 turns in all, on at most 1,024
+/// documents. Contracts see a plan as the list of its clients' lists of turns.
 #[derive(Debug, Drop)]
 pub struct Plan {
     clients: Vec<Vec<Turn>>,
@@ -51,7 +51,7 @@ fn has_idle(clients: &[Vec<Turn>]) -> bool
     )
 }
 
-// Whether a turn is of a document past the most that there may be.
+// Whether a turn has a document number above those that there may be.
 fn has_far(clients: &[Vec<Turn>]) -> bool
     ensures { result ≡ list_any (λ turns. list_any is_far turns.items) clients.now }
 {
@@ -62,7 +62,7 @@ fn has_far(clients: &[Vec<Turn>]) -> bool
     )
 }
 
-// Whether the clients have more turns together than there may be.
+// Whether the clients together have more turns than there may be.
 fn has_many(clients: &[Vec<Turn>]) -> bool
     ensures { result ≡ nat_lt MOST_TURNS (sum_by (λ turns. length turns.items) clients.now) }
 {
@@ -93,9 +93,9 @@ fn is_large(clients: &[Vec<Turn>]) -> bool
 }
 
 impl Plan {
-    /// The plan of these turns, each list being those of a client; else `Zero`, where there is no client or a client
-    /// without turns; `TooMany`, where there are more than 8 clients, more than 524,288 turns in all, or a document
-    /// number of 1,024 or more.
+    /// Returns the plan of these turns, each list being those of one client. Errors: `Zero` if there is no
+    /// client or a client without turns; `TooMany` if there are more than 8 clients, more than 524,288 turns
+    /// in all, or a document number of 1,024 or more.
     pub fn of(clients: Vec<Vec<Turn>>) -> Result<Plan, PlanFault>
         ensures refused { refusal_told result ≡ refusal_of (map (λ turns. turns.items) clients.items) }
         ensures plan { IfOk result (λ plan. plan ≡ map (λ turns. turns.items) clients.items) }
@@ -110,11 +110,12 @@ impl Plan {
         Ok(Plan { clients })
     }
 
-    /// The plan that is drawn from the seed, with so many clients, 1 to 8, of so many calls each, and so many documents,
-    /// 1 to 1,024; else `Zero` where a number is 0, `TooMany` where one is greater or the calls are more than 524,288 in
-    /// all. Last `NoMemory`.
+    /// Returns the plan that is drawn from the seed, with that many clients, 1 to 8, that many calls of each,
+    /// and that many documents, 1 to 1,024. Errors: `Zero` if a number is 0, `TooMany` if one is greater or
+    /// the calls are more than 524,288 in all; last `NoMemory`.
     ///
-    /// One seed draws one plan: two words of a generator, 32 bits each, make a turn, client by client and turn by turn.
+    /// One seed draws one plan: two words of a generator, 32 bits each, make a turn, client by client and
+    /// turn by turn.
     pub fn draw(
         alloc: Global,
         seed: u64,
@@ -138,7 +139,7 @@ impl Plan {
         Ok(Plan { clients })
     }
 
-    /// How many clients there are, 1 to 8.
+    /// Returns the number of clients, 1 to 8.
     pub fn clients(&self) -> usize
         ensures count { result ≡ length self.now }
         ensures some { 1 ≤ result }
@@ -147,14 +148,15 @@ impl Plan {
         self.clients.len()
     }
 
-    /// The turn of a client at a place, counted from 0; `None` past its last turn, and where there is no such client.
+    /// Returns the turn of a client at an index, counted from 0; `None` after its last turn, or if there is
+    /// no such client.
     pub fn turn(&self, client: usize, i: usize) -> Option<Turn>
         ensures { result ≡ turn_at self.now client i }
     {
         self.clients.get(client)?.get(i).copied()
     }
 
-    /// The turns of a client.
+    /// Returns the turns of a client.
     pub(crate) fn turns(&self, client: usize) -> &[Turn]
         requires { client < length self.now }
         ensures turns { slice_get self.now client ≡ Some result.now }
@@ -163,7 +165,8 @@ impl Plan {
         &self.clients[client]
     }
 
-    /// The number that the write of a client's first turn writes: 1, and the turns of all earlier clients.
+    /// Returns the number that the write of a client's first turn writes: 1 plus the number of turns of all
+    /// earlier clients.
     pub(crate) fn first_number(&self, client: usize) -> u64
         requires { client < length self.now }
         ensures number { result ≡ 1 + turn_count (take client self.now) }
@@ -177,7 +180,8 @@ impl Plan {
         number
     }
 
-    /// The turn of a client at a place, with the number that its write writes; `None` past its last turn.
+    /// Returns the turn of a client at an index, with the number that its write writes; `None` after its last
+    /// turn.
     pub(crate) fn numbered_turn(&self, client: usize, i: usize) -> Option<(Turn, u64)>
         requires { client < length self.now }
         ensures turn { option_map (λ numbered. numbered.0) result ≡ turn_at self.now client i }

@@ -3,7 +3,7 @@ ghost use Rattle.std.specs.Prelude.{◌≡◌};
 use std::alloc::AllocError;
 use thiserror::Error;
 
-/// Why there is no such plan.
+/// The reason why there is no such plan.
 #[derive(Clone, Copy, Debug, PartialEq, Eq, Error)]
 pub enum PlanFault {
     /// There is no client, no document, or a client without turns.
@@ -12,7 +12,7 @@ pub enum PlanFault {
     /// There are more than 8 clients, more than 524,288 turns in all, or more than 1,024 documents.
     #[error("a plan has at most 8 clients, 524,288 turns and 1,024 documents")]
     TooMany,
-    /// A growth was refused memory.
+    /// Memory was refused.
     #[error("no memory")]
     NoMemory,
 }

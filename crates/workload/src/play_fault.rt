@@ -6,16 +6,16 @@ use history::HistFault;
 use std::alloc::AllocError;
 use thiserror::Error;
 
-/// Why clients were not played to their ends.
+/// The reason why clients were not played to their ends.
 #[derive(Clone, Copy, Debug, PartialEq, Eq, Error)]
 pub enum PlayFault {
-    /// The history took no event.
+    /// The history refused an event.
     #[error("{0}")]
     Event(HistFault),
-    /// The target took no operation, or told nothing of one.
+    /// The target refused an operation, or reported nothing of one.
     #[error("{0}")]
     Target(TargetFault),
-    /// A growth was refused memory.
+    /// Memory was refused.
     #[error("no memory")]
     NoMemory,
 }

@@ -10,16 +10,16 @@ pub struct Player {
     /// The number of the client.
     pub client: usize,
     pub known: Known,
-    /// How many turns it has begun.
+    /// The number of turns that it has begun.
     pub begun: usize,
-    /// The call of the last of them, until it has its ending.
+    /// The call of the last of these turns, until it has its ending.
     pub open_call: Option<PolledCall>,
 }
 
 impl Player {
     ghost use Rattle.workload.specs.Playing.{IsNewPlayer};
 
-    /// A client before its first turn.
+    /// Returns a client before its first turn.
     pub fn new(alloc: Global, client: usize) -> Result<Player, AllocError>
         ensures { IfOk result (IsNewPlayer client) }
     {

@@ -10,7 +10,7 @@ use crate::visiting::visit;
 use history::History;
 use std::alloc::{AllocError, Global};
 
-// So many clients before their first turns.
+// That many clients before their first turns.
 fn new_players(alloc: Global, count: usize) -> Result<Vec<Player>, AllocError>
     ensures { IfOk result (λ players. AreNewPlayers count players.items) }
 {
@@ -21,7 +21,7 @@ fn new_players(alloc: Global, count: usize) -> Result<Vec<Player>, AllocError>
     Ok(players)
 }
 
-// Visits each client once, in their order, and tells whether one of them had something to do.
+// Visits each client once, in their order, and returns whether one of them had something to do.
 fn visit_all<T: OwnedTarget>(
     alloc: Global,
     plan: &Plan,
@@ -47,13 +47,15 @@ fn visit_all<T: OwnedTarget>(
     Ok(acted)
 }
 
-/// Plays the clients of the plan against the target, in rounds: each round visits each client once, in their order, until all
-/// are done. The events are recorded in the order in which they come, and each call's number is its place.
+/// Plays the clients of the plan against the target, in rounds: each round visits each client once, in their
+/// order, until all are done. The events are recorded in the order in which they come, and each call's number
+/// is its index in the history.
 ///
-/// A client does one thing at a visit: it begins its next turn, or polls its open call once, as under `run_in_turns`. A call that
-/// waits at its last poll is recorded as lost at that visit; where `turns` is 0, at the visit after it was submitted.
+/// A client does one thing at a visit: it begins its next turn, or polls its open call once, as under
+/// `run_in_turns`. A call that waits at its last poll is recorded as lost at that visit; if `turns` is 0, at
+/// the visit after the one that submitted it.
 ///
-/// The first fault that is met ends it; `NoMemory` also where the clients were refused memory.
+/// Errors: the first fault that is met ends it; `NoMemory` also if the clients were refused memory.
 pub fn play_in_turns<T: OwnedTarget>(
     alloc: Global,
     plan: &Plan,

@@ -6,14 +6,14 @@ use crate::target::{Progress, Target, TargetFault};
 use doc_register::Reply;
 use std::sync::Wait;
 
-/// An open call, and how often it may be polled yet.
+/// An open call, and how many more times it may be polled.
 #[derive(Clone, Copy)]
 pub struct PolledCall {
     pub call: OpenCall,
     pub polls_left: u32,
 }
 
-/// What one poll of an open call comes to.
+/// The result of one poll of an open call.
 #[derive(Clone, Copy, PartialEq, Eq)]
 pub enum Polled {
     /// It waits, and may be polled again.
@@ -23,7 +23,7 @@ pub enum Polled {
 }
 
 impl PolledCall {
-    /// Polls the call once; one that may not be polled ends unpolled.
+    /// Polls the call once. If it may not be polled, it ends without a poll.
     pub fn poll<R: Wait, T: Target>(self, rt: &R, target: &T) -> Result<Polled, TargetFault>
         ensures polled { IfOk result (IsPolled T.issued T.gave self) }
         ensures refused { IfErr result (λ fault. fault ≡ TargetFault.NoMemory) }

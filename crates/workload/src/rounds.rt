@@ -24,7 +24,7 @@ fn seat_clients<P: Drop>(alloc: Global, pens: Vec<P>) -> Result<Vec<Seat<P>>, Al
     Ok(seats)
 }
 
-// Visits each client once, in their order, and tells whether one of them had something to do.
+// Visits each client once, in their order, and returns whether one of them had something to do.
 fn visit_each<R: Wait, T: Target, X: Recording>(
     rt: &R,
     alloc: Global,
@@ -67,15 +67,17 @@ fn pens_of<P: Drop>(alloc: Global, seats: Vec<Seat<P>>) -> Result<Vec<P>, AllocE
     Ok(pens)
 }
 
-/// Runs the clients of the plan on the caller's thread, in rounds: each round visits each client once, in their order, until
-/// all are done. The pens are theirs, in their order, and are answered in that order.
+/// Runs the clients of the plan on the caller's thread, in rounds: each round visits each client once, in
+/// their order, until all are done. The pens are theirs, in their order, and are returned in that order.
 ///
-/// A client does one thing at a visit: it begins its next turn, or polls its open call once. So it records what it would
-/// under `run_clients`, and against a target that answers alike each run of a plan gives the same recording. A call that
-/// waits at its last poll is recorded as lost at that visit; where `turns` is 0, at the visit after it was submitted.
+/// A client does one thing at a visit: it begins its next turn, or polls its open call once. So it records
+/// what it would under `run_clients`, and against a target that always answers in the same way each run of a
+/// plan gives the same recording. A call that waits at its last poll is recorded as lost at that visit; if
+/// `turns` is 0, at the visit after the one that submitted it.
 ///
-/// The first fault that a client meets ends the run, and the pens are given up; `NoMemory` also where seating the clients or
-/// gathering the pens was refused memory. It returns if each call of the target and of the recorder does.
+/// Errors: the first fault that a client meets ends the run, and the pens are given up; `NoMemory` also if
+/// memory was refused while the clients were seated or the pens gathered. It returns if each call of the
+/// target and of the recorder does.
 pub fn run_in_turns<R: Wait, T: Target, X: Recording>(
     rt: &R,
     alloc: Global,
@@ -91,12 +93,12 @@ where
     requires pens { All (X.has_pen recorder.now) pens.items }
     ensures runs { IfOk result (λ done. AreLongerByRuns T.issued T.gave turns plan.now
         (map X.pen_state pens.items) (map X.pen_state done.items)) }
-    // Of new pens the lists are the runs of the clients, and nothing else.
+    // If the pens are new, the lists are the runs of the clients, and nothing else.
     ensures of_new_pens { map X.pen_state pens.items ≡ replicate (length plan.now) new_pen
         → IfOk result (λ done. AreClientRuns T.issued T.gave turns plan.now
         (lists_of (map X.pen_state done.items))) }
     ensures keeps { IfOk result (λ done. All (X.has_pen recorder.now) done.items) }
-    // As of `run_clients`.
+    // As for `run_clients`.
     ensures cause { IfErr result (HasCause (IsMisfit T.issued T.gave) T.all_given (X.may_rewind recorder.now)
         X.pen_state (X.has_pen recorder.now)) }
 {

@@ -6,16 +6,16 @@ use recorder::RecFault;
 use std::alloc::AllocError;
 use thiserror::Error;
 
-/// Why a run of clients failed.
+/// The reason why a run of clients failed.
 #[derive(Clone, Copy, Debug, PartialEq, Eq, Error)]
 pub enum RunFault {
     /// An event was not recorded.
     #[error("{0}")]
     Record(RecFault),
-    /// The target took no operation, or told nothing of one.
+    /// The target refused an operation, or reported nothing of one.
     #[error("{0}")]
     Target(TargetFault),
-    /// A growth was refused memory.
+    /// Memory was refused.
     #[error("no memory")]
     NoMemory,
 }

@@ -28,7 +28,7 @@ fn with_client_numbers<P: Drop>(alloc: Global, pens: Vec<P>) -> Result<Vec<(usiz
     Ok(jobs)
 }
 
-// Runs the client of this number. Answers its pen.
+// Runs the client of this number. Returns its pen.
 fn run_one<R: Wait, T: Target, X: Recording>(
     rt: &R,
     alloc: Global,
@@ -54,7 +54,7 @@ where
     run_client(rt, alloc, target, recorder, turns, first, pen, polls)
 }
 
-// The pens of all clients, in their order; or the fault of the least client that met one.
+// The pens of all clients, in their order; or the fault of the client with the least number that met one.
 fn gather_pens<P: Drop>(
     alloc: Global,
     results: Vec<Result<P, RunFault>>,
@@ -71,7 +71,7 @@ fn gather_pens<P: Drop>(
     Ok(pens)
 }
 
-// Runs the clients of these numbers, with their pens, each on a thread of its own where one can be made.
+// Runs the clients of these numbers, with their pens, each on a thread of its own if one can be made.
 fn run_jobs<R: Threads + Wait + Sync, T: Target + Sync, X: Recording + Sync>(
     rt: &R,
     alloc: Global,
@@ -105,15 +105,17 @@ where
     )
 }
 
-/// Runs the clients of the plan, each on a thread of its own where one can be made; else they run one after another. The
-/// pens are theirs, in their order, and are answered in that order.
+/// Runs the clients of the plan, each on a thread of its own if one can be made; otherwise they run one after
+/// another. The pens are theirs, in their order, and are returned in that order.
 ///
-/// A client takes its turns one after the other. At a turn it asks for an operation on a document, under the condition of the
-/// pair last told to it where the turn says so. Each call is recorded before it is submitted, and its reply after it was
-/// polled; a call that waits after `turns` polls, or whose outcome is unknown, is recorded as lost.
+/// A client takes its turns one after the other. At a turn it asks for an operation on a document, under the
+/// condition of the pair last reported to it if the turn says so. Each call is recorded before it is
+/// submitted, and its reply after it was polled. A call that waits after `turns` polls, or whose outcome is
+/// unknown, is recorded as lost.
 ///
-/// `NoMemory` where gathering the pens was refused memory; else the fault of the least client that met one. The threads
-/// have then ended, and the pens are given up. It returns only if each call of the target and of the recorder does.
+/// Errors: `NoMemory` if memory was refused while the pens were gathered; otherwise the fault of the client
+/// with the least number that met one. The threads have then ended, and the pens are given up. It returns
+/// only if each call of the target and of the recorder does.
 pub fn run_clients<R: Threads + Wait + Sync, T: Target + Sync, X: Recording + Sync>(
     rt: &R,
     alloc: Global,
@@ -129,13 +131,13 @@ where
     requires pens { All (X.has_pen recorder.now) pens.items }
     ensures runs { IfOk result (λ done. AreLongerByRuns T.issued T.gave turns plan.now
         (map X.pen_state pens.items) (map X.pen_state done.items)) }
-    // Of new pens the lists are the runs of the clients, and nothing else.
+    // If the pens are new, the lists are the runs of the clients, and nothing else.
     ensures of_new_pens { map X.pen_state pens.items ≡ replicate (length plan.now) new_pen
         → IfOk result (λ done. AreClientRuns T.issued T.gave turns plan.now
         (lists_of (map X.pen_state done.items))) }
     ensures keeps { IfOk result (λ done. All (X.has_pen recorder.now) done.items) }
-    // No event is refused as a stranger's or as one of an ended call. One is refused as misfitting only where the target gave such
-    // a reply, and as too many only where a pen of the recorder is full.
+    // No event is refused as a stranger's or as one of an ended call. One is refused as misfitting only if
+    // the target gave such a reply, and as too many only if a pen of the recorder is full.
     ensures cause { IfErr result (HasCause (IsMisfit T.issued T.gave) T.all_given (X.may_rewind recorder.now)
         X.pen_state (X.has_pen recorder.now)) }
 {

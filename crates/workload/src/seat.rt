@@ -20,14 +20,14 @@ pub struct Seat<P> {
     pub client: usize,
     pub pen: P,
     pub known: Known,
-    /// How many turns it has begun.
+    /// The number of turns that it has begun.
     pub begun: usize,
-    /// The call of the last of them, until it has its ending.
+    /// The call of the last of these turns, until it has its ending.
     pub open_call: Option<PolledCall>,
 }
 
 impl<P: Drop> Seat<P> {
-    /// A client before its first turn.
+    /// Returns a client before its first turn.
     pub fn new(alloc: Global, client: usize, pen: P) -> Result<Seat<P>, AllocError>
         ensures { IfOk result (IsNew client pen) }
     {
@@ -123,10 +123,11 @@ fn poll_open<R: Wait, T: Target, X: Recording>(
     Ok(())
 }
 
-/// Visits a client: begins its next turn, or polls its open call once, and tells whether there was something to do.
+/// Visits a client: begins its next turn, or polls its open call once. Returns whether there was something to
+/// do.
 ///
-/// The visit that begins a turn records its call and submits it, and doesn't poll it. The visit of the last poll records the
-/// call's ending; a call that may not be polled at all is lost at the next visit.
+/// The visit that begins a turn records its call and submits it, and doesn't poll it. The visit of the last
+/// poll records the call's ending. A call that may not be polled at all is lost at the next visit.
 pub fn visit<R: Wait, T: Target, X: Recording>(
     rt: &R,
     alloc: Global,

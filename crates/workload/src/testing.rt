@@ -1,4 +1,5 @@
-//! What tests of runs share: plans of gets, targets, and what is recorded in each way in which clients are run.
+//! What tests of runs share: plans of gets, targets, and what is recorded in each way in which clients can be
+//! run.
 
 ghost use Rattle.std.specs.Prelude.{◌≡◌, length};
 
@@ -18,7 +19,7 @@ use std::test::Fail;
 use std::thread::Threads;
 use version_pair::{DocId, Pair};
 
-/// A plan of so many clients, each with so many turns of this kind on document 0.
+/// Returns a plan of that many clients, each with that many turns of this kind on document 0.
 pub fn alike(alloc: Global, clients: usize, count: usize, kind: Kind) -> Result<Plan, Fail> {
     let mut lists = Vec::new(alloc);
     for _ in 0..clients {
@@ -31,7 +32,7 @@ pub fn alike(alloc: Global, clients: usize, count: usize, kind: Kind) -> Result<
     Ok(Plan::of(lists)?)
 }
 
-/// A plan of so many clients, each with so many gets of document 0.
+/// Returns a plan of that many clients, each with that many gets of document 0.
 pub fn gets(alloc: Global, clients: usize, count: usize) -> Result<Plan, Fail> {
     alike(alloc, clients, count, Kind::Get)
 }
@@ -43,14 +44,14 @@ pub enum Way {
     Turns,
 }
 
-/// By which recorder.
+/// The recorder that is used.
 #[derive(Clone, Copy, Debug)]
 pub enum Form {
     Lock,
     Clock,
 }
 
-/// Both ways, by each recorder.
+/// Both ways, with each recorder.
 pub const WAYS: [(Way, Form); 4] = [
     (Way::Threads, Form::Lock),
     (Way::Threads, Form::Clock),
@@ -58,7 +59,7 @@ pub const WAYS: [(Way, Form); 4] = [
     (Way::Turns, Form::Clock),
 ];
 
-/// Runs the clients of the plan by the lock form, each polling a call so often at most.
+/// Runs the clients of the plan with the lock form, each polling a call at most this often.
 pub fn run<R: Threads + Wait + Sync, T: Target + Sync>(
     way: Way,
     rt: &R,
@@ -77,7 +78,7 @@ pub fn run<R: Threads + Wait + Sync, T: Target + Sync>(
     }
 }
 
-// What the clients of the plan record by the lock form.
+// What the clients of the plan record with the lock form.
 fn recorded_by_lock<R: Threads + Wait + Sync, T: Target + Sync>(
     way: Way,
     rt: &R,
@@ -94,7 +95,7 @@ fn recorded_by_lock<R: Threads + Wait + Sync, T: Target + Sync>(
     }
 }
 
-// What the clients of the plan record by the clock form.
+// What the clients of the plan record with the clock form.
 fn recorded_by_clock<R: Threads + Wait + Sync, T: Target + Sync>(
     way: Way,
     rt: &R,
@@ -114,7 +115,7 @@ fn recorded_by_clock<R: Threads + Wait + Sync, T: Target + Sync>(
     }
 }
 
-/// What the clients of the plan record, each polling a call so often at most.
+/// Returns what the clients of the plan record, each polling a call at most this often.
 pub fn recorded<R: Threads + Wait + Sync, T: Target + Sync>(
     (way, form): (Way, Form),
     rt: &R,
@@ -129,7 +130,7 @@ pub fn recorded<R: Threads + Wait + Sync, T: Target + Sync>(
     }
 }
 
-/// The text of what they record.
+/// Returns the text of what they record.
 pub fn text_recorded<R: Threads + Wait + Sync, T: Target + Sync>(
     way: (Way, Form),
     rt: &R,
@@ -143,7 +144,7 @@ pub fn text_recorded<R: Threads + Wait + Sync, T: Target + Sync>(
     Ok(String::from_str(alloc, str::from_utf8(&text)?)?)
 }
 
-/// A target of one operation, which tells that it waits so often, and then its end.
+/// A target of one operation, which reports this many times that it waits, and then its end.
 #[derive(Drop)]
 pub struct Slow {
     pub waits: AtomicU64,
@@ -169,7 +170,7 @@ impl Target for Slow {
     }
 }
 
-/// The reply of a get that found the number of this ticket.
+/// Returns the reply of a get that found the number of this ticket.
 pub fn found(ticket: Ticket) -> Progress {
     match Pair::new(1, 0) {
         Some(pair) => Progress::Done(Reply::Found { pair, k: ticket.0 }),

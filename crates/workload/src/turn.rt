@@ -5,11 +5,11 @@ pub enum Kind {
     Get,
     /// Writes the document, without a condition.
     Put,
-    /// Writes the document under the condition of the pair last told of it; reads it where none is known.
+    /// Writes the document under the condition of the pair last reported of it; reads it if none is known.
     PutIfSeen,
     /// Deletes the document, without a condition.
     Delete,
-    /// Deletes the document under the condition of the pair last told of it; reads it where none is known.
+    /// Deletes the document under the condition of the pair last reported of it; reads it if none is known.
     DeleteIfSeen,
 }
 

@@ -54,7 +54,7 @@ fn begin_next<T: OwnedTarget>(
     Ok(true)
 }
 
-// Ends the open call of a client: records what was heard of it, a reply, or else that it is lost.
+// Ends the open call of a client: records what was heard of it, a reply, or otherwise that it is lost.
 fn end_open(
     history: &mut History,
     player: &mut Player,
@@ -74,7 +74,7 @@ fn end_open(
     Ok(())
 }
 
-// What a poll comes to of a call that may be polled so often yet.
+// The result of a poll of a call that may be polled this many more times.
 fn polled_to(left: u32, progress: Progress) -> Polled
     ensures { result ≡ polled_by left progress }
 {
@@ -109,7 +109,8 @@ fn poll_open<T: OwnedTarget>(
     }
 }
 
-/// Visits a client: begins its next turn, or polls its open call once, and tells whether there was something to do.
+/// Visits a client: begins its next turn, or polls its open call once. Returns whether there was something to
+/// do.
 ///
 /// A call that may not be polled at all is lost at the visit after the one that submitted it.
 pub fn visit<T: OwnedTarget>(

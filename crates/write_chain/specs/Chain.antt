@@ -1,4 +1,5 @@
--- The chain: the performed answered writes of a document by pair, and the document in each stretch of it.
+-- The chain: the performed answered writes of a document by pair, and the state of the document in each
+-- stretch of it.
 use Rattle.std.specs.Prelude.{◌≡◌, ℕ, suc, List, [], ◌∷◌, Option, Some, None, IsPermutation, IsSorted, slice_get}
 use Rattle.std.specs.declared.cmp.Ordering.{Ordering}
 use Rattle.std.specs.Ordering.{nat_cmp, ordering_then}
@@ -15,7 +16,7 @@ abbrev pub link_at : ℕ → Option Pair → List (Pair × ℕ) → List (Pair �
 link_at k None rest = rest
 link_at k (Some q) rest = (q, k) ∷ rest
 
--- the performed answered writes, the first record being numbered k
+-- the performed answered writes, if the first record is numbered k
 abbrev pub performed_records : ℕ → List Rec → List (Pair × ℕ)
 performed_records k [] = []
 performed_records k (r ∷ rs) = link_at k (pair_of r.heard) (performed_records (suc k) rs)

@@ -8,7 +8,7 @@ use history::Rec;
 use std::alloc::Global;
 use version_pair::{NoMemory, Pair};
 
-// The performed answered writes by their numbers, each with its pair before it.
+// The performed answered writes in the order of their records, each as its pair and the number of its record.
 fn performed_by_pair(alloc: Global, records: &[Rec]) -> Result<Vec<(Pair, usize)>, NoMemory>
     ensures { IfOk result (λ links. links.items ≡ performed_records 0 records.now) }
 {
@@ -21,7 +21,7 @@ fn performed_by_pair(alloc: Global, records: &[Rec]) -> Result<Vec<(Pair, usize)
     Ok(links)
 }
 
-/// The chain of a document: its performed answered writes by pair.
+/// Returns the chain of a document: its performed answered writes, sorted by pair.
 pub fn chain_of(alloc: Global, records: &[Rec]) -> Result<Vec<(Pair, usize)>, NoMemory>
     ensures { IfOk result (λ chain. IsChain records.now chain.items) }
 {
@@ -30,7 +30,7 @@ pub fn chain_of(alloc: Global, records: &[Rec]) -> Result<Vec<(Pair, usize)>, No
     Ok(links)
 }
 
-/// Whether each pair of the chain is below the next.
+/// Returns whether each pair of the chain is below the next.
 pub fn rises(chain: &[(Pair, usize)]) -> bool
     ensures { IsTrue result ↔ Rises chain.now }
 {
@@ -42,7 +42,7 @@ pub fn rises(chain: &[(Pair, usize)]) -> bool
     true
 }
 
-/// The pairs of the chain.
+/// Returns the pairs of the chain.
 pub fn pairs_of(alloc: Global, chain: &[(Pair, usize)]) -> Result<Vec<Pair>, NoMemory>
     ensures { IfOk result (λ pairs. pairs.items ≡ map (λ link. link.0) chain.now) }
 {
@@ -68,8 +68,8 @@ fn after(records: &[Rec], link: (Pair, usize)) -> DocState
     }
 }
 
-/// The document in each stretch of the chain: in stretch 0, before the first write, it was never written; stretch j
-/// lies after the j-th write.
+/// Returns the state of the document in each stretch of the chain. In stretch 0, before the first write, the
+/// document was never written; stretch j comes after the j-th write.
 pub fn states_of(
     alloc: Global,
     records: &[Rec],

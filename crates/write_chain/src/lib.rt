@@ -1,4 +1,5 @@
-//! The performed answered writes of a document in the order of their pairs, and the document after each of them.
+//! The performed answered writes of a document in the order of their pairs, and the state of the document
+//! after each of them.
 //!
 //! ```text
 //! let chain = chain_of(alloc, &records)?; // Vec<(Pair, usize)>, each with its record

@@ -1,9 +1,10 @@
 ghost use Rattle.std.specs.Prelude.{IsPermutation, IsSorted, ◌<◌, length};
 
-// How many steps down the items are moved before the list is left to the general sort: so many for each item.
+// The number of steps for each item by which items are moved down before the general sort takes the list.
 const STEPS: usize = 8;
 
-// Moves the item of a place down past those that are above it, by at most so many steps; and how many steps are left.
+// Moves the item at an index down past those that are above it, by at most that many steps. Returns how many
+// steps are left.
 fn sink<T: Ord>(items: &mut Vec<T>, place: usize, steps: usize) -> usize
     requires { place < length items.old.items }
     ensures { IsPermutation items.old.items items.new.items }
@@ -18,8 +19,9 @@ fn sink<T: Ord>(items: &mut Vec<T>, place: usize, steps: usize) -> usize
     left
 }
 
-/// Sorts a list whose items stand near their places, as those of replies do among those of calls: each item is moved down
-/// step by step, and only a list that takes more steps than a few for each item is left to the general sort.
+/// Sorts a list whose items are near their final positions, as those of replies are among those of calls.
+/// Each item is moved down step by step, with a total of a few steps per item; then the general sort takes
+/// the list, which is already sorted unless that was too few.
 pub fn sort_nearly_ordered<T: Ord>(items: &mut Vec<T>)
     ensures permutation { IsPermutation items.old.items items.new.items }
     ensures sorted { IsSorted T.cmp items.new.items }

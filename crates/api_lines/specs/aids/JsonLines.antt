@@ -1,4 +1,4 @@
--- Lines that are JSON, or none: aids of contracts and lemmas.
+-- Lines that are JSON, or are not: aids of contracts and lemmas.
 use Rattle.std.specs.Prelude.{◌≡◌, ℕ, List, Some, IsUtf8}
 use Rattle.serde_json.specs.Data.{Data}
 use Rattle.serde_json.specs.Read.{read}
@@ -7,6 +7,6 @@ use Rattle.serde_json.specs.Read.{read}
 abbrev pub IsJsonLine : List ℕ → Data → Type 0
 IsJsonLine line v = IsUtf8 line × (read line ≡ Some v)
 
--- the line is no JSON, of any value
+-- the line is not JSON, of any value
 abbrev pub IsNoJsonLine : List ℕ → Type 0
 IsNoJsonLine line = (v : Data) → ¬ IsJsonLine line v

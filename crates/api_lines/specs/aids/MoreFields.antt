@@ -9,7 +9,7 @@ use Rattle.api_lines.specs.Json.{FieldValue, field, field_value}
 abbrev pub field_with : List ℕ → List ℕ → Data → FieldValue → FieldValue
 field_with key name d f = if bytes_eq name key then field_value (Some d) else f
 
--- a body's fields with this one at the key of this name; those of `_source` and `error` are not here
+-- a body's fields with this one at the key of this name; those of `_source` and `error` are not included
 abbrev pub body_field_put : List ℕ → FieldValue → BodyValues → BodyValues
 body_field_put name f body =
     if bytes_eq name (codes "_id") then record body { id = f }
@@ -26,7 +26,7 @@ body_with name d body =
     else (if bytes_eq name (codes "error") then record body { error_type = field (codes "type") d }
     else body_field_put name (field_value (Some d)) body)
 
--- a line's fields with this one at the key of this name; those of `body` are not here
+-- a line's fields with this one at the key of this name; those of `body` are not included
 abbrev pub line_field_put : List ℕ → FieldValue → LineValues → LineValues
 line_field_put name f line =
     if bytes_eq name (codes "e") then record line { e = f }

@@ -12,7 +12,7 @@ place_of Fresh = fresh
 place_of AfterComma = after_comma
 place_of AfterValue = after_value
 
--- the tokens of bytes that stand there
+-- the tokens of bytes at that place
 abbrev pub tokens_at : Place → List ℕ → List Token
 tokens_at place bytes = punctuate place (lex between bytes)
 

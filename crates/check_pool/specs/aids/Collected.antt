@@ -1,4 +1,4 @@
--- Why messages are no answers of the jobs.
+-- The reasons why messages are not answers of the jobs.
 use Rattle.std.specs.Prelude.{◌≡◌, ◌≢◌, ℕ, ◌<◌, Bool, false, List, Some, length, slice_get, take}
 use Rattle.check_pool.specs.declared.doc_job.DocJob.{DocJob}
 use Rattle.check_pool.specs.declared.pool_fault.PoolFault.{PoolFault}
@@ -9,17 +9,17 @@ use Rattle.check_pool.specs.aids.Messages.{IsOfJob, Sent, nearest_number}
 abbrev pub Lacks : List Sent → ℕ → Type 0
 Lacks messages doc = (k : ℕ) (m : Sent) → slice_get messages k ≡ Some m → m.doc ≢ doc
 
--- each message is about the job of its number, and no two have one number
+-- each message is about the job of its number, and no two have the same number
 pub record AreOfJobs (jobs : List DocJob) (messages : List Sent) : Type 0 where
   pub each : (k : ℕ) (m : Sent) → slice_get messages k ≡ Some m → IsOfJob jobs m
   pub once : (k : ℕ) (m : Sent) → slice_get messages k ≡ Some m → Lacks (take k messages) m.doc
 
--- the message at place k is the first that can't be taken
+-- the message at index k is the first that can't be taken
 abbrev pub IsRefusedAt : List DocJob → List Sent → ℕ → Sent → Type 0
 IsRefusedAt jobs messages k m = (slice_get messages k ≡ Some m) × AreOfJobs jobs (take k messages)
 
--- the first fault of these messages, where no growth was refused on the way. A job without a message is told only where each
--- message was taken and no worker was refused memory
+-- the first fault of these messages, if memory was not refused on the way. A job without a message is
+-- reported only if each message was taken and no worker was refused memory
 abbrev pub IsFaultOf : List DocJob → List Sent → Bool → PoolFault → Type 0
 IsFaultOf jobs messages starved NoWorkers = ⊥
 IsFaultOf jobs messages starved TooMany = ⊥

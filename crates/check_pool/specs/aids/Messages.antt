@@ -10,7 +10,7 @@ pub record Sent : Type 0 where
   pub doc : ℕ
   pub answer : DocAnswer
 
--- the search answers this of what the answer itself is about
+-- the answer is what the search promises for what the answer itself is about
 abbrev pub IsSearched : DocAnswer → Type 0
 IsSearched answer = IsSearchOf (id_of answer) (records_of answer) (conflicts_of answer) answer
 
@@ -20,11 +20,11 @@ pub record IsAboutJob (job : DocJob) (answer : DocAnswer) : Type 0 where
   pub same_records : records_of answer ≡ job.recs.items
   pub same_conflicts : conflicts_of answer ≡ job.conflicts
 
--- the number is a job's, and the answer is about that job
+-- some job has the number, and the answer is about that job
 abbrev pub IsOfJob : List DocJob → Sent → Type 0
 IsOfJob jobs m = (job : DocJob) × (slice_get jobs m.doc ≡ Some job) × IsAboutJob job m.answer
 
--- the number of the job that is named where a message of this number is of no job: the same, or the last job's where it is
--- greater than that
+-- the number of the job that is named if a message of this number is of no job: the same number, or the last
+-- job's if it is greater than that
 abbrev pub nearest_number : List DocJob → ℕ → ℕ
 nearest_number jobs n = min n (length jobs - 1)

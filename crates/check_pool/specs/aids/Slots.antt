@@ -1,4 +1,4 @@
--- The collector's places for the answers, one for each job.
+-- The collector's slots for the answers, one for each job.
 use Rattle.std.specs.Prelude.{◌≡◌, ℕ, ◌<◌, List, Option, None, Some, length, slice_get}
 use Rattle.doc_check.specs.declared.search.DocAnswer.{DocAnswer}
 use Rattle.check_pool.specs.declared.doc_job.DocJob.{DocJob}
@@ -8,11 +8,11 @@ use Rattle.check_pool.specs.Answers.{IsAnswerTo}
 use Rattle.check_pool.specs.aids.Collected.{AreOfJobs, Lacks}
 use Rattle.check_pool.specs.aids.Messages.{IsOfJob, Sent, nearest_number}
 
--- no place has an answer
+-- no slot has an answer
 abbrev pub AreEmpty : List (Option DocAnswer) → Type 0
 AreEmpty slots = (i : ℕ) (slot : Option DocAnswer) → slice_get slots i ≡ Some slot → slot ≡ None
 
--- why the places are not all filled: the first that is empty
+-- why the slots are not all filled: the first one that is empty
 abbrev pub IsFirstEmpty : List (Option DocAnswer) → PoolFault → Type 0
 IsFirstEmpty slots NoWorkers = ⊥
 IsFirstEmpty slots TooMany = ⊥
@@ -22,7 +22,7 @@ IsFirstEmpty slots (Double doc) = ⊥
 IsFirstEmpty slots (Stranger doc) = ⊥
 IsFirstEmpty slots NoMemory = Unit {0}
 
--- a message that can't be taken: its job's place is taken, or it is of no job
+-- a message that can't be taken: its job's slot is taken, or it is of no job
 abbrev pub IsRefused : List DocJob → List (Option DocAnswer) → Sent → PoolFault → Type 0
 IsRefused jobs slots m NoWorkers = ⊥
 IsRefused jobs slots m TooMany = ⊥
@@ -31,8 +31,8 @@ IsRefused jobs slots m (Double doc) = (m.doc ≡ doc) × IsOfJob jobs m × ((ans
 IsRefused jobs slots m (Stranger doc) = (nearest_number jobs m.doc ≡ doc) × (¬ IsOfJob jobs m)
 IsRefused jobs slots m NoMemory = ⊥
 
--- the places after these messages, each of a job: the answer of each message is at its job's place, and is to that job; the
--- other places are empty
+-- the slots after these messages, each of a job: the answer of each message is in its job's slot, and is to
+-- that job; the other slots are empty
 pub record AreFilled (jobs : List DocJob) (messages : List Sent) (slots : List (Option DocAnswer)) : Type 0 where
   pub count : length slots ≡ length jobs
   pub of_jobs : AreOfJobs jobs messages

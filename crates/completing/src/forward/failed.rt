@@ -1,14 +1,15 @@
 use std::alloc::Global;
 use version_pair::NoMemory;
 
-/// The places that were left without success, by their keys. Of two that go to one slot the later one stays.
+/// The points of the search that were left without success, by their keys. Of two that go to one slot the
+/// later one stays.
 #[derive(Drop)]
 pub struct Failed {
     slots: Vec<u64>,
 }
 
 impl Failed {
-    /// No place, with room for about one to each record.
+    /// Returns the value without any point, with room for about one per record.
     pub fn of(alloc: Global, records: usize) -> Result<Failed, NoMemory> {
         let slots = records.saturating_add(1024);
         Ok(Failed {
@@ -23,7 +24,7 @@ impl Failed {
         usize::try_from(slot).unwrap_or(0)
     }
 
-    /// Notes a place.
+    /// Adds a point.
     pub fn note(&mut self, key: u64) {
         let slot = self.slot(key);
         if let Some(entry) = self.slots.get_mut(slot) {
@@ -31,7 +32,7 @@ impl Failed {
         }
     }
 
-    /// Whether the place was left without success.
+    /// Returns whether the point was left without success.
     pub fn has(&self, key: u64) -> bool {
         self.slots.get(self.slot(key)) == Some(&key)
     }

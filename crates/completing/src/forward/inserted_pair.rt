@@ -3,13 +3,14 @@ use crate::free::Gap;
 use version_pair::Pair;
 
 impl Walk<'_> {
-    /// The numbers that are left before the next known pair, if the pair before it is of its term.
+    /// Returns the numbers that are left before the next known pair, if the pair before it is of the same
+    /// term.
     pub fn gap(&self) -> Option<Gap> {
         let upper = self.known.get(self.standing.passed)?.pair;
         Gap::between(self.standing.last, upper)
     }
 
-    // The least free pair of the gap that no condition names and that leaves enough free pairs behind it.
+    // The least free pair of the gap that no condition names and that leaves enough free pairs after it.
     fn unnamed_pair(&self, gap: Gap) -> Option<Pair> {
         let behind = self.standing.behind();
         let mut from = gap.from;
@@ -26,8 +27,8 @@ impl Walk<'_> {
         None
     }
 
-    /// The pair that the next inserted write takes, between two pairs of one term: the least free one that no condition names, if
-    /// one is left; else the least free one.
+    /// Returns the pair that the next inserted write takes, between two pairs of one term: the least free one
+    /// that no condition names, if one is left; otherwise the least free one.
     pub fn pair_to_insert(&self) -> Option<Pair> {
         let gap = self.gap()?;
         match self.unnamed_pair(gap) {
@@ -36,8 +37,8 @@ impl Walk<'_> {
         }
     }
 
-    /// The first of the pairs that conditions name, from a place among them on, that an inserted write may take such that one more can
-    /// be inserted behind it; and its place.
+    /// Returns the first of the pairs that conditions name, from an index among them on, that an inserted
+    /// write may take such that one more can be inserted after it; and its index.
     pub fn named_pair(&self, from: usize) -> Option<(Pair, usize)> {
         let gap = self.gap()?;
         for at in self.known.first_named(gap.from).max(from)..self.known.named_len() {

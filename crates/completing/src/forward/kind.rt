@@ -5,8 +5,8 @@ use history::Rec;
 use std::alloc::Global;
 use version_pair::{NoMemory, Pair};
 
-/// What a record waits for, or which lost write it is. Known pairs, and those that only conditions name, are given by their
-/// positions in `KnownPairs`.
+/// What a record waits for, or which lost write it is. Known pairs, and those that only conditions name, are
+/// given by their indices in `KnownPairs`.
 #[derive(Clone, Copy, PartialEq, Eq)]
 pub enum Kind {
     /// A get that found nothing.
@@ -15,9 +15,10 @@ pub enum Kind {
     Found(usize),
     /// The conflict of a create.
     CreateConflict,
-    /// A conflict on condition of the known pair.
+    /// A conflict under the condition of the known pair.
     ConflictOn(usize),
-    /// A conflict on condition of a pair that no write is known to have, by its place among those that conditions name.
+    /// A conflict under the condition of a pair that no write is known to have, by its index among those that
+    /// conditions name.
     ConflictOnNamed(usize),
     /// A conflict without a condition.
     FreeConflict,
@@ -27,13 +28,13 @@ pub enum Kind {
     LostIndex,
     /// An unanswered create.
     LostCreate,
-    /// An unanswered delete on condition of the known pair.
+    /// An unanswered delete under the condition of the known pair.
     LostDeleteOn(usize),
-    /// An unanswered index on condition of the known pair.
+    /// An unanswered index under the condition of the known pair.
     LostIndexOn(usize),
-    /// An unanswered delete on condition of a pair that no write is known to have.
+    /// An unanswered delete under the condition of a pair that no write is known to have.
     LostDeleteOnNamed(usize),
-    /// An unanswered index on condition of a pair that no write is known to have.
+    /// An unanswered index under the condition of a pair that no write is known to have.
     LostIndexOnNamed(usize),
 }
 
@@ -52,16 +53,16 @@ fn line_of_named(known: usize, at: usize, kind: usize) -> usize {
 }
 
 impl Kind {
-    /// How many kinds are not of a pair.
+    /// The number of kinds that are not of a pair.
     pub const ALONE: usize = 6;
 
-    /// How many kinds are of each known pair.
+    /// The number of kinds of each known pair.
     pub const OF_PAIR: usize = 4;
 
-    /// How many kinds are of each pair that conditions name and no write is known to have.
+    /// The number of kinds of each pair that conditions name and no write is known to have.
     pub const OF_NAMED: usize = 3;
 
-    /// The number of the kind's line, with so many known pairs.
+    /// Returns the number of the kind's line, if there are that many known pairs.
     pub fn line(self, known: usize) -> usize {
         match self {
             Kind::Missing => 0,
@@ -80,7 +81,7 @@ impl Kind {
         }
     }
 
-    /// Whether it is an unanswered write on condition of a pair.
+    /// Returns whether it is an unanswered write under the condition of a pair.
     pub fn is_lost_on_pair(self) -> bool {
         matches!(
             self,
@@ -91,13 +92,13 @@ impl Kind {
         )
     }
 
-    /// Whether a conflict on a pair is answered.
+    /// Returns whether it is a conflict on a pair.
     pub fn is_conflict_on_pair(self) -> bool {
         matches!(self, Kind::ConflictOn(_) | Kind::ConflictOnNamed(_))
     }
 }
 
-// The kind of an unanswered record. Its pair is looked for near a place of the known ones.
+// The kind of an unanswered record. Its pair is searched for near an index of the known ones.
 fn lost_kind(op: Op, known: &KnownPairs, near: &mut usize) -> Option<Kind> {
     match op {
         Op::Get => None,
@@ -118,7 +119,7 @@ fn lost_kind(op: Op, known: &KnownPairs, near: &mut usize) -> Option<Kind> {
     }
 }
 
-// The kind of a conflict on condition of a pair.
+// The kind of a conflict under the condition of a pair.
 fn kind_on(pair: Pair, known: &KnownPairs, near: &mut usize) -> Option<Kind> {
     match known.place_near(pair, near) {
         Some(at) => Some(Kind::ConflictOn(at)),
@@ -138,7 +139,7 @@ fn conflict_kind(op: Op, known: &KnownPairs, near: &mut usize) -> Option<Kind> {
     }
 }
 
-// The kind of a record. A performed answered write has none: its pair tells its place.
+// The kind of a record. A performed answered write has none: its pair determines its place.
 fn kind_of(found: Rec, known: &KnownPairs, near: &mut usize) -> Option<Kind> {
     match found.heard {
         None => lost_kind(found.op, known, near),
@@ -149,8 +150,8 @@ fn kind_of(found: Rec, known: &KnownPairs, near: &mut usize) -> Option<Kind> {
     }
 }
 
-/// The kinds of the records. Where a pair is known by its number alone, and one write alone can have it, the write is
-/// kept for it and has no kind.
+/// Returns the kinds of the records. If a pair is known by its number alone, and only one write can have it,
+/// the write is kept for it and has no kind.
 pub fn kinds_of(
     alloc: Global,
     records: &[Rec],
@@ -172,7 +173,7 @@ pub fn kinds_of(
     Ok(kinds)
 }
 
-// The only write that can have the known pair, where no answered write has it.
+// The only write that can have the known pair, if no answered write has it.
 fn only_writer(known: &KnownPairs, numbers: &Numbers, at: usize) -> Option<usize> {
     let entry = known.get(at)?;
     let number = entry.number?;

@@ -6,18 +6,19 @@ use std::alloc::Global;
 use version_pair::{NoMemory, Pair};
 use write_chain::sort_nearly_ordered;
 
-/// A pair that some write has to have.
+/// A pair that some write must have.
 #[derive(Clone, Copy)]
 pub struct Known {
     pub pair: Pair,
     /// The answered write that has it.
     pub writer: Option<usize>,
-    /// The number that it was written with, where that is known.
+    /// The number that it was written with, if that is known.
     pub number: Option<u64>,
 }
 
-/// The pairs of the performed answered writes, those that their conditions or gets name, and those that unanswered writes ask
-/// for which have to be performed, by rising pair; and the pairs that other conditions name.
+/// The pairs that some write must have, rising: those of the performed answered writes, those that their
+/// conditions or gets name, and those that unanswered writes which must be performed ask for. Also the pairs
+/// that other conditions name.
 #[derive(Drop)]
 pub struct KnownPairs {
     entries: Vec<Known>,
@@ -31,7 +32,7 @@ impl HasPair for Known {
     }
 }
 
-// Notes that the record makes pairs known.
+// Adds the pairs that the record makes known.
 fn note_pairs(shown: &mut Vec<(Pair, usize)>, rec: usize, found: Rec) -> Result<(), NoMemory> {
     if let Some(pair) = found.pair_taken() {
         shown.push((pair, rec))?;
@@ -55,7 +56,7 @@ fn asked_for(entry: Known, records: &[Rec], numbers: &Numbers) -> Option<(Pair, 
 }
 
 impl Known {
-    // Notes the answered write that has the pair. False if another one has it.
+    // Sets the answered write that has the pair. Returns `false` if another one has it.
     fn note_writer(&mut self, rec: usize, op: Op) -> bool {
         if self.writer.is_some() {
             return false;
@@ -65,7 +66,8 @@ impl Known {
         true
     }
 
-    // Notes the number that a get found with the pair, after the answered write. False if the pair has another one, or none.
+    // Sets the number that a get found with the pair, after the answered write. Returns `false` if the pair
+    // has another number, or none.
     fn note_number(&mut self, k: u64) -> bool {
         if self.writer.is_none() && self.number.is_none() {
             self.number = Some(k);
@@ -73,7 +75,8 @@ impl Known {
         self.number == Some(k)
     }
 
-    // What the records of one pair, those from one place to another, show of it. `None` if they speak against each other.
+    // What the records of one pair, those from one index to another, show of it. `None` if they contradict
+    // each other.
     fn of_pair(
         records: &[Rec],
         shown: &[(Pair, usize)],
@@ -104,7 +107,7 @@ impl Known {
     }
 }
 
-// Where the entries of the pair at a place end.
+// The end of the entries of the pair at an index.
 fn end_of_pair(shown: &[(Pair, usize)], start: usize) -> usize {
     for i in start..shown.len() {
         if shown[i].0 != shown[start].0 {
@@ -115,8 +118,8 @@ fn end_of_pair(shown: &[(Pair, usize)], start: usize) -> usize {
 }
 
 impl KnownPairs {
-    /// The known pairs of a document. `None` where two writes or gets speak against each other: they tell of two writes
-    /// with one pair, of two numbers, or of a deleted document that is found.
+    /// Returns the known pairs of a document. Returns `None` if two writes or gets contradict each other:
+    /// they show two writes with one pair, or two numbers, or a deleted document that is found.
     pub fn of(
         alloc: Global,
         records: &[Rec],
@@ -138,7 +141,8 @@ impl KnownPairs {
         }
     }
 
-    // The pairs with what is known of each, by the records that show them, in order. `None` if records speak against each other.
+    // The pairs with what is known of each, by the records that show them, in order. `None` if records
+    // contradict each other.
     fn of_shown(
         alloc: Global,
         records: &[Rec],
@@ -164,8 +168,8 @@ impl KnownPairs {
         Ok(Some(known))
     }
 
-    // Adds the pairs that unanswered writes ask for which have to be performed: each is the only one with the number of a
-    // known pair that no answered write has. Whether one was added.
+    // Adds the pairs that unanswered writes which must be performed ask for: each such write is the only one
+    // with the number of a known pair that no answered write has. Returns whether one was added.
     fn note_asked(
         &self,
         shown: &mut Vec<(Pair, usize)>,
@@ -184,7 +188,7 @@ impl KnownPairs {
         Ok(is_new)
     }
 
-    // Notes the pairs that conditions name and no write is known to have.
+    // Adds the pairs that conditions name and no write is known to have.
     fn note_named(&mut self, records: &[Rec]) -> Result<(), NoMemory> {
         let mut near = 0;
         for found in records {
@@ -199,37 +203,37 @@ impl KnownPairs {
         Ok(())
     }
 
-    /// How many there are.
+    /// Returns the number of known pairs.
     pub fn len(&self) -> usize {
         self.entries.len()
     }
 
-    /// The known pair at a place of their order.
+    /// Returns the known pair at an index of their order.
     pub fn get(&self, at: usize) -> Option<Known> {
         self.entries.get(at).copied()
     }
 
-    /// A pair that conditions name and no write is known to have, by its place among them.
+    /// Returns a pair that conditions name and no write is known to have, by its index among them.
     pub fn named(&self, at: usize) -> Option<Pair> {
         self.named.get(at).copied()
     }
 
-    /// The place of the first of these that is not below a pair.
+    /// Returns the index of the first of these that is not below a pair.
     pub fn first_named(&self, from: Pair) -> usize {
         self.named.partition_point(|pair| *pair < from)
     }
 
-    /// How many pairs that no write is known to have are named by conditions.
+    /// Returns the number of pairs that conditions name and no write is known to have.
     pub fn named_len(&self) -> usize {
         self.named.len()
     }
 
-    /// The place of a pair among those that conditions name and no write is known to have.
+    /// Returns the index of a pair among those that conditions name and no write is known to have.
     pub fn named_place(&self, pair: Pair) -> Option<usize> {
         self.named.binary_search(&pair).ok()
     }
 
-    // The place, if it is that of the pair.
+    // The index, if it is that of the pair.
     fn place_at(&self, place: usize, pair: Pair) -> Option<usize> {
         if self.entries.get(place)?.pair == pair {
             Some(place)
@@ -238,13 +242,14 @@ impl KnownPairs {
         }
     }
 
-    /// The place of a pair, if it is known. It is looked for near another place first, which becomes that of the pair.
+    /// Returns the index of a pair, if it is known. It is searched for near another index first, which
+    /// becomes that of the pair.
     pub fn place_near(&self, pair: Pair, near: &mut usize) -> Option<usize> {
         *near = place_near(&self.entries, pair, *near);
         self.place_at(*near, pair)
     }
 
-    // The place of a pair, if it is known.
+    // The index of a pair, if it is known.
     fn place_of(&self, pair: Pair) -> Option<usize> {
         self.place_at(
             self.entries.partition_point(|entry| entry.pair < pair),

@@ -4,20 +4,21 @@ use history::Rec;
 use std::alloc::Global;
 use version_pair::NoMemory;
 
-/// The records that wait, kept by what they wait for, and the lost writes by kind, each in the order of calls.
+/// The records that wait, kept by what they wait for, and the lost writes by kind, each in the order of
+/// calls.
 #[derive(Drop)]
 pub struct Lines {
-    // The places of the calls with their records, one line after another.
+    // The indices of the calls with their records, one line after another.
     entries: Vec<(usize, usize)>,
-    // Where each line begins, and behind the last where it ends.
+    // The beginning of each line, and after the last line its end.
     starts: Vec<usize>,
-    // Of each line the entry before which none is left.
+    // For each line, the entry before which none is left.
     firsts: Vec<usize>,
-    // How many known pairs there are.
+    // The number of known pairs.
     known: usize,
 }
 
-// Where each line begins that has these records, and behind the last where it ends.
+// The beginning of each line that has these records, and after the last line its end.
 fn starts_of(
     alloc: Global,
     kinds: &[Option<Kind>],
@@ -40,7 +41,8 @@ fn starts_of(
     Ok(starts)
 }
 
-// The places of the calls with their records, one line after another; the records stand in the order of their calls.
+// The indices of the calls with their records, one line after another. The records are in the order of their
+// calls.
 fn entries_of(
     alloc: Global,
     records: &[Rec],
@@ -66,7 +68,7 @@ fn entries_of(
 }
 
 impl Lines {
-    /// The lines of the records, which stand in the order of their calls, with so many known pairs.
+    /// Returns the lines of the records, which are in the order of their calls, with that many known pairs.
     pub fn of(
         alloc: Global,
         records: &[Rec],
@@ -84,21 +86,21 @@ impl Lines {
         })
     }
 
-    // Where the line begins and ends.
+    // The beginning and the end of the line.
     fn bounds(&self, line: usize) -> Option<(usize, usize)> {
         let start = *self.starts.get(line)?;
         let end = *self.starts.get(line.saturating_add(1))?;
         Some((start, end))
     }
 
-    // Notes that before the entry none of the line is left.
+    // Records that before the entry none of the line is left.
     fn note_first(&mut self, line: usize, entry: usize) {
         if let Some(first) = self.firsts.get_mut(line) {
             *first = entry;
         }
     }
 
-    /// The first of the kind that is left, where it is called before the place.
+    /// Returns the first record of the kind that is left, if it is called before the index.
     pub fn first(&mut self, kind: Kind, placed: &[bool], limit: usize) -> Option<usize> {
         let line = kind.line(self.known);
         let (_, end) = self.bounds(line)?;
@@ -127,7 +129,7 @@ impl Lines {
         }
     }
 
-    /// The records of the kind, with the places of their calls.
+    /// Returns the records of the kind, with the indices of their calls.
     pub fn all(&self, kind: Kind) -> &[(usize, usize)] {
         match self.bounds(kind.line(self.known)) {
             Some((start, end)) => self.entries.get(start..end).unwrap_or(&[]),
@@ -135,7 +137,7 @@ impl Lines {
         }
     }
 
-    /// The records of the kind that may be left.
+    /// Returns the records of the kind that may be left.
     pub fn waiting(&self, kind: Kind) -> &[(usize, usize)] {
         let line = kind.line(self.known);
         match (self.bounds(line), self.firsts.get(line)) {

@@ -9,20 +9,22 @@ use doc_register::Conflicts;
 use history::Rec;
 use version_pair::Pair;
 
-/// What is tried next at a place.
+/// What is tried next at a point of the search.
 #[derive(Clone, Copy)]
 pub enum Turn {
-    /// The writes that the next known pair can have, from so many on.
+    /// The writes that the next known pair can have, from this point on.
     Next(usize),
     /// An unanswered delete.
     Delete,
     /// An unanswered write of the document.
     Index,
-    /// The conflicts whose replies stand there or behind, as performed writes.
+    /// The conflicts whose replies are there or later, as performed writes.
     Conflict(usize),
-    /// The conflicts that were placed as refused, as performed writes, those left out that were placed last, so many.
+    /// The conflicts that were placed as refused, as performed writes. The ones placed last, this many, are
+    /// left out.
     Turned(usize),
-    /// An unanswered write of the document that takes a pair which a delete asks for, from a place among the named pairs on.
+    /// An unanswered write of the document that takes a pair which a delete asks for, from an index among the
+    /// named pairs on.
     Asked(usize),
     /// The same with a conflict as the performed write.
     AskedRefused(usize),
@@ -30,10 +32,10 @@ pub enum Turn {
     Done,
 }
 
-// How many conflicts of a kind are looked at.
+// The number of conflicts of a kind that are examined.
 const MOST_WAITING: usize = 64;
 
-// Whether the document before the write is as it needs it.
+// Whether the state of the document before the write is what the write needs.
 fn fits(walk: &Walk, found: Rec) -> bool {
     let document = walk.standing.document;
     let needed = needs(found);
@@ -53,7 +55,7 @@ fn fits(walk: &Walk, found: Rec) -> bool {
     }
 }
 
-// The write with the next known pair, where it may be placed and fits.
+// The write with the next known pair, if it may be placed and fits.
 fn fitting(walk: &Walk, rec: usize) -> Option<usize> {
     let found = walk.record(rec)?;
     if walk.may_be_placed(rec) && fits(walk, found) {
@@ -63,8 +65,8 @@ fn fitting(walk: &Walk, rec: usize) -> Option<usize> {
     }
 }
 
-// The first of the writes of the number, called there or later, that may have the next known pair; and the turn after
-// it.
+// The first of the writes of the number, called there or later, that may have the next known pair; and the
+// turn after it.
 fn first_of_number(walk: &Walk, number: u64, from: usize) -> Option<(usize, usize)> {
     for (call_at, rec) in walk.numbers.waiting(number, from).iter().take(MOST_WAITING) {
         if fitting(walk, *rec).is_some() {
@@ -74,7 +76,7 @@ fn first_of_number(walk: &Walk, number: u64, from: usize) -> Option<(usize, usiz
     None
 }
 
-// The kind of the unanswered deletes on condition of the present pair.
+// The kind of the unanswered deletes under the condition of the present pair.
 fn delete_on_present(document: Document) -> Option<Kind> {
     match document {
         Document::Known(at) => Some(Kind::LostDeleteOn(at)),
@@ -83,7 +85,7 @@ fn delete_on_present(document: Document) -> Option<Kind> {
     }
 }
 
-// The kind of the unanswered indexes on condition of the present pair.
+// The kind of the unanswered indexes under the condition of the present pair.
 fn index_on_present(document: Document) -> Option<Kind> {
     match document {
         Document::Known(at) => Some(Kind::LostIndexOn(at)),
@@ -92,7 +94,7 @@ fn index_on_present(document: Document) -> Option<Kind> {
     }
 }
 
-// The kind of the conflicts on condition of the present pair.
+// The kind of the conflicts under the condition of the present pair.
 fn conflict_on_present(document: Document) -> Option<Kind> {
     match document {
         Document::Known(at) => Some(Kind::ConflictOn(at)),
@@ -101,7 +103,7 @@ fn conflict_on_present(document: Document) -> Option<Kind> {
     }
 }
 
-// The unanswered delete that would be performed, one on condition of the present pair first.
+// The unanswered delete that would be performed, one under the condition of the present pair first.
 fn lost_delete(walk: &mut Walk) -> Option<usize> {
     if let Some(kind) = delete_on_present(walk.standing.document) {
         if let Some(rec) = walk.first(kind) {
@@ -111,7 +113,8 @@ fn lost_delete(walk: &mut Walk) -> Option<usize> {
     walk.first(Kind::LostDelete)
 }
 
-// The unanswered write of the document that would be performed, one on condition of the present pair first.
+// The unanswered write of the document that would be performed, one under the condition of the present pair
+// first.
 fn lost_index(walk: &mut Walk) -> Option<usize> {
     if let Some(kind) = index_on_present(walk.standing.document) {
         if let Some(rec) = walk.first(kind) {
@@ -126,7 +129,7 @@ fn lost_index(walk: &mut Walk) -> Option<usize> {
     walk.first(Kind::LostIndex)
 }
 
-// The first by reply of the conflicts of a kind that may be placed, with a reply there or behind.
+// The first, in response order, of the conflicts of a kind that may be placed, with a reply there or later.
 fn first_conflict(walk: &Walk, kind: Kind, from: usize, deletes: bool) -> Option<(usize, usize)> {
     let mut first: Option<(usize, usize)> = None;
     for (_, rec) in walk.lines.waiting(kind).iter().take(MOST_WAITING) {
@@ -143,7 +146,7 @@ fn first_conflict(walk: &Walk, kind: Kind, from: usize, deletes: bool) -> Option
     first
 }
 
-// The place of the reply of a conflict that may be placed.
+// The index of the reply of a conflict that may be placed.
 fn performable(walk: &Walk, rec: usize, from: usize, deletes: bool) -> Option<usize> {
     let found = walk.record(rec)?;
     let (reply_at, _) = found.heard?;
@@ -155,7 +158,7 @@ fn performable(walk: &Walk, rec: usize, from: usize, deletes: bool) -> Option<us
     }
 }
 
-// The first by reply of the conflicts that would be performed, with a reply there or behind.
+// The first, in response order, of the conflicts that would be performed, with a reply there or later.
 fn conflict(walk: &mut Walk, from: usize, deletes: bool) -> Option<(usize, usize)> {
     if walk.conflicts == Conflicts::Plain {
         return None;
@@ -171,8 +174,8 @@ fn conflict(walk: &mut Walk, from: usize, deletes: bool) -> Option<(usize, usize
     earlier(free, other)
 }
 
-// The writes that can have the next known pair, of which nothing is known but that some condition names it: one
-// unanswered write, then the conflicts.
+// The writes that can have the next known pair, if only a condition names it: one unanswered write, then the
+// conflicts.
 fn write_of_any_number(walk: &mut Walk, from: usize) -> Option<(usize, usize)> {
     if from == 0 {
         if let Some(rec) = lost_index(walk) {
@@ -210,8 +213,8 @@ fn next_writer(walk: &Walk) -> Option<Rec> {
     walk.record(rec)
 }
 
-// The last one that was placed of the conflicts of creates that may be writes after all, so many of what was placed last
-// left out; and how many to leave out then.
+// The last one that was placed of the conflicts that may be writes after all, if that many of the last placed
+// records are left out; and how many to leave out then.
 fn last_turned(walk: &Walk, from: usize) -> Option<(usize, usize)> {
     for back in from..MOST_WAITING {
         let next = back.saturating_add(1);
@@ -224,7 +227,7 @@ fn last_turned(walk: &Walk, from: usize) -> Option<(usize, usize)> {
     None
 }
 
-// Whether the next write needs the document to be, or not to be, as it is not.
+// Whether the next write needs the document to exist, or not to exist, and the opposite is the case.
 fn next_misses(walk: &Walk) -> bool {
     match next_writer(walk) {
         Some(found) => match needs(found) {
@@ -235,7 +238,7 @@ fn next_misses(walk: &Walk) -> bool {
     }
 }
 
-// Whether an inserted delete serves something, or an inserted write of the document.
+// Whether an inserted delete is of any use, or an inserted write of the document.
 fn serves(walk: &mut Walk, delete: bool) -> bool {
     let document = walk.standing.document;
     if let Some(kind) = conflict_on_present(document) {
@@ -290,8 +293,8 @@ fn has_create(walk: &Walk, number: u64) -> bool {
     false
 }
 
-// Whether a write may be inserted before the next known pair: there is a number for it, and the next write does not ask
-// for the very pair that is present.
+// Whether a write may be inserted before the next known pair: there is a number for it, and the next write
+// does not ask for exactly the pair that is present.
 fn may_insert(walk: &Walk) -> bool {
     if walk.room() == 0 || walk.standing.inserted >= walk.standing.budget {
         return false;
@@ -324,7 +327,8 @@ fn turn_back(walk: &mut Walk, from: usize) -> Option<(usize, usize)> {
     }
 }
 
-// Whether a delete that answers a conflict on condition of the named pair may have been performed there or later.
+// Whether a delete whose reply is a conflict under the condition of the named pair may have been performed
+// there or later.
 fn has_refused_delete(walk: &Walk, at: usize) -> bool {
     if walk.conflicts == Conflicts::Plain {
         return false;
@@ -338,14 +342,14 @@ fn has_refused_delete(walk: &Walk, at: usize) -> bool {
     false
 }
 
-// Whether a delete on condition of the named pair may be performed there or later: an unanswered one, or under Maybe one that answers a
-// conflict.
+// Whether a delete under the condition of the named pair may be performed there or later: an unanswered one,
+// or under Maybe one whose reply is a conflict.
 fn has_delete(walk: &mut Walk, at: usize) -> bool {
     walk.first_of_all(Kind::LostDeleteOnNamed(at)).is_some() || has_refused_delete(walk, at)
 }
 
-// The named pair that a write of the document may take so that a delete which asks for it can be performed behind it, from a place among
-// these pairs on; and the place after it.
+// The named pair that a write of the document may take so that a delete which asks for it can be performed
+// after it, from an index among these pairs on; and the index after it.
 fn pair_for_delete(walk: &mut Walk, from: usize) -> Option<(Pair, usize)> {
     let is_asked = walk.standing.document.is_live()
         && may_insert(walk)
@@ -365,7 +369,8 @@ fn pair_for_delete(walk: &mut Walk, from: usize) -> Option<(Pair, usize)> {
     None
 }
 
-// An unanswered write of the document, or one that answers a conflict, that takes a pair which a delete asks for; and the turn after it.
+// An unanswered write of the document, or one whose reply is a conflict, that takes a pair which a delete
+// asks for; and the turn after it.
 fn asked(walk: &mut Walk, from: usize, is_refused: bool) -> Option<(Placed, usize)> {
     let (pair, next) = pair_for_delete(walk, from)?;
     let rec = if is_refused {
@@ -381,7 +386,7 @@ fn inserted(rec: Option<usize>) -> Option<Placed> {
     Some(Placed::Inserted(rec?, None))
 }
 
-// The write that is tried at a turn, where there is one, and the next turn.
+// The write that is tried at a turn, if there is one, and the next turn.
 fn write_at_turn(walk: &mut Walk, turn: Turn) -> (Option<Placed>, Turn) {
     match turn {
         Turn::Next(from) => match next_known(walk, from) {
@@ -416,7 +421,7 @@ fn write_at_turn(walk: &mut Walk, turn: Turn) -> (Option<Placed>, Turn) {
     }
 }
 
-/// The next write to try at a place, where one is left. The turn goes on.
+/// Returns the next write to try at a point, if one is left, and advances the turn.
 pub fn next_write(walk: &mut Walk, turn: &mut Turn) -> Option<Placed> {
     for _ in 0..7 {
         let (write, next) = write_at_turn(walk, *turn);
@@ -428,8 +433,8 @@ pub fn next_write(walk: &mut Walk, turn: &mut Turn) -> Option<Placed> {
     None
 }
 
-/// Whether nothing can come of the place: a get found the present pair and can't be placed, or the next write is on
-/// condition of a pair that is gone.
+/// Returns whether the point cannot lead anywhere: a get found the present pair and can't be placed, or the
+/// next write is under the condition of a pair that is gone.
 pub fn is_lost(walk: &mut Walk) -> bool {
     if let Document::Known(at) = walk.standing.document {
         if walk.first_of_all(Kind::Found(at)).is_some() {

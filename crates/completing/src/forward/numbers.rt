@@ -5,8 +5,8 @@ use history::Rec;
 use std::alloc::Global;
 use version_pair::NoMemory;
 
-/// The writes that a get can have shown without a reply of theirs that tells it, by number: the unanswered ones, and
-/// under Maybe those that answer a conflict.
+/// The writes that a get can have shown although no reply of theirs shows it, by number: the unanswered ones,
+/// and under Maybe those whose reply is a conflict.
 #[derive(Drop)]
 pub struct Numbers {
     // The numbers, rising, and the writes of each by call.
@@ -31,7 +31,7 @@ fn writes_by_number(
 }
 
 impl Numbers {
-    /// The writes of a document by number.
+    /// Returns the writes of a document by number.
     pub fn of(alloc: Global, records: &[Rec], conflicts: Conflicts) -> Result<Numbers, NoMemory> {
         let mut numbers = Numbers {
             numbers: Vec::new(alloc),
@@ -55,7 +55,7 @@ impl Numbers {
         }
     }
 
-    // The place of a number's line.
+    // The index of a number's line.
     fn place(&self, k: u64) -> Option<usize> {
         let at = self.numbers.partition_point(|number| *number < k);
         if *self.numbers.get(at)? == k {
@@ -65,7 +65,7 @@ impl Numbers {
         }
     }
 
-    /// The write of the number, where it is the only one.
+    /// Returns the write of the number, if it is the only one.
     pub fn only(&self, k: u64) -> Option<usize> {
         match self.lines.get(self.place(k)?)?.all() {
             [(_, rec)] => Some(*rec),
@@ -91,7 +91,7 @@ impl Numbers {
         }
     }
 
-    /// The writes of the number that may be left and are called there or later.
+    /// Returns the writes of the number that may be left and are called there or later.
     pub fn waiting(&self, k: u64, from: usize) -> &[(usize, usize)] {
         match self.place(k) {
             Some(at) => match self.lines.get(at) {

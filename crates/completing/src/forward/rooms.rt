@@ -4,7 +4,7 @@ use crate::limit::{Limit, most_before};
 use std::alloc::Global;
 use version_pair::{NoMemory, Pair};
 
-// How many numbers between two known pairs are free: before a greater term there is no end of them.
+// The number of free numbers between two known pairs. Before a greater term there is no end of them.
 fn free_between(free: Free<'_>, last: Option<Pair>, next: Pair) -> u64 {
     match Gap::between(last, next) {
         Some(gap) => free.count(gap.from, gap.upper),
@@ -12,7 +12,7 @@ fn free_between(free: Free<'_>, last: Option<Pair>, next: Pair) -> u64 {
     }
 }
 
-/// Before each known pair, and after the last, how many writes may be inserted within the limits.
+/// Returns how many writes may be inserted before each known pair, and after the last one, within the limits.
 pub fn rooms(
     alloc: Global,
     known: &KnownPairs,

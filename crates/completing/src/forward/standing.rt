@@ -1,19 +1,19 @@
 use version_pair::Pair;
 
-/// What the document is.
+/// The state of the document.
 #[derive(Clone, Copy, PartialEq, Eq)]
 pub enum Document {
-    /// It is not there.
+    /// It does not exist.
     Absent,
-    /// It is there with the known pair.
+    /// It exists with the known pair.
     Known(usize),
-    /// It is there with an invented pair. If a condition names the pair, its position among those that conditions name and no
-    /// write is known to have.
+    /// It exists with an invented pair. If a condition names the pair, its index among those that conditions
+    /// name and no write is known to have.
     Invented(Option<usize>),
 }
 
 impl Document {
-    /// Whether it is there.
+    /// Returns whether it exists.
     pub fn is_live(self) -> bool {
         self != Document::Absent
     }
@@ -29,31 +29,32 @@ impl Document {
     }
 }
 
-/// Where the search stands.
+/// The state of the search.
 #[derive(Clone, Copy)]
 pub struct Standing {
     pub document: Document,
-    /// How many known pairs are passed.
+    /// The number of known pairs that are passed.
     pub passed: usize,
-    /// How many writes were inserted since.
+    /// The number of writes that were inserted since.
     pub inserted: u64,
-    /// How many are to be inserted before the next known pair.
+    /// The number of writes to be inserted before the next known pair.
     pub budget: u64,
-    /// The greatest pair that is taken: the known one that was passed last, or one of a write inserted since between two pairs of one
-    /// term.
+    /// The greatest pair that is taken: the known one that was passed last, or that of a write inserted since
+    /// between two pairs of one term.
     pub last: Option<Pair>,
-    /// Of the answered records by reply, how many are surely placed.
+    /// How many of the answered records, in response order, are surely placed.
     pub replies: usize,
-    /// Of the conflicts on pairs by call, how many were met.
+    /// How many of the conflicts on pairs, by call, were met.
     pub conflicts_met: usize,
     /// The latest call of what is placed.
     pub latest: usize,
-    /// A number drawn from the records that are placed, whatever their order.
+    /// A number derived from the records that are placed, whatever their order.
     pub mark: u64,
 }
 
-// How many writes may be inserted before a known pair: each budget is tried with more insertions than the one before it allows.
-// Few are tried first since each takes a number that another document may not be able to do without.
+// The budgets: how many writes may be inserted before a known pair. Each budget is tried with more insertions
+// than the one before it allows. Few are tried first, since each insertion takes a number that another
+// document may need.
 const BUDGETS: [u64; 9] = [0, 1, 2, 3, 4, 6, 9, 14, u64::MAX];
 
 // The least number of insertions that are tried under this budget.
@@ -77,7 +78,7 @@ fn budget_after(budget: u64) -> Option<u64> {
     None
 }
 
-/// A number drawn from another one, so that they seldom go together.
+/// Returns a number derived from another one, so that results seldom coincide.
 pub fn mix(number: u64) -> u64 {
     let a = number.wrapping_add(0x9e37_79b9_7f4a_7c15);
     let b = (a ^ (a >> 30)).wrapping_mul(0xbf58_476d_1ce4_e5b9);
@@ -85,13 +86,13 @@ pub fn mix(number: u64) -> u64 {
     c ^ (c >> 31)
 }
 
-/// A number drawn from a record.
+/// Returns a number derived from a record.
 pub fn mark_of(rec: usize) -> u64 {
     mix(u64::try_from(rec).unwrap_or(u64::MAX))
 }
 
 impl Standing {
-    /// The start.
+    /// Returns the state at the start.
     pub fn start() -> Standing {
         Standing {
             document: Document::Absent,
@@ -106,20 +107,20 @@ impl Standing {
         }
     }
 
-    /// Whether as many writes were inserted as are to be.
+    /// Returns whether as many writes were inserted as required.
     pub fn has_inserted(self) -> bool {
         self.inserted >= least_under(self.budget)
     }
 
-    /// How many more have to be inserted before the next known pair, after the next one.
+    /// Returns how many more writes must be inserted before the next known pair, after the next one.
     pub fn behind(self) -> u64 {
         least_under(self.budget)
             .saturating_sub(self.inserted)
             .saturating_sub(1)
     }
 
-    /// The same with more writes to be inserted, where there is room for so many; `None` where it isn't at the beginning of
-    /// its stretch, or all were tried.
+    /// Returns the same state with more writes to be inserted, if there is room for that many; `None` if it
+    /// is not at the beginning of its stretch, or all budgets were tried.
     pub fn with_more(self, room: u64) -> Option<Standing> {
         if self.inserted != 0 || self.budget >= room {
             return None;
@@ -129,7 +130,7 @@ impl Standing {
         Some(more)
     }
 
-    /// A number drawn from all that decides what can come after.
+    /// Returns a number derived from all that determines what can come after.
     pub fn key(self) -> u64 {
         let passed = u64::try_from(self.passed).unwrap_or(u64::MAX);
         let place = mix(mix(passed) ^ self.document.number());

@@ -18,18 +18,18 @@ use write_chain::sort_nearly_ordered;
 /// A record that was placed.
 #[derive(Clone, Copy)]
 pub enum Placed {
-    /// It reads, or is refused.
+    /// It is a read, or is refused.
     Read(usize),
     /// A write with the known pair.
     Known(usize, usize),
-    /// A write with an invented pair: the pair, if it lies between two pairs of one term.
+    /// A write with an invented pair: the pair, if it is between two pairs of one term.
     Inserted(usize, Option<Pair>),
     /// Such a write, which was placed before as one that is refused.
     Turned(usize, Option<Pair>),
 }
 
 impl Placed {
-    /// The record.
+    /// Returns the record.
     pub fn rec(self) -> usize {
         match self {
             Placed::Read(rec)
@@ -49,24 +49,24 @@ pub struct Walk<'a> {
     pub numbers: Numbers,
     pub lines: Lines,
     kinds: Vec<Option<Kind>>,
-    // Before each known pair how many writes may be inserted.
+    // For each known pair, how many writes may be inserted before it.
     rooms: Vec<u64>,
     /// The pairs that no document of the shard is known to use.
     pub free: Free<'a>,
-    // The answered records by place of reply.
+    // The answered records in response order.
     replies: Vec<(usize, usize)>,
-    // The conflicts on pairs by place of call.
+    // The conflicts on pairs in the order of their calls.
     conflicts_by_call: Vec<(usize, usize)>,
     pub placed: Vec<bool>,
     // The conflicts that were placed as refused and are writes after all.
     turned: Vec<bool>,
     pub order: Vec<Placed>,
     pub standing: Standing,
-    /// How many records were placed, those included that were taken back.
+    /// The number of records that were placed, including those that were taken back.
     pub steps: usize,
 }
 
-// The answered records by place of reply.
+// The answered records in response order.
 fn by_reply(alloc: Global, records: &[Rec]) -> Result<Vec<(usize, usize)>, NoMemory> {
     let mut replies = Vec::with_capacity(alloc, records.len())?;
     for rec in 0..records.len() {
@@ -78,7 +78,7 @@ fn by_reply(alloc: Global, records: &[Rec]) -> Result<Vec<(usize, usize)>, NoMem
     Ok(replies)
 }
 
-// The conflicts on pairs by place of call, in which the records stand.
+// The conflicts on pairs in the order of their calls, in which the records are.
 fn conflicts_by_call(
     alloc: Global,
     records: &[Rec],
@@ -104,7 +104,7 @@ fn set(marks: &mut [bool], rec: usize, to: bool) {
 }
 
 impl Walk<'_> {
-    /// A walk before its first step. `None` where the records speak against each other.
+    /// Returns a walk before its first step, or `None` if the records contradict each other.
     pub fn of<'a>(
         alloc: Global,
         records: &'a [Rec],
@@ -138,12 +138,13 @@ impl Walk<'_> {
         }))
     }
 
-    /// The record with the number.
+    /// Returns the record with the number.
     pub fn record(&self, rec: usize) -> Option<Rec> {
         self.records.get(rec).copied()
     }
 
-    /// The least reply of the answered records that are left: what is placed has to be called before it.
+    /// Returns the index of the first reply of the answered records that are left: what is placed must be
+    /// called before it.
     pub fn limit(&self) -> usize {
         match self.replies.get(self.standing.replies) {
             Some(entry) => entry.0,
@@ -151,12 +152,12 @@ impl Walk<'_> {
         }
     }
 
-    /// Whether all answered records are placed.
+    /// Returns whether all answered records are placed.
     pub fn is_done(&self) -> bool {
         self.standing.replies >= self.replies.len()
     }
 
-    /// Whether the record is left and may be placed.
+    /// Returns whether the record is left and may be placed.
     pub fn may_be_placed(&self, rec: usize) -> bool {
         match self.record(rec) {
             Some(found) => is_left(&self.placed, rec) && found.call_at < self.limit(),
@@ -164,18 +165,18 @@ impl Walk<'_> {
         }
     }
 
-    /// The first record of the kind that may be placed.
+    /// Returns the first record of the kind that may be placed.
     pub fn first(&mut self, kind: Kind) -> Option<usize> {
         let limit = self.limit();
         self.lines.first(kind, &self.placed, limit)
     }
 
-    /// The first record of the kind that is left, whether it may be placed here or not.
+    /// Returns the first record of the kind that is left, whether it may be placed here or not.
     pub fn first_of_all(&mut self, kind: Kind) -> Option<usize> {
         self.lines.first(kind, &self.placed, usize::MAX)
     }
 
-    /// How many writes may be inserted before the next known pair.
+    /// Returns how many writes may be inserted before the next known pair.
     pub fn room(&self) -> u64 {
         let room = match self.rooms.get(self.standing.passed) {
             Some(room) => room.saturating_sub(self.standing.inserted),
@@ -211,8 +212,8 @@ impl Walk<'_> {
         Ok(())
     }
 
-    // What a placed record adds to the mark of the standing. An unanswered write on condition of a pair adds nothing: it
-    // is of no use behind that pair.
+    // What a placed record adds to the mark of the state. An unanswered write under the condition of a pair
+    // adds nothing: it is of no use after that pair.
     fn mark(&self, placed: Placed) -> u64 {
         let rec = placed.rec();
         match (placed, self.kinds.get(rec)) {
@@ -222,7 +223,7 @@ impl Walk<'_> {
         }
     }
 
-    // Notes that a record is placed, or is not.
+    // Records that a record is placed, or is not.
     fn set(&mut self, placed: Placed, is_placed: bool) {
         if let Placed::Turned(rec, _) = placed {
             set(&mut self.turned, rec, is_placed);
@@ -253,7 +254,8 @@ impl Walk<'_> {
         }
     }
 
-    // Places the conflicts on other pairs than the document has that were not met before.
+    // Places the conflicts on other pairs than the one that the document has, as far as they were not met
+    // before.
     fn place_conflicts(&mut self) -> Result<(), NoMemory> {
         let limit = self.limit();
         for i in self.standing.conflicts_met..self.conflicts_by_call.len() {
@@ -284,7 +286,7 @@ impl Walk<'_> {
         self.place_conflicts()
     }
 
-    /// Places each read, and each conflict as one that was refused, that may be placed.
+    /// Places each read that may be placed, and each conflict that may be placed as one that was refused.
     pub fn place_reads(&mut self) -> Result<(), NoMemory> {
         for _ in 0..self.records.len().saturating_add(1) {
             let before = self.order.len();
@@ -304,7 +306,7 @@ impl Walk<'_> {
         }
     }
 
-    // The document after the write.
+    // The state of the document after the write.
     fn after(&self, write: Placed) -> Document {
         let leaves_it = match self.record(write.rec()) {
             Some(found) => leaves_it(found.op),
@@ -317,7 +319,7 @@ impl Walk<'_> {
         }
     }
 
-    // The write with the pair that it takes, if it lies between two pairs of one term.
+    // The write with the pair that it takes, if that is between two pairs of one term.
     fn with_pair(&self, write: Placed) -> Placed {
         match write {
             Placed::Inserted(rec, None) => Placed::Inserted(rec, self.pair_to_insert()),
@@ -355,7 +357,7 @@ impl Walk<'_> {
         }
     }
 
-    /// Takes back what was placed since: the standing then, and how many records were placed.
+    /// Takes back what was placed since a point: the state then, and how many records were placed.
     pub fn take_back(&mut self, standing: Standing, placed: usize) {
         for _ in placed..self.order.len() {
             if let Some(last) = self.order.pop() {
@@ -379,7 +381,8 @@ impl Walk<'_> {
         }
     }
 
-    /// Whether the record is a conflict that was placed as one that is refused, and can stand here as well.
+    /// Returns whether the record is a conflict that was placed as one that is refused, and can be here as
+    /// well.
     pub fn can_stand(&self, rec: usize) -> bool {
         match self.record(rec) {
             Some(found) => match found.heard {
@@ -390,8 +393,8 @@ impl Walk<'_> {
         }
     }
 
-    /// Whether it is one that can be performed on the document here: a create if the document is absent, a delete on condition of the
-    /// pair that it has.
+    /// Returns whether it is one that can be performed on the document here: a create if the document is
+    /// absent, a delete under the condition of the pair that it has.
     pub fn may_turn(&self, rec: usize) -> bool {
         let is_performed = match self.standing.document {
             Document::Absent => self.kinds.get(rec) == Some(&Some(Kind::CreateConflict)),
@@ -400,7 +403,7 @@ impl Walk<'_> {
         is_performed && self.can_stand(rec)
     }
 
-    /// Whether the record is a delete.
+    /// Returns whether the record is a delete.
     pub fn is_delete(&self, rec: usize) -> bool {
         match self.record(rec) {
             Some(found) => matches!(found.op, Op::Delete { .. }),

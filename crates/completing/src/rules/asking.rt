@@ -7,8 +7,9 @@ use doc_register::{Conflicts, Op};
 use history::Rec;
 use version_pair::NoMemory;
 
-// Inserts a write after the stretch for a call that finds no stretch: for a missing a delete, for a create's conflict a
-// write of the document, and for a conflict on a pair any such that the next write's flag still fits.
+// Inserts a write after the stretch for a call that finds no stretch: for a missing, a delete; for a create's
+// conflict, a write of the document; and for a conflict on a pair, any write after which the flag of the next
+// write still fits.
 fn serve(
     records: &[Rec],
     plan: &mut Plan,
@@ -32,10 +33,10 @@ fn serve(
     }
 }
 
-/// The stretch of a missing or a conflict that no stretch up to the bound allows, once a write is inserted for it: for
-/// a conflict on a pair directly after the write of that pair, else after the last write that may stand before it.
-/// Under Maybe a conflict for which there is nothing to insert becomes a write itself. `None` where nothing is
-/// inserted.
+/// Returns the stretch of a missing or a conflict that no stretch up to the bound allows, after a write is
+/// inserted for it: for a conflict on a pair directly after the write of that pair, otherwise after the last
+/// write that may come before it. Under Maybe a conflict for which there is nothing to insert becomes a write
+/// itself. Returns `None` if nothing is inserted.
 pub fn ask(
     records: &[Rec],
     plan: &mut Plan,
@@ -56,7 +57,7 @@ pub fn ask(
         None => Some(bound),
     };
     if let Some(stretch) = stretch {
-        // What is inserted there already may serve it: the next round tells.
+        // What is inserted there already may serve it: the next round decides.
         if plan.last_inserted(stretch).is_some()
             || serve(records, plan, lost, *found, heard.0, stretch)?
         {

@@ -5,24 +5,24 @@ use history::Rec;
 use std::alloc::Global;
 use version_pair::NoMemory;
 
-/// The writes that can have been shown with a number: the unanswered ones in the order of calls, and under Maybe after
-/// them those that answer a conflict.
+/// The writes that can have been shown with a number: the unanswered ones in the order of calls, and under
+/// Maybe after them those whose reply is a conflict.
 #[derive(Drop)]
 pub struct ByNumber {
-    // The number, whether a conflict is answered, the place of the call, the record.
+    // The number, whether the reply is a conflict, the index of the call, the record.
     entries: Vec<(u64, bool, usize, usize)>,
-    // At the first entry of a number: before which entry none of it is left.
+    // At the first entry of a number: the entry before which none of the number is left.
     left: Vec<usize>,
 }
 
-/// The number of a write that may be completed.
+/// Returns the number of a write that may be completed.
 pub fn number_of(found: Rec, conflicts: Conflicts) -> Option<u64> {
     let may_be = found.heard.is_none() || is_conflict(found) && conflicts == Conflicts::Maybe;
     if may_be { found.op.value() } else { None }
 }
 
 impl ByNumber {
-    /// Those of the unsettled writes of a document, by number.
+    /// Returns those of the unsettled writes of a document, by number.
     pub fn of(
         alloc: Global,
         records: &[Rec],
@@ -44,7 +44,7 @@ impl ByNumber {
         Ok(ByNumber { entries, left })
     }
 
-    /// The first write of the number that is left.
+    /// Returns the first write of the number that is left.
     pub fn first(&mut self, k: u64, taken: &[bool]) -> Option<usize> {
         let start = self.entries.partition_point(|entry| entry.0 < k);
         for i in *self.left.get(start)?..self.entries.len() {

@@ -4,9 +4,9 @@ use crate::rules::refused::Refused;
 use history::Rec;
 use version_pair::NoMemory;
 
-/// The flag of the write at the end of a stretch: where it asks for the document, or for its absence, and that is not
-/// so, one write is inserted before it, the first conflict without a condition that has no place yet, else the first
-/// unanswered write. False where there is none to insert.
+/// Fits the flag of the write at the end of a stretch. If it asks for the document, or for its absence, and
+/// that is not so, one write is inserted before it: the first conflict without a condition that has no place
+/// yet, otherwise the first unanswered write. Returns `false` if there is none to insert.
 pub fn fit_flag(
     records: &[Rec],
     plan: &mut Plan,
@@ -32,7 +32,7 @@ pub fn fit_flag(
     }
 }
 
-/// The flags of all writes of the chain. False where there is no write to insert for one.
+/// Fits the flags of all writes of the chain. Returns `false` if there is no write to insert for one.
 pub fn fit_flags(
     records: &[Rec],
     plan: &mut Plan,

@@ -11,12 +11,12 @@ pub struct Link {
     pub rec: usize,
 }
 
-/// Whether the operation leaves the document there.
+/// Returns whether the document exists after the operation.
 pub fn leaves_it(op: Op) -> bool {
     matches!(op, Op::Index { .. } | Op::Create { .. })
 }
 
-/// Whether the document has to be there before the write, or has not to be; `None` where either will do.
+/// Returns whether the document must exist before the write, or must not; `None` if either will do.
 pub fn needs(found: Rec) -> Option<bool> {
     match found.heard {
         Some((_, Reply::Indexed { created, .. })) => Some(!created),
@@ -29,13 +29,13 @@ pub fn needs(found: Rec) -> Option<bool> {
     }
 }
 
-/// Whether the record answers a conflict.
+/// Returns whether the record's reply is a conflict.
 pub fn is_conflict(found: Rec) -> bool {
     matches!(found.heard, Some((_, Reply::Conflict)))
 }
 
-/// Whether the record answers a conflict that no document refuses: an index or a delete without a condition, which has
-/// to be performed.
+/// Returns whether the record's reply is a conflict that no document refuses: an index or a delete without a
+/// condition, which must be performed.
 pub fn is_free_conflict(found: Rec) -> bool {
     is_conflict(found) && found.op.condition().is_none() && !matches!(found.op, Op::Create { .. })
 }

@@ -11,7 +11,7 @@ use version_pair::{NoMemory, Pair};
 pub struct Lost {
     // The writes of which no reply says that they were performed.
     unsettled: Vec<usize>,
-    // Whether the record stands in the chain.
+    // Whether the record is in the chain.
     taken: Vec<bool>,
     // Those without a condition.
     deletes: Queue,
@@ -21,23 +21,23 @@ pub struct Lost {
     swaps: Vec<(Pair, usize, usize)>,
 }
 
-/// What an insertion asks for.
+/// What an insertion needs.
 #[derive(Clone, Copy)]
 pub struct Ask {
     /// A delete will do.
     pub delete: bool,
     /// A write of the document will do.
     pub write: bool,
-    /// Whether the document is there before it.
+    /// Whether the document exists before it.
     pub live: bool,
-    /// The pair that the document has before it, where it is known.
+    /// The pair that the document has before it, if it is known.
     pub on: Option<Pair>,
-    /// It has to be called before this place.
+    /// It must be called before this index.
     pub limit: usize,
 }
 
 impl Ask {
-    /// Whether the operation is of a kind that will do.
+    /// Returns whether the operation is of a kind that will do.
     pub fn is_for(&self, op: Op) -> bool {
         match op {
             Op::Get => false,
@@ -48,7 +48,7 @@ impl Ask {
 }
 
 impl Lost {
-    /// The unanswered writes of a document.
+    /// Returns the unanswered writes of a document.
     pub fn of(alloc: Global, records: &[Rec]) -> Result<Lost, NoMemory> {
         let mut lost = Lost {
             unsettled: Vec::new(alloc),
@@ -73,7 +73,7 @@ impl Lost {
         Ok(lost)
     }
 
-    // Notes an unanswered record.
+    // Adds an unanswered record.
     fn note(&mut self, rec: usize, found: Rec) -> Result<(), NoMemory> {
         let call_at = found.call_at;
         match found.op {
@@ -92,7 +92,7 @@ impl Lost {
         }
     }
 
-    /// The writes of which no reply says that they were performed, in their order.
+    /// Returns the writes of which no reply says that they were performed, in their order.
     pub fn unsettled(&self) -> &[usize] {
         &self.unsettled
     }
@@ -104,12 +104,12 @@ impl Lost {
         }
     }
 
-    /// Of each record whether it stands in the chain.
+    /// Returns, for each record, whether it is in the chain.
     pub fn taken(&self) -> &[bool] {
         &self.taken
     }
 
-    /// The first by call of the writes that would be performed there; it has to be called in time.
+    /// Returns the first, by call, of the writes that would be performed there. It must be called in time.
     pub fn candidate(&mut self, records: &[Rec], ask: Ask) -> Option<usize> {
         let mut first = None;
         if ask.delete {
@@ -130,7 +130,7 @@ impl Lost {
         }
     }
 
-    // The first by call of the writes on condition of the pair.
+    // The first, by call, of the writes under the condition of the pair.
     fn swap(&self, records: &[Rec], pair: Pair, ask: Ask) -> Option<(usize, usize)> {
         let start = self.swaps.partition_point(|entry| entry.0 < pair);
         for i in start..self.swaps.len() {

@@ -10,7 +10,7 @@ use std::collections::BTreeSet;
 use version_pair::{NoMemory, Pair};
 use write_chain::{chain_of, rises, sort_nearly_ordered};
 
-// The pairs and numbers that gets found and no write of the chain has, by pair.
+// The pairs and numbers that gets found and that no write of the chain has, by pair.
 fn unwritten(
     alloc: Global,
     records: &[Rec],
@@ -58,18 +58,18 @@ struct Naming<'a> {
     named: Vec<(Pair, usize)>,
     // The pairs that they are given.
     given: BTreeSet<Pair>,
-    // The conditions of the writes that are no pairs of the writes, or were none when they were noted.
+    // The conditions of the writes that are not pairs of the writes, or were not when they were added.
     asked: BTreeSet<Pair>,
 }
 
 impl Naming<'_> {
-    // Whether a write has the pair, which is looked for near a place of the chain first.
+    // Whether a write has the pair, which is searched for near an index of the chain first.
     fn has(&self, pair: Pair, near: usize) -> bool {
         let place = place_near(self.chain, pair, near);
         entry_at(self.chain, place, pair).is_some() || self.given.contains(&pair)
     }
 
-    // Takes the record, whose pair stands near a place of the chain.
+    // Takes the record, whose pair is near an index of the chain.
     fn take(
         &mut self,
         records: &[Rec],
@@ -111,8 +111,8 @@ impl Naming<'_> {
         Ok(())
     }
 
-    // A pair that a get found and no write of the chain has is given to the first unanswered write of its number by
-    // call; under Maybe else to a conflict's. False where none is left.
+    // Gives a pair that a get found and no write of the chain has to the first unanswered write of its
+    // number, by call; under Maybe otherwise to that of a conflict. Returns `false` if none is left.
     fn name_shown(
         &mut self,
         alloc: Global,
@@ -132,8 +132,8 @@ impl Naming<'_> {
         Ok(true)
     }
 
-    // A pair that the condition of a write of the chain names and no write of the chain has is given to the first
-    // unanswered index by call, the least pair first. False where none is left.
+    // Gives a pair that the condition of a write of the chain names and no write of the chain has to the
+    // first unanswered index, by call, the least pair first. Returns `false` if none is left.
     fn name_asked(
         &mut self,
         alloc: Global,
@@ -141,7 +141,7 @@ impl Naming<'_> {
         lost: &mut Lost,
     ) -> Result<bool, NoMemory> {
         let mut indexes = unanswered_indexes(alloc, records, lost.unsettled())?;
-        // Each write asks for one pair at the most.
+        // Each write asks for at most one pair.
         for _ in 0..records.len() {
             let Some(pair) = self.asked.pop_first() else {
                 return Ok(true);
@@ -187,8 +187,9 @@ fn link_of((pair, rec): (Pair, usize)) -> Link {
     }
 }
 
-/// The chain with a write for each pair that is named, by a get that found it or by the condition of a write in the
-/// chain. `None` where none is left to complete, or two performed answered writes carry one pair.
+/// Returns the chain with a write for each pair that is named, by a get that found it or by the condition of
+/// a write in the chain. Returns `None` if none is left to complete, or if two performed answered writes have
+/// the same pair.
 pub fn named_chain(
     alloc: Global,
     records: &[Rec],

@@ -8,7 +8,7 @@ use write_chain::sort_nearly_ordered;
 // How far apart the numbers of two places are, so that calls fit between.
 const STEP: u64 = 1_048_576;
 
-// Where a record outside the chain stands: its stretch, the place of its reply, its number.
+// The sort key of a record outside the chain: its stretch, the index of its reply, its number.
 type Standing = (usize, usize, usize);
 
 // The pair of an invented write with no greater pair after it.
@@ -46,7 +46,7 @@ fn pairs_behind(alloc: Global, links: &[Link]) -> Result<Vec<Option<Pair>>, NoMe
     Ok(behind)
 }
 
-// The answered records outside the chain, by stretch, then by place of reply.
+// The answered records outside the chain, by stretch, then in response order.
 fn reads_in_order(
     alloc: Global,
     records: &[Rec],
@@ -64,7 +64,7 @@ fn reads_in_order(
     Ok(standings)
 }
 
-// The pairs of the writes of the chain, which are told from the first to the last.
+// The pairs of the writes of the chain, which are assigned from the first to the last.
 #[derive(Drop)]
 struct Numbering {
     seen: Seen,
@@ -98,7 +98,7 @@ impl Numbering {
         }
     }
 
-    // The pair of the next write of the chain, the record that stands in this place of the order.
+    // The pair of the next write of the chain, which is the record at this place of the order.
     fn pair(&mut self, links: &[Link], found: Rec, place: usize) -> Option<Pair> {
         let own = links.get(self.next)?;
         self.last = match own.pair {
@@ -110,7 +110,8 @@ impl Numbering {
     }
 }
 
-// The place of the next write of the chain, which is this record, in the order; `None` where no number is left for it.
+// The place of the next write of the chain, which is this record, in the order; `None` if no number is left
+// for it.
 fn place_of_write(
     numbering: &mut Numbering,
     records: &[Rec],
@@ -120,7 +121,7 @@ fn place_of_write(
 ) -> Option<Place> {
     let found = records.get(rec)?;
     let own = numbering.pair(links, *found, place)?;
-    // A reply that shows the pair needs no other word of it.
+    // A reply that shows the pair needs no pair at its place.
     let pair = match found.pair_taken() {
         Some(_) => None,
         None => Some(own),
@@ -145,9 +146,10 @@ fn push_reads(
     Ok(reads.len())
 }
 
-/// The places of the order, by stretch, its write first, then by place of reply. Writes without a pair are numbered: with no pair
-/// after them by a new term, and before a greater term by a sequence number that was not seen. `None` if there is no such number; so
-/// for a write between two pairs of one term.
+/// Returns the places of the order, by stretch, its write first, then in response order. Writes without a
+/// pair are numbered: if no pair comes after them, with a new term, and before a greater term, with a
+/// sequence number that was not seen. Returns `None` if there is no such number; so for a write between two
+/// pairs of one term.
 pub fn places_with_pairs(
     alloc: Global,
     records: &[Rec],

@@ -3,8 +3,8 @@ use crate::rules::link::Link;
 use std::alloc::Global;
 use version_pair::NoMemory;
 
-/// Of each stretch of the chain whether the rules may insert a write there: not between two pairs of one term, whose numbers
-/// other documents may need as well.
+/// Returns, for each stretch of the chain, whether the rules may insert a write there: not between two pairs
+/// of one term, whose numbers other documents may need as well.
 pub fn open_stretches(alloc: Global, links: &[Link]) -> Result<Vec<bool>, NoMemory> {
     let mut open = Vec::with_capacity(alloc, links.len().saturating_add(1))?;
     let mut last = None;

@@ -6,8 +6,8 @@ use crate::rules::stand::Stand;
 use history::Rec;
 use version_pair::NoMemory;
 
-/// Makes a conflict a write: with a condition directly after the write of its pair, a create directly before the first
-/// write whose call stands after its reply. Its stretch, where there is one with a number left.
+/// Makes a conflict a write: with a condition directly after the write of its pair, a create directly before
+/// the first write whose call comes after its reply. Returns its stretch, if there is one with a number left.
 pub fn perform(
     records: &[Rec],
     plan: &mut Plan,
@@ -31,9 +31,9 @@ pub fn perform(
     }
 }
 
-/// Conflicts without a condition that are left become writes, in the order of their replies: each directly before the
-/// first write whose call stands after its reply, or at the end of the chain. False where one finds no number, or there
-/// is no write to insert for the flag that follows it.
+/// Makes the conflicts without a condition that are left writes, in response order: each directly before the
+/// first write whose call comes after its reply, or at the end of the chain. Returns `false` if one finds no
+/// number, or if there is no write to insert for the flag that follows it.
 pub fn perform_refused(
     records: &[Rec],
     plan: &mut Plan,

@@ -9,17 +9,17 @@ use version_pair::{NoMemory, Pair};
 #[derive(Drop)]
 pub struct Plan {
     pub links: Vec<Link>,
-    /// Of each stretch whether the document is there.
+    /// For each stretch, whether the document exists.
     pub live: Vec<bool>,
-    // Of each stretch but the last what the write after it needs the document to be.
+    // For each stretch but the last, whether the write after it needs the document to exist or not to exist.
     needs: Vec<Option<bool>>,
-    // Of each stretch the least reply of the writes after it.
+    // For each stretch, the least reply of the writes after it.
     limits: Vec<usize>,
-    // Of each stretch but the first the greatest call of the writes before it.
+    // For each stretch but the first, the greatest call of the writes before it.
     calls: Vec<usize>,
-    // Of each stretch whether a write may be inserted in it.
+    // For each stretch, whether a write may be inserted in it.
     open: Vec<bool>,
-    // Of each stretch what was inserted in it last.
+    // For each stretch, what was inserted in it last.
     inserted: Vec<Option<usize>>,
     // The greatest call of what is inserted.
     inserted_call: usize,
@@ -27,7 +27,7 @@ pub struct Plan {
     news: Vec<(usize, usize, usize, usize)>,
 }
 
-/// Where an insertion stands in its stretch.
+/// Where an insertion is in its stretch.
 #[derive(Clone, Copy)]
 pub enum Side {
     /// Directly after the stretch's write.
@@ -37,7 +37,7 @@ pub enum Side {
 }
 
 impl Plan {
-    /// The plan of a round over the chain.
+    /// Returns the plan of a round over the chain.
     pub fn of(alloc: Global, records: &[Rec], links: Vec<Link>) -> Result<Plan, NoMemory> {
         let stretches = links.len().saturating_add(1);
         let mut plan = Plan {
@@ -56,7 +56,7 @@ impl Plan {
         Ok(plan)
     }
 
-    // Notes the writes of the chain, and as the limit of each stretch the reply of the write after it.
+    // Adds the writes of the chain, and, as the limit of each stretch, the reply of the write after it.
     fn note_writes(&mut self, records: &[Rec]) -> Result<(), NoMemory> {
         let mut latest = 0;
         self.live.push(false)?;
@@ -112,7 +112,7 @@ impl Plan {
         Ok(true)
     }
 
-    /// What was inserted in the stretch last.
+    /// Returns what was inserted in the stretch last.
     pub fn last_inserted(&self, stretch: usize) -> Option<usize> {
         match self.inserted.get(stretch) {
             Some(rec) => *rec,
@@ -120,7 +120,7 @@ impl Plan {
         }
     }
 
-    /// Whether the document is there at the end of the stretch, with what is inserted.
+    /// Returns whether the document exists at the end of the stretch, with what is inserted.
     pub fn ends_live(&self, records: &[Rec], stretch: usize) -> bool {
         match self.last_inserted(stretch) {
             Some(rec) => match records.get(rec) {
@@ -131,12 +131,12 @@ impl Plan {
         }
     }
 
-    /// What the write at the end of the stretch needs the document to be.
+    /// Returns whether the write at the end of the stretch needs the document to exist or not to exist.
     pub fn next_needs(&self, stretch: usize) -> Option<bool> {
         self.needs.get(stretch).copied().unwrap_or(None)
     }
 
-    /// The pair that the document has in the stretch, where it is there and its pair is known.
+    /// Returns the pair that the document has in the stretch, if it exists and its pair is known.
     pub fn pair_in(&self, stretch: usize) -> Option<Pair> {
         match self.live.get(stretch) {
             Some(true) => self.links.get(stretch.checked_sub(1)?)?.pair,
@@ -144,12 +144,13 @@ impl Plan {
         }
     }
 
-    /// The first stretch whose next write is called after the place.
+    /// Returns the first stretch whose next write is called after the index.
     pub fn stretch_at(&self, place: usize) -> usize {
         self.calls.partition_point(|call| *call <= place)
     }
 
-    /// The greatest call of the writes before the end of the stretch, where nothing is inserted behind it.
+    /// Returns the greatest call of the writes before the end of the stretch, if nothing is inserted after
+    /// it.
     pub fn latest_call(&self, stretch: usize) -> usize {
         let before = match stretch.checked_sub(1) {
             Some(link) => self.calls.get(link).copied().unwrap_or(0),
@@ -158,7 +159,7 @@ impl Plan {
         before.max(self.inserted_call)
     }
 
-    /// What an insertion at the end of the stretch asks for.
+    /// Returns what an insertion at the end of the stretch needs.
     pub fn ask(
         &self,
         records: &[Rec],
@@ -181,12 +182,12 @@ impl Plan {
         }
     }
 
-    /// Whether nothing is inserted.
+    /// Returns whether nothing is inserted.
     pub fn is_done(&self) -> bool {
         self.news.is_empty()
     }
 
-    /// The chain with all that is inserted.
+    /// Returns the chain with all that is inserted.
     pub fn merge(&mut self, alloc: Global) -> Result<Vec<Link>, NoMemory> {
         self.news.sort_unstable();
         let room = self.links.len().saturating_add(self.news.len());

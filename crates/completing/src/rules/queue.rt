@@ -1,21 +1,21 @@
 use std::alloc::Global;
 use version_pair::NoMemory;
 
-/// Records by a place each, with the first that is left.
+/// Records, each with an index, and the first one that is left.
 #[derive(Drop)]
 pub struct Queue {
     entries: Vec<(usize, usize)>,
-    // Before it none is left.
+    // The entry before which none is left.
     first: usize,
 }
 
-/// Whether the record is not taken.
+/// Returns whether the record is not taken.
 pub fn is_left(taken: &[bool], rec: usize) -> bool {
     taken.get(rec) == Some(&false)
 }
 
 impl Queue {
-    /// A queue without records.
+    /// Returns a queue without records.
     pub fn new(alloc: Global) -> Queue {
         Queue {
             entries: Vec::new(alloc),
@@ -23,13 +23,13 @@ impl Queue {
         }
     }
 
-    /// Adds a record. All are to be sorted before the first is asked for.
+    /// Adds a record. The queue must be sorted before the first record is asked for.
     pub fn push(&mut self, place: usize, rec: usize) -> Result<(), NoMemory> {
         self.entries.push((place, rec))?;
         Ok(())
     }
 
-    /// Sorts the records by place.
+    /// Sorts the records by index.
     pub fn sort(&mut self) {
         self.entries.sort_unstable();
     }
@@ -40,18 +40,18 @@ impl Queue {
         self.first = self.first.min(at);
     }
 
-    /// The places and records, from a place on, that may be left.
+    /// Returns the indices and records, from an index on, that may be left.
     pub fn rest(&self, from: usize) -> &[(usize, usize)] {
         let at = self.entries.partition_point(|entry| entry.0 < from);
         self.entries.get(at.max(self.first)..).unwrap_or(&[])
     }
 
-    /// All places and records.
+    /// Returns all indices and records.
     pub fn all(&self) -> &[(usize, usize)] {
         &self.entries
     }
 
-    /// The place and the record of the first that is left.
+    /// Returns the index and the record of the first one that is left.
     pub fn first(&mut self, taken: &[bool]) -> Option<(usize, usize)> {
         for i in self.first..self.entries.len() {
             let (place, rec) = *self.entries.get(i)?;

@@ -7,19 +7,19 @@ use std::alloc::Global;
 use version_pair::NoMemory;
 use write_chain::sort_nearly_ordered;
 
-/// The conflicts without a condition that had no place in the chain at first, in the order of their replies. They are taken
-/// along walks from the first write of the chain to the last.
+/// The conflicts without a condition that had no place in the chain at first, in response order. They are
+/// taken along walks from the first write of the chain to the last.
 #[derive(Drop)]
 pub struct Refused {
-    // The place of the reply, and the record.
+    // The index of the reply, and the record.
     entries: Vec<(usize, usize)>,
-    // Before them no delete, and no index, is left that can stand where the walk is.
+    // Before these entries no delete, and no index, is left that can be where the walk is.
     next_delete: usize,
     next_index: usize,
 }
 
 impl Refused {
-    /// The conflicts of a document that are left.
+    /// Returns the conflicts of a document that are left.
     pub fn of(alloc: Global, records: &[Rec], lost: &Lost) -> Result<Refused, NoMemory> {
         let mut entries = Vec::new(alloc);
         for rec in lost.unsettled() {
@@ -46,17 +46,17 @@ impl Refused {
         self.next_index = 0;
     }
 
-    /// How many there were at first.
+    /// Returns how many there were at first.
     pub fn len(&self) -> usize {
         self.entries.len()
     }
 
-    /// Whether there were none.
+    /// Returns whether there were none.
     pub fn is_empty(&self) -> bool {
         self.entries.is_empty()
     }
 
-    /// The place of the reply and the record of one of them, by reply, where it is still left.
+    /// Returns the index of the reply and the record of one of them, in response order, if it is still left.
     pub fn left(&self, i: usize, taken: &[bool]) -> Option<(usize, usize)> {
         let (reply_at, rec) = *self.entries.get(i)?;
         if is_left(taken, rec) {
@@ -66,7 +66,8 @@ impl Refused {
         }
     }
 
-    // The next one of the kind, from a place on, that is left and whose reply stands after the greatest call before it.
+    // The next one of the kind, from an index on, that is left and whose reply comes after the greatest call
+    // before it.
     fn next(
         &self,
         records: &[Rec],
@@ -88,8 +89,8 @@ impl Refused {
         self.entries.len()
     }
 
-    /// The first by reply that is of the kind and whose reply stands after the calls of all writes before it, where it
-    /// is called in time.
+    /// Returns the first one, in response order, that is of the kind and whose reply comes after the calls of
+    /// all writes before it, if it is called in time.
     pub fn first(
         &mut self,
         records: &[Rec],

@@ -11,19 +11,19 @@ use history::Rec;
 use std::alloc::Global;
 use version_pair::NoMemory;
 
-/// What a round gives.
+/// The result of a round.
 #[derive(Drop)]
 pub enum Round {
     /// Writes were inserted: the chain with them.
     More(Vec<Link>),
-    /// All stand: the chain, and the stretch of each answered record that is not in it.
+    /// All records have a stretch: the chain, and the stretch of each answered record that is not in it.
     Done(Vec<Link>, Vec<Option<usize>>),
     /// A rule found no write to take.
     Stuck,
 }
 
-// Gives a record outside the chain, answered there, its stretch, where need be with a write that is inserted for it.
-// False where it gets none.
+// Gives a record outside the chain, answered there, its stretch, if needed with a write that is inserted for
+// it. Returns `false` if it gets none.
 fn place_read(
     records: &[Rec],
     plan: &mut Plan,
@@ -51,8 +51,9 @@ fn place_read(
     }
 }
 
-// The stretches of the answered records outside the chain, each as late as it may be, by falling call. Conflicts
-// without a condition are left out. False where one has none and no write is there to be inserted for it.
+// Gives the answered records outside the chain their stretches, each as late as it may be, by falling call.
+// Conflicts without a condition are left out. Returns `false` if one has none and there is no write to insert
+// for it.
 fn place_reads(
     records: &[Rec],
     plan: &mut Plan,
@@ -64,7 +65,7 @@ fn place_reads(
         let rec = records.len() - 1 - back;
         let found = records[rec];
         if let Some(stretch) = stand.of_link(rec) {
-            // What was answered before a write's call stands before the write's own stretch.
+            // What was answered before a write's call comes before the write's own stretch.
             stand.meet(found.call_at, stretch.saturating_sub(1))?;
             continue;
         }
@@ -84,9 +85,9 @@ fn place_reads(
     Ok(true)
 }
 
-/// One round. The flags that do not fit ask for their writes; where all fit, the calls that find no stretch do; where
-/// all of these stand, the conflicts without a condition that are left become writes. What is inserted goes into the
-/// chain together.
+/// Runs one round. The flags that do not fit ask for their writes; if all fit, the calls that find no stretch
+/// do; if all of these have one, the conflicts without a condition that are left become writes. What is
+/// inserted goes into the chain together.
 pub fn next_round(
     alloc: Global,
     records: &[Rec],

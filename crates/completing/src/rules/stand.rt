@@ -7,30 +7,30 @@ use std::alloc::Global;
 use version_pair::{NoMemory, Pair};
 use write_chain::sort_nearly_ordered;
 
-// How many of the calls that were met last are looked at before all of them are searched.
+// The number of calls, of those that were met last, that are examined before all of them are searched.
 const NEAR: usize = 16;
 
-/// Where the records of a round stand.
+/// The stretches of the records of a round.
 #[derive(Drop)]
 pub struct Stand {
-    // Of each record in the chain the stretch that it begins.
+    // For each record in the chain, the stretch that it begins.
     links: Vec<Option<usize>>,
-    // Of each record outside the chain its stretch.
+    // For each record outside the chain, its stretch.
     given: Vec<Option<usize>>,
     // The stretches of the known pairs, by pair.
     known: Vec<(Pair, usize)>,
-    // The latest stretch up to each without the document, and with it.
+    // The latest stretch up to each in which the document does not exist, and in which it does.
     absent: Vec<Option<usize>>,
     present: Vec<Option<usize>>,
-    // Of each reply of a write of the chain or of a get that found a pair, from the first to the last, the greatest
-    // stretch of those up to it; without those behind the last call that was asked for.
+    // For each reply of a write of the chain or of a get that found a pair, from the first to the last, the
+    // greatest stretch of those up to it; without those after the last call that was asked for.
     floors: Vec<(usize, usize)>,
-    // Of each call that was met and lowered it, from the last to the first, the greatest stretch for what was answered
-    // before those up to it.
+    // For each call that was met and lowered it, from the last to the first, the greatest stretch for what
+    // was answered before those up to it.
     bounds: Vec<(usize, usize)>,
 }
 
-// For each stretch the latest one up to it in which the document is there, or is not, as is asked.
+// For each stretch, the latest one up to it in which the document exists, or does not, as asked.
 fn latest_stretches(
     alloc: Global,
     live: &[bool],
@@ -56,7 +56,7 @@ fn pair_found(reply: Reply) -> Option<Pair> {
 }
 
 impl Stand {
-    /// Where the writes of the chain stand, and no others yet.
+    /// Returns the stretches of the writes of the chain, and of no others yet.
     pub fn of(alloc: Global, records: &[Rec], plan: &Plan) -> Result<Stand, NoMemory> {
         let mut stand = Stand {
             links: vec![in alloc; None; records.len()]?,
@@ -72,7 +72,7 @@ impl Stand {
         Ok(stand)
     }
 
-    // Notes the stretches that the writes begin.
+    // Sets the stretches that the writes begin.
     fn note_links(&mut self, links: &[Link]) -> Result<(), NoMemory> {
         for j in 0..links.len() {
             let link = links[j];
@@ -86,7 +86,7 @@ impl Stand {
         Ok(())
     }
 
-    // Notes the stretches of the gets that found a pair, and the greatest stretch up to each reply.
+    // Sets the stretches of the gets that found a pair, and the greatest stretch up to each reply.
     fn note_floors(&mut self, records: &[Rec]) -> Result<(), NoMemory> {
         let mut near = 0;
         for rec in 0..records.len() {
@@ -112,25 +112,25 @@ impl Stand {
         Ok(())
     }
 
-    /// The stretch that begins with the write of this pair.
+    /// Returns the stretch that begins with the write of this pair.
     pub fn of_pair(&self, pair: Pair) -> Option<usize> {
         let at = self.known.partition_point(|entry| entry.0 < pair);
         let (own, stretch) = *self.known.get(at)?;
         if own == pair { Some(stretch) } else { None }
     }
 
-    /// The stretch that the record begins, where it is a write of the chain.
+    /// Returns the stretch that the record begins, if it is a write of the chain.
     pub fn of_link(&self, rec: usize) -> Option<usize> {
         self.links.get(rec).copied().unwrap_or(None)
     }
 
-    /// The stretch of the record, where it is a get that found a pair or was given one.
+    /// Returns the stretch of the record, if it is a get that found a pair or was given one.
     pub fn of_read(&self, rec: usize) -> Option<usize> {
         self.given.get(rec).copied().unwrap_or(None)
     }
 
-    // The least stretch for a call there, asked for after all later ones: none is before a stretch that was answered
-    // before.
+    // The least stretch for a call there, which must be asked for after all later ones: none is before a
+    // stretch that was answered before.
     fn floor(&mut self, call_at: usize) -> usize {
         for _ in 0..self.floors.len() {
             match self.floors.last() {
@@ -141,7 +141,7 @@ impl Stand {
         0
     }
 
-    // The greatest stretch for a reply there, where one of the last few calls that were met stands behind it.
+    // The greatest stretch for a reply there, if one of the last few calls that were met comes after it.
     fn near_bound(&self, reply_at: usize) -> Option<usize> {
         let met = self.bounds.len();
         for back in 0..met.min(NEAR) {
@@ -153,7 +153,8 @@ impl Stand {
         None
     }
 
-    /// The greatest stretch for a reply there, of those up to the last one: none is behind what was called after it.
+    /// Returns the greatest stretch for a reply there, of those up to the last one: none is after what was
+    /// called after it.
     pub fn bound(&self, reply_at: usize, last: usize) -> usize {
         if let Some(bound) = self.near_bound(reply_at) {
             return bound;
@@ -165,7 +166,7 @@ impl Stand {
         }
     }
 
-    /// Notes a call, after all later ones, before which nothing stands behind the stretch.
+    /// Meets a call, after all later ones, before which nothing is after the stretch.
     pub fn meet(&mut self, call_at: usize, stretch: usize) -> Result<(), NoMemory> {
         let is_lower = match self.bounds.last() {
             Some(entry) => stretch < entry.1,
@@ -184,12 +185,12 @@ impl Stand {
         }
     }
 
-    /// The stretch of each record outside the chain.
+    /// Returns the stretch of each record outside the chain.
     pub fn into_given(self) -> Vec<Option<usize>> {
         self.given
     }
 
-    // The latest stretch up to the bound that the state allows a missing or a conflict.
+    // The latest stretch up to the bound in which the state allows a missing or a conflict.
     fn latest_allowed(&self, plan: &Plan, found: Rec, bound: usize) -> Option<usize> {
         match found.op {
             Op::Get => self.absent.get(bound).copied()?,
@@ -205,8 +206,8 @@ impl Stand {
         }
     }
 
-    /// The latest stretch of an answered record outside the chain that has none yet: up to the bound and not too early, where
-    /// there is one.
+    /// Returns the latest stretch of an answered record outside the chain that has none yet: up to the bound
+    /// and not too early, if there is one.
     pub fn latest(&mut self, plan: &Plan, found: Rec, bound: usize) -> Option<usize> {
         if let Some((_, Reply::Found { .. })) = found.heard {
             return None;

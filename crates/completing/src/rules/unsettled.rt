@@ -3,8 +3,8 @@ use history::Rec;
 use std::alloc::Global;
 use version_pair::NoMemory;
 
-/// The writes of which no reply says that they were performed, in their order: the unanswered ones, and those that answer
-/// a conflict.
+/// Returns the writes of which no reply says that they were performed, in their order: the unanswered ones,
+/// and those whose reply is a conflict.
 pub fn unsettled_writes(alloc: Global, records: &[Rec]) -> Result<Vec<usize>, NoMemory> {
     let mut unsettled = Vec::new(alloc);
     for rec in 0..records.len() {

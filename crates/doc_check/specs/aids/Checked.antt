@@ -7,7 +7,8 @@ use Rattle.witness.specs.Places.{AreValid}
 use Rattle.doc_check.specs.declared.search.Checked.{Checked}
 use Rattle.doc_check.specs.declared.search.Checked.TheVariants.{Valid, Invalid}
 
--- It is a witness with just these places, which are valid; or they aren't, and the id and the records are there again.
+-- The result is a witness with exactly these places, which are valid; or they aren't, and the result has the
+-- id and the records again.
 abbrev pub IsChecked : List ℕ → List Rec → List Place → Conflicts → Checked → Type 0
 IsChecked doc records places conflicts (Valid w) =
     (w.doc ≡ doc) × (w.records ≡ records) × (w.conflicts ≡ conflicts) × (w.places ≡ places) × AreValid conflicts records places

@@ -1,4 +1,4 @@
--- The order of the sweep: by stretch, its write first, then by place of reply.
+-- The order of the sweep: by stretch, its write first, then in response order.
 use Rattle.std.specs.Prelude.{◌≡◌, ℕ, suc, List, [], ◌∷◌, Option, Some, None, map, IsPermutation, IsSorted}
 use Rattle.std.specs.declared.cmp.Ordering.{Ordering}
 use Rattle.std.specs.Ordering.{nat_cmp, ordering_then}
@@ -8,7 +8,8 @@ use Rattle.history.specs.declared.record.Rec.{Rec}
 use Rattle.witness.specs.declared.place.Place.{Place}
 use Rattle.history.specs.Heard.{pair_of}
 
--- where a record stands: its stretch, 0 for the stretch's write and 1 for what comes after it, the place of its reply, its number
+-- the sort key of a record: its stretch, 0 for the stretch's write and 1 for what comes after it, the index
+-- of its reply, its number
 abbrev pub Standing : Type 0
 Standing = ℕ × ℕ × ℕ × ℕ
 
@@ -17,7 +18,7 @@ abbrev pub turn : Option Pair → ℕ
 turn None = 1
 turn (Some q) = 0
 
--- where an answered record stands that was given a stretch
+-- the sort key of an answered record that was given a stretch
 abbrev pub standing_made : ℕ → Option (ℕ × Reply) → Option ℕ → Option Standing
 standing_made k None given = None
 standing_made k (Some heard) None = None
@@ -27,13 +28,13 @@ abbrev pub with_standing : Option Standing → List Standing → List Standing
 with_standing None rest = rest
 with_standing (Some s) rest = s ∷ rest
 
--- where the answered records stand, the first record being numbered k
+-- the sort keys of the answered records, if the first record is numbered k
 abbrev pub standings_from : ℕ → List Rec → List (Option ℕ) → List Standing
 standings_from k [] given = []
 standings_from k (r ∷ rs) [] = []
 standings_from k (r ∷ rs) (g ∷ gs) = with_standing (standing_made k r.heard g) (standings_from (suc k) rs gs)
 
--- by stretch, then by turn, then by place of reply, then by number
+-- by stretch, then by turn, then by the index of the reply, then by number
 abbrev pub by_standing : Standing → Standing → Ordering
 by_standing a b = ordering_then (ordering_then (ordering_then (nat_cmp a.0 b.0) (nat_cmp a.1 b.1)) (nat_cmp a.2 b.2)) (nat_cmp a.3 b.3)
 
@@ -41,7 +42,7 @@ by_standing a b = ordering_then (ordering_then (ordering_then (nat_cmp a.0 b.0) 
 abbrev pub place_of : Standing → Place
 place_of s = record { rec = s.3; pair = None }
 
--- The places are the answered records by stretch, its write first, then by place of reply.
+-- The places are the answered records by stretch, its write first, then by the index of the reply.
 abbrev pub IsStretchOrder : List Rec → List (Option ℕ) → List Place → Type 0
 IsStretchOrder records given places =
     (sorted : List Standing) × IsPermutation (standings_from 0 records given) sorted × IsSorted by_standing sorted × (places ≡ map place_of sorted)

@@ -1,4 +1,5 @@
--- The sweep: the calls and replies of the answered records from the last to the first, and the stretches that are given.
+-- The sweep: the calls and replies of the answered records from the last to the first, and the stretches that
+-- are given.
 use Rattle.std.specs.Prelude.{◌≡◌, ◌<◌, ◌≤◌, ◌⊎◌, ℕ, zero, suc, List, [], ◌∷◌, ◌+◌, Bool, true, false, IsTrue, Option, Some, None, length, slice_get}
 use Rattle.version_pair.specs.declared.pair.Pair.{Pair}
 use Rattle.doc_register.specs.declared.reply.Reply.{Reply}
@@ -10,7 +11,7 @@ use Rattle.doc_check.specs.NoOrders.{AreUnpaired}
 use Rattle.history.specs.Heard.{pair_of}
 use Rattle.doc_check.specs.aids.Stretches.{Fits, cap, state_in, states_of}
 
--- a place of the history, whether a reply stands there, and the number of the record whose call or reply it is
+-- an index in the history, whether a reply is there, and the number of the record whose call or reply it is
 abbrev pub Moment : Type 0
 Moment = ℕ × Bool × ℕ
 
@@ -18,21 +19,22 @@ abbrev pub moments_at : ℕ → ℕ → Option (ℕ × Reply) → List Moment �
 moments_at k call None rest = rest
 moments_at k call (Some heard) rest = (call, false, k) ∷ ((heard.0, true, k) ∷ rest)
 
--- the calls and replies of the answered records, the first record being numbered k
+-- the calls and replies of the answered records, if the first record is numbered k
 abbrev pub moments_from : ℕ → List Rec → List Moment
 moments_from k [] = []
 moments_from k (r ∷ rs) = moments_at k r.call_at r.heard (moments_from (suc k) rs)
 
--- the record's call or reply stands there, and it was answered
+-- the record's call or reply is there, and the record was answered
 abbrev pub IsMoment : List Rec → Moment → Type 0
 IsMoment records m = (r : Rec) × (heard : ℕ × Reply) × (slice_get records m.2 ≡ Some r) × (r.heard ≡ Some heard)
     × (IsTrue m.1 → m.0 ≡ heard.0) × ((IsTrue m.1 → ⊥) → m.0 ≡ r.call_at)
 
--- a stands before b, or at one place where a is no reply or b is one
+-- a comes before b, or they have the same index, and a is not a reply or b is one
 abbrev pub IsUpTo : Moment → Moment → Type 0
 IsUpTo a b = (a.0 < b.0) ⊎ ((a.0 ≡ b.0) × (IsTrue a.1 → IsTrue b.1))
 
--- the calls and replies of the answered records, from the last to the first, a reply first among those of one place
+-- the calls and replies of the answered records, from the last to the first; among those with the same index,
+-- a reply comes first
 pub record AreMoments (records : List Rec) (moments : List Moment) : Type 0 where
   pub sound : (i : ℕ) (m : Moment) → slice_get moments i ≡ Some m → IsMoment records m
   pub calls : (y : ℕ) (r : Rec) (h : ℕ × Reply) → slice_get records y ≡ Some r → r.heard ≡ Some h
@@ -43,7 +45,7 @@ pub record AreMoments (records : List Rec) (moments : List Moment) : Type 0 wher
 
 -- ---- the order to be found
 
--- how many of the first i places are of performed writes
+-- the number of performed writes among the first i places
 abbrev pub link_count : Option Pair → ℕ
 link_count None = 0
 link_count (Some q) = 1
@@ -57,13 +59,14 @@ level records [] i = 0
 level records (p ∷ ps) zero = 0
 level records (p ∷ ps) (suc i) = link_count (pair_at (slice_get records p.rec)) + level records ps i
 
--- in the order of the places the record stands in the stretch
+-- in the order of the places the record is in the stretch
 abbrev pub StandsIn : List Rec → List Place → ℕ → ℕ → Type 0
 StandsIn records places y j = (i : ℕ) × (p : Place) × (slice_get places i ≡ Some p) × (p.rec ≡ y)
     × (j ≡ level records places (suc i))
 
--- What is known of the order of the places, where they are valid and give no pair: each answered record stands in a
--- stretch of the chain that it fits; its reply is not before its call; and what was answered before a call stands before it.
+-- What is known of the order of the places if they are valid and give no pair: each answered record is in a
+-- stretch of the chain that it fits; its reply is not before its call; and what was answered before a call
+-- comes before it.
 pub record AreSpread (records : List Rec) (chain : List (Pair × ℕ)) (places : List Place) : Type 0 where
   pub stands : (y : ℕ) (r : Rec) (h : ℕ × Reply) → slice_get records y ≡ Some r → r.heard ≡ Some h
       → (j : ℕ) × StandsIn records places y j
@@ -82,7 +85,7 @@ pub record AreSpread (records : List Rec) (chain : List (Pair × ℕ)) (places :
 abbrev pub IsGiven : List (Option ℕ) → ℕ → ℕ → Type 0
 IsGiven given y j = slice_get given y ≡ Some (Some j)
 
--- each answered record is given a stretch that it fits; and what was answered before a call stands before it
+-- each answered record is given a stretch that it fits; and what was answered before a call comes before it
 pub record AreGiven (records : List Rec) (chain : List (Pair × ℕ)) (given : List (Option ℕ)) : Type 0 where
   pub size : length given ≡ length records
   pub all : (y : ℕ) (r : Rec) (h : ℕ × Reply) → slice_get records y ≡ Some r → r.heard ≡ Some h → (j : ℕ) × IsGiven given y j
@@ -94,8 +97,8 @@ pub record AreGiven (records : List Rec) (chain : List (Pair × ℕ)) (given : L
 
 -- ---- one moment
 
--- At a reply the record is given the latest stretch up to the bound that it fits, where it has none yet. At a call the
--- bound falls to what may stand before the record.
+-- At a reply the record is given the latest stretch up to the bound that it fits, if it has none yet. At a
+-- call the bound falls to what may come before the record.
 pub record IsMet (records : List Rec) (chain : List (Pair × ℕ)) (given : List (Option ℕ)) (bound : ℕ) (m : Moment) (r : Rec) (stretch lowered : ℕ) : Type 0 where
   pub falls : lowered ≤ bound
   pub replied : IsTrue m.1 → (lowered ≡ bound) × (IsGiven given m.2 stretch ⊎ ((slice_get given m.2 ≡ Some None)
@@ -104,14 +107,14 @@ pub record IsMet (records : List Rec) (chain : List (Pair × ℕ)) (given : List
   pub called : (IsTrue m.1 → ⊥) → IsGiven given m.2 stretch × (lowered ≤ cap (pair_of r.heard) stretch)
       × ((lowered ≡ bound) ⊎ (lowered ≡ cap (pair_of r.heard) stretch))
 
--- the record has no stretch yet, and at its reply none up to the bound that it fits
+-- the record has no stretch yet, and if the moment is its reply, it fits no stretch up to the bound
 pub record IsStuck (records : List Rec) (chain : List (Pair × ℕ)) (given : List (Option ℕ)) (bound : ℕ) (m : Moment) (r : Rec) : Type 0 where
   pub none : slice_get given m.2 ≡ Some None
   pub nowhere : IsTrue m.1 → (l : ℕ) → l ≤ bound → ¬ Fits records chain m.2 r l
 
 -- ---- the order
 
--- the places give no pair, and are valid where any such places are
+-- the places give no pair, and are valid if any such places are
 pub record IsOfSweep (conflicts : Conflicts) (records : List Rec) (places : List Place) : Type 0 where
   pub unpaired : AreUnpaired places
   pub valid : (others : List Place) → AreUnpaired others → AreValid conflicts records others → AreValid conflicts records places

@@ -1,4 +1,4 @@
--- What a map of documents answers: an aid of its contracts.
+-- Replies of a map of documents: an aid of its contracts.
 use Rattle.doc_register.specs.Register.{shown}
 use Rattle.doc_register.specs.declared.op.Op.{Op}
 use Rattle.doc_register.specs.declared.op.Op.TheVariants.{Get, Index, Delete, Create}
@@ -6,7 +6,7 @@ use Rattle.doc_register.specs.declared.reply.Reply.{Reply}
 use Rattle.doc_register.specs.declared.reply.Reply.TheVariants.{Conflict}
 use Rattle.doc_register.specs.declared.state.DocState.{DocState}
 
--- the answer to a call that is no performed write
+-- the reply to a call that is not a performed write
 abbrev pub unperformed_reply : DocState → Op → Reply
 unperformed_reply s Get = shown s
 unperformed_reply s (Index k c) = Conflict

@@ -1,4 +1,4 @@
--- What a history tells of a get that found its document, and of a write that was performed.
+-- What a history says of a get that found its document, and of a write that was performed.
 use Rattle.std.specs.Prelude.{◌≡◌, ◌<◌, ◌⊎◌, ℕ, List, Option, Some, None}
 use Rattle.version_pair.specs.declared.pair.Pair.{Pair}
 use Rattle.version_pair.specs.PairOrder.{IsBelow}
@@ -13,7 +13,7 @@ use Rattle.evidence.specs.Evidence.{IsFound, IsPerformed}
 use Rattle.evidence.specs.declared.answered_call.FoundGet.{FoundGet}
 use Rattle.evidence.specs.declared.answered_call.PerformedWrite.{PerformedWrite}
 
--- the call numbered n is a get of a document, and was answered so
+-- the call numbered n is a get of a document, and has this reply
 pub record IsFoundGet (events : List Event) (n : ℕ) (get : FoundGet) : Type 0 where
   pub doc : List ℕ
   pub shard : ℕ
@@ -21,12 +21,12 @@ pub record IsFoundGet (events : List Event) (n : ℕ) (get : FoundGet) : Type 0 
   pub call : IsCallAt events get.called n shard doc op
   pub heard : heard_of events n ≡ Some (get.replied, Found get.pair get.k)
 
--- the same, or nothing where the call numbered n found no pair
+-- the same, or nothing if the call numbered n found no pair
 abbrev pub IsFoundAs : List Event → ℕ → Option FoundGet → Type 0
 IsFoundAs events n None = (d : List ℕ) (i : ℕ) (p : Pair) (k : ℕ) → ¬ IsFound events n d i p k
 IsFoundAs events n (Some get) = IsFoundGet events n get
 
--- the call numbered n is a write of a document, and was performed so
+-- the call numbered n is a write of a document, and was performed as given
 pub record IsPerformedWrite (events : List Event) (n : ℕ) (write : PerformedWrite) : Type 0 where
   pub doc : List ℕ
   pub reply : Answer
@@ -34,12 +34,12 @@ pub record IsPerformedWrite (events : List Event) (n : ℕ) (write : PerformedWr
   pub heard : heard_of events n ≡ Some (write.replied, reply)
   pub shows : pair_taken reply None ≡ Some write.pair
 
--- the same, or nothing where no reply to the call numbered n shows that it was performed
+-- the same, or nothing if no reply to the call numbered n shows that it was performed
 abbrev pub IsPerformedAs : List Event → ℕ → Option PerformedWrite → Type 0
 IsPerformedAs events n None = (d : List ℕ) (q : Pair) → ¬ IsPerformed events n d q
 IsPerformedAs events n (Some write) = IsPerformedWrite events n write
 
--- the second write has a condition below the first one's pair although the first stands before it
+-- the second write has a condition below the first one's pair although the first comes before it
 pub record AsksTooLittle (first second : PerformedWrite) : Type 0 where
   pub condition : Pair
   pub asks : condition_of second.op ≡ Some condition

@@ -22,18 +22,18 @@ pub struct AnsweredWrite {
     pub performed: PerformedWrite,
 }
 
-/// The answered calls of a history that evidence may name: the gets in the order of their calls, the writes in that of
-/// their replies.
+/// The answered calls of a history that evidence may name: the gets in the order of their calls, the writes
+/// in the order of their replies.
 #[derive(Drop)]
 pub struct AnsweredCalls {
     pub gets: Vec<AnsweredGet>,
     pub writes: Vec<AnsweredWrite>,
-    // Of each document the greatest pair that was shown.
+    // For each document, the greatest pair that was shown.
     newest: Vec<Option<Pair>>,
 }
 
 impl AnsweredCalls {
-    /// The answered calls of the history.
+    /// Returns the answered calls of the history.
     pub fn of(alloc: Global, history: &History) -> Result<AnsweredCalls, NoMemory> {
         let mut calls = AnsweredCalls {
             gets: Vec::new(alloc),
@@ -50,7 +50,7 @@ impl AnsweredCalls {
         Ok(calls)
     }
 
-    // Notes the call, where it is a get that found its document.
+    // Adds the call, if it is a get that found its document.
     fn note_call(
         &mut self,
         history: &History,
@@ -78,7 +78,7 @@ impl AnsweredCalls {
         Ok(())
     }
 
-    // Notes the call that the reply answers, where it is a write that was performed.
+    // Adds the call that the reply answers, if it is a write that was performed.
     fn note_reply(
         &mut self,
         history: &History,

@@ -7,8 +7,8 @@ use crate::search::answered_calls::AnsweredWrite;
 use std::alloc::Global;
 use version_pair::{NoMemory, Pair};
 
-// The writes of a document whose conditions are below some pair: the greatest place of their calls, and the greatest of
-// their pairs.
+// The writes of a document whose conditions are below some pair: the greatest position of their calls, and
+// the greatest of their pairs.
 #[derive(Clone, Copy)]
 struct Asking {
     doc: usize,
@@ -34,19 +34,20 @@ impl Asking {
         }
     }
 
-    // Whether the write stands before one of them.
+    // Whether the write comes before one of them.
     fn are_after(self, write: AnsweredWrite) -> bool {
         self.doc == write.doc
             && (write.performed.replied < self.last_called || write.performed.pair < self.greatest)
     }
 }
 
-// The first write by its number that stands before one whose condition is below its pair.
+// The first write, by its number, that comes before one whose condition is below its pair.
 fn least_ignored(
     alloc: Global,
     writes: &[AnsweredWrite],
 ) -> Result<Option<AnsweredWrite>, NoMemory> {
-    // Each write stands here by its pair, and by its condition after the writes that have just that pair.
+    // Each write is in this list by its pair, and again by its condition, there after the writes that have
+    // exactly that pair.
     let mut marks: Vec<(usize, Pair, bool, usize)> = Vec::new(alloc);
     for i in 0..writes.len() {
         let write = writes[i];
@@ -75,7 +76,7 @@ fn least_ignored(
     Ok(least)
 }
 
-/// The first write by its number that a swap ignored, with the first of these swaps.
+/// Returns the first write, by its number, that a swap ignored, with the first of these swaps.
 pub fn least_stale_swap(
     alloc: Global,
     writes: &[AnsweredWrite],

@@ -14,7 +14,7 @@ fn lesser(one: (u64, u64), other: Option<(u64, u64)>) -> (u64, u64) {
     }
 }
 
-/// The first two writes of one shard with the same pair, by their numbers.
+/// Returns the first two writes, by their numbers, of one shard with the same pair.
 pub fn least_pair_twice(
     alloc: Global,
     writes: &[AnsweredWrite],

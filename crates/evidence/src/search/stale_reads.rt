@@ -5,7 +5,7 @@ use crate::holding::is_overtaken;
 use crate::refuted::Refuted;
 use crate::search::answered_calls::{AnsweredGet, AnsweredWrite};
 
-/// The first stale get by its number, with the first of the writes that it missed.
+/// Returns the first stale get, by its number, with the first of the writes that it missed.
 pub fn least_stale_get(gets: &[AnsweredGet], writes: &[AnsweredWrite]) -> Option<Refuted>
     ensures { IfSome result IsOfCalls }
 {

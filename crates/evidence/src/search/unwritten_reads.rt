@@ -12,13 +12,13 @@ use version_pair::{NoMemory, Pair};
 // The writes of a history that gave their document a number, or may have, by document and number.
 #[derive(Drop)]
 struct Writers {
-    // The place of the first call that was answered with this pair.
+    // The position of the first call that was answered with this pair.
     shown: IndexMap<(usize, u64, Pair), usize, HashKeys>,
-    // The place of the first call whose pair is not known.
+    // The position of the first call whose pair is not known.
     open: IndexMap<(usize, u64), usize, HashKeys>,
 }
 
-// Whether the place is known and before the end.
+// Whether the position is known and before the end.
 fn is_before(place: Option<&usize>, end: usize) -> bool {
     match place {
         Some(place) => *place < end,
@@ -27,7 +27,7 @@ fn is_before(place: Option<&usize>, end: usize) -> bool {
 }
 
 impl Writers {
-    // The writers of the history.
+    // Returns the writers of the history.
     fn of(alloc: Global, history: &History, conflicts: Conflicts) -> Result<Writers, NoMemory> {
         let mut writers = Writers {
             shown: IndexMap::with_hasher(alloc, history.keys()),
@@ -39,7 +39,7 @@ impl Writers {
         Ok(writers)
     }
 
-    // Notes the event at the place, where it is the call of a writer.
+    // Adds the event at the position, if it is the call of a writer.
     fn note(
         &mut self,
         history: &History,
@@ -64,7 +64,7 @@ impl Writers {
         }
     }
 
-    // Notes a write that was answered with the pair.
+    // Adds a write that was answered with the pair.
     fn note_shown(&mut self, doc: usize, k: u64, pair: Pair, place: usize) -> Result<(), NoMemory> {
         if !self.shown.contains_key(&(doc, k, pair)) {
             self.shown.insert((doc, k, pair), place)?;
@@ -72,7 +72,7 @@ impl Writers {
         Ok(())
     }
 
-    // Notes a write whose pair is not known.
+    // Adds a write whose pair is not known.
     fn note_open(&mut self, doc: usize, k: u64, place: usize) -> Result<(), NoMemory> {
         if !self.open.contains_key(&(doc, k)) {
             self.open.insert((doc, k), place)?;
@@ -80,7 +80,8 @@ impl Writers {
         Ok(())
     }
 
-    // Whether one of them, called before the get was answered, may have given the document what the get found.
+    // Returns whether one of them, called before the get was answered, may have given the document what the
+    // get found.
     fn explain(&self, get: AnsweredGet) -> bool {
         let found = get.found;
         is_before(
@@ -90,7 +91,7 @@ impl Writers {
     }
 }
 
-/// The first get without a writer, by its number.
+/// Returns the first get without a writer, by its number.
 pub fn least_without_writer(
     alloc: Global,
     history: &History,

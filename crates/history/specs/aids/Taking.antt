@@ -20,13 +20,13 @@ takes_said events body s = event_said events body s >>= adds events
 abbrev pub takes_reply : List Event → ℕ → ℕ → BodyValues → Result (List Event) TextCause
 takes_reply events n status body = takes_said events body (said.Reply n status)
 
--- the shard of a call is one of those that there are
+-- the shard of a call is one of those that exist
 abbrev pub HasSaidShard : LineSaid → Type 0
 HasSaidShard (said.Call n h d op) = h < most_shards
 HasSaidShard (said.Reply n status) = Unit {0}
 HasSaidShard (said.Lost n) = Unit {0}
 
--- an answer to an event as one to its line
+-- a result for an event as one for its line
 abbrev pub line_result : Result (Unit {0}) HistFault → Result (Unit {0}) LineFault
 line_result (Ok u) = Ok u
 line_result (Err fault) = Err (line_fault fault)

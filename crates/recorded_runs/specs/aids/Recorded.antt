@@ -1,4 +1,4 @@
--- Why there is no recording of a run.
+-- The reasons why there is no recording of a run.
 use Rattle.std.specs.Prelude.{Bool, false, true, Result, Ok, Err}
 use Rattle.recorder.specs.declared.fault.RecFault.TheVariants as recording
 use Rattle.history.specs.declared.fault.HistFault.TheVariants as refused
@@ -13,7 +13,7 @@ use Rattle.repl_group.specs.declared.fault.CoreFault.TheVariants as core
 use Rattle.stream_io.specs.declared.stream_fault.StreamFault.{StreamFault}
 use Rattle.stream_io.specs.declared.stream_fault.StreamFault.TheVariants.{Read, Write, NoMemory, Worker, Recording, Setting}
 
--- a fault of a run of clients: want of memory, wherever it was, or that something was refused
+-- a fault of a run of clients: that memory was refused, wherever it was, or that something was refused
 abbrev pub stream_fault_of : RunFault → StreamFault
 stream_fault_of (run.Record recording.NotMine) = Recording
 stream_fault_of (run.Record recording.Ended) = Recording
@@ -38,7 +38,7 @@ stream_fault_of_play (play.Target target.Full) = Recording
 stream_fault_of_play (play.Target target.NoMemory) = NoMemory
 stream_fault_of_play play.NoMemory = NoMemory
 
--- it comes of recording, and not of the setting
+-- the fault comes from recording, and not from the setting
 abbrev pub IsOfRecording : StreamFault → Type 0
 IsOfRecording Read = ⊥
 IsOfRecording Write = ⊥
@@ -47,7 +47,7 @@ IsOfRecording (Worker doc) = ⊥
 IsOfRecording Recording = Unit {0}
 IsOfRecording Setting = ⊥
 
--- the answer is that the number of copies is refused
+-- the result is that the number of copies is refused
 abbrev pub tells_copies : {X : Type 0} → Result X CoreFault → Bool
 tells_copies (Ok x) = false
 tells_copies (Err Copies) = true

@@ -5,7 +5,7 @@ use Rattle.history.specs.Refusal.{most_events}
 use Rattle.recorder.specs.declared.fault.RecFault.{RecFault}
 use Rattle.recorder.specs.declared.fault.RecFault.TheVariants.{NotMine, Ended, Kind, Full, NoMemory, Rewound}
 
--- the recording has its most events
+-- the recording has the most events that it can have
 abbrev pub when_full : List Event → Option RecFault
 when_full events = if nat_lt (length events) most_events then None else Some Full
 
@@ -14,7 +14,7 @@ abbrev pub append_refusal : List Event → Option ℕ → Option RecFault
 append_refusal events None = when_full events
 append_refusal events (Some last) = if nat_lt last (length events) then when_full events else Some (Rewound (length events))
 
--- the reason that an answer tells; want of memory is none
+-- the reason that an answer reports; being out of memory is none
 abbrev pub append_told : Result ℕ RecFault → Option RecFault
 append_told (Ok n) = None
 append_told (Err NotMine) = Some NotMine

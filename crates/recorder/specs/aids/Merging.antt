@@ -11,8 +11,8 @@ use Rattle.recorder.specs.aids.Notes.{numbers_of}
 abbrev pub next_number : List (ℕ × Event) → Option ℕ
 next_number entries = option_map (λ entry. entry.0) (slice_get entries 0)
 
--- The entries of the lists have together the numbers below how many they are, each once: whatever is added up over either,
--- the sum is the same.
+-- The entries of the lists together have the numbers below the number of entries, each once: whatever is
+-- summed over either, the sum is the same.
 abbrev pub AreDense : List (List (ℕ × Event)) → Type 0
 AreDense lists = (f : ℕ → ℕ) → sum_by f (numbers_of (entries_of lists)) ≡ sum_by f (numbers_below (length (entries_of lists)))
 

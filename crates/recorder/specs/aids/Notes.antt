@@ -1,4 +1,4 @@
--- What a pen notes beside its list, and what that says of the list.
+-- What a pen keeps beside its list, and what that says of the list.
 use Rattle.std.specs.Prelude.{◌≡◌, ℕ, ◌<◌, ◌==◌, Bool, false, true, List, Option, Some, None, All, cond, map, option_map, slice_get, take}
 use Rattle.std.specs.Map.{lookup}
 use Rattle.history.specs.declared.event.Event.{Event}
@@ -20,7 +20,8 @@ pub record NotesState : Type 0 where
   pub pen : PenState
   pub has_room : Bool
 
--- an event as it is recorded under the number n: a call is numbered so, on shard 0; an ending is of an earlier number
+-- an event as it is recorded under the number n: a call is numbered by it, on shard 0; an ending is of an
+-- earlier number
 abbrev pub IsEntryAt : ℕ → Event → Type 0
 IsEntryAt n (Call h m d op) = (m ≡ n) × (h ≡ 0)
 IsEntryAt n (Reply m r) = m < n
@@ -30,11 +31,11 @@ IsEntryAt n (Lost m) = m < n
 abbrev pub own_call_of : List (ℕ × Event) → ℕ → Option OwnCall
 own_call_of list n = option_map (λ op. record { op = op; is_ended = is_ended list n }) (op_of (events_in list) n)
 
--- the call is noted under the number, and what is noted under each other number stays
+-- the call is added under the number, and what is kept under each other number stays as it was
 abbrev pub IsNotedAt : ℕ → OwnCall → List (ℕ × OwnCall) → List (ℕ × OwnCall) → Type 0
 IsNotedAt n call old new = (q : ℕ) → lookup (◌==◌ q) new ≡ cond (n == q) (Some call) (lookup (◌==◌ q) old)
 
--- the event is noted: a call under the number, an ending with its call
+-- the event is added: a call under the number, an ending with its call
 abbrev pub NotesEvent : Unnumbered → ℕ → List (ℕ × OwnCall) → List (ℕ × OwnCall) → Type 0
 NotesEvent (bare.Call d op) n old new = IsNotedAt n (record { op = op; is_ended = false }) old new
 NotesEvent (bare.Reply m r) n old new = (call : OwnCall) → lookup (◌==◌ m) old ≡ Some call → IsNotedAt m (record call { is_ended = true }) old new
@@ -44,13 +45,14 @@ NotesEvent (bare.Lost m) n old new = (call : OwnCall) → lookup (◌==◌ m) ol
 abbrev pub numbers_of : List (ℕ × Event) → List ℕ
 numbers_of list = map (λ entry. entry.0) list
 
--- A pen's list: the numbers rise, each entry is formed as recording forms it, and those before it did not refuse it.
+-- A pen's list: the numbers rise, each entry has the form that recording gives it, and the entries before it
+-- did not refuse it.
 pub record IsPenList (list : List (ℕ × Event)) : Type 0 where
   pub rising : IsRising list
   pub formed : All (λ entry. IsEntryAt entry.0 entry.1) list
   pub accepted : (i : ℕ) (entry : ℕ × Event) → slice_get list i ≡ Some entry → refusal_of (take i list) entry.1 ≡ None
 
--- It is a pen's list, and under each number is noted what it says of its call.
+-- It is a pen's list, and the calls have under each number what the list says of its call.
 pub record AreNoted (list : List (ℕ × Event)) (calls : List (ℕ × OwnCall)) : Type 0 where
   pub list_kept : IsPenList list
   pub found : (n : ℕ) → lookup (◌==◌ n) calls ≡ own_call_of list n

@@ -81,7 +81,7 @@ fn clock_full(rt: HostRuntime) -> Result<(), Fail> {
     Ok(())
 }
 
-// Tells through a pen that the calls with these numbers are lost; whether all was recorded.
+// Records through a pen that the calls with these numbers are lost. Returns whether all were recorded.
 fn record_losses(recorder: &ClockRecorder, pen: &mut ClockPen, first: u64, count: usize) -> bool
     requires { pen.old.clock ≡ recorder.now.clock }
     ensures { pen.new.clock ≡ pen.old.clock }

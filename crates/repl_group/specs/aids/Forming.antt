@@ -1,4 +1,4 @@
--- What is always so of the machine of a group.
+-- What always holds of the machine of a group.
 use Rattle.std.specs.Prelude.{ℕ, ◌<◌, ◌≤◌, ◌^◌, List, length}
 use Rattle.repl_group.specs.Group.{IsCopyCount}
 use Rattle.repl_group.specs.Copies.{ShardCopy}

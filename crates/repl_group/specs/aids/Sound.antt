@@ -1,4 +1,4 @@
--- What the steps of an honest group keep.
+-- What the steps of an honest group preserve.
 use Rattle.std.specs.Prelude.{◌≡◌, ℕ, ◌≤◌, ◌==◌, List, Some, false, slice_get, true}
 use Rattle.std.specs.Map.{lookup}
 use Rattle.version_pair.specs.declared.pair.Pair.{Pair}
@@ -20,9 +20,9 @@ pub record IsOwn (requests : List Request) (t : ℕ) (write : HeldWrite) : Type 
   pub same : write ≡ write_of request write.pair
 
 pub record IsSound (term primary : ℕ) (requests : List Request) (copies : List ShardCopy) : Type 0 where
-  -- the primary is there, and in sync
+  -- the primary exists, and is in sync
   pub leads : (y : ShardCopy) × (slice_get copies primary ≡ Some y) × (y.is_in_sync ≡ true)
-  -- a pair has at most the term, and where it has just that, the primary holds its write
+  -- a pair has at most the term, and if it has exactly the term, the primary holds its write
   pub terms : (t : ℕ) (x : Request) (q : Pair) → slice_get requests t ≡ Some x → pair_given x.stage ≡ Some q → q.term ≤ term
   pub recent : (t : ℕ) (x : Request) (q : Pair) (y : ShardCopy) → slice_get requests t ≡ Some x → pair_given x.stage ≡ Some q → q.term ≡ term
       → slice_get copies primary ≡ Some y → holds y.writes t ≡ true
@@ -37,6 +37,6 @@ pub record IsSound (term primary : ℕ) (requests : List Request) (copies : List
   pub acknowledged : (t c : ℕ) (x : Request) (y : ShardCopy) (q : Pair) → slice_get requests t ≡ Some x → slice_get copies c ≡ Some y
       → pair_acknowledged x.stage ≡ Some q → y.is_in_sync ≡ true → holds y.writes t ≡ true
 
--- where the group does nothing wrong, it is sound
+-- if the group does nothing wrong, it is sound
 abbrev pub IsSoundUnlessFaulty : GroupState → Type 0
 IsSoundUnlessFaulty w = w.fault ≡ fault.None → IsSound w.term w.primary w.requests w.copies

@@ -8,7 +8,7 @@ abbrev pub IsAbove : Option Pair → Pair → Type 0
 IsAbove None r = Unit {0}
 IsAbove (Some b) r = IsBelow b r
 
--- q is the least pair above the lower one; where there is none, no pair is above it
+-- q is the least pair above the lower one; if none is given, no pair is above it
 abbrev pub IsLeastAbove : Option Pair → Option Pair → Type 0
 IsLeastAbove lower None = (r : Pair) → ¬ IsAbove lower r
 IsLeastAbove lower (Some q) = IsAbove lower q × ((r : Pair) → IsAbove lower r → (r ≡ q) ⊎ IsBelow q r)

@@ -18,13 +18,13 @@ pub record AreKnown (records : List Rec) (pairs : List Pair) : Type 0 where
   pub all : IsPermutation (known_pairs records) pairs
   pub in_order : IsSorted pair_cmp pairs
 
--- the position of a document that has the pair, where it is known
+-- the position of a document that has the pair, if the pair is known
 abbrev pub IsVersionOf : List Rec → Pair → Option ℕ → Type 0
 IsVersionOf records p None = ¬ IsKnown records p
 IsVersionOf records p (Some n) = IsKnown records p × (n ≡ version_of records p)
 
--- a pair that isn't known lies behind the lower one, if there is one, with no known pair between; a call that takes it has the
--- position n
+-- an unknown pair is above the lower one, if there is one, with no known pair between; a call that takes it
+-- has the position n
 pub record HasRoom (records : List Rec) (lower : Option Pair) (n : ℕ) : Type 0 where
   pub pair : Pair
   pub unknown : ¬ IsKnown records pair
@@ -32,7 +32,7 @@ pub record HasRoom (records : List Rec) (lower : Option Pair) (n : ℕ) : Type 0
   pub behind : IsAbove lower pair
   pub next : (v : Pair) → IsKnown records v → IsAbove lower v → ¬ IsBelow v pair
 
--- the position of such a call; there is one at most
+-- the position of such a call; there is at most one
 abbrev pub IsGapAbove : List Rec → Option Pair → Option ℕ → Type 0
 IsGapAbove records lower result = (n : ℕ) → (result ≡ Some n) ↔ HasRoom records lower n
 

@@ -1,4 +1,4 @@
--- Positions at which a document may be so, as the code keeps them.
+-- Positions at which a document may be absent, or may exist, as the code keeps them.
 use Rattle.std.specs.Prelude.{◌≤◌, ◌⊎◌, ◌↔◌, ℕ, List, Option, None}
 use Rattle.std.specs.BTreeSet.{BTreeSet}
 use Rattle.version_pair.specs.declared.pair.Pair.{Pair}
@@ -9,7 +9,7 @@ use Rattle.ruled_out.specs.aids.Sets.{IsFrom, IsIn}
 use Rattle.ruled_out.specs.aids.VersionsOf.{AreOf}
 use Rattle.ruled_out.specs.aids.Wild.{IsOffered}
 
--- where a write without condition was offered, all positions with room are there from its floor on
+-- if a write without condition was offered, all positions with room from its floor on are in the set
 abbrev pub KeepsRooms : List Rec → Possible → Type 0
 KeepsRooms records p = (n : ℕ) → IsOffered records None n → IsFrom p.anywhere n → IsIn p.positions n
 

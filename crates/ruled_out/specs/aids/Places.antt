@@ -9,7 +9,7 @@ use Rattle.ruled_out.specs.Positions.{count_below, version_of}
 use Rattle.ruled_out.specs.aids.KnownPairs.{HasRoom}
 use Rattle.ruled_out.specs.aids.Versions.{untold, version_told}
 
--- so many known pairs are below the pair, and it is known or isn't
+-- that many known pairs are below the pair, and it is known or isn't
 pub record IsPlaceOf (records : List Rec) (p : Pair) (place : Place) : Type 0 where
   pub below : place.below ≡ count_below (known_pairs records) p
   pub known : IsTrue place.known ↔ IsKnown records p
@@ -18,12 +18,14 @@ pub record IsPlaceOf (records : List Rec) (p : Pair) (place : Place) : Type 0 wh
 abbrev pub IsAmongFirst : List Pair → ℕ → Pair → Type 0
 IsAmongFirst pairs place p = (i : ℕ) × (slice_get (take place pairs) i ≡ Some p)
 
--- The pair at the place is that of the place before it; or it is the first, or another one stands before it.
+-- The pair at the index is equal to the one before it; or it is the first one, or the one before it is
+-- another pair.
 abbrev pub IsRepeated : List Pair → ℕ → Bool → Type 0
 IsRepeated pairs place result = MatchBool result ((p : Pair) → slice_get pairs place ≡ Some p → IsAmongFirst pairs place p)
     ((p v : Pair) (i : ℕ) → slice_get pairs place ≡ Some p → i + 1 ≡ place → slice_get pairs i ≡ Some v → (v ≡ p) → ⊥)
 
--- What is so by the pair at the place is so by the result, or by a pair before it; and what is so by the result is so by the pair.
+-- What holds of the pair at the index holds by the result, or by a pair before it; and what holds by the
+-- result holds of the pair.
 abbrev pub Gives : (Pair → ℕ → Type 0) → List Pair → ℕ → Option ℕ → Type 0
 Gives P pairs place result = (p : Pair) (n : ℕ) → slice_get pairs place ≡ Some p
     → (result ≡ Some n → P p n) × (P p n → (result ≡ Some n) ⊎ IsAmongFirst pairs place p)
@@ -32,15 +34,15 @@ Gives P pairs place result = (p : Pair) (n : ℕ) → slice_get pairs place ≡ 
 abbrev pub GoneAt : List Rec → Pair → ℕ → Type 0
 GoneAt records p n = IsGone records p × (n ≡ version_of records p)
 
--- one that has the pair, and wasn't deleted with it, has the position
+-- a document that has the pair, and was not deleted with it, has the position
 abbrev pub PresentAt : List Rec → Pair → ℕ → Type 0
 PresentAt records p n = IsKnown records p × (¬ IsGone records p) × (n ≡ version_of records p)
 
--- calls that take a pair which isn't known, and lies behind the pair with no known pair between, have the position
+-- calls that take an unknown pair above the pair, with no known pair between, have the position
 abbrev pub RoomBehind : List Rec → Pair → ℕ → Type 0
 RoomBehind records p n = HasRoom records (Some p) n
 
--- What is told of the known pair at the place; none where the pair stands before it too.
+-- What replies say of the known pair at the index; none if the pair is before it too.
 abbrev pub IsVersionAt : List Rec → List Pair → ℕ → Option Version → Type 0
 IsVersionAt records pairs place None = (p : Pair) → slice_get pairs place ≡ Some p → IsAmongFirst pairs place p
 IsVersionAt records pairs place (Some x) = (p : Pair) → slice_get pairs place ≡ Some p

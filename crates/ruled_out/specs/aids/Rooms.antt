@@ -1,4 +1,4 @@
--- Where there is room for a pair that isn't known.
+-- Where there is room for an unknown pair.
 use Rattle.std.specs.Prelude.{◌≡◌, ◌↔◌, ℕ, List, None, Some, slice_get}
 use Rattle.history.specs.declared.record.Rec.{Rec}
 use Rattle.ruled_out.specs.aids.Wild.{IsOffered}
@@ -7,6 +7,6 @@ use Rattle.ruled_out.specs.aids.Wild.{IsOffered}
 abbrev pub IsAmong : List ℕ → ℕ → Type 0
 IsAmong rooms n = (i : ℕ) × (slice_get rooms i ≡ Some n)
 
--- the positions of calls that may take a pair which isn't known
+-- the positions of calls that may take an unknown pair
 abbrev pub AreRooms : List Rec → List ℕ → Type 0
 AreRooms records rooms = (n : ℕ) → IsAmong rooms n ↔ IsOffered records None n

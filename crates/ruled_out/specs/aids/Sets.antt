@@ -15,12 +15,12 @@ IsWith old new n = (q : ℕ) → IsIn new q ↔ ((q ≡ n) ⊎ IsIn old q)
 abbrev pub IsWithSome : BTreeSet ℕ → BTreeSet ℕ → Option ℕ → Type 0
 IsWithSome old new found = (q : ℕ) → IsIn new q ↔ ((found ≡ Some q) ⊎ IsIn old q)
 
--- the least position of the kind from one on; where there is none, none is of the kind
+-- the least position of the kind that is not below `least`; if none is given, no such position is of the kind
 abbrev pub IsLeastFrom : (ℕ → Type 0) → ℕ → Option ℕ → Type 0
 IsLeastFrom P least None = (q : ℕ) → P q → q < least
 IsLeastFrom P least (Some n) = P n × (least ≤ n) × ((q : ℕ) → P q → least ≤ q → n ≤ q)
 
--- there is a floor, and it isn't above the position
+-- there is a floor, and it is not above the position
 abbrev pub IsFrom : Option ℕ → ℕ → Type 0
 IsFrom None n = ⊥
 IsFrom (Some floor) n = floor ≤ n

@@ -1,4 +1,4 @@
--- What the walk knows as a call is answered, and what it finds then.
+-- What the walk knows when a call is answered, and what it finds then.
 use Rattle.std.specs.Prelude.{◌≡◌, ◌<◌, ◌≤◌, ◌⊎◌, ◌↔◌, ℕ, suc, Bool, true, false, List, Option, None, Some, MatchBool, slice_get}
 use Rattle.version_pair.specs.declared.pair.Pair.{Pair}
 use Rattle.version_pair.specs.PairOrder.{IsBelow}
@@ -15,34 +15,36 @@ use Rattle.ruled_out.specs.aids.VersionsOf.{AreOf}
 use Rattle.ruled_out.specs.aids.Walks.{IsEarliest, IsWalked}
 use Rattle.ruled_out.specs.aids.Wild.{IsWritten}
 
--- the walk knows where the document may be absent, and where it may be there, before the event
+-- the walk knows where the document may be absent, and where it may exist, before the event
 pub record KnowsBefore (records : List Rec) (floor : ℕ → ℕ) (event : ℕ) (walk : Walk) : Type 0 where
   pub versions : AreOf records walk.versions
   pub absent : (n : ℕ) → IsIn walk.absent.positions n ↔ MayBeAbsent records floor event n
   pub present : (n : ℕ) → IsIn walk.present.positions n ↔ MayBePresent records floor event n
 
--- the document may be absent at the position, or there
+-- the document may be absent at the position, or may exist
 abbrev pub IsSomehow : Walk → ℕ → Type 0
 IsSomehow walk n = IsIn walk.absent.positions n ⊎ IsIn walk.present.positions n
 
--- it may be absent there, or be there, as is asked
+-- the document may be absent there, or may exist there, as asked
 abbrev pub MayBeSo : List Rec → (ℕ → ℕ) → ℕ → Bool → ℕ → Type 0
 MayBeSo records floor event true n = MayBeAbsent records floor event n
 MayBeSo records floor event false n = MayBePresent records floor event n
 
--- the condition of a performed write, if it has one, is met at the position: the document is there, with a pair below the write's
+-- the condition of a performed write, if it has one, is met at the position: the document exists, with a pair
+-- below the write's
 abbrev pub IsMetAt : List Rec → Performed → ℕ → Type 0
 IsMetAt records write n = (b : Pair) → write.condition ≡ Some b → IsBelow b write.pair × (n ≡ version_of records b) × (write.absent ≡ false)
 
--- each known pair up to the position has a call that took it: the one that is told, or one that may have written it
+-- each known pair up to the position has a call that took it: the one that a reply names, or one that may
+-- have written it
 abbrev pub IsReachedBy : List Rec → List ℕ → ℕ → Type 0
 IsReachedBy records floors n = (v : Pair) → IsKnown records v → (¬ IsToldOf records v) → version_of records v ≤ n → IsWritten records floors v
 
--- a reply tells which call took the pair, or one without a reply may have written it
+-- a reply says which call took the pair, or one without a reply may have written it
 abbrev pub IsTaken : List Rec → List ℕ → Pair → Type 0
 IsTaken records floors v = IsToldOf records v ⊎ IsWritten records floors v
 
--- a call took each of the first known pairs, so many
+-- a call took each of the first known pairs, this many
 abbrev pub AreTaken : List Rec → Walk → ℕ → Type 0
 AreTaken records walk place = (j : ℕ) (v : Pair) → j < place → slice_get walk.versions.known.pairs.items j ≡ Some v → IsTaken records walk.floors.items v
 
@@ -56,7 +58,7 @@ pub record IsRaised (old n new : ℕ) : Type 0 where
   pub over_old : old ≤ new
   pub over : n ≤ new
 
--- the earliest position of the i-th call; none where it has no position
+-- the earliest position of the i-th call; none if it has no position
 abbrev pub IsEarliestOf : List Rec → (ℕ → ℕ) → ℕ → Rec → ℕ → Reply → Option ℕ → Type 0
 IsEarliestOf records floor i c y reply None = (n : ℕ) → ¬ MayStand records floor i c y reply n
 IsEarliestOf records floor i c y reply (Some n) = IsEarliest records floor i c y reply n

@@ -10,11 +10,11 @@ use Rattle.ruled_out.specs.aids.VersionsOf.{AreOf}
 use Rattle.ruled_out.specs.aids.Wild.{IsAbsent, IsPresent, IsWritten}
 use Rattle.ruled_out.specs.aids.Writing.{AreWriters}
 
--- the floor of each call: that which it was made with, or what is reached
+-- the floor of each call: the one that it was made with, or the position reached
 abbrev pub floor_in : Walk → ℕ → ℕ
 floor_in walk i = slice_index_or walk.floors.items i walk.reached
 
--- The walk knows what the calls without a reply may have done that were made with these floors.
+-- The walk knows what the calls without a reply that were made with these floors may have done.
 pub record Knows (records : List Rec) (floors : List ℕ) (walk : Walk) : Type 0 where
   pub versions : AreOf records walk.versions
   pub absent : (n : ℕ) → IsIn walk.absent.positions n ↔ IsAbsent records floors n
@@ -25,11 +25,11 @@ pub record Knows (records : List Rec) (floors : List ℕ) (walk : Walk) : Type 0
   pub settled : (j : ℕ) (v : Pair) → j < walk.settled → slice_get walk.versions.known.pairs.items j ≡ Some v
       → IsToldOf records v ⊎ IsWritten records floors v
 
--- it knows that of the calls that were made so far
+-- the walk knows that of the calls that were made so far
 abbrev pub IsAt : List Rec → Walk → Type 0
 IsAt records walk = Knows records walk.floors.items walk
 
--- it knows that of the next call too, of which it has no floor yet
+-- the walk knows that of the next call too, for which it has no floor yet
 abbrev pub Offers : List Rec → Walk → Walk → Type 0
 Offers records old new = Knows records (old.floors.items ++ old.reached ∷ []) new
 

@@ -1,4 +1,4 @@
--- What replies tell of one known pair, as the code keeps it.
+-- What replies say of one known pair, as the code keeps it.
 use Rattle.std.specs.Prelude.{◌≡◌, ◌==◌, ◌&&◌, ℕ, Bool, true, false, cond, List, [], ◌∷◌, length, Option, Some, None, slice_get}
 use Rattle.version_pair.specs.declared.pair.Pair.{Pair}
 use Rattle.doc_register.specs.declared.reply.Reply.{Reply}
@@ -23,7 +23,7 @@ number_with Unseen k = One k
 number_with (One n) k = cond (n == k) (One n) Several
 number_with Several k = Several
 
--- what is told of a pair, with a reply that shows it
+-- what is known of a pair, with a reply that shows it
 abbrev pub version_with : Version → Reply → Version
 version_with x (Indexed p created) = record { told = true; gone = x.gone; number = x.number }
 version_with x (Deleted p found) = record { told = true; gone = true; number = x.number }
@@ -36,26 +36,26 @@ abbrev pub shows : Option Pair → Pair → Bool
 shows None p = false
 shows (Some q) p = q.term == p.term && q.seq == p.seq
 
--- what is told of the pair, with what was heard of a call
+-- what is known of the pair, with what was heard of a call
 abbrev pub version_heard : Version → Pair → Option (ℕ × Reply) → Version
 version_heard x p None = x
 version_heard x p (Some heard) = cond (shows (pair_of_reply heard.1) p) (version_with x heard.1) x
 
--- what is told of the pair, with what was heard of the calls
+-- what is known of the pair, with what was heard of the calls
 abbrev pub version_told : Version → Pair → List Rec → Version
 version_told x p [] = x
 version_told x p (r ∷ rs) = version_told (version_heard x p r.heard) p rs
 
--- nothing is told
+-- no reply says anything
 abbrev pub untold : Version
 untold = record { told = false; gone = false; number = Unseen }
 
--- What the replies tell of each known pair stands at the number of known pairs below it.
+-- What the replies say of each known pair is at the index that is the number of known pairs below it.
 pub record AreVersions (records : List Rec) (versions : List Version) : Type 0 where
   pub all : length versions ≡ length (known_pairs records)
   pub each : (p : Pair) → IsKnown records p → slice_get versions (count_below (known_pairs records) p) ≡ Some (version_told untold p records)
 
--- What was heard of a call, which shows known pairs alone, is noted with the versions.
+-- What was heard of a call, which shows known pairs only, is added to the versions.
 abbrev pub IsNoted : List Rec → Option (ℕ × Reply) → List Version → List Version → Type 0
 IsNoted records heard old new = ((q : Pair) → pair_shown heard ≡ Some q → IsKnown records q) → (length new ≡ length old)
     × ((p : Pair) (x : Version) → IsKnown records p → slice_get old (count_below (known_pairs records) p) ≡ Some x

@@ -15,7 +15,7 @@ pub record AreOf (records : List Rec) (versions : Versions) : Type 0 where
   pub told : AreVersions records versions.told.items
   pub rooms : AreRooms records versions.rooms.items
 
--- the position of a document that is there with the pair; none where the pair isn't known, or was that of a delete
+-- the position of a document that exists with the pair; none if the pair is unknown, or was that of a delete
 abbrev pub IsPresentWith : List Rec → Pair → Option ℕ → Type 0
 IsPresentWith records b None = IsKnown records b → IsGone records b
 IsPresentWith records b (Some n) = IsKnown records b × (¬ IsGone records b) × (n ≡ version_of records b)

@@ -1,4 +1,5 @@
--- Calls without a reply that have been made so far, each when the document had reached a floor; and what they may have done.
+-- Calls without a reply that have been made so far, each when the document had reached a floor; and what they
+-- may have done.
 use Rattle.std.specs.Prelude.{◌≡◌, ◌≤◌, ◌⊎◌, ◌↔◌, ℕ, List, Option, None, Some, slice_get}
 use Rattle.std.specs.BTreeSet.{BTreeSet}
 use Rattle.version_pair.specs.declared.pair.Pair.{Pair}
@@ -10,11 +11,12 @@ use Rattle.ruled_out.specs.Told.{IsFoundWith, IsGone, IsKnown}
 use Rattle.ruled_out.specs.aids.Sets.{IsIn}
 use Rattle.ruled_out.specs.Positions.{IsNext, gap_of, version_of}
 
--- a write under the condition, if any, may take the pair: it lies behind the condition, with no known pair between
+-- a write under the condition, if any, may take the pair: the pair is above the condition, with no known pair
+-- between
 abbrev pub Meets : List Rec → Option Pair → Pair → Type 0
 Meets records condition p = (c : Pair) → condition ≡ Some c → IsBelow c p × IsNext records c p
 
--- a write under the condition may take a pair that isn't known, and that has the position n
+-- a write under the condition may take an unknown pair that has the position n
 pub record IsOffered (records : List Rec) (condition : Option Pair) (n : ℕ) : Type 0 where
   pub pair : Pair
   pub unknown : ¬ IsKnown records pair
@@ -31,18 +33,18 @@ pub record HasTaken (records : List Rec) (floors : List ℕ) (w : Rec) (p : Pair
   pub above : floor ≤ gap_of records p
   pub meets : Meets records (condition_of w.op) p
 
--- such a call may have taken a pair that isn't known, and that has the position n
+-- such a call may have taken an unknown pair that has the position n
 pub record HasChanged (records : List Rec) (floors : List ℕ) (n : ℕ) (w : Rec) : Type 0 where
   pub pair : Pair
   pub unknown : ¬ IsKnown records pair
   pub there : n ≡ gap_of records pair
   pub taken : HasTaken records floors w pair
 
--- the set has the positions at which a document may be absent by what replies tell alone
+-- the set has the positions at which a document may be absent, by the replies alone
 abbrev pub IsToldAbsent : List Rec → BTreeSet ℕ → Type 0
 IsToldAbsent records set = (n : ℕ) → IsIn set n ↔ ((n ≡ 0) ⊎ ((v : Pair) × IsGone records v × (n ≡ version_of records v)))
 
--- and those at which it may be there
+-- the set has the positions at which it may exist, by the replies alone
 abbrev pub IsToldPresent : List Rec → BTreeSet ℕ → Type 0
 IsToldPresent records set = (n : ℕ) → IsIn set n ↔ ((v : Pair) × IsKnown records v × (¬ IsGone records v) × (n ≡ version_of records v))
 
@@ -51,7 +53,7 @@ abbrev pub IsAbsent : List Rec → List ℕ → ℕ → Type 0
 IsAbsent records floors n = (n ≡ 0) ⊎ ((v : Pair) × IsGone records v × (n ≡ version_of records v))
     ⊎ ((w : Rec) × (condition : Option Pair) × (w.op ≡ Delete condition) × HasChanged records floors n w)
 
--- it may be there
+-- it may exist there
 abbrev pub IsPresent : List Rec → List ℕ → ℕ → Type 0
 IsPresent records floors n = ((v : Pair) × IsKnown records v × (¬ IsGone records v) × (n ≡ version_of records v))
     ⊎ ((w : Rec) × (value : ℕ) × (value_of w.op ≡ Some value) × HasChanged records floors n w)

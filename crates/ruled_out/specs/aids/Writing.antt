@@ -1,4 +1,4 @@
--- What the writes without a reply may have written that were made so far, as the code keeps it.
+-- What the writes without a reply that were made so far may have written, as the code keeps it.
 use Rattle.std.specs.Prelude.{◌≡◌, ◌≤◌, ◌↔◌, ℕ, Bool, true, List, None, Some, length, slice_get}
 use Rattle.std.specs.BTreeMap.{get}
 use Rattle.std.specs.Ordering.{nat_cmp}

@@ -18,7 +18,7 @@ use history::Rec;
 use version_pair::Pair;
 
 impl Walk {
-    // The earliest position of a call, which was made when the document had reached the floor.
+    // The earliest position of a call that was made when the document had reached the floor.
     fn earliest(&mut self, call: &Rec, reply: Reply, floor: usize) -> Option<usize>
         ensures known { (records : List Record) → IsAt records self.old → IsAt records self.new }
         ensures keeps { KeepsFloors self.old self.new }
@@ -31,7 +31,7 @@ impl Walk {
         if self.is_reached(n) { Some(n) } else { None }
     }
 
-    // Notes that a call stands at the position, which took the pair, if any.
+    // Records that a call is at the position, which took the pair, if any.
     fn lift(&mut self, taken: Option<Pair>, n: usize)
         ensures stays { self.new ≡ record self.old { reached = self.new.reached } }
         ensures raised { (records : List Record) → AreOf records self.old.versions
@@ -45,7 +45,7 @@ impl Walk {
         self.reached = self.reached.max(after);
     }
 
-    // The position that the document had reached as the call was made.
+    // The position that the document had reached when the call was made.
     fn floor_of(&self, number: usize) -> usize
         ensures { result ≡ floor_in self.now number }
     {
@@ -55,7 +55,8 @@ impl Walk {
         }
     }
 
-    /// Lets an answered call stand at its earliest position. Where it has none the document is ruled out.
+    /// Gives an answered call its earliest position, and returns whether it has one. If it has none, the
+    /// document is ruled out.
     pub fn answer(&mut self, number: usize, call: &Rec) -> bool
         ensures { (records : List Record) (y : ℕ) (reply : Answer) → AreInOrder records → IsAt records self.old
             → HasPassed records self.old.floors.items y → IsAnswerAt records number call.now y reply

@@ -1,4 +1,4 @@
-//! Up to which position each known pair has a call that took it.
+//! The position up to which each known pair has a call that took it.
 
 ghost use Rattle.std.specs.Prelude.{◌↔◌, List, IsTrue};
 ghost use Rattle.history.specs.declared.record.Rec.{Rec as Record};
@@ -10,7 +10,7 @@ use super::Walk;
 use version_pair::Pair;
 
 impl Walk {
-    // Whether a reply tells which call took the known pair, or one without a reply may have written it.
+    // Whether a reply says which call took the known pair, or one without a reply may have written it.
     fn is_taken(&self, pair: Pair) -> bool
         ensures { (records : List Record) → IsAt records self.now → IsKnown records pair
             → (IsTrue result ↔ IsTaken records self.now.floors.items pair) }
@@ -37,7 +37,7 @@ impl Walk {
         self.settled.max(self.versions.known.pairs().len())
     }
 
-    // Passes the known pairs that a call took, up to the first that none did.
+    // Passes the known pairs that a call took, up to the first that no call took.
     fn settle(&mut self)
         ensures keeps { KeepsFloors self.old self.new }
         ensures known { (records : List Record) → IsAt records self.old → IsAt records self.new }
@@ -62,7 +62,7 @@ impl Walk {
         n < position
     }
 
-    /// Whether each known pair up to the position has a call that took it.
+    /// Returns whether each known pair up to the position has a call that took it.
     pub fn is_reached(&mut self, n: usize) -> bool
         ensures known { (records : List Record) → IsAt records self.old → IsAt records self.new }
         ensures keeps { KeepsFloors self.old self.new }

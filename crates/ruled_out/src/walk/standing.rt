@@ -1,4 +1,4 @@
-//! Where an answered call may stand at the earliest.
+//! The earliest position that an answered call may have.
 
 ghost use Rattle.std.specs.Prelude.{◌≡◌, ◌↔◌, ℕ, List, Some as Just, IsTrue};
 ghost use Rattle.version_pair.specs.declared.pair.Pair.{Pair as Version};
@@ -16,7 +16,8 @@ use doc_register::{Op, Reply};
 use history::Rec;
 use version_pair::Pair;
 
-// A performed write: its condition and its pair, and whether its reply tells that the document was absent before it.
+// A performed write: its condition and its pair, and whether its reply says that the document was absent
+// before it.
 #[derive(Clone, Copy)]
 struct Performed {
     condition: Option<Pair>,
@@ -25,7 +26,7 @@ struct Performed {
 }
 
 impl Walk {
-    // The least position from the floor on at which the document may be absent, or there.
+    // The least position from the floor on at which the document may be absent, or may exist.
     fn first_somehow(&self, floor: usize) -> Option<usize>
         ensures { IsLeastFrom (IsSomehow self.now) floor result }
     {
@@ -67,7 +68,7 @@ impl Walk {
         }
     }
 
-    // The least position from the floor on at which the document may be absent, or there.
+    // The least position from the floor on at which the document may be absent, or may exist, as asked.
     fn first_so(&self, absent: bool, floor: usize) -> Option<usize>
         ensures { (records : List Record) (floors : ℕ → ℕ) (event : ℕ) → KnowsBefore records floors event self.now
             → IsLeastFrom (MayBeSo records floors event absent) floor result }
@@ -110,7 +111,7 @@ impl Walk {
         self.first_refused(pair, floor)
     }
 
-    // The position of a document that has the pair, where it isn't below the floor.
+    // The position of a document that has the pair, if it is not below the floor.
     fn first_found(&self, pair: Pair, floor: usize) -> Option<usize>
         ensures { (records : List Record) → AreOf records self.now.versions → IsKnown records pair
             → IsLeastFrom (λ n. n ≡ version_of records pair) floor result }
@@ -119,7 +120,7 @@ impl Walk {
         if floor <= n { Some(n) } else { None }
     }
 
-    // The least position from the floor on at which the call may be answered so.
+    // Returns the least position from the floor on at which the call may have this reply.
     pub fn first_permitted(&self, call: &Rec, reply: Reply, floor: usize) -> Option<usize>
         ensures { (records : List Record) (floors : ℕ → ℕ) (event y : ℕ) → KnowsBefore records floors event self.now
             → IsListed records call.now → call.now.heard ≡ Just (y, reply)

@@ -8,8 +8,8 @@ use Rattle.witness.specs.declared.place.Place.{Place}
 use Rattle.witness.specs.Places.{AreRight, GivesAsMay, IsNamed, IsPlaceOf, IsPlaceRun, StepsAt}
 use Rattle.witness.specs.Faults.{IsFresh, IsLate}
 
--- The places at the front are right and end in the state; the marks tell which records they name; and no call among
--- theirs stands after the latest place.
+-- The first places are right and end in the state; the marks say which records they name; and no call among
+-- theirs comes after the latest position.
 pub record IsWalked (conflicts : Conflicts) (records : List Rec) (front : List Place) (marks : List Bool) (latest : ℕ) (state : DocState) : Type 0 where
   pub right : AreRight conflicts records front
   pub run : IsPlaceRun records Never front state
@@ -21,7 +21,7 @@ pub record IsWalked (conflicts : Conflicts) (records : List Rec) (front : List P
       ⊎ ((i : ℕ) × (p : Place) × (r : Rec) × (slice_get front i ≡ Some p) × IsPlaceOf records p r
       × (r.call_at ≡ latest))
 
--- the place at i can be walked: its record, and the state after it
+-- the walk can take the place at i: its record, and the state after it
 pub record IsNextStep (conflicts : Conflicts) (records : List Rec) (places : List Place) (i : ℕ) (r : Rec) (s t : DocState) : Type 0 where
   pub place : Place
   pub fresh : IsFresh conflicts records places i place r
@@ -29,7 +29,7 @@ pub record IsNextStep (conflicts : Conflicts) (records : List Rec) (places : Lis
   pub in_time : ¬ IsLate records places i r
   pub steps : StepsAt s r.op r.heard place.pair t
 
--- the record is answered, and no mark tells that it is named
+-- the record is answered, and no mark says that it is named
 abbrev pub IsAbsent : List Rec → List Bool → ℕ → Type 0
 IsAbsent records marks k = (r : Rec) × (slice_get records k ≡ Some r) × IsSome r.heard
     × (slice_get marks k ≡ Some true → ⊥)

@@ -15,14 +15,15 @@ use Rattle.workload.specs.declared.target.Progress.TheVariants.{Waiting, Done, U
 use Rattle.workload.specs.declared.target.Ticket.{Ticket}
 use Rattle.workload.specs.declared.turn.Turn.{Turn}
 
--- The list is longer by the call of the turn, which is open: for what is asked for at that turn its ticket was issued.
+-- The list is longer by the call of the turn, which is open: its ticket was issued for the operation of that
+-- turn.
 pub record BeginsTurn (issued : Ticket → List ℕ → Op → Type 0) (known : Known) (k : ℕ) (turn : Turn) (old new : List (ℕ × Event)) (call : OpenCall) : Type 0 where
   pub grows : new ≡ old ++ (call.no, Call 0 call.no (doc_name turn.doc) (op_of turn.kind (known turn.doc) k)) ∷ []
   pub above : All (λ entry. entry.0 < call.no) old
   pub is_of : call.doc ≡ turn.doc
   pub was_issued : issued call.ticket (doc_name turn.doc) (op_of turn.kind (known turn.doc) k)
 
--- The list has the call and no ending of it, and for its operation its ticket was issued.
+-- The list has the call and no ending of it, and its ticket was issued for its operation.
 pub record IsOpenIn (issued : Ticket → List ℕ → Op → Type 0) (list : List (ℕ × Event)) (call : OpenCall) : Type 0 where
   pub document : List ℕ
   pub op : Op
@@ -38,7 +39,8 @@ pub record IsMisheard (list : List (ℕ × Event)) (n : ℕ) (heard : Option Ans
   pub is_heard : heard ≡ Some reply
   pub misfits : fits op reply ≡ false
 
--- The list is longer by the ending of the open call of which this was heard, or nothing, and this is known after it.
+-- The list is longer by the ending of the open call of which this was heard, or nothing, and this is known
+-- after it.
 pub record EndsTurn (call : OpenCall) (heard : Option Answer) (known : Known) (old new : List (ℕ × Event)) (after : Known) : Type 0 where
   pub number : ℕ
   pub grows : new ≡ old ++ (number, ending_of call.no heard) ∷ []
@@ -46,7 +48,7 @@ pub record EndsTurn (call : OpenCall) (heard : Option Answer) (known : Known) (o
   pub knows : after ≡ after_ending known call.doc (ending_of call.no heard)
 
 module _ (issued : Ticket → List ℕ → Op → Type 0) (gave : Ticket → Progress → Type 0) (polls : ℕ) where
-  -- what is heard of a ticket that is polled: a reply, or nothing where it waits, or its outcome is unknown
+  -- what is heard of a ticket that is polled: a reply, or nothing if it waits, or if its outcome is unknown
   abbrev pub IsHeard : Ticket → Option Answer → Type 0
   IsHeard ticket None = 0 < polls → gave ticket Waiting ⊎ gave ticket Unknown
   IsHeard ticket (Some r) = gave ticket (Done r)
@@ -61,8 +63,8 @@ module _ (issued : Ticket → List ℕ → Op → Type 0) (gave : Ticket → Pro
     pub is_turn : IsTurn issued gave polls known k turn call ending
     pub knows : after ≡ after_ending known turn.doc ending.1
 
-  -- The entries are a run so far, of the first i turns: where what follows is a run of the turns that are left, the whole is
-  -- one.
+  -- The entries are a run so far, of the first i turns: if what follows is a run of the turns that are left,
+  -- the whole is one.
   pub record IsFront (first : ℕ) (turns : List Turn) (i : ℕ) (known : Known) (entries : List (ℕ × Event)) : Type 0 where
     pub onward : (rest : List (ℕ × Event)) → IsRunFrom issued gave polls known (first + i) (drop i turns) rest
         → IsRunFrom issued gave polls nothing_known first turns (entries ++ rest)
@@ -90,8 +92,8 @@ module _ (issued : Ticket → List ℕ → Op → Type 0) (gave : Ticket → Pro
     pub run : IsClientRun issued gave polls clients client entries
     pub rises : IsRising old → IsRising new
 
-  -- The run of a job, the number of a client and its pen, answers that pen, whose list is longer by the run of that client; or a
-  -- fault that has a cause.
+  -- The run of a job, which is the number of a client and its pen, returns that pen, whose list is longer by
+  -- the run of that client; or a fault that has a cause.
   pub record RunsJob {P : Type 0} (state : P → PenState) (is_ours : P → Type 0) (has_cause : RunFault → Type 0) (clients : List (List Turn)) (job : ℕ × P) (result : Result P RunFault) : Type 0 where
     pub runs : IfOk result (λ done. IsLongerByClient clients job.0 (state job.1).list (state done).list × is_ours done)
     pub cause : IfErr result has_cause

@@ -3,7 +3,7 @@ use Rattle.std.specs.Prelude.{◌≡◌, ℕ, ◌<◌, ◌⊎◌, List, Some, Re
 use Rattle.workload.specs.declared.run_fault.RunFault.{RunFault}
 use Rattle.workload.specs.declared.run_fault.RunFault.TheVariants.{NoMemory}
 
--- the fault of the least client that met one, or want of memory
+-- the fault of the client with the least number that met one, or that memory was refused
 abbrev pub IsFaultOf : {P : Type 0} → List (Result P RunFault) → RunFault → Type 0
 IsFaultOf {P} results fault =
     (fault ≡ NoMemory)

@@ -69,8 +69,8 @@ fn plan_of_lists(rt: HostRuntime) -> Result<(), Fail> {
     Ok(())
 }
 
-// The turns of the first of two clients that the seed 7 draws, of six calls each on 100 documents, worked out by another
-// program from the definition of the generator.
+// The turns of the first of two clients that the seed 7 draws, with six calls each on 100 documents, computed
+// by another program from the definition of the generator.
 const DRAWN: [(u32, Kind); 6] = [
     (3, Kind::PutIfSeen),
     (33, Kind::Get),

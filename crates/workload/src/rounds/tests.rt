@@ -8,7 +8,8 @@ use std::sync::atomic::{AtomicU64, Ordering};
 use std::test::Fail;
 use version_pair::DocId;
 
-// A target whose tickets count from 0. Of all polls it tells at some that the ticket waits, at the others its number.
+// A target whose tickets count from 0. At some of all polls it reports that the ticket waits, at the others
+// its number.
 #[derive(Drop)]
 struct Pacing<'a> {
     next: AtomicU64,
@@ -57,8 +58,9 @@ fn turns_of(alloc: Global, turns: &[(Kind, u32)]) -> Result<Vec<Turn>, Fail> {
     Ok(list)
 }
 
-// Call 0 waits at its first poll; so the second client is answered first, and begins its second turn in the round in which
-// the first client is answered. Call 4, under the condition of the pair that the second client was told, waits at both polls.
+// Call 0 waits at its first poll; so the second client gets its reply first, and begins its second turn in
+// the round in which the first client gets its reply. Call 4, under the condition of the pair that was
+// reported to the second client, waits at both polls.
 const INTERLEAVED: &str = concat!(
     "{\"e\":\"call\",\"id\":\"d0\",\"n\":0,\"op\":\"get\"}\n",
     "{\"e\":\"call\",\"id\":\"d1\",\"n\":1,\"op\":\"get\"}\n",
@@ -116,7 +118,7 @@ fn lost_unpolled_at_the_next_visit(rt: HostRuntime) -> Result<(), Fail> {
     Ok(())
 }
 
-// A target that takes operations on `d0` alone, and tells nothing of them.
+// A target that takes only operations on `d0`, and reports nothing of them.
 #[derive(Drop)]
 struct Failing;
 

@@ -116,7 +116,8 @@ fn recorded_before_submitted_in_turns(rt: HostRuntime) -> Result<(), Fail> {
     Ok(())
 }
 
-// A target whose submissions return once two have begun, or after 10,000 sleeps of a millisecond; those have ticket 1.
+// A target whose submissions return after two have begun, or after 10,000 sleeps of a millisecond; the latter
+// have ticket 1.
 #[derive(Drop)]
 struct Meeting<'a, C: Clock> {
     clock: &'a C,

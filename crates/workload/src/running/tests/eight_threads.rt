@@ -10,19 +10,20 @@ use recorder::{ClockRecorder, CloseFault};
 use std::sync::atomic::AtomicU64;
 use std::test::Fail;
 
-// How many clients there are, and how many writes each asks for: with their endings each records 100,000 events.
+// The number of clients, and the number of writes that each asks for: with their endings each client records
+// 100,000 events.
 const CLIENTS: usize = 8;
 
 const WRITES: usize = 50_000;
 
-// What a walk over the events knows of a client: how many writes it asked for, and the call of it that is open.
+// What a walk over the events knows of a client: the number of writes that it asked for, and its open call.
 #[derive(Clone, Copy, Debug, Drop)]
 struct Seen {
     writes: u64,
     open: Option<u64>,
 }
 
-// The client that wrote the number, and the place of the write among its own.
+// The client that wrote the number, and the index of the write among its own.
 fn written_by(k: u64) -> (usize, u64) {
     let before = k.saturating_sub(1);
     let writes = WRITES as u64;
@@ -46,7 +47,7 @@ fn write_of(history: &History, place: usize) -> Option<(u64, u64)>
     }
 }
 
-// Takes the event at the place as the next one of its client; tells whether it is.
+// Takes the event at the index as the next one of its client. Returns whether it is.
 fn is_next(seen: &mut [Seen; CLIENTS], history: &History, place: usize) -> bool
     requires { place < length history.now }
 {
