@@ -5,11 +5,12 @@ from typing import Iterator, Sequence
 from .command_help import CommandHelp, Option, ProgramHelp
 
 HEAD = """\
-# Completion of @ in bash. Made by dist/make-share from the help of the program.
+# Completion of PROGRAM in bash. Made by dist/make-share from the help of the program.
 
-# Sets `options`, the names of each option of a command joined by commas, a plus before those that may come again; and how many files
-# its arguments are, `most_files`, or `arguments`, if they are names. Without a command these are those of the program.
-_@_describe() {
+# Sets `options`, the names of each option of a command joined by commas, a plus before those that may come again;
+# and how many files its arguments are, `most_files`, or `arguments`, if they are names. Without a command these are
+# those of the program.
+_PROGRAM_describe() {
     case $1 in
 """
 
@@ -17,8 +18,9 @@ VALUES = """\
     esac
 }
 
-# Sets `kind`, what the value of a command's option is: a name, which stands in `names`, a file or another text; nothing, if it has none.
-_@_describe_value() {
+# Sets `kind`, what the value of a command's option is: a name, which stands in `names`, a file or another text; or
+# nothing, if it has none.
+_PROGRAM_describe_value() {
     case "$1 $2" in
 """
 
@@ -27,7 +29,7 @@ TAIL = r"""        *) kind= ;;
 }
 
 # Takes a word before the one that is completed.
-_@_take() {
+_PROGRAM_take() {
     if [[ $is_target ]]; then
         is_target=
     elif [[ $1 == *[\<\>]* ]]; then
@@ -40,7 +42,7 @@ _@_take() {
         is_ended=yes
     elif [[ $1 == -* ]]; then
         given+="${1%%=*} "
-        _@_describe_value "$command" "$1"
+        _PROGRAM_describe_value "$command" "$1"
         [[ $kind ]] && option=$1
     elif [[ $command ]]; then
         files=$((files + 1))
@@ -50,7 +52,7 @@ _@_take() {
 }
 
 # Sets `names` to those of the options that were not given.
-_@_options_left() {
+_PROGRAM_options_left() {
     local group name
     names=
     for group in $options; do
@@ -62,28 +64,28 @@ _@_options_left() {
     kind=name
 }
 
-_@() {
+_PROGRAM() {
     local IFS=$' \t\n' current=${COMP_WORDS[COMP_CWORD]} given=' ' files=0 most_files=0 at
     local command= option= options= arguments= kind= names= is_ended= is_target=
     COMPREPLY=()
     for ((at = 1; at < COMP_CWORD; at++)); do
-        _@_take "${COMP_WORDS[at]}"
+        _PROGRAM_take "${COMP_WORDS[at]}"
     done
-    _@_describe "$command"
+    _PROGRAM_describe "$command"
     kind=
     if [[ $is_target ]]; then
         kind=file
     elif [[ $option ]]; then
-        _@_describe_value "$command" "$option"
+        _PROGRAM_describe_value "$command" "$option"
         [[ $current == = ]] && current=
     elif [[ $current == -* && ! $is_ended ]]; then
-        _@_options_left
+        _PROGRAM_options_left
     elif [[ $arguments && $files -eq 0 ]]; then
         kind=name names=$arguments
     elif ((files < most_files)); then
         kind=file
     elif [[ ! $is_ended ]]; then
-        _@_options_left
+        _PROGRAM_options_left
     fi
     case $kind in
         name) mapfile -t COMPREPLY < <(compgen -W "$names" -- "$current") ;;
@@ -91,7 +93,7 @@ _@() {
     esac
 }
 
-complete -F _@ @
+complete -F _PROGRAM PROGRAM
 """
 
 MANY = 999
@@ -100,7 +102,8 @@ MANY = 999
 
 def words_of(command: CommandHelp, names: Sequence[str]) -> str:
     """What is set of a command: its options, how many files it takes, or the names that it takes."""
-    options = " ".join(",".join(f"{'+' if it.is_repeated else ''}{name}" for name in it.names) for it in command.options)
+    groups = ([f"+{name}" if it.is_repeated else name for name in it.names] for it in command.options)
+    options = " ".join(",".join(it) for it in groups)
     takes_names = not command.name or any(it.is_command for it in command.arguments)
     files = MANY if any(it.is_repeated for it in command.arguments) else len(command.arguments)
     return f"options='{options}' " + (f"arguments='{' '.join(names)}'" if takes_names else f"most_files={files}")
@@ -120,10 +123,11 @@ def value_lines(command: CommandHelp) -> Iterator[str]:
         yield f"        {patterns}) {kind_of(it)} ;;\n"
 
 
-def bash_completion(told: ProgramHelp) -> str:
+def bash_completion(program: ProgramHelp) -> str:
     """The text of the completion."""
-    names = [it.name for it in told.commands]
-    everything = (told.itself, *told.commands)
+    names = [it.name for it in program.commands]
+    everything = (program.itself, *program.commands)
     described = "".join(f"        '{it.name}') {words_of(it, names)} ;;\n" for it in everything)
     values = "".join(line for it in everything for line in value_lines(it))
-    return HEAD.replace("@", told.name) + described + VALUES.replace("@", told.name) + values + TAIL.replace("@", told.name)
+    head, between, tail = (it.replace("PROGRAM", program.name) for it in (HEAD, VALUES, TAIL))
+    return head + described + between + values + tail

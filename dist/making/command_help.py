@@ -1,7 +1,8 @@
 """What the program's help says: its commands, and the arguments and options of each.
 
-The help has the form of the crate `clap`: what a command does, a line of usage, sections of commands, arguments and options, in which
-each entry is a line with an indent of two or six, and texts behind them. A line that isn't understood is refused with its place.
+The help has the form of the crate `clap`: what a command does, a line of usage, then sections of commands, arguments
+and options, in which each entry is a line with an indent of two or six, and passages of text. A line that isn't
+understood is refused with its place.
 """
 
 import re
@@ -46,8 +47,8 @@ class Entry(NamedTuple):
 
 
 class Option(NamedTuple):
-    """An option: its names, the name of its value or nothing, its text, the values that it has names for, whether its value is a file,
-    and whether it may come several times."""
+    """An option: its names, the name of its value or nothing, its text, the values that it has names for, whether its
+    value is a file, and whether it may come several times."""
 
     names: Tuple[str, ...]
     value: str
@@ -115,7 +116,8 @@ def lines_of(place: str, text: str) -> List[Line]:
 
 
 def entries_of(lines: Sequence[Line]) -> List[Entry]:
-    """The entries of a section. An entry has an indent of two, or of six if it has a long name only; all that has more goes on with it."""
+    """The entries of a section. An entry has an indent of two, or of six if it has a long name only; a line with a
+    greater one goes on with the entry before it."""
     entries: List[Entry] = []
     for line in lines:
         if line.indent == 2 or (line.indent == 6 and line.text.startswith("--")):
@@ -135,7 +137,8 @@ def joined(lines: Sequence[str]) -> str:
 
 
 def list_of_names(text: str) -> Tuple[str, ...]:
-    """The names of a list such as `a, b or c`, each of which may have words behind it that say what it is; nothing if it is no list."""
+    """The names of a list such as `a, b or c`, in which several words say what the name before them is; nothing if it
+    is no list."""
     found = re.fullmatch(r"(.+?),? or (\S+)", text)
     if not found:
         return (text,) if NAME.fullmatch(text) else ()
@@ -145,7 +148,7 @@ def list_of_names(text: str) -> Tuple[str, ...]:
 
 
 def values_of(value: str, lines: Sequence[str]) -> Tuple[str, ...]:
-    """The values that an option has names for: a list that clap writes, a list behind a colon, or what the value is said to be."""
+    """The values that an option has names for: a list that clap writes, a list behind a colon, or `VALUE is ..`."""
     listed = [re.match(r"- ([^\s:]+)", it) for it in lines]
     if any(listed):
         return tuple(it[1] for it in listed if it)
@@ -154,7 +157,8 @@ def values_of(value: str, lines: Sequence[str]) -> Tuple[str, ...]:
     if found:
         return tuple(found[1].split(", "))
     text = re.sub(r" *\[[a-z ]+: [^\]]*\]", "", text)
-    found = re.search(r": ([^:;]+ or [^:;]+?)(?:;|\.?$)", text) or re.search(rf"\b{re.escape(value)} is ([^:;]+?)(?:;|\.?$)", text)
+    behind_colon = re.search(r": ([^:;]+ or [^:;]+?)(?:;|\.?$)", text)
+    found = behind_colon or re.search(rf"\b{re.escape(value)} is ([^:;]+?)(?:;|\.?$)", text)
     return list_of_names(found[1]) if found else ()
 
 
@@ -170,8 +174,8 @@ def option_of(entry: Entry) -> Option:
     values = values_of(value, entry.text) if value else ()
     for it in (it for it in values if not NAME.fullmatch(it)):
         raise HelpError(f"{entry.place}: a value that would have to be quoted in a shell: {it}")
-    is_file = bool(value) and not values and (value in FILES or bool(re.search(r"\b(file|directory|folder)\b", text)))
-    return Option(names, value, text, values, is_file, bool(found["more"]))
+    names_file = value in FILES or bool(re.search(r"\b(file|directory|folder)\b", text))
+    return Option(names, value, text, values, bool(value) and not values and names_file, bool(found["more"]))
 
 
 def argument_of(entry: Entry) -> Argument:
@@ -201,7 +205,7 @@ class Part(NamedTuple):
 
 
 def parts_of(lines: Sequence[Line]) -> List[Part]:
-    """The parts of a text. What stands before the first heading has none; the line of usage is a heading with its lines behind it."""
+    """The parts of a text. What stands before the first heading has none; `Usage:` is one with its lines behind it."""
     parts = [Part("", [])]
     for line in lines:
         usage = re.fullmatch(r"Usage: (.+)", line.text)
@@ -221,13 +225,14 @@ def parts_of(lines: Sequence[Line]) -> List[Part]:
 def shown(lines: Sequence[Line]) -> Tuple[str, ...]:
     """Lines as they stand, without an indent that all of them have, and without empty ones around them."""
     least = min((it.indent for it in lines if it.text), default=0)
-    return tuple("\n".join(" " * (it.indent - least) + it.text if it.text else "" for it in lines).strip("\n").splitlines())
+    text = "\n".join(" " * (it.indent - least) + it.text if it.text else "" for it in lines)
+    return tuple(text.strip("\n").splitlines())
 
 
 def is_of_options(part: Part) -> bool:
     """Whether a part has options: below the heading `Options`, or below one of its own."""
     first = next((it for it in part.lines if it.text), None)
-    return part.heading == "Options" or (first is not None and first.text.startswith("-") and bool(OPTION.match(first.text)))
+    return part.heading == "Options" or (first is not None and bool(OPTION.match(first.text)))
 
 
 def command_help(place: str, name: str, text: str) -> CommandHelp:
@@ -251,16 +256,16 @@ def command_help(place: str, name: str, text: str) -> CommandHelp:
             passages.append(Passage(part.heading, shown(part.lines)))
     if not usage or not shown(about.lines):
         raise HelpError(f"{place}: it doesn't begin with what the command does and a line `Usage: ..`")
-    told = CommandHelp(name, shown(about.lines), usage, commands, tuple(arguments), tuple(options), tuple(passages))
-    compare_with_usage(place, told)
-    return told
+    found = CommandHelp(name, shown(about.lines), usage, commands, tuple(arguments), tuple(options), tuple(passages))
+    compare_with_usage(place, found)
+    return found
 
 
-def compare_with_usage(place: str, told: CommandHelp) -> None:
-    """Compares the line of usage with the sections: what the one names the others have too."""
-    names = {name for it in told.options for name in it.names} | {it.name for it in told.arguments}
-    names |= {it.value for it in told.options} | {"OPTIONS", "COMMAND"}
-    for name in re.findall(r"(?<![\w-])--?\w[\w-]*|(?<=[<\[])[\w-]+(?=[>\]])", " ".join(told.usage)):
+def compare_with_usage(place: str, found: CommandHelp) -> None:
+    """Compares the line of usage with the sections: what it names stands in one of them."""
+    names = {name for it in found.options for name in it.names} | {it.name for it in found.arguments}
+    names |= {it.value for it in found.options} | {"OPTIONS", "COMMAND"}
+    for name in re.findall(r"(?<![\w-])--?\w[\w-]*|(?<=[<\[])[\w-]+(?=[>\]])", " ".join(found.usage)):
         if name not in names:
             raise HelpError(f"{place}: the line of usage has {name}, and no section has it")
 
@@ -272,7 +277,8 @@ def said(program: str, *arguments: str) -> str:
     """What the program writes to standard output, with status 0."""
     words = " ".join(("casbench", *arguments))
     try:
-        ran = subprocess.run([program, *arguments], stdin=subprocess.DEVNULL, capture_output=True, text=True, timeout=SECONDS)
+        how = {"stdin": subprocess.DEVNULL, "capture_output": True, "text": True, "timeout": SECONDS}
+        ran = subprocess.run([program, *arguments], check=False, **how)
     except (OSError, subprocess.TimeoutExpired, UnicodeDecodeError) as fault:
         raise HelpError(f"{words}: {fault}") from fault
     if ran.returncode or not ran.stdout:
@@ -281,7 +287,7 @@ def said(program: str, *arguments: str) -> str:
 
 
 def program_help(program: str) -> ProgramHelp:
-    """Asks the program for its help, and that of each command."""
+    """Asks the program for its help, and for that of each command."""
     name, _, version = said(program, "--version").strip().partition(" ")
     itself = command_help("casbench --help", "", said(program, "--help"))
     if not itself.commands:
@@ -289,5 +295,5 @@ def program_help(program: str) -> ProgramHelp:
     commands = tuple(command_help(f"casbench help {it}", it, said(program, "help", it)) for it in itself.commands)
     for it in commands:
         if it.commands:
-            raise HelpError(f"casbench help {it.name}: a command with commands of its own, for which no completion is made")
+            raise HelpError(f"casbench help {it.name}: it has commands of its own, for which no completion is made")
     return ProgramHelp(name, version, itself, commands)

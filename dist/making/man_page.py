@@ -1,16 +1,16 @@
 """The man page of the program."""
 
 import re
-from typing import Iterator, Sequence
+from typing import Iterator, List, Sequence
 
 from .command_help import Argument, CommandHelp, Option, Passage, ProgramHelp
 
 ESCAPES = {"\\": "\\e", "-": "\\-", "'": "\\(aq", "`": "\\(ga", "^": "\\(ha", "~": "\\(ti"}
-"""How a page writes what troff would read otherwise, or would write as another sign than the one that is typed in a shell."""
+"""How a page writes what troff would read otherwise, or write as another sign than the one that a shell reads."""
 
 DESCRIPTION = """\
-A history text has a line of JSON for each call and for each reply, in the order in which they were recorded. Recorders write it; the
-program itself reads files and standard input only, and asks no cluster."""
+A history text has a line of JSON for each call and for each reply, in the order in which they were recorded. Recorders
+write it; the program itself reads files and standard input only, and asks no cluster."""
 
 EXIT_STATUSES = {
     "0": "The answer is yes or verified, or the text that was asked for is written.",
@@ -23,7 +23,8 @@ EXIT_STATUSES = {
 }
 """What each status means, if the help doesn't say so itself."""
 
-SEE_ALSO = "docs/FORMATS.md of the source tree describes what is read and written, and docs/RECORDING.md how a store is recorded."
+SEE_ALSO = """\
+docs/FORMATS.md of the source tree describes what is read and written, and docs/RECORDING.md how a store is recorded."""
 
 
 def escaped(text: str) -> str:
@@ -48,9 +49,9 @@ def styled_name(name: str) -> str:
     return f"\\fB{escaped(name)}\\fR" if name.startswith("-") else f"\\fI{escaped(name.strip('<>'))}\\fR"
 
 
-def usage_lines(program: str, help_text: CommandHelp) -> Iterator[str]:
-    """The lines of usage of a command, with its name in bold."""
-    name = f"{program} {help_text.name}".strip()
+def usage_lines(name: str, help_text: CommandHelp) -> Iterator[str]:
+    """The lines of usage of a command of the program of this name, which stands in bold."""
+    name = f"{name} {help_text.name}".strip()
     for usage in help_text.usage:
         rest = usage[len(name) :] if usage.startswith(name) else f" {usage}"
         yield f"\\fB{escaped(name)}\\fR{styled(rest)}"
@@ -82,36 +83,40 @@ def argument_lines(arguments: Sequence[Argument]) -> Iterator[str]:
 
 
 def passage_lines(passage: Passage) -> Iterator[str]:
-    """The lines of a passage, as they stand."""
-    yield from (".RS 4", ".EX")
-    yield from (line(it) for it in passage.lines)
-    yield from (".EE", ".RE")
+    """The lines of a passage: as they stand, if they stand below a heading."""
+    if passage.heading:
+        yield from (".RS 4", ".EX", *(line(it) for it in passage.lines), ".EE", ".RE")
+    else:
+        yield from paragraph_lines(passage.lines)
 
 
-def command_lines(program: str, help_text: CommandHelp) -> Iterator[str]:
-    """The lines of a command."""
-    yield f".SS {escaped(program)} {escaped(help_text.name)}"
-    yield from paragraph(help_text.about)
+def command_lines(name: str, help_text: CommandHelp) -> Iterator[str]:
+    """The lines of a command of the program of this name."""
+    yield f".SS {escaped(name)} {escaped(help_text.name)}"
+    yield from paragraph_lines(help_text.about)
     yield from argument_lines(help_text.arguments)
     yield from option_lines(help_text.options)
     for it in help_text.passages:
-        yield ".PP"
         if it.heading:
-            yield f"{escaped(it.heading)}:"
+            yield from (".PP", f"{escaped(it.heading)}:")
         yield from passage_lines(it)
 
 
-def paragraph(lines: Sequence[str]) -> Iterator[str]:
-    """The lines of a text, of which empty lines part the paragraphs."""
-    for paragraph_text in "\n".join(lines).split("\n\n"):
-        yield ".PP"
-        yield line(sentence(" ".join(paragraph_text.split())))
+def paragraphs(lines: Sequence[str]) -> List[str]:
+    """The paragraphs of a text, which empty lines part."""
+    return [" ".join(it.split()) for it in "\n".join(lines).split("\n\n")]
+
+
+def paragraph_lines(lines: Sequence[str]) -> Iterator[str]:
+    """The lines of a text in paragraphs."""
+    for it in paragraphs(lines):
+        yield from (".PP", line(sentence(it)))
 
 
 def section_lines(itself: CommandHelp) -> Iterator[str]:
     """The lines of what the help of the program says below headings of its own, and of the exit statuses."""
     for it in itself.passages:
-        yield f'.SH "{escaped(it.heading.upper())}"' if it.heading else ".PP"
+        yield from ([f'.SH "{escaped(it.heading.upper())}"'] if it.heading else [])
         yield from passage_lines(it)
     if itself.passage("exit status(es)?") is None:
         yield '.SH "EXIT STATUS"'
@@ -119,31 +124,31 @@ def section_lines(itself: CommandHelp) -> Iterator[str]:
             yield from term(status, meaning)
 
 
-def page_lines(told: ProgramHelp) -> Iterator[str]:
+def page_lines(program: ProgramHelp) -> Iterator[str]:
     """The lines of the page."""
-    about = " ".join(told.itself.about)
+    about = paragraphs(program.itself.about)[0].rstrip(".")
     yield '.\\" Made by dist/make-share from the help of the program.'
-    yield f'.TH {told.name.upper()} 1 "" "{escaped(told.name)} {escaped(told.version)}" "User Commands"'
+    yield f'.TH {program.name.upper()} 1 "" "{escaped(program.name)} {escaped(program.version)}" "User Commands"'
     yield from (".nh", ".ad l")
     yield ".SH NAME"
-    yield f"{escaped(told.name)} \\- {escaped(about[:1].lower() + about[1:])}"
+    yield f"{escaped(program.name)} \\- {escaped(about[:1].lower() + about[1:])}"
     yield ".SH SYNOPSIS"
-    for at, it in enumerate(usage for command in told.commands for usage in usage_lines(told.name, command)):
+    for at, it in enumerate(usage for command in program.commands for usage in usage_lines(program.name, command)):
         yield from ([".br"] if at else [])
         yield it
     yield ".SH DESCRIPTION"
-    yield from paragraph(told.itself.about)
-    yield from paragraph([DESCRIPTION.replace("\n", " ")])
+    yield from paragraph_lines(program.itself.about)
+    yield from paragraph_lines([DESCRIPTION])
     yield ".SH COMMANDS"
-    for command in told.commands:
-        yield from command_lines(told.name, command)
+    for command in program.commands:
+        yield from command_lines(program.name, command)
     yield ".SH OPTIONS"
-    yield from option_lines(told.itself.options)
-    yield from section_lines(told.itself)
+    yield from option_lines(program.itself.options)
+    yield from section_lines(program.itself)
     yield '.SH "SEE ALSO"'
     yield line(SEE_ALSO)
 
 
-def man_page(told: ProgramHelp) -> str:
+def man_page(program: ProgramHelp) -> str:
     """The text of the page."""
-    return "".join(f"{it}\n" for it in page_lines(told))
+    return "".join(f"{it}\n" for it in page_lines(program))

@@ -6,8 +6,8 @@ function __casbench_is
     test "$given[2]" = "$argv[1]"
 end
 
-# Whether this is the command, and options may still come, but none of these names was given; an option with a `value` may be the word
-# before.
+# Whether this is the command, and options may still come, but none of these names was given; an option with a `value`
+# may be the word before.
 function __casbench_lacks -a command kind
     set -l given (commandline -opc)
     __casbench_is $command; and not contains -- -- $given; or return
@@ -19,8 +19,8 @@ function __casbench_lacks -a command kind
     return 0
 end
 
-# Whether this is the command, and a file may come: `most` were not given yet, and the word before is none of the options with a value
-# that stand behind it.
+# Whether this is the command, and a file may come: fewer than `most` were given, and the word before is no option with
+# a value, of which the names stand behind it.
 function __casbench_wants -a command most
     __casbench_is $command; or return
     set -l given (commandline -opc)
