@@ -18,7 +18,7 @@ end
 function __PROGRAM_lacks -a command kind
     set -l given (commandline -opc)
     __PROGRAM_is $command; and not contains -- -- $given; or return
-    test $kind = value; and set given $given[1..-2]
+    test $kind = value; and contains -- $given[-1] $argv[3..]; and set given $given[1..-2]
     for name in $argv[3..]
         string match -q -- $name $given; and return 1
         string match -q -- "$name=*" $given; and return 1
