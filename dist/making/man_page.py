@@ -118,7 +118,7 @@ def section_lines(itself: CommandHelp) -> Iterator[str]:
     for it in itself.passages:
         yield from ([f'.SH "{escaped(it.heading.upper())}"'] if it.heading else [])
         yield from passage_lines(it)
-    if itself.passage("exit status(es)?") is None:
+    if itself.passage("exit (status(es)?|codes?)") is None:
         yield '.SH "EXIT STATUS"'
         for status, meaning in EXIT_STATUSES.items():
             yield from term(status, meaning)
