@@ -4,8 +4,9 @@ import base64
 import hashlib
 import os
 import pathlib
+import re
 import zipfile
-from typing import Any, Dict, List, Optional
+from typing import Any, Dict, List, Optional, Sequence
 
 HERE = pathlib.Path(__file__).resolve().parent
 PACKAGE = "casbench_recording"
@@ -26,11 +27,19 @@ Tag: py3-none-any
 """
 
 
+def entry_points(files: Sequence[pathlib.Path]) -> str:
+    """The commands that pip installs: each module with a function `main`, such as `stand_in`, as `casbench-stand-in`."""
+    modules = [it.stem for it in files if re.search(r"^def main\(", it.read_text(encoding="utf-8"), re.MULTILINE)]
+    rows = (f"casbench-{it.replace('_', '-')} = {PACKAGE}.{it}:main\n" for it in modules)
+    return "[console_scripts]\n" + "".join(rows)
+
+
 def contents() -> Dict[str, bytes]:
     """What the wheel has, but for its list of it."""
     files = sorted(it for it in (HERE / PACKAGE).iterdir() if it.suffix == ".py" or it.name == "py.typed")
     found = {f"{PACKAGE}/{it.name}": it.read_bytes() for it in files}
-    return {**found, f"{FOLDER}/METADATA": METADATA.encode(), f"{FOLDER}/WHEEL": WHEEL.encode()}
+    told = {"METADATA": METADATA, "WHEEL": WHEEL, "entry_points.txt": entry_points(files)}
+    return {**found, **{f"{FOLDER}/{name}": text.encode() for name, text in told.items()}}
 
 
 def row_of(name: str, content: bytes) -> str:

@@ -161,8 +161,8 @@ class Arguments(FolderTest):
         several = "it names several addresses, and one is expected"
         url, index = "http://127.0.0.1:9200", ["--index", "carts", "out"]
         rows = [
-            ("split", [], 2, "split_by_shard.py: error: the following arguments are required: HISTORY, FOLDER"),
-            ("split", ["a", "b", "c"], 2, "split_by_shard.py: error: unrecognized arguments: c"),
+            ("split", [], 2, "split.py: error: the following arguments are required: HISTORY, FOLDER"),
+            ("split", ["a", "b", "c"], 2, "split.py: error: unrecognized arguments: c"),
             ("split", ["nowhere", "parts"], 1, "split_by_shard.py: nowhere: No such file or directory"),
             ("split", [self.folder, "parts"], 1, f"split_by_shard.py: {self.folder}: Is a directory"),
             ("proxy", ["--cluster", f"{url},http://127.0.0.1:9201", *index], 2, f"proxy.py: error: argument --cluster: {several}"),

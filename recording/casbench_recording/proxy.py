@@ -20,7 +20,7 @@ import resource
 import signal
 import socket
 import sys
-from typing import Callable, Iterator, List, NamedTuple, Optional, Sequence, Set, Tuple
+from typing import Callable, Iterator, List, NamedTuple, NoReturn, Optional, Sequence, Set, Tuple
 
 from .client_connection import ClientConnection
 from .client_side import ClientSide
@@ -332,7 +332,7 @@ def raise_limit() -> None:
             resource.setrlimit(resource.RLIMIT_NOFILE, (wanted if most == resource.RLIM_INFINITY else min(wanted, most), most))
 
 
-def main(arguments: Sequence[str]) -> int:
+def run(arguments: Sequence[str]) -> int:
     """Records by the words given, and returns the exit status: 0 recorded, 1 a named error, 3 the recording ended early, 130 interrupted."""
     open_standard_files()
     setting = words_of(arguments)
@@ -375,6 +375,11 @@ def tell_end(setting: argparse.Namespace, judge: Judge) -> None:
     tell_last([*([] if calls else ["no call was made, so there is no file"]), *judge.unjudged.told()])
 
 
-if __name__ == "__main__":
+def main() -> NoReturn:
+    """Records by the arguments of the process, and ends it."""
     # (at once: to take down what is known of half a million calls would take longer than to write them as lost)
-    os._exit(main(sys.argv[1:]))
+    os._exit(run(sys.argv[1:]))
+
+
+if __name__ == "__main__":
+    main()

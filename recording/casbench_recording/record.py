@@ -300,8 +300,8 @@ def urls_of(text: str) -> List[Url]:
     return [url_of(it) for it in text.split(",")]
 
 
-def words_of(arguments: Sequence[str]) -> argparse.Namespace:
-    """Reads the words of the command."""
+def words_of(arguments: Optional[Sequence[str]]) -> argparse.Namespace:
+    """Reads the words of the command; without any those of the process."""
     parser = argparse.ArgumentParser(description="Records clients of an OpenSearch cluster as a history for casbench.")
     add = parser.add_argument
     add("urls", type=urls_of, metavar="URL[,URL..]", help="the cluster's address, as https://host:9200, or those of several nodes")
@@ -332,7 +332,7 @@ def words_of(arguments: Sequence[str]) -> argparse.Namespace:
     return setting
 
 
-def main(arguments: Sequence[str]) -> int:
+def main(arguments: Optional[Sequence[str]] = None) -> int:
     """Records by the words given, and returns the exit status: 0 recorded, 1 a named error, 3 the recording ended early, 130 interrupted."""
     setting = words_of(arguments)
     try:
@@ -355,4 +355,4 @@ def main(arguments: Sequence[str]) -> int:
 
 
 if __name__ == "__main__":
-    sys.exit(main(sys.argv[1:]))
+    sys.exit(main())

@@ -213,8 +213,8 @@ def program_at_hand() -> str:
     return found
 
 
-def words_of(arguments: Sequence[str]) -> argparse.Namespace:
-    """Reads the words of the command."""
+def words_of(arguments: Optional[Sequence[str]]) -> argparse.Namespace:
+    """Reads the words of the command; without any those of the process."""
     parser = argparse.ArgumentParser(description="Cuts a history down to few calls that get the same answer from casbench, and prints it.")
     add = parser.add_argument
     add("file", help="the history")
@@ -250,7 +250,7 @@ def read_file(path: Optional[str]) -> Optional[bytes]:
         return file.read()
 
 
-def main(arguments: Sequence[str]) -> int:
+def main(arguments: Optional[Sequence[str]] = None) -> int:
     """Cuts down by the words given, and returns the exit status: 0, or 1 if there is nothing to cut down, or it can't be written."""
     setting = words_of(arguments)
     try:
@@ -271,4 +271,4 @@ def main(arguments: Sequence[str]) -> int:
 
 
 if __name__ == "__main__":
-    sys.exit(main(sys.argv[1:]))
+    sys.exit(main())

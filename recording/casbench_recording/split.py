@@ -16,7 +16,7 @@ import json
 import os
 import shutil
 import sys
-from typing import Any, BinaryIO, Dict, Iterable, Iterator, Sequence
+from typing import Any, BinaryIO, Dict, Iterable, Iterator, Optional, Sequence
 
 
 class Shards:
@@ -80,9 +80,9 @@ def named_at_last(folder: str) -> Iterator[str]:
         raise
 
 
-def main(arguments: Sequence[str]) -> int:
+def main(arguments: Optional[Sequence[str]] = None) -> int:
     """Splits the history that is named into files of the folder that is named, which is made. Returns the exit status."""
-    parser = argparse.ArgumentParser(prog="split_by_shard.py", description="Splits a history by shard.")
+    parser = argparse.ArgumentParser(description="Splits a history by shard.")
     parser.add_argument("history", metavar="HISTORY", help="the history, a file")
     parser.add_argument("folder", metavar="FOLDER", help="the folder that is made, with a file for each shard")
     setting = parser.parse_args(arguments)
@@ -101,4 +101,4 @@ def main(arguments: Sequence[str]) -> int:
 
 
 if __name__ == "__main__":
-    sys.exit(main(sys.argv[1:]))
+    sys.exit(main())

@@ -300,8 +300,8 @@ def wanted_header(environment: Mapping[str, str]) -> Optional[bytes]:
     return rf"\r\n(?i:{re.escape(name.strip())}): {re.escape(value.strip())}\r\n".encode()
 
 
-def words_of(arguments: Sequence[str]) -> argparse.Namespace:
-    """Reads the words of the command."""
+def words_of(arguments: Optional[Sequence[str]]) -> argparse.Namespace:
+    """Reads the words of the command; without any those of the process."""
     faults = "; ".join(f"{name}: {meaning}" for name, meaning in FAULTS.items())
     parser = argparse.ArgumentParser(description="Stands in for an OpenSearch cluster.", epilog=f"Faults: {faults}.")
     add = parser.add_argument
@@ -320,7 +320,7 @@ def words_of(arguments: Sequence[str]) -> argparse.Namespace:
     return setting
 
 
-def main(arguments: Sequence[str]) -> int:
+def main(arguments: Optional[Sequence[str]] = None) -> int:
     """Serves until it is stopped."""
     setting = words_of(arguments)
     store = Store(Faults(setting.fault, setting.every))
@@ -333,4 +333,4 @@ def main(arguments: Sequence[str]) -> int:
 
 
 if __name__ == "__main__":
-    sys.exit(main(sys.argv[1:]))
+    sys.exit(main())

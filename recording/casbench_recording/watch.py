@@ -222,15 +222,15 @@ def run_command(command: Sequence[str]) -> None:
 # The command line
 
 
-def setting_of(arguments: Sequence[str]) -> argparse.Namespace:
-    """Reads the arguments. What follows `--` is the command."""
-    own, command = list(arguments), []
+def setting_of(arguments: Optional[Sequence[str]]) -> argparse.Namespace:
+    """Reads the arguments; without any those of the process. What follows `--` is the command."""
+    own, command = list(sys.argv[1:] if arguments is None else arguments), []
     if "--" in own:
         at = own.index("--")
         own, command = own[:at], own[at + 1 :]
     parser = argparse.ArgumentParser(
         description="Checks a recording while it grows, and runs a command at the first fault that is proved.",
-        usage="watch OUT [--every S] [--conflicts plain|maybe] [--program PATH] [--delete-parts] [--until-closed] [-- COMMAND ..]",
+        usage="%(prog)s OUT [--every S] [--conflicts plain|maybe] [--program PATH] [--delete-parts] [--until-closed] [-- COMMAND ..]",
     )
     add = parser.add_argument
     add("out", metavar="OUT", help="the history, or the directory of histories")
@@ -244,7 +244,7 @@ def setting_of(arguments: Sequence[str]) -> argparse.Namespace:
     return setting
 
 
-def main(arguments: Sequence[str]) -> int:
+def main(arguments: Optional[Sequence[str]] = None) -> int:
     """Watches by the arguments, and returns the exit status."""
     setting = setting_of(arguments)
     try:
@@ -257,4 +257,4 @@ def main(arguments: Sequence[str]) -> int:
 
 
 if __name__ == "__main__":
-    sys.exit(main(sys.argv[1:]))
+    sys.exit(main())

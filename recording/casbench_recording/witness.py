@@ -122,7 +122,7 @@ def checked(history: bytes, witness: bytes, conflicts: str) -> Tuple[int, str]:
     return 0, f"verified docs={len(texts.records)} calls={len(texts.calls)} left_out={left_out}"
 
 
-def main(arguments: Sequence[str]) -> int:
+def main(arguments: Optional[Sequence[str]] = None) -> int:
     """Checks by the words given, and returns the exit status: 0 if the witness is valid, 1 if it isn't, 2 if a text is refused."""
     parser = argparse.ArgumentParser(description="Checks a witness without casbench, by a checker of 150 lines.")
     check = parser.add_subparsers(required=True).add_parser("check", help="says whether a witness is valid")
@@ -141,4 +141,4 @@ def main(arguments: Sequence[str]) -> int:
 
 
 if __name__ == "__main__":
-    sys.exit(main(sys.argv[1:]))
+    sys.exit(main())

@@ -1,0 +1,133 @@
+"""The completion of bash."""
+
+from typing import Iterator, Sequence
+
+from .command_help import CommandHelp, Option, ProgramHelp
+
+HEAD = """\
+# Completion of PROGRAM in bash. Made by dist/make-share from the help of the program.
+
+# Sets `options`, the names of each option of a command joined by commas, a plus before those that may come again;
+# and how many files its arguments are, `most_files`, or `arguments`, if they are names. Without a command these are
+# those of the program.
+_PROGRAM_describe() {
+    case $1 in
+"""
+
+VALUES = """\
+    esac
+}
+
+# Sets `kind`, what the value of a command's option is: a name, which stands in `names`, a file or another text; or
+# nothing, if it has none.
+_PROGRAM_describe_value() {
+    case "$1 $2" in
+"""
+
+TAIL = r"""        *) kind= ;;
+    esac
+}
+
+# Takes a word before the one that is completed.
+_PROGRAM_take() {
+    if [[ $is_target ]]; then
+        is_target=
+    elif [[ $1 == *[\<\>]* ]]; then
+        is_target=yes
+    elif [[ $option ]]; then
+        [[ $1 == = ]] || option=
+    elif [[ $is_ended ]]; then
+        files=$((files + 1))
+    elif [[ $1 == -- ]]; then
+        is_ended=yes
+    elif [[ $1 == -* ]]; then
+        given+="${1%%=*} "
+        _PROGRAM_describe_value "$command" "$1"
+        [[ $kind ]] && option=$1
+    elif [[ $command ]]; then
+        files=$((files + 1))
+    else
+        command=$1
+    fi
+}
+
+# Sets `names` to those of the options that were not given.
+_PROGRAM_options_left() {
+    local group name
+    names=
+    for group in $options; do
+        for name in ${group//,/ }; do # (with a plus it is none of those that were given)
+            [[ $given == *" $name "* ]] && continue 2
+        done
+        names+="${group//[,+]/ } "
+    done
+    kind=name
+}
+
+_PROGRAM() {
+    local IFS=$' \t\n' current=${COMP_WORDS[COMP_CWORD]} given=' ' files=0 most_files=0 at
+    local command= option= options= arguments= kind= names= is_ended= is_target=
+    COMPREPLY=()
+    for ((at = 1; at < COMP_CWORD; at++)); do
+        _PROGRAM_take "${COMP_WORDS[at]}"
+    done
+    _PROGRAM_describe "$command"
+    kind=
+    if [[ $is_target ]]; then
+        kind=file
+    elif [[ $option ]]; then
+        _PROGRAM_describe_value "$command" "$option"
+        [[ $current == = ]] && current=
+    elif [[ $current == -* && ! $is_ended ]]; then
+        _PROGRAM_options_left
+    elif [[ $arguments && $files -eq 0 ]]; then
+        kind=name names=$arguments
+    elif ((files < most_files)); then
+        kind=file
+    elif [[ ! $is_ended ]]; then
+        _PROGRAM_options_left
+    fi
+    case $kind in
+        name) mapfile -t COMPREPLY < <(compgen -W "$names" -- "$current") ;;
+        file) compopt -o default ;;
+    esac
+}
+
+complete -F _PROGRAM PROGRAM
+"""
+
+MANY = 999
+"""How many files an argument takes that may be repeated."""
+
+
+def words_of(command: CommandHelp, names: Sequence[str]) -> str:
+    """What is set of a command: its options, how many files it takes, or the names that it takes."""
+    groups = ([f"+{name}" if it.is_repeated else name for name in it.names] for it in command.options)
+    options = " ".join(",".join(it) for it in groups)
+    takes_names = not command.name or any(it.is_command for it in command.arguments)
+    files = MANY if any(it.is_repeated for it in command.arguments) else len(command.arguments)
+    return f"options='{options}' " + (f"arguments='{' '.join(names)}'" if takes_names else f"most_files={files}")
+
+
+def kind_of(option: Option) -> str:
+    """What is set of an option's value."""
+    if option.values:
+        return f"kind=name names='{' '.join(option.values)}'"
+    return "kind=file" if option.is_file else "kind=text"
+
+
+def value_lines(command: CommandHelp) -> Iterator[str]:
+    """The lines of the options of a command that have a value."""
+    for it in (it for it in command.options if it.value):
+        patterns = " | ".join(f"'{command.name} {name}'" for name in it.names)
+        yield f"        {patterns}) {kind_of(it)} ;;\n"
+
+
+def bash_completion(program: ProgramHelp) -> str:
+    """The text of the completion."""
+    names = [it.name for it in program.commands]
+    everything = (program.itself, *program.commands)
+    described = "".join(f"        '{it.name}') {words_of(it, names)} ;;\n" for it in everything)
+    values = "".join(line for it in everything for line in value_lines(it))
+    head, between, tail = (it.replace("PROGRAM", program.name) for it in (HEAD, VALUES, TAIL))
+    return head + described + between + values + tail
