@@ -19,7 +19,7 @@ from concurrent.futures import ThreadPoolExecutor
 from types import SimpleNamespace
 
 from attacks import AttackTest, Client, Cluster, answer_of, descriptors, end_of, megabytes, request_of, threads
-from recordings import run_tests
+from program_test import run_tests
 
 from casbench_recording.http1 import BadMessage
 from casbench_recording.http1 import request_of as head_of

@@ -17,7 +17,7 @@ import threading
 import time
 
 from attacks import AttackTest, Cluster, Watched, answer_of, descriptors, end_of, found, megabytes, packed, request_of, threads
-from recordings import run_tests
+from program_test import run_tests
 
 GET = request_of("GET", "/carts/_doc/d")
 OTHER = request_of("GET", "/other/_doc/d")

@@ -17,7 +17,7 @@ import threading
 import time
 
 from attacks import CERTIFICATE, AttackTest, Cluster, answer_of, deep, found, request_of
-from recordings import run_tests
+from program_test import run_tests
 
 CREATED = {"_index": "carts", "_id": "d", "result": "created", "_seq_no": 0, "_primary_term": 1}
 

@@ -16,7 +16,8 @@ import resource
 import signal
 import sys
 
-from recordings import FolderTest, judged, run_tests
+from program_test import run_tests
+from recordings import FolderTest, judged
 from texts import created, found, get, index, lost, missing, updated
 
 from casbench_recording.continuing import MOST_GROWING, MOST_LOST, Continuing, TooManyLost

@@ -17,7 +17,8 @@ import time
 import unittest
 from unittest import mock
 
-from recordings import FolderTest, Started, environment, run_tests
+from program_test import run_tests
+from recordings import FolderTest, Started, environment
 
 from casbench_recording.disturb import Disturbance, PlanError, fault_of, plan_of
 from casbench_recording.history import CallError, History

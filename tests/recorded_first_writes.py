@@ -15,7 +15,8 @@ import time
 from concurrent.futures import ThreadPoolExecutor
 
 from attacks import AttackTest, Cluster, answer_of, request_of
-from recordings import Started, run_tests
+from program_test import run_tests
+from recordings import Started
 
 
 class Made(Cluster):

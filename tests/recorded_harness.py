@@ -18,7 +18,8 @@ import sys
 import threading
 
 from program import TOP
-from recordings import FolderTest, environment, judged, run_tests
+from program_test import run_tests
+from recordings import FolderTest, environment, judged
 
 from casbench_recording.cluster import ClusterError, NoAnswer, connection_to
 from casbench_recording.history import CallError, History, Pair

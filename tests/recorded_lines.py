@@ -16,7 +16,8 @@ import sys
 import threading
 import unittest
 
-from recordings import PACKAGE, FolderTest, environment, judged, run_tests
+from program_test import run_tests
+from recordings import PACKAGE, FolderTest, environment, judged
 
 from casbench_recording.history import LONGEST_LINE, CallError, Ended, History, HistoryError, Operation, Pair
 from casbench_recording.parts import Parts

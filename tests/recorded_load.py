@@ -13,7 +13,8 @@ from collections import Counter
 from itertools import groupby
 
 from program import TOP
-from recordings import FolderTest, run_tests
+from program_test import run_tests
+from recordings import FolderTest
 
 from casbench_recording.history import History, Pair
 from casbench_recording.load import MIXTURE, Draw, Habits, Kind, Load, NoOutcome, Outcome, Unreachable, lost_by

@@ -11,7 +11,8 @@ import os
 import subprocess
 import sys
 
-from recordings import FolderTest, Started, environment, judged, run_tests
+from program_test import run_tests
+from recordings import FolderTest, Started, environment, judged
 
 
 class Nodes(FolderTest):

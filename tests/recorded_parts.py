@@ -19,7 +19,8 @@ import time
 import unittest
 
 from program import TOP
-from recordings import FolderTest, Started, environment, judged, run_tests
+from program_test import run_tests
+from recordings import FolderTest, Started, environment, judged
 from texts import created, found, get, index, refused, refuted, updated, yes
 
 from casbench_recording.continuing import Continuing

@@ -15,7 +15,8 @@ import sys
 import unittest
 
 from program import TOP
-from recordings import FolderTest, Started, run_tests
+from program_test import run_tests
+from recordings import FolderTest, Started
 
 
 def python_with_client():

@@ -19,7 +19,8 @@ import socket
 import subprocess
 import sys
 
-from recordings import FolderTest, Started, environment, run_tests
+from program_test import run_tests
+from recordings import FolderTest, Started, environment
 
 ENDED = "casbench_recording.proxy: the recording ended early: "
 

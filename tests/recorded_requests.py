@@ -12,7 +12,8 @@ import os
 import sys
 from unittest import mock
 
-from recordings import FolderTest, run_tests
+from program_test import run_tests
+from recordings import FolderTest
 
 from casbench_recording.answering import Answering
 from casbench_recording.asking import Asking

@@ -28,7 +28,8 @@ from unittest import mock
 
 from measure_proxy import run_clients
 from program import TOP
-from recordings import FolderTest, Started, judged, run_tests
+from program_test import run_tests
+from recordings import FolderTest, Started, judged
 
 from casbench_recording.cluster import ClusterError
 from casbench_recording.http1 import request_of, split_head

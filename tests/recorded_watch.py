@@ -20,7 +20,8 @@ import sys
 import time
 import unittest
 
-from recordings import FolderTest, Started, environment, judged, run_tests
+from program_test import run_tests
+from recordings import FolderTest, Started, environment, judged
 from texts import created, delete, found, get, index, lost, updated
 
 from casbench_recording.history import Pair
