@@ -14,8 +14,9 @@ import sys
 from collections import Counter
 from concurrent.futures import ThreadPoolExecutor
 
+from case_files import all_cases
 from drawing import MISSING, Call, Draws, Ending, Op, lines, pair_taken, performed
-from program import CASES, built_program
+from program import built_program
 from running import asked, text_of_run
 from texts import READINGS, yes
 from trials import Trial, Wrong, tell, try_all
@@ -190,8 +191,9 @@ def trials_by_kind(program):
     """All trials: what is asked, of what. A word is told of each."""
     return {
         "case": [
-            Trial(f"case {it.stem}, {reading}", agreed, (program, it.read_bytes(), reading))
-            for it in sorted(CASES.glob("*.history"))
+            Trial(f"case {name}, {reading}", agreed, (program, texts["history"], reading))
+            for name, texts in all_cases().items()
+            if "history" in texts
             for reading in READINGS
         ],
         "drawn": [Trial(f"drawn {seed}", agreed, (program, drawn(seed), READINGS[seed % 2])) for seed in range(DRAWN)],

@@ -21,10 +21,11 @@ import tempfile
 from collections import Counter
 from concurrent.futures import ThreadPoolExecutor
 
+from case_files import case_text
 from drawing import CONFLICT, MISSING, Call, Draws, Ending, Op, Reply, lines
 from growths import NO_MEMORY, Growths
 from offences import CHANGES, Clients, changed
-from program import built_program, case_text
+from program import built_program
 from running import has_compiler, run, run_by_parts, run_on_files, said
 from texts import LINE_BYTES, LINES, MOST_NUMBER, MOST_OF_PAIR, OFFENCE, REFUSED_COUNT
 from texts import answer_of, call, condition, created, delete, doc_missing, found, get, index, lost, missing, nested, no, no_writer

@@ -19,10 +19,11 @@ from collections import Counter
 from concurrent.futures import ProcessPoolExecutor
 from typing import NamedTuple
 
+from case_files import case_text
 from drawing import CONFLICT, MISSING, NAMES, Call, Draws, Ending, Op, Reply, lines, pair_taken, performed
 from evidence import Known, known_calls, shard_of
 from honest import Recording
-from program import built_program, case_text
+from program import built_program
 from running import asked
 from texts import READINGS, broken, no, no_writer, pair_of, places_of, refuted, status_of, verified, witness_of
 from trials import Trial, Wrong, tell, try_all

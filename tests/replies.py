@@ -18,8 +18,9 @@ import json
 import sys
 import tempfile
 
+from case_files import case_text
 from growths import NO_MEMORY, Growths
-from program import built_program, case_text
+from program import built_program
 from running import has_compiler, run_by_parts, run_on_files, text_of_run
 from texts import DEPTH, LINE_BYTES, MOST_NUMBER, MOST_OF_PAIR, REFUSED_COUNT
 from texts import answer_of, broken, call, condition, conflict, created, delete, deleted, found, get, index, lost, missing, nested, no

@@ -19,12 +19,13 @@ from concurrent.futures import ProcessPoolExecutor
 from typing import Callable, NamedTuple
 
 import offences
+from case_files import all_cases, case_text
 from drawing import CONFLICT, MISSING, Call, Ending, Op, Reply, pair_taken, performed
 from evidence import first_evidence, holds, known_calls
 from exact import has_order
 from orders import text_of
 from placings import least_ruled_out
-from program import CASES, built_program, case_text
+from program import built_program
 from running import run, said
 from texts import OFFENCE, READINGS, status_of
 from trials import Trial, Wrong, tell, try_all
@@ -278,11 +279,11 @@ def judged_case(name, reading):
 
 def case_trials():
     """The cases that have the option, each judged as its answer is."""
-    for case in sorted(CASES.glob("*.args")):
-        words, line = case.read_text().split(), case_text(case.stem, "stdout")
+    for name, texts in all_cases().items():
+        words, line = texts["args"].decode().split(), texts["stdout"].decode()
         if "--rule-out" in words:
             reading = "maybe" if "maybe" in words else "plain"
-            yield Trial(case.stem, judged_case, (case.stem, reading), (kind_of(line) == "yes", evidence_of(line)))
+            yield Trial(name, judged_case, (name, reading), (kind_of(line) == "yes", evidence_of(line)))
 
 
 # What came of them.

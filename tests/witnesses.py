@@ -15,7 +15,8 @@ import pathlib
 import sys
 import tempfile
 
-from program import built_program, case_text
+from case_files import case_text
+from program import built_program
 from running import asked, run_on_files, run_on_parts
 from texts import ID_BYTES, ITEMS, LINE_BYTES, LINES, MOST_OF_PAIR, MOST_RECORD, READINGS
 from texts import answer_of, broken, condition, conflict, create, created, delete, deleted, doc_missing, found, get, index, lost

@@ -20,7 +20,8 @@ import tempfile
 import termios
 import time
 
-from program import CASES, TOP, built_program, case_text
+from case_files import case_text
+from program import TOP, built_program
 from running import ended, run, run_words, search_words, started
 from texts import READ_FAULT, SETTING_FAULT, WRITE_FAULT, no, refuted, status_of, verified, yes
 from trials import Trial, try_and_tell
@@ -33,8 +34,8 @@ FILES = {
     "other": b"",
     "verify": b"",
     "story": (EXAMPLES / "stale-get.ndjson").read_bytes(),
-    "hidden": (CASES / "hidden-conflict.history").read_bytes(),
-    **dict.fromkeys(["check", "help", "-", "a b", "--help"], (CASES / "index-then-get.history").read_bytes()),
+    "hidden": case_text("hidden-conflict").encode(),
+    **dict.fromkeys(["check", "help", "-", "a b", "--help"], case_text("index-then-get").encode()),
 }
 
 ANSWER, NOTHING, VERIFIED_NOTHING = yes(2), yes(0, docs=0), verified(0, docs=0)
@@ -363,15 +364,12 @@ def is_page_made_last(program, folder):
         return (was_there, *ended(child), page.exists()) == (False, 0, STORY_OF_NOTHING, "", True)
 
 
-def in_turn(command, first, second, stdout):
-    """A row of files that are read in turn: those of cases."""
-    return command, *((CASES / name).read_bytes() for name in (first, second, stdout))
+def in_turn(command, case, *sections):
+    """A row of files that are read in turn: the texts of a case."""
+    return command, *(case_text(case, it).encode() for it in sections)
 
 
-TURNS = [
-    in_turn("verify", "verify-good-order.history", "verify-good-order.witness", "verify-good-order.stdout"),
-    in_turn("bulk", "bulk.body", "bulk.reply", "bulk.stdout"),
-]
+TURNS = [in_turn("verify", "verify-good-order", "history", "witness", "stdout"), in_turn("bulk", "bulk", "body", "reply", "stdout")]
 
 # How a row is judged, and the rows.
 TABLES = [
