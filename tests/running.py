@@ -12,6 +12,7 @@ import socket
 import socketserver
 import subprocess
 import tempfile
+import unittest
 
 from program import TOP
 
@@ -124,6 +125,10 @@ def free_ports(count):
         if len(ports) == count:
             break
     return ports
+
+
+# Tests that need a C compiler, cc, are skipped if there is none.
+needs_compiler = unittest.skipUnless(shutil.which("cc"), "there is no C compiler here, cc")
 
 
 def has_compiler(undone):
