@@ -28,16 +28,18 @@ class ProgramTest(unittest.TestCase):
 
     program = ""
 
-    def run_subtests(self, check, rows, executor=ThreadPoolExecutor, workers=None, chunksize=1):
-        """Runs a subtest for each row, several at a time. A row is a name and the arguments of the check, which raises an exception if
-        the subtest fails. Processes need a check that is a function of a module. Returns what each check returned, None if it failed."""
+    def run_subtests(self, check, rows, executor=ThreadPoolExecutor, workers=None, chunksize=1, not_counted=()):
+        """Runs a subtest for each row, several at a time. A row is a name and the arguments of the check, which raises an
+        exception if the subtest fails. Processes need a check that is a function of a module. A row isn't counted as a subtest
+        if the check returns one of the values that are not counted. Returns what each check returned, None if it failed."""
         rows = list(rows)
         with executor(workers) as pool:
             outcomes = list(pool.map(outcome_of, repeat(check), [row[1:] for row in rows], chunksize=chunksize))
-        for (name, *_), (_, failure) in zip(rows, outcomes):
-            with self.subTest(name[:MOST_LETTERS]):
-                if failure:
-                    self.fail(failure)
+        for (name, *_), (returned, failure) in zip(rows, outcomes):
+            if failure or returned not in not_counted:
+                with self.subTest(name[:MOST_LETTERS]):
+                    if failure:
+                        self.fail(failure)
         return [returned for returned, _ in outcomes]
 
 
