@@ -67,7 +67,7 @@ class Clients:
         return Waiting(call)
 
     def perform(self, waiting):
-        """A call is performed. Each has the next number of the shards, also where it takes none."""
+        """A call is performed. Each has the next number of the shards, also if it takes none."""
         doc = waiting.call.doc
         waiting.reply, self.states[doc] = performed(self.states[doc], waiting.call.op, (1, self.performed))
         self.performed += 1
@@ -208,7 +208,7 @@ def stale_get(earlier, write, get):
 
 
 def overtaken_get(slow, fast, get):
-    """The same where the replies of two writes came in the other order than their pairs: a get that was called after both were answered
+    """The same if the replies of two writes came in the other order than their pairs: a get that was called after both were answered
     finds what the one gave that was answered last."""
     old, new = pair_taken(slow.reply), pair_taken(fast.reply)
     if old is None or new is None or slow.op.k is None or get.op.name != "get":
