@@ -1,16 +1,16 @@
 #!/usr/bin/env python3
-"""Tries the orders that the built program finds: of cases, of the drawn calls of one document, and of honest recordings.
+"""Checks the orders that the built program finds: of cases, of the drawn calls of one document, and of honest recordings.
 
     python3 tests/orders.py [PROGRAM]
 
-PROGRAM is the built casbench; where it is not named, the one that ./casbench would run. Of cases the places of an order are wanted,
-or what is told of places that are tried against a history, or what is told of histories with and without evidence.
+PROGRAM is the built casbench; if it isn't named, the one that ./casbench would run. Of cases the places of an order are wanted, or
+the answer to places that are verified against a history, or the answer to histories with and without evidence.
 
-Drawn calls are judged by two naive bodies. One tries the answered calls in all orders; where it finds one, the program has to, and
-gives no pair. The other follows the rules for lost writes word by word (docs/ARCHITECTURE.md, the search for one document); where
-what they lead to is valid, the program has to find just that, place by place and pair by pair. Where it isn't, the program may find
-another order, which gives pairs, or none. Last, one document is taken out of each of many honest recordings, whose other documents
-took numbers between: it should have an order. Each order that is found is verified.
+Drawn calls are judged by two naive bodies. One tries the answered calls in all orders; if it finds one, the program has to, and
+gives no pair. The other follows the rules for lost writes word by word (docs/ARCHITECTURE.md, the search for one document); if what
+they lead to is valid, the program has to find just that, place by place and pair by pair. If it isn't, the program may find another
+order, which gives pairs, or none. Last, one document is taken out of each of many honest recordings, whose other documents took
+numbers between: it should have an order. Each order that is found is verified.
 """
 
 import re
@@ -23,10 +23,9 @@ from case_files import case_text
 from drawing import CONFLICT, MISSING, NAMES, Call, Draws, Ending, Op, Reply, lines, pair_taken, performed
 from evidence import Known, known_calls, shard_of
 from honest import Recording
-from program import built_program
+from program_test import ProgramTest, run_tests
 from running import asked
 from texts import READINGS, broken, no, no_writer, pair_of, places_of, refuted, status_of, verified, witness_of
-from trials import Trial, Wrong, tell, try_all
 
 # A case, how a conflict is read, and the places of the order: a record each, with the pair that is given to it. What stands in
 # tests/cases with its witness is left out.
@@ -42,16 +41,16 @@ ORDERS = [
     ("status-503-is-unknown", "plain", "0=1/0 1"),
 ]
 
-# A case, a document with places that are tried against it, and what is told of them.
-TRIED = [
+# A case, a document with places that are verified against it, and the answer.
+VERIFIED = [
     ("index-then-get", "d", "0 1", verified(2)),
     ("index-then-get", "d", "1 0", broken("illegal place=0")),
     ("index-then-get", "d", "0", broken("absent rec=1")),
     ("index-then-get", "x", "0 1", broken("doc-stranger")),
 ]
 
-# A history without an order, and what is told of it in both readings of a conflict. The documents c and d are on the second shard.
-TOLD = [
+# A history without an order, and the answer to it in both readings of a conflict. The documents c and d are on the second shard.
+UNORDERED = [
     # A pair is taken twice, by calls whose numbers fall; a get finds what nobody wrote.
     (
         "9 index a 1, 9 created 1/0, 8 index b 2, 8 created 1/0, 7 index a 3, 7 updated 1/1, 1 get a, 1 found 1/1 7",
@@ -107,11 +106,11 @@ def text_of(events):
     return "".join(lines(events, shard_of))
 
 
-# The naive bodies. Their records are calls as evidence.Known tells them, whose numbers are their places.
+# The naive bodies. Their records are the calls of evidence.Known, whose numbers are their places.
 
 
 def has_order(left, state=None, last=(0, 0), failed=None):
-    """Whether the answered calls that are left have an order, where the document is so and had this pair last."""
+    """Whether the answered calls that are left have an order, if the document is so and had this pair last."""
     failed = set() if failed is None else failed
     if not left:
         return True
@@ -133,7 +132,7 @@ class Stuck(Exception):
 
 
 class Link(NamedTuple):
-    """A write of the chain, and its pair; None where that is yet to be invented."""
+    """A write of the chain, and its pair; None if that is yet to be invented."""
 
     pair: tuple
     write: Known
@@ -143,7 +142,7 @@ DELETES, WRITES = {"delete"}, {"index", "create"}
 
 
 def needs(write):
-    """Whether the document has to be there before the write, or has not to be; None where either will do."""
+    """Whether the document has to be there before the write, or has not to be; None if either will do."""
     if write.reply and write.reply.kind in ("indexed", "deleted"):
         return write.reply.more == (write.reply.kind == "deleted")
     if write.op.name == "create":
@@ -172,7 +171,7 @@ class Rules:
         self.seen = tuple(max((it[at] for it in pairs if it), default=0) for at in (0, 1))
 
     def order(self):
-        """The places of the order to which the rules lead; None where they lead to none."""
+        """The places of the order to which the rules lead; None if they lead to none."""
         try:
             self.name_writes()
             while self.takes_more():
@@ -204,7 +203,7 @@ class Rules:
         return None
 
     def writer(self, k):
-        """The first lost index, of the number where there is one; under maybe else a refused one of the number."""
+        """The first lost index, of the number if there is one; under maybe else a refused one of the number."""
         able = [it for it in self.outside() if it.op.name in WRITES and it.op.k == k or it.op.name == "index" and k is None]
         lost = [it for it in able if it.reply is None]
         refused = [it for it in able if it.reply == CONFLICT and self.is_maybe and k is not None]
@@ -254,7 +253,7 @@ class Rules:
 
     def refused(self, stretch, kinds):
         """The first conflict by reply that no document refuses, of these kinds, whose reply stands after the calls of all writes
-        before the stretch's end, where it is called in time."""
+        before the stretch's end, if it is called in time."""
         latest = max((it.write.called for it in self.chain[:stretch]), default=0)
         able = [it for it in self.outside() if is_unrefused(it) and it.op.name in kinds and latest < it.replied]
         return next((it for it in by_reply(able)[:1] if it.called < self.limit(stretch)), None)
@@ -298,7 +297,7 @@ class Rules:
         return next((it for it in reversed(able) if self.allows(call, it)), None)
 
     def first_unplaced(self):
-        """Gives the answered records outside the chain their stretches, by falling call; the first that finds none is told."""
+        """Gives the answered records outside the chain their stretches, by falling call; returns the first that finds none."""
         self.given = {}
         for call in reversed(self.outside()):
             if call.reply and not is_unrefused(call):
@@ -311,7 +310,7 @@ class Rules:
     # What asks for a write, one after another.
 
     def takes_more(self):
-        """Takes more writes into the chain; false where nothing asks for one."""
+        """Takes more writes into the chain; false if nothing asks for one."""
         if self.takes_for_flag():
             return True
         unplaced = self.first_unplaced()
@@ -321,7 +320,7 @@ class Rules:
         return self.takes_unrefused()
 
     def takes_for_flag(self):
-        """Before the first write whose flag doesn't fit a delete is inserted, or a write of the document; false where all fit."""
+        """Before the first write whose flag doesn't fit a delete is inserted, or a write of the document; false if all fit."""
         for stretch in range(len(self.chain)):
             if self.next_needs(stretch) not in (None, self.is_live(stretch)):
                 kinds = WRITES if self.next_needs(stretch) else DELETES
@@ -331,7 +330,7 @@ class Rules:
         return False
 
     def takes_unrefused(self):
-        """The conflicts that no document refuses become writes, by reply; flags are seen to at once. False where none is left."""
+        """The conflicts that no document refuses become writes, by reply; flags are seen to at once. False if none is left."""
         takes = False
         while True:
             left = by_reply(it for it in self.outside() if is_unrefused(it))
@@ -351,7 +350,7 @@ class Rules:
         return stretch, {None: DELETES | WRITES, True: WRITES, False: DELETES}[following]
 
     def take_for_call(self, call):
-        """For a call that finds no stretch a write is inserted; where there is none, a conflict becomes one itself."""
+        """For a call that finds no stretch a write is inserted; if there is none, a conflict becomes one itself."""
         stretch, kinds = self.wanted_for(call)
         try:
             self.insert(stretch, None if stretch is None else self.candidate(stretch, kinds, call.replied))
@@ -397,7 +396,7 @@ class Rules:
 class Clients:
     """Two to four clients of one document, which make five to fourteen calls, and what was recorded of them. Other documents take
     numbers between, and now and then the term rises. One of ten gets finds what was there before the last change, so that some
-    histories have no order; under maybe one of five writes that were performed is told to be refused."""
+    histories have no order; under maybe one of five writes that were performed is answered as refused."""
 
     def __init__(self, seed, reading):
         self.draws, self.is_maybe = Draws(seed), reading == "maybe"
@@ -507,7 +506,7 @@ def taken_out(recording):
             yield line
 
 
-# What is tried.
+# How a history is judged.
 
 
 def is_valid(program, text, witness, reading):
@@ -518,7 +517,7 @@ def answered(program, text, reading):
     """What `witness` answers; an order is verified first."""
     status, answer = asked(program, "witness", text, conflicts=reading)
     if status == 0 and not is_valid(program, text, answer, reading):
-        raise Wrong(f"its own witness is not verified: {answer}")
+        raise AssertionError(f"its own witness is not verified: {answer}")
     return answer
 
 
@@ -531,28 +530,28 @@ def gives_pair(answer):
 
 
 def checked(program, words, reading):
-    """What is told of a history in words."""
+    """The answer to a history in words."""
     return asked(program, "check", text_of([event_of(it) for it in words.split(", ")]), conflicts=reading)
 
 
 def judged(program, seed, reading, is_shown_at_last):
-    """Judges a drawn history by the naive bodies; tells which of them finds an order."""
+    """Judges a drawn history by the naive bodies; returns which of them finds an order."""
     events = Clients(seed, reading).recorded()
     events = shown_at_last(events) if is_shown_at_last else events
     records, text = list(known_calls(events).values()), text_of(events)
     answer = answered(program, text, reading)
     if has_order([it for it in records if it.reply]):
         if not is_order(answer) or gives_pair(answer):
-            raise Wrong(f"{answer}, though the answered calls have an order")
+            raise AssertionError(f"{answer}, though the answered calls have an order")
         return "answered"
     places = Rules(records, reading).order()
     mine = None if places is None else witness_of("a", places)
     if mine and answer == mine:
         return "rules"
     if mine and is_valid(program, text, mine, reading):
-        raise Wrong(f"{answer}, and not {mine}")
+        raise AssertionError(f"{answer}, and not {mine}")
     if is_order(answer) and not gives_pair(answer):
-        raise Wrong(f"{answer} gives no pair")
+        raise AssertionError(f"{answer} gives no pair")
     return "another" if is_order(answer) else "none"
 
 
@@ -561,44 +560,57 @@ def judged_alone(program, seed, reading):
     return f"{reading} yes" if is_order(answered(program, text, reading)) else f"{reading} no"
 
 
-def word_trials(program):
-    """The orders of cases, and what is told of places and of histories in words."""
-    for case, reading, places in ORDERS:
-        yield Trial(f"{case}, {reading}", answered, (program, case_text(case), reading), witness_of("d", places_of(places)))
-    for case, doc, places, wanted in TRIED:
+class Orders(ProgramTest):
+    """The orders that are found, and the answers if there is none."""
+
+    def check_case(self, case, reading, places):
+        self.assertEqual(answered(self.program, case_text(case), reading), witness_of("d", places_of(places)))
+
+    def test_cases(self):
+        self.run_subtests(self.check_case, [(f"{row[0]}, {row[1]}", *row) for row in ORDERS])
+
+    def check_places(self, case, doc, places, wanted):
         texts = case_text(case), witness_of(doc, places_of(places))
-        yield Trial(f"{case}, {doc} {places}", asked, (program, "verify", *texts), (status_of(wanted), wanted))
-    for words, wanted in TOLD:
+        self.assertEqual(asked(self.program, "verify", *texts), (status_of(wanted), wanted))
+
+    def test_places(self):
+        """Places that are verified against the history of a case."""
+        self.run_subtests(self.check_places, [(f"{case}, {doc} {places}", case, doc, places, it) for case, doc, places, it in VERIFIED])
+
+    def check_words(self, words, reading, wanted):
+        self.assertEqual(checked(self.program, words, reading), (status_of(wanted), wanted))
+
+    def test_histories_in_words(self):
+        rows = [(f"{words}, {reading}", words, reading, wanted) for words, wanted in UNORDERED for reading in READINGS]
+        self.run_subtests(self.check_words, rows)
+
+    def run_drawn(self, judge, rows):
+        """Judges drawn histories; returns the counts of their kinds. Those of which few may be aren't counted as subtests."""
+        kinds = self.run_subtests(judge, rows, ProcessPoolExecutor, chunksize=4, not_counted=tuple(MOST))
+        counts = Counter(filter(None, kinds))
+        print(", ".join(f"{count} {kind}" for kind, count in sorted(counts.items())))
+        return counts
+
+    def test_drawn(self):
+        """Drawn calls are judged as by the naive bodies. Enough histories are of each kind."""
+        rows = []
         for reading in READINGS:
-            yield Trial(f"{words}, {reading}", checked, (program, words, reading), (status_of(wanted), wanted))
+            for seed in SEEDS:
+                rows.append((f"drawn {seed}, {reading}", self.program, seed, reading, False))
+                rows.append((f"drawn {seed}, {reading}, shown at last", self.program, seed, reading, True))
+        counts = self.run_drawn(judged, rows)
+        for kind, least in LEAST.items():
+            with self.subTest(f"how many are {kind}"):
+                self.assertGreaterEqual(counts[kind], least)
 
-
-def drawn_trials(program):
-    """The drawn calls and the recordings."""
-    for reading in READINGS:
-        for seed in SEEDS:
-            yield Trial(f"drawn {seed}, {reading}", judged, (program, seed, reading, False))
-            yield Trial(f"drawn {seed}, {reading}, shown at last", judged, (program, seed, reading, True))
-        for seed in range(RECORDINGS):
-            yield Trial(f"recording {seed}, {reading}", judged_alone, (program, seed, reading))
-
-
-def main():
-    program = built_program(sys.argv[1:])
-    drawn = list(drawn_trials(program))
-    with ProcessPoolExecutor() as pool:
-        rows, wrong = try_all(word_trials(program), pool, chunksize=4)
-        kinds, others = try_all(drawn, pool, chunksize=4)
-    wrong += others
-    counts = Counter(filter(None, kinds))
-    print(", ".join(f"{count} {kind}" for kind, count in sorted(counts.items())))
-    passed = len(rows) + len(drawn) - len(wrong) - sum(counts[kind] for kind in MOST)
-    wrong += [f"{counts[kind]} {kind}, which are fewer than {least}" for kind, least in LEAST.items() if counts[kind] < least]
-    for kind, most in MOST.items():
-        names = [trial.name for trial, it in zip(drawn, kinds) if it == kind]
-        wrong += [f"{len(names)} {kind}, which are more than {most}: {names}"] if len(names) > most else []
-    return tell(passed, wrong)
+    def test_recordings(self):
+        """Documents of honest recordings have an order, but for few."""
+        rows = [(f"recording {seed}, {it}", self.program, seed, it) for it in READINGS for seed in range(RECORDINGS)]
+        counts = self.run_drawn(judged_alone, rows)
+        for kind, most in MOST.items():
+            with self.subTest(f"how many are {kind}"):
+                self.assertLessEqual(counts[kind], most)
 
 
 if __name__ == "__main__":
-    sys.exit(main())
+    sys.exit(run_tests())
