@@ -28,13 +28,20 @@ class ProgramTest(unittest.TestCase):
 
     program = ""
 
+    def interrupt(self):
+        """Ends what checks have started. It is called if subtests are interrupted, before their checks are waited for."""
+
     def run_subtests(self, check, rows, executor=ThreadPoolExecutor, workers=None, chunksize=1, not_counted=()):
         """Runs a subtest for each row, several at a time. A row is a name and the arguments of the check, which raises an
         exception if the subtest fails. Processes need a check that is a function of a module. A row isn't counted as a subtest
         if the check returns one of the values that are not counted. Returns what each check returned, None if it failed."""
         rows = list(rows)
         with executor(workers) as pool:
-            outcomes = list(pool.map(outcome_of, repeat(check), [row[1:] for row in rows], chunksize=chunksize))
+            try:
+                outcomes = list(pool.map(outcome_of, repeat(check), [row[1:] for row in rows], chunksize=chunksize))
+            except KeyboardInterrupt:
+                self.interrupt()
+                raise
         for (name, *_), (returned, failure) in zip(rows, outcomes):
             if failure or returned not in not_counted:
                 with self.subTest(name[:MOST_LETTERS]):
