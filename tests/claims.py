@@ -25,6 +25,7 @@ from collections import Counter
 from typing import NamedTuple
 
 from program import TOP
+from program_test import ProgramTest, run_tests
 
 CRATES = TOP / "crates"
 STORES = [f"examples/stores/{it}README.md" for it in ("", "redis/", "postgresql/", "zookeeper/")]
@@ -47,20 +48,6 @@ SPELLED_TRAITS = {"==": "PartialEq", "hash": "Hash", "reader": "Read"}
 # Words that are files: such as begin with a folder of the checkout, and such as end so.
 FOLDERS = ("tests", "crates", "examples", "recording", "docs", "dist", ".ci")
 ENDINGS = (".antt", ".c", ".html", ".md", ".ndjson", ".png", ".py", ".rt", ".txt", ".witness")
-
-
-class Tally:
-    """How many names were held, and what is wrong."""
-
-    def __init__(self):
-        self.passed, self.wrong = 0, []
-
-    def hold(self, is_so, page, line, told):
-        """Counts a name, or notes what is wrong with it at a line of a page."""
-        if is_so:
-            self.passed += 1
-        else:
-            self.wrong.append((page, line, told))
 
 
 # ---- documents
@@ -104,7 +91,7 @@ def headings_of(page):
     return [(number, line) for number, line in lines_of(page) if re.match(r"#+ ", line)]
 
 
-def rows_of(page, tally):
+def rows_of(page, claims):
     """The rows of the tables of a document. Each has as many cells as its head."""
     heading, head, rows = "", (), []
     for number, line in lines_of(page):
@@ -115,7 +102,7 @@ def rows_of(page, tally):
         elif not all(re.fullmatch(r":?-+:?", it) for it in cells):
             rows.append(Row(number, heading, head, cells + ("",) * (len(head) - len(cells))))
             if len(cells) != len(head):
-                tally.hold(False, page, number, f"the row of {cells[0]} has {len(cells)} cells, its head {len(head)}")
+                claims.hold(False, page, number, f"the row of {cells[0]} has {len(cells)} cells, its head {len(head)}")
     return rows
 
 
@@ -286,11 +273,11 @@ class Model:
 
     page = "docs/MODEL.md"
 
-    def __init__(self, sources, tally):
-        self.sources, self.tally = sources, tally
+    def __init__(self, sources, claims):
+        self.sources, self.claims = sources, claims
 
     def hold(self, is_so, line, told):
-        self.tally.hold(is_so, self.page, line, told)
+        self.claims.hold(is_so, self.page, line, told)
 
     def hold_types(self, row):
         """Holds a row of types. Where values of one type are told, all of them are."""
@@ -324,7 +311,7 @@ class Model:
         told = {name: set() for name in headings}
         for name, number in headings.items():
             self.hold(name in specs, number, f"there is no file crates/{name}")
-        for row in rows_of(self.page, self.tally):
+        for row in rows_of(self.page, self.claims):
             if row.head[0] == "type":
                 self.hold_types(row)
             elif row.head[0] == "name" and row.heading[4:] in specs:
@@ -371,17 +358,17 @@ class Proved:
 
     page = "docs/PROVED.md"
 
-    def __init__(self, sources, tally):
-        self.sources, self.crates, self.tally = sources, sources.crates, tally
+    def __init__(self, sources, claims):
+        self.sources, self.crates, self.claims = sources, sources.crates, claims
         self.headings = headings_of(self.page)
         # The rows of the sections of crates, each with its crate.
-        named = ((re.match(r"## (\w+):", it.heading), it) for it in rows_of(self.page, tally))
+        named = ((re.match(r"## (\w+):", it.heading), it) for it in rows_of(self.page, claims))
         self.rows = [(sources.told[found[1]], it) for found, it in named if found and found[1] in sources.told]
         # In how many rows the calls stand, and which clauses are told, by the name of the crate and the call.
         self.stands, self.told = Counter(), set()
 
     def hold(self, is_so, line, told):
-        self.tally.hold(is_so, self.page, line, told)
+        self.claims.hold(is_so, self.page, line, told)
 
     def calls_told(self, row, crate):
         """For each name of a row's first cell the functions that it stands for."""
@@ -492,29 +479,29 @@ class Proved:
 # ---- ARCHITECTURE.md
 
 
-def hold_rooms(page, rows, sources, tally):
+def hold_rooms(page, rows, sources, claims):
     """Holds the table of crates with what they stand on."""
     rows = [it for it in rows if it.head[0] == "crate" and it.head[-1] == "stands on"]
     for row in rows:
         name, cell = row.cells[0], row.cells[-1]
-        tally.hold(name in sources.uses, page, row.line, f"crates.txt has no crate {name}")
+        claims.hold(name in sources.uses, page, row.line, f"crates.txt has no crate {name}")
         wanted = [it if it in sources.crates else f"`{it}`" for it in sources.uses.get(name, [])]
         is_so = sorted(filter(None, cell.split(", "))) == sorted(wanted)
         told = f"{name} stands on {cell or 'nothing'}, by crates.txt on {', '.join(wanted) or 'nothing'}"
-        tally.hold(is_so, page, row.line, told)
+        claims.hold(is_so, page, row.line, told)
     for name in sources.told:
         is_so = name in {row.cells[0] for row in rows}
-        tally.hold(is_so, page, rows[0].line if rows else 1, f"the crate {name} has no row in the rooms")
+        claims.hold(is_so, page, rows[0].line if rows else 1, f"the crate {name} has no row in the rooms")
 
 
-def hold_gate(page, rows, sources, tally):
+def hold_gate(page, rows, sources, claims):
     """Holds the table of what the gate takes: its crates, the crates of tests, and how many edits must fail."""
     for row in (it for it in rows if it.head[0] == "crate" and "edits" in it.head):
         for name in (row.cells[0], *re.findall(r"\w+_tests", " ".join(row.cells))):
-            tally.hold(name in sources.crates, page, row.line, f"there is no crate {name}")
+            claims.hold(name in sources.crates, page, row.line, f"there is no crate {name}")
         edits = len(list((CRATES / row.cells[0]).glob("must-fail/*.edit")))
         told = row.cells[row.head.index("edits")]
-        tally.hold(told == (str(edits) if edits else ""), page, row.line, f"{row.cells[0]} has {edits or 'no'} edits")
+        claims.hold(told == (str(edits) if edits else ""), page, row.line, f"{row.cells[0]} has {edits or 'no'} edits")
 
 
 # ---- what is cited
@@ -528,8 +515,8 @@ def anchors_of(page):
 class Citations:
     """What documents cite."""
 
-    def __init__(self, sources, tally):
-        self.crates, self.tally = sources.crates, tally
+    def __init__(self, sources, claims):
+        self.crates, self.claims = sources.crates, claims
         self.functions = {key for it in self.crates.values() for key in (*it.calls, *(own.key for own in it.functions))}
         files = [it.relative_to(TOP) for name in FOLDERS for it in (TOP / name).rglob("*.*")]
         self.files = [f"/{it}" for it in files if "out" not in it.parts]
@@ -569,36 +556,49 @@ class Citations:
                 word = re.sub(r"^(casbench_recording)\.(\w+)$", r"recording/\1/\2.py", word)  # (a module)
                 is_path = word.startswith(tuple(f"{it}/" for it in (".", *FOLDERS))) or word.endswith(ENDINGS)
                 if is_path and re.fullmatch(r"(\./)?(\w|\*|\.ci)[\w.*-]*(/[\w.*-]+)*/?", word):
-                    self.tally.hold(self.is_file(word), page, number, f"there is no file {word}")
+                    self.claims.hold(self.is_file(word), page, number, f"there is no file {word}")
                 if re.fullmatch(r"\w+Lemmas", word):
-                    self.tally.hold(self.is_file(f"{word}.antt"), page, number, f"there is no module of lemmas {word}")
+                    self.claims.hold(self.is_file(f"{word}.antt"), page, number, f"there is no module of lemmas {word}")
                 if re.fullmatch(r"\w+(::\w+)+", word):
-                    self.tally.hold(self.is_named(word), page, number, f"there is no {word}")
+                    self.claims.hold(self.is_named(word), page, number, f"there is no {word}")
             for path, name in re.findall(r"`(\w+(?:::\w+)+)`, (?:clause )?`(\w+)`", line):
                 if path.split("::")[0] in self.crates:
-                    self.tally.hold(self.is_behind(path, name), page, number, f"{path} has no clause {name}")
+                    self.claims.hold(self.is_behind(path, name), page, number, f"{path} has no clause {name}")
             for link in re.findall(r"\]\(([^):]+)\)", line):
-                self.tally.hold(self.is_linked(page, link), page, number, f"there is nothing behind the link {link}")
+                self.claims.hold(self.is_linked(page, link), page, number, f"there is nothing behind the link {link}")
 
 
-def main():
-    tally, sources = Tally(), Sources()
-    Model(sources, tally).hold_all()
-    proved = Proved(sources, tally)
-    proved.hold_headline()
-    proved.hold_all()
-    page = "docs/ARCHITECTURE.md"
-    rows = rows_of(page, tally)
-    hold_rooms(page, rows, sources, tally)
-    hold_gate(page, rows, sources, tally)
-    citations = Citations(sources, tally)
-    for page in DOCUMENTS:
-        citations.hold_document(page)
-    for page, line, told in sorted(tally.wrong):
-        print(f"FAILED: {page}:{line}: {told}")
-    print(f"{tally.passed} passed, {len(tally.wrong)} failed")
-    return 1 if tally.wrong or not tally.passed else 0
+class Claims(ProgramTest):
+    """What the documents say. Each name that is held is a subtest."""
+
+    @classmethod
+    def setUpClass(cls):
+        cls.sources = Sources()
+
+    def hold(self, is_so, page, line, fault):
+        """Holds a name at a line of a page."""
+        with self.subTest(f"{page}:{line}"):
+            self.assertTrue(is_so, fault)
+
+    def test_model(self):
+        Model(self.sources, self).hold_all()
+
+    def test_proved(self):
+        proved = Proved(self.sources, self)
+        proved.hold_headline()
+        proved.hold_all()
+
+    def test_architecture(self):
+        page = "docs/ARCHITECTURE.md"
+        rows = rows_of(page, self)
+        hold_rooms(page, rows, self.sources, self)
+        hold_gate(page, rows, self.sources, self)
+
+    def test_citations(self):
+        citations = Citations(self.sources, self)
+        for page in DOCUMENTS:
+            citations.hold_document(page)
 
 
 if __name__ == "__main__":
-    sys.exit(main())
+    sys.exit(run_tests(needs_program=False))

@@ -184,4 +184,4 @@ class Parts(ProgramTest):
 if __name__ == "__main__":
     if len(sys.argv) > 2 and not sys.argv[2].startswith("-"):
         Parts.drawn = int(sys.argv.pop(2))
-    sys.exit(run_tests())
+    sys.exit(run_tests(needs_program=False))

@@ -131,14 +131,6 @@ def free_ports(count):
 needs_compiler = unittest.skipUnless(shutil.which("cc"), "there is no C compiler here, cc")
 
 
-def has_compiler(undone):
-    """Whether there is a C compiler here, cc; where there is none, it is told what is not done."""
-    if shutil.which("cc"):
-        return True
-    print(f"there is no C compiler here, cc, so {undone}")
-    return False
-
-
 def library_in(folder, name):
     """The library of this name, compiled into the folder from its source beside the tests."""
     library = pathlib.Path(folder) / f"{name}.so"
