@@ -89,11 +89,11 @@ class Group:
     def end(self, call, reply):
         """The ending of a call is recorded. A group that forgets may answer that a document which was found is missing."""
         if self.draw.below(6) == 0:
-            self.events.append(Ending(call.no, None))
+            self.events.append(Ending(call.number, None))
             return
         if reply.kind == "found" and self.forgets and self.draw.below(2) == 0:
             reply = MISSING
-        self.events.append(Ending(call.no, reply))
+        self.events.append(Ending(call.number, reply))
         self.shown[call.doc] = reply.pair
 
     def step(self):

@@ -130,9 +130,9 @@ def owner_of(line):
     """`Type`, `Type as Trait` or `Trait` where the line begins an impl or a trait, `tests` where it begins a module."""
     while re.search(r"<[^<>]*>", line):
         line = re.sub(r"<[^<>]*>", "", line)
-    found = re.match(r"impl (?:(\S+) for )?(\S+) \{|(?:pub(?:\(\w+\))? )?trait (\w+)", line)
-    if found:
-        return found[3] or (f"{found[2]} as {found[1]}" if found[1] else found[2])
+    match = re.match(r"impl (?:(\S+) for )?(\S+) \{|(?:pub(?:\(\w+\))? )?trait (\w+)", line)
+    if match:
+        return match[3] or (f"{match[2]} as {match[1]}" if match[1] else match[2])
     return "tests" if re.match(r"mod \w+ \{", line) else ""
 
 
@@ -155,13 +155,13 @@ def functions_of(module, text):
     for place, line in enumerate(lines):
         if line and line[0].isalpha():
             owner = owner_of(line)
-        found = re.match(r"( *)(pub )?(?:pub\([^)]*\) )?(?:const |unsafe )*fn (\w+)", line)
-        if found and owner != "tests" and len(found[1]) <= 4:
-            header = header_of(lines[place:], len(found[1]))
-            clauses = re.findall(rf"^{found[1]}    (ensures|requires)(?: (\w+))? \{{", header, re.MULTILINE)
+        match = re.match(r"( *)(pub )?(?:pub\([^)]*\) )?(?:const |unsafe )*fn (\w+)", line)
+        if match and owner != "tests" and len(match[1]) <= 4:
+            header = header_of(lines[place:], len(match[1]))
+            clauses = re.findall(rf"^{match[1]}    (ensures|requires)(?: (\w+))? \{{", header, re.MULTILINE)
             ensures = tuple(name for kind, name in clauses if kind == "ensures")
             owes = any(kind == "requires" for kind, _ in clauses)
-            functions.append(Function(module, owner if found[1] else "", found[3], bool(found[2]), ensures, owes, header))
+            functions.append(Function(module, owner if match[1] else "", match[3], bool(match[2]), ensures, owes, header))
     return functions
 
 
@@ -281,12 +281,12 @@ class Model:
 
     def hold_types(self, row):
         """Holds a row of types. Where values of one type are told, all of them are."""
-        found = re.search(r"\(crate (\w+)\)", row.cells[0]) or re.match(r"### (\w+)/", row.heading)
-        types = self.sources.crates[found[1]].types if found and found[1] in self.sources.crates else {}
+        match = re.search(r"\(crate (\w+)\)", row.cells[0]) or re.match(r"### (\w+)/", row.heading)
+        types = self.sources.crates[match[1]].types if match and match[1] in self.sources.crates else {}
         names = [it.split()[0] for it in quoted(row.cells[0])]
         told = {it for text in quoted(row.cells[1]) for it in re.findall(r"^\w+", text)}
         for name in names:
-            self.hold(name in types, row.line, f"the type {name} is not declared in {found[1] if found else 'a crate'}")
+            self.hold(name in types, row.line, f"the type {name} is not declared in {match[1] if match else 'a crate'}")
         for value in sorted(types.get(names[0], ())) if len(names) == 1 and told & types.get(names[0], set()) else []:
             self.hold(value in told, row.line, f"the value {value} of {names[0]} is not told")
 
@@ -335,15 +335,15 @@ NAMES = r"`\w+`(?:(?:, | and )`\w+`)*"
 
 def names_of_part(part, has):
     """The names that a cell stands for. In a list the first name says of which type the next ones are, where it has them."""
-    found = re.fullmatch(r"the trait `(\w+)`(?:: (.+))?", part)
-    if found:
-        return [f"{found[1]}::{it}" for it in quoted(found[2] or "")] or [found[1]]
-    found = re.fullmatch(r"`(\w+)`(?: as an? `(\w+)`|, as a (reader))", part)
-    if found:
-        return [f"{found[1]} as {found[2] or SPELLED_TRAITS[found[3]]}"]
-    found = re.fullmatch(r"`(==|hash)` of `(\w+)`", part)
-    if found:
-        return [f"{found[2]} as {SPELLED_TRAITS[found[1]]}"]
+    match = re.fullmatch(r"the trait `(\w+)`(?:: (.+))?", part)
+    if match:
+        return [f"{match[1]}::{it}" for it in quoted(match[2] or "")] or [match[1]]
+    match = re.fullmatch(r"`(\w+)`(?: as an? `(\w+)`|, as a (reader))", part)
+    if match:
+        return [f"{match[1]} as {match[2] or SPELLED_TRAITS[match[3]]}"]
+    match = re.fullmatch(r"`(==|hash)` of `(\w+)`", part)
+    if match:
+        return [f"{match[2]} as {SPELLED_TRAITS[match[1]]}"]
     owner, names = "", []
     for name in quoted(part):
         if owner and "::" not in name and has(f"{owner}::{name}"):
@@ -363,7 +363,7 @@ class Proved:
         self.headings = headings_of(self.page)
         # The rows of the sections of crates, each with its crate.
         named = ((re.match(r"## (\w+):", it.heading), it) for it in rows_of(self.page, claims))
-        self.rows = [(sources.told[found[1]], it) for found, it in named if found and found[1] in sources.told]
+        self.rows = [(sources.told[match[1]], it) for match, it in named if match and match[1] in sources.told]
         # In how many rows the calls stand, and which clauses are told, by the name of the crate and the call.
         self.stands, self.told = Counter(), set()
 
@@ -470,8 +470,8 @@ class Proved:
     def hold_headline(self):
         """Holds the points that begin with calls and their clauses."""
         for number, line in lines_of(self.page):
-            found = re.match(rf"- (`\w+`(?: and `\w+`)*), ({NAMES}):", line)
-            for name, clause in ((name, it) for name in quoted(found[1]) for it in quoted(found[2])) if found else ():
+            match = re.match(rf"- (`\w+`(?: and `\w+`)*), ({NAMES}):", line)
+            for name, clause in ((name, it) for name in quoted(match[1]) for it in quoted(match[2])) if match else ():
                 functions = [it for crate in self.sources.told.values() for it in crate.found(name).values()]
                 self.hold(any(clause in it.ensures for it in functions), number, f"{name} has no clause {clause}")
 

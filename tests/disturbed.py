@@ -18,7 +18,7 @@ from concurrent.futures import ThreadPoolExecutor
 
 from program import TOP, built_program
 from program_test import ProgramTest, run_tests
-from running import run, run_words, search_words
+from running import run, run_arguments, search_arguments
 
 FAULTS = ["none", "dirty", "early", "same-term", "stale", "blind"]
 DISTURBANCES = ["none", "cuts", "promotions", "storm"]
@@ -59,7 +59,7 @@ ROW = re.compile(r"\| `([a-z-]+)` \| [^|]+ \|" + r" ([0-9, a-z`]*) \|" * len(DIS
 
 def in_turns(disturbance, **setting):
     """The arguments of a run in turns."""
-    return run_words(**setting).split() + ["--in-turns", "--disturb", disturbance]
+    return run_arguments(**setting).split() + ["--in-turns", "--disturb", disturbance]
 
 
 def judged(program, arguments):
@@ -137,7 +137,7 @@ class Disturbed(ProgramTest):
 
     def check_search(self, fault, disturbance, first, last):
         options = ["--disturb", disturbance]
-        status, text, why = run(self.program, search_words(seeds=f"{first}-{last}", fault=fault, **SETTING).split() + options)
+        status, text, why = run(self.program, search_arguments(seeds=f"{first}-{last}", fault=fault, **SETTING).split() + options)
         count = (last - first + 1) // 100
         hundreds = [f"casbench: {many}00 seeds tried, the last is {first + 100 * many - 1}" for many in range(1, 1 + count)]
         wanted = first_caught(self.program, fault, disturbance, first, last)

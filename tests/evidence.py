@@ -75,7 +75,7 @@ class Clients:
     def end(self, waiting):
         """The ending of a call is recorded: one of eight is lost."""
         is_lost = self.draws.below(8) == 0
-        self.events.append(Ending(waiting.call.no, None if is_lost else waiting.reply))
+        self.events.append(Ending(waiting.call.number, None if is_lost else waiting.reply))
         if not is_lost:
             self.shown[waiting.call.doc] = waiting.reply.pair
 
@@ -96,7 +96,7 @@ class Known:
     """A call of a history by all events: its place, and the place of its reply and the reply, if it has one."""
 
     def __init__(self, called, call):
-        self.called, self.no, self.doc, self.op = called, call.no, call.doc, call.op
+        self.called, self.number, self.doc, self.op = called, call.number, call.doc, call.op
         self.replied, self.reply = None, None
 
 
@@ -105,9 +105,9 @@ def known_calls(events):
     calls = {}
     for place, event in enumerate(events):
         if isinstance(event, Call):
-            calls[event.no] = Known(place, event)
+            calls[event.number] = Known(place, event)
         elif event.reply:
-            calls[event.no].replied, calls[event.no].reply = place, event.reply
+            calls[event.number].replied, calls[event.number].reply = place, event.reply
     return calls
 
 
@@ -119,7 +119,7 @@ def found_document(call):
 def is_pair_twice(one, two):
     """Two different writes of one shard were performed with the same pair."""
     pair = pair_taken(one.reply)
-    return one.no != two.no and shard_of(one.doc) == shard_of(two.doc) and pair is not None and pair == pair_taken(two.reply)
+    return one.number != two.number and shard_of(one.doc) == shard_of(two.doc) and pair is not None and pair == pair_taken(two.reply)
 
 
 def may_take(call, pair, reading):
@@ -149,14 +149,14 @@ def is_stale_swap(one, two):
     """Two different writes of one document were performed, the second with a condition below the pair of the first, though the
     first stands before it: it was answered before the second was called, or has the lesser pair."""
     first, second, asked = pair_taken(one.reply), pair_taken(two.reply), two.op.condition
-    if one.no == two.no or one.doc != two.doc or first is None or second is None or asked is None:
+    if one.number == two.number or one.doc != two.doc or first is None or second is None or asked is None:
         return False
     return asked < first and (one.replied < two.called or first < second)
 
 
 def holds(kind, calls, numbers, reading):
     """Whether evidence of the kind holds of the calls with these numbers."""
-    named = [calls[no] for no in numbers]
+    named = [calls[number] for number in numbers]
     if kind == "no-writer":
         return is_without_writer(*named, calls.values(), reading)
     return {"pair-twice": is_pair_twice, "stale-get": is_stale_get, "stale-swap": is_stale_swap}[kind](*named)
@@ -178,23 +178,23 @@ def first_evidence(calls, reading):
 def pair_twice(one, two, _):
     """The pair of a write is given to another one of its shard too."""
     pair = pair_taken(one.reply)
-    if pair is None or pair_taken(two.reply) is None or shard_of(one.doc) != shard_of(two.doc) or one.no == two.no:
+    if pair is None or pair_taken(two.reply) is None or shard_of(one.doc) != shard_of(two.doc) or one.number == two.number:
         return None
-    return two.replied, Ending(two.no, two.reply._replace(pair=pair)), ("pair-twice", (one.no, two.no))
+    return two.replied, Ending(two.number, two.reply._replace(pair=pair)), ("pair-twice", (one.number, two.number))
 
 
 def no_writer(get, *_):
     """A get finds a number that nobody wrote."""
     if not found_document(get):
         return None
-    return get.replied, Ending(get.no, get.reply._replace(more=1_000_000)), ("no-writer", (get.no,))
+    return get.replied, Ending(get.number, get.reply._replace(more=1_000_000)), ("no-writer", (get.number,))
 
 
 def refused_writer(write, get, _):
     """A get finds the number of a write that was answered with a conflict."""
     if not found_document(get) or write.reply != CONFLICT or write.op.k is None or write.doc != get.doc or get.replied < write.called:
         return None
-    return get.replied, Ending(get.no, get.reply._replace(more=write.op.k)), ("no-writer", (get.no,))
+    return get.replied, Ending(get.number, get.reply._replace(more=write.op.k)), ("no-writer", (get.number,))
 
 
 def stale_get(earlier, write, get):
@@ -204,7 +204,7 @@ def stale_get(earlier, write, get):
         return None
     if not earlier.doc == write.doc == get.doc or new <= old or get.called < write.replied:
         return None
-    return get.replied, Ending(get.no, Reply("found", old, earlier.op.k)), ("stale-get", (get.no, write.no))
+    return get.replied, Ending(get.number, Reply("found", old, earlier.op.k)), ("stale-get", (get.number, write.number))
 
 
 def overtaken_get(slow, fast, get):
@@ -215,7 +215,7 @@ def overtaken_get(slow, fast, get):
         return None
     if not slow.doc == fast.doc == get.doc or new <= old or not fast.replied < slow.replied < get.called:
         return None
-    return get.replied, Ending(get.no, Reply("found", old, slow.op.k)), ("stale-get", (get.no, fast.no))
+    return get.replied, Ending(get.number, Reply("found", old, slow.op.k)), ("stale-get", (get.number, fast.number))
 
 
 def stale_swap(earlier, one, two):
@@ -225,12 +225,12 @@ def stale_swap(earlier, one, two):
         return None
     if two.op.name not in ("index", "delete"):
         return None
-    return two.called, Call(two.no, two.doc, two.op._replace(condition=old)), ("stale-swap", (one.no, two.no))
+    return two.called, Call(two.number, two.doc, two.op._replace(condition=old)), ("stale-swap", (one.number, two.number))
 
 
 def forgotten(get, *_):
     """A document that was found is missing: there is no kind of evidence of that."""
-    return (get.replied, Ending(get.no, MISSING), None) if found_document(get) else None
+    return (get.replied, Ending(get.number, MISSING), None) if found_document(get) else None
 
 
 FAULT_KINDS = [pair_twice, no_writer, refused_writer, stale_get, overtaken_get, stale_swap, forgotten]
@@ -246,9 +246,10 @@ def drawn_fault(draws, calls, put):
     return None
 
 
-def is_reply(events, place, no):
+def is_reply(events, place, number):
     """Whether the event at the place is a reply to the call with the number."""
-    return place < len(events) and isinstance(events[place], Ending) and events[place].reply is not None and events[place].no == no
+    event = events[place] if place < len(events) else None
+    return isinstance(event, Ending) and event.reply is not None and event.number == number
 
 
 def reports(events, evidence, line):

@@ -29,7 +29,7 @@ from concurrent.futures import ThreadPoolExecutor
 from typing import NamedTuple, Optional
 
 from program_test import ProgramTest, run_tests
-from running import library_in, needs_compiler, run_words
+from running import library_in, needs_compiler, run_arguments
 from texts import READ_FAULT, WRITE_FAULT, broken, found, get, lost, missing, no_writer, places_of, refused, verified, witness_of, yes
 
 # How many bytes a call moves at most: a few, more, and as many as it can.
@@ -134,7 +134,7 @@ ROWS = [
     Row("bulk body reply", 2, refused(1, "syntax"), (Text("body", CUT), Text("reply", ""))),
     Row("explain", 2, f'{refused(1, "json")}\n', (history(CUT),)),
     Row("explain history --html page", 0, f"{yes(1, left_out=1)}\n", (history(OPEN),)),
-    Row(run_words(), 0, '{"e":"call","id":"d0",', ()),
+    Row(run_arguments(), 0, '{"e":"call","id":"d0",', ()),
 ]
 
 

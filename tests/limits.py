@@ -12,7 +12,7 @@ import sys
 import tempfile
 
 from program_test import ProgramTest, run_tests
-from running import run, run_on_files, run_words
+from running import run, run_on_files, run_arguments
 from texts import DEPTH, EVENTS, ID_BYTES, LINE_BYTES, LINES, READ_FAULT, SETTING_FAULT, WRITE_FAULT
 from texts import answer_of, broken, condition, conflict, created, delete, found, get, index, lost, nested, refused, refuted, updated, verified
 from texts import witness_of, written_call, yes
@@ -140,10 +140,10 @@ FAULTS = [
     ("a file that isn't there", "check /nonexistent", None, READ_FAULT, 4),
     ("a folder for a file", "check /", None, READ_FAULT, 4),
     ("an output that is full", "check", "/dev/full", WRITE_FAULT, 4),
-    ("more clients than there may be", run_words(clients=9), None, SETTING_FAULT, 64),
-    ("no calls", run_words(calls=0), None, SETTING_FAULT, 64),
-    ("more documents than there may be", run_words(docs=1_025), None, SETTING_FAULT, 64),
-    ("more copies than there may be", run_words(copies=6), None, SETTING_FAULT, 64),
+    ("more clients than there may be", run_arguments(clients=9), None, SETTING_FAULT, 64),
+    ("no calls", run_arguments(calls=0), None, SETTING_FAULT, 64),
+    ("more documents than there may be", run_arguments(docs=1_025), None, SETTING_FAULT, 64),
+    ("more copies than there may be", run_arguments(copies=6), None, SETTING_FAULT, 64),
 ]
 
 

@@ -87,12 +87,12 @@ class Clients:
         if self.is_lost():
             if reply is None and self.draws.below(2) == 0:
                 self.late.append(call)
-            self.events.append(Ending(call.no, None))
+            self.events.append(Ending(call.number, None))
             return None
         if reply is None:
             return call, self.answer(call)
         self.shown[call.doc] = reply.pair
-        self.events.append(Ending(call.no, reply))
+        self.events.append(Ending(call.number, reply))
         return None
 
     def recorded(self):
@@ -165,16 +165,16 @@ CHANGES = [missing, old_pair, other_number, other_flag, performed_after_all, ref
 
 def changed(events, change):
     """Changes the first reply of the later half that can have the change. Gives its place; None if none can."""
-    operations = {it.no: it.op for it in events if isinstance(it, Call)}
+    operations = {it.number: it.op for it in events if isinstance(it, Call)}
     named = [it.reply.pair for it in events if isinstance(it, Ending) and it.reply and it.reply.pair]
     named += [it.condition for it in operations.values() if it.condition]
     fresh = (1, max(seq for _, seq in named) + 1)
     for place in range(len(events) // 2, len(events)):
         event = events[place]
         if isinstance(event, Ending) and event.reply:
-            other = change(operations[event.no], event.reply, fresh)
+            other = change(operations[event.number], event.reply, fresh)
             if other:
-                events[place] = Ending(event.no, other)
+                events[place] = Ending(event.number, other)
                 return place
     return None
 

@@ -88,10 +88,10 @@ MOST = {"plain no": 0, "maybe no": 0}
 
 def event_of(words):
     """The event: `0 index a 1` is the call 0, an index of the document a with the number 1; `0 created 1/0` is its reply."""
-    no, word, *rest = words.split()
+    number, word, *rest = words.split()
     if word in ("get", "index", "create"):
         doc, *k = rest
-        return Call(int(no), NAMES.index(doc), Op(word, *map(int, k)))
+        return Call(int(number), NAMES.index(doc), Op(word, *map(int, k)))
     replies = {
         "created": lambda pair: Reply("indexed", pair_of(pair), True),
         "updated": lambda pair: Reply("indexed", pair_of(pair), False),
@@ -99,7 +99,7 @@ def event_of(words):
         "missing": lambda: MISSING,
         "lost": lambda: None,
     }
-    return Ending(int(no), replies[word](*rest))
+    return Ending(int(number), replies[word](*rest))
 
 
 def text_of(events):
@@ -114,7 +114,7 @@ def has_order(left, state=None, last=(0, 0), failed=None):
     failed = set() if failed is None else failed
     if not left:
         return True
-    key = frozenset(it.no for it in left), state, last
+    key = frozenset(it.number for it in left), state, last
     if key not in failed:
         failed.add(key)
         first_reply = min(it.replied for it in left)
@@ -182,8 +182,8 @@ class Rules:
 
     def outside(self):
         """The records that are not in the chain."""
-        inside = {it.write.no for it in self.chain}
-        return [it for it in self.records if it.no not in inside]
+        inside = {it.write.number for it in self.chain}
+        return [it for it in self.records if it.number not in inside]
 
     def stretch_of(self, pair):
         """The stretch that begins with the write of the pair."""
@@ -280,7 +280,7 @@ class Rules:
     def last_stretch(self, call):
         """The last stretch that is not after a write, or the stretch of a record, whose call stands after the reply."""
         writes = [at for at, it in enumerate(self.chain) if it.write.called > call.replied]
-        others = [at for no, at in self.given.items() if self.records[no].called > call.replied]
+        others = [at for number, at in self.given.items() if self.records[number].called > call.replied]
         return min(writes + others, default=len(self.chain))
 
     def allows(self, call, stretch):
@@ -304,7 +304,7 @@ class Rules:
                 stretch = self.stretch_for(call)
                 if stretch is None:
                     return call
-                self.given[call.no] = stretch
+                self.given[call.number] = stretch
         return None
 
     # What asks for a write, one after another.
@@ -381,12 +381,12 @@ class Rules:
         """The places of the order, once nothing asks for a write."""
         places, last = [], None
         for stretch in range(len(self.chain) + 1):
-            reads = by_reply(self.records[no] for no, it in self.given.items() if it == stretch)
-            places += [(it.no, None) for it in reads]
+            reads = by_reply(self.records[number] for number, it in self.given.items() if it == stretch)
+            places += [(it.number, None) for it in reads]
             if stretch < len(self.chain):
                 pair, write = self.chain[stretch]
                 last = pair or self.invented(stretch, last, len(places))
-                places.append((write.no, None if pair_taken(write.reply) else last))
+                places.append((write.number, None if pair_taken(write.reply) else last))
         return places
 
 
@@ -457,7 +457,7 @@ class Clients:
         if reply.pair and (not is_lost or self.is_one_in(3)):
             self.known.append(reply.pair)
         if not is_lost:
-            self.events.append(Ending(call.no, reply))
+            self.events.append(Ending(call.number, reply))
         return None
 
     def recorded(self):

@@ -3,7 +3,7 @@
 
     python3 tests/recorded_attacks_drawn.py [PROGRAM]
 
-PROGRAM is the built casbench; where it is not named, the one that ./casbench would run. Each history can be read; that of a cluster
+PROGRAM is the built casbench; if it isn't named, the one that ./casbench would run. Each history can be read; that of a cluster
 which answers right gets `yes`; behind the clients no descriptor, no thread and no memory is left; and SIGTERM ends the proxy soon, at
 any moment. The last line says how many tests passed and failed.
 """

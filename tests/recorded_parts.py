@@ -3,7 +3,7 @@
 
     python3 tests/recorded_parts.py [PROGRAM]
 
-PROGRAM is the built casbench; where it is not named, the one that ./casbench would run. GNU parallel is tried where it is installed; else
+PROGRAM is the built casbench; if it isn't named, the one that ./casbench would run. GNU parallel is tried where it is installed; else
 a line says so. The last line says how many tests passed and failed.
 """
 

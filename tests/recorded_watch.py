@@ -3,7 +3,7 @@
 
     python3 tests/recorded_watch.py [PROGRAM]
 
-PROGRAM is the built casbench; where it is not named, the one that ./casbench would run. The last line says how many tests passed and
+PROGRAM is the built casbench; if it isn't named, the one that ./casbench would run. The last line says how many tests passed and
 failed.
 """
 

@@ -71,7 +71,7 @@ class Cluster(offences.Clients):
 
     def answer(self, call):
         for due in self.faults:
-            reply = due.put(self, call) if due.since <= call.no else None
+            reply = due.put(self, call) if due.since <= call.number else None
             if reply:
                 self.faults.remove(due)
                 return reply

@@ -24,7 +24,7 @@ class Small(NamedTuple):
 
 
 def own_shard(doc):
-    """The shard of a document, where the second one is on a shard of its own."""
+    """The shard of a document, if the second one is on a shard of its own."""
     return doc % 2
 
 
@@ -41,7 +41,7 @@ def recorded(draws, seed):
 
 
 def pair_in(event):
-    """The pair that an event shows or asks for; None where there is none."""
+    """The pair that an event shows or asks for; None if there is none."""
     if isinstance(event, Call):
         return event.op.condition
     return event.reply and event.reply.pair
@@ -106,11 +106,11 @@ def other_reply(draws, op, events):
 
 def change_reply(draws, events):
     """Changes one reply."""
-    operations = {it.no: it.op for it in events if isinstance(it, Call)}
+    operations = {it.number: it.op for it in events if isinstance(it, Call)}
     replies = [at for at, it in enumerate(events) if isinstance(it, Ending) and it.reply]
     if replies:
         at = draws.one_of(replies)
-        events[at] = events[at]._replace(reply=other_reply(draws, operations[events[at].no], events))
+        events[at] = events[at]._replace(reply=other_reply(draws, operations[events[at].number], events))
 
 
 def change_pair(draws, events):
@@ -122,9 +122,9 @@ def change_pair(draws, events):
 
 
 def change_places(draws, events):
-    """Has an event change places with the next one, where that isn't of the same call."""
+    """Has an event change places with the next one, if that isn't of the same call."""
     at = draws.below(len(events) - 1)
-    if events[at].no != events[at + 1].no:
+    if events[at].number != events[at + 1].number:
         events[at : at + 2] = events[at + 1], events[at]
 
 

@@ -24,7 +24,7 @@ from typing import NamedTuple
 
 from drawing import lines
 from evidence import known_calls
-from exact import has_order, is_told, one_shard
+from exact import has_order, has_known_outcome, one_shard
 from program import TOP
 from program_test import ProgramTest, run_tests
 from ruled_out import answer, events_of, kind_of, without_option
@@ -77,7 +77,7 @@ class History(NamedTuple):
 
 def is_settled(calls, reading):
     """Whether each write has a reply, under maybe one other than a conflict."""
-    return all(it.op.name == "get" or is_told(it, reading) for it in calls)
+    return all(it.op.name == "get" or has_known_outcome(it, reading) for it in calls)
 
 
 def history_of(events, shard_of, reading):

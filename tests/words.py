@@ -23,7 +23,7 @@ import time
 from case_files import case_text
 from program import TOP
 from program_test import ProgramTest, run_tests
-from running import ended, run, run_words, search_words, started
+from running import ended, run, run_arguments, search_arguments, started
 from texts import READ_FAULT, SETTING_FAULT, WRITE_FAULT, no, refuted, status_of, verified, yes
 
 EXAMPLES = TOP / "examples"
@@ -95,15 +95,15 @@ ACCEPTED = [
     ("explain absent --html page", 4, "", absent("absent", READ_FAULT)),
     # runs: these arguments are accepted, but nine clients are too many
     *(
-        (run_words(seed=2**64 - 1, clients=9, calls=200, docs=3, copies=5, fault=fault), 64, "", SETTING_FAULT)
+        (run_arguments(seed=2**64 - 1, clients=9, calls=200, docs=3, copies=5, fault=fault), 64, "", SETTING_FAULT)
         for fault in ("none", "dirty", "early", "same-term", "stale", "blind")
     ),
     *(
-        (f"{run_words(clients=9)} --in-turns --disturb={name}", 64, "", SETTING_FAULT)
+        (f"{run_arguments(clients=9)} --in-turns --disturb={name}", 64, "", SETTING_FAULT)
         for name in ("none", "cuts", "promotions", "storm")
     ),
     *(
-        (f"{search_words(seeds=seeds, clients=9)}{more}", 64, "", SETTING_FAULT)
+        (f"{search_arguments(seeds=seeds, clients=9)}{more}", 64, "", SETTING_FAULT)
         for seeds in ("0-0", "1-2", "+7-8", "0-18446744073709551615")
         for more in ("", " --in-turns --disturb storm")
     ),
@@ -176,7 +176,7 @@ REFUSED = [
     ("check --rule-out a b", UNKNOWN.format("b")),
     ("verify h w --rule-out", UNKNOWN.format("--rule-out")),
     ("bulk b r --rule-out", UNKNOWN.format("--rule-out")),
-    (run_words() + " --rule-out", UNKNOWN.format("--rule-out")),
+    (run_arguments() + " --rule-out", UNKNOWN.format("--rule-out")),
     ("--rule-out", UNKNOWN.format("--rule-out")),
     # bulks
     ("bulk", missing("<BODY>", "<REPLY>")),
@@ -195,24 +195,24 @@ REFUSED = [
     (RUN.format("1", "1") + " --fault cut", FAULT),
     (RUN.format("1", "1"), missing("--fault <F>")),
     ("run --clients 1 --calls 1 --docs 1 --copies 1 --fault none", SEED),
-    (run_words() + " --until refuted", SEED),
-    (run_words() + " --seeds 1-2", SEED),
-    (run_words() + " --until refuted --seeds 1-2", SEED),
+    (run_arguments() + " --until refuted", SEED),
+    (run_arguments() + " --seeds 1-2", SEED),
+    (run_arguments() + " --until refuted --seeds 1-2", SEED),
     ("run --clients 1 --calls 1 --docs 1 --copies 1 --fault none --seeds 1-2", SEED),
-    *((search_words(until=name), UNTIL) for name in ("no", "Refuted", "''")),
-    *((search_words(seeds=seeds), SEEDS) for seeds in ("2-1", "1", "1-", "1-2-3", "a-b", "1..2", "1-18446744073709551616", "''")),
-    (search_words(fault="cut"), FAULT),
-    (search_words() + " --disturb Storm", DISTURBANCE),
-    (search_words() + " --until refuted", TWICE.format("--until <ANSWER>")),
-    (search_words() + " --seeds 1-2", TWICE.format("--seeds <A-B>")),
+    *((search_arguments(until=name), UNTIL) for name in ("no", "Refuted", "''")),
+    *((search_arguments(seeds=seeds), SEEDS) for seeds in ("2-1", "1", "1-", "1-2-3", "a-b", "1..2", "1-18446744073709551616", "''")),
+    (search_arguments(fault="cut"), FAULT),
+    (search_arguments() + " --disturb Storm", DISTURBANCE),
+    (search_arguments() + " --until refuted", TWICE.format("--until <ANSWER>")),
+    (search_arguments() + " --seeds 1-2", TWICE.format("--seeds <A-B>")),
     ("check --until refuted", UNKNOWN.format("--until")),
-    (run_words() + " --disturb Storm", DISTURBANCE),
-    (run_words() + " --disturb=", DISTURBANCE),
-    (run_words(fault="cut") + " --disturb cut", FAULT),
-    (run_words() + " --disturb cuts --disturb cuts", TWICE.format("--disturb <NAME>")),
-    (run_words() + " --disturb", NO_VALUE.format("--disturb <NAME>")),
-    (run_words() + " --in-turns --in-turns", TWICE.format("--in-turns")),
-    (run_words() + " --in-turns=1", A_VALUE.format("1", "--in-turns")),
+    (run_arguments() + " --disturb Storm", DISTURBANCE),
+    (run_arguments() + " --disturb=", DISTURBANCE),
+    (run_arguments(fault="cut") + " --disturb cut", FAULT),
+    (run_arguments() + " --disturb cuts --disturb cuts", TWICE.format("--disturb <NAME>")),
+    (run_arguments() + " --disturb", NO_VALUE.format("--disturb <NAME>")),
+    (run_arguments() + " --in-turns --in-turns", TWICE.format("--in-turns")),
+    (run_arguments() + " --in-turns=1", A_VALUE.format("1", "--in-turns")),
     ("check --in-turns", UNKNOWN.format("--in-turns")),
     ("check --disturb cuts", UNKNOWN.format("--disturb")),
 ]
@@ -358,7 +358,7 @@ class Words(ProgramTest):
         self.run_rows(self.check_story, STORIES)
 
     def check_fault(self, folder, fault, answer, rises):
-        status, history, why = self.ran(run_words(calls=200, docs=3, copies=5, fault=fault), folder)
+        status, history, why = self.ran(run_arguments(calls=200, docs=3, copies=5, fault=fault), folder)
         self.assertEqual((status, why), (0, ""))
         terms = set(re.findall(r'"_primary_term":(\d+)', history))
         self.assertEqual(len(terms) > 1, rises)
