@@ -3,10 +3,10 @@
 
     python3 tests/agree.py [PROGRAM]
 
-PROGRAM is the built casbench; if it isn't named, the one that ./casbench would run. The histories are those of the text cases,
-drawn ones of two to four documents, such with some bytes changed, and runs of a group without a fault. A witness that is written
-is verified, with the counts of the check; if a check says no, a witness says the same; and if one command refuses a line, all of
-them do, and that is the first line that can't stay.
+PROGRAM is the built casbench; if it isn't named, the one that ./casbench would run. The histories are those of the text
+cases, drawn ones of two to four documents, such with some bytes changed, and runs of a group without a fault. A witness
+that is written is verified, with the counts of the check; if a check says no, a witness says the same; and if one
+command refuses a line, all of them do, and that is the first line that can't stay.
 """
 
 import re
@@ -87,7 +87,8 @@ class Group:
         return call, reply
 
     def end(self, call, reply):
-        """The ending of a call is recorded. A group that forgets may answer that a document which was found is missing."""
+        """The ending of a call is recorded. A group that forgets may answer that a document which was found is
+        missing."""
         if self.draw.below(6) == 0:
             self.events.append(Ending(call.number, None))
             return
@@ -194,8 +195,8 @@ class Agreeing(ProgramTest):
         print_counts("cases", self.run_subtests(agreed, rows))
 
     def test_drawn(self):
-        """Drawn histories: enough are explained, and enough are not. Their faults are gets that answer missing, of which there is no
-        evidence."""
+        """Drawn histories: enough are explained, and enough are not. Their faults are gets that answer missing, of
+        which there is no evidence."""
         rows = [(f"seed {seed}", self.program, drawn(seed), READINGS[seed % 2]) for seed in range(DRAWN)]
         counts = print_counts("drawn", self.run_subtests(agreed, rows))
         with self.subTest("how many are explained"):

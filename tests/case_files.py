@@ -1,7 +1,7 @@
 r"""The text cases: tests/cases/NAME.case, a file for each.
 
-It is no test itself. A case file has sections. A section begins with a line `--- SECTION`; its text is all lines behind that, up to the
-next such line or to the end of the file, byte for byte. The sections are
+It is no test itself. A case file has sections. A section begins with a line `--- SECTION`; its text is all lines behind
+that, up to the next such line or to the end of the file, byte for byte. The sections are
 
     --- args      the arguments of the program, one on each line; history, witness, body and reply, but as the first argument,
                   stand for files with the texts of these sections
@@ -12,9 +12,10 @@ next such line or to the end of the file, byte for byte. The sections are
     --- status    the exit status
     --- stdout    the text that has to come on standard output; nothing may come on standard error
 
-in this order. Each case has args, status and stdout. If a text doesn't end with a newline, the section ends with the line
-`\ No newline at end of file`, as in the output of diff; neither this line nor the newline before it belongs to the text. A section
-without a line has the empty text. No line of a text may begin with `--- ` or be that last line: the format has no escapes.
+in this order. Each case has args, status and stdout. If a text doesn't end with a newline, the section ends with the
+line `\ No newline at end of file`, as in the output of diff; neither this line nor the newline before it belongs to the
+text. A section without a line has the empty text. No line of a text may begin with `--- ` or be that last line: the
+format has no escapes.
 """
 
 import re

@@ -3,8 +3,9 @@
 
     python3 tests/cases.py [PROGRAM]
 
-PROGRAM is the built casbench; if it isn't named, the one that ./casbench would run. A case is a file tests/cases/NAME.case, whose
-format tests/case_files.py describes: arguments, texts, and the exit status and standard output that have to come, byte for byte.
+PROGRAM is the built casbench; if it isn't named, the one that ./casbench would run. A case is a file
+tests/cases/NAME.case, whose format tests/case_files.py describes: arguments, texts, and the exit status and standard
+output that have to come, byte for byte.
 """
 
 import pathlib

@@ -5,15 +5,17 @@
 
 No program is run; one may be named, as for the other tests. What is held:
 
-- docs/MODEL.md has a heading `### CRATE/specs/FILE.antt` for each file of definitions. The tables below it tell the definitions
-  of that file, each of them and no others; names in brackets are parts of a definition. Types are there, with their values.
-- docs/PROVED.md has a section for each crate. Each public call stands there in one row, which tells each of its clauses and no
-  others, and that something is owed where the call has a `requires`, and only there. Each law stands in a row with its
-  definition. Clauses in brackets are those of a call of their row, refusals are values of some type, and what stands in brackets
-  in a promise is a definition.
-- docs/ARCHITECTURE.md has a row for each crate in "The rooms", with the libraries that crates.txt gives it; the table of the
-  gate tells how many edits must fail.
-- Files, links, modules of lemmas, `CRATE::NAME` and `Type::name` that a document names are there, and clauses behind these.
+- docs/MODEL.md has a heading `### CRATE/specs/FILE.antt` for each file of definitions. The tables below it tell the
+  definitions of that file, each of them and no others; names in brackets are parts of a definition. Types are there,
+  with their values.
+- docs/PROVED.md has a section for each crate. Each public call stands there in one row, which tells each of its clauses
+  and no others, and that something is owed where the call has a `requires`, and only there. Each law stands in a row
+  with its definition. Clauses in brackets are those of a call of their row, refusals are values of some type, and what
+  stands in brackets in a promise is a definition.
+- docs/ARCHITECTURE.md has a row for each crate in "The rooms", with the libraries that crates.txt gives it; the table
+  of the gate tells how many edits must fail.
+- Files, links, modules of lemmas, `CRATE::NAME` and `Type::name` that a document names are there, and clauses behind
+  these.
 
 Each name that is held counts one.
 """
@@ -68,7 +70,8 @@ def quoted(text):
 
 
 def in_brackets(text):
-    """What stands in brackets where it is names and nothing else, parted at `; `: what stands before `: `, and the names."""
+    """What stands in brackets where it is names and nothing else, parted at `; `: what stands before `: `, and the
+    names."""
     for group in re.findall(r"\(([^()]*`[^()]*)\)", text):
         for piece in group.split("; "):
             before, _, names = piece.rpartition(": ")
@@ -110,8 +113,8 @@ def rows_of(page, claims):
 
 
 class Function(NamedTuple):
-    """A function: its module, the impl or the trait that it stands in, its name and its contract. What an impl gives to a trait
-    is one without a name, with the names of what is given as its clauses."""
+    """A function: its module, the impl or the trait that it stands in, its name and its contract. What an impl gives to
+    a trait is one without a name, with the names of what is given as its clauses."""
 
     module: str
     owner: str
@@ -166,7 +169,8 @@ def functions_of(module, text):
 
 
 class Crate:
-    """A crate: its functions, its public calls by the names that documents give them, its types with their values, and more."""
+    """A crate: its functions, its public calls by the names that documents give them, its types with their values, and
+    more."""
 
     def __init__(self, folder):
         self.name, self.is_library = folder.name, (folder / "src" / "lib.rt").exists()
@@ -209,7 +213,8 @@ class Crate:
         return f"{self.open[it.module]}::{it.name}" if it.is_public and it.module in self.open else ""
 
     def found(self, name):
-        """The functions that a document's name stands for: a call, all of a trait, or what an impl gives to its trait."""
+        """The functions that a document's name stands for: a call, all of a trait, or what an impl gives to its
+        trait."""
         if name in self.traits:
             return {key: it for key, it in self.calls.items() if it.owner == name}
         if name in self.impls:
@@ -334,7 +339,8 @@ NAMES = r"`\w+`(?:(?:, | and )`\w+`)*"
 
 
 def names_of_part(part, has):
-    """The names that a cell stands for. In a list the first name says of which type the next ones are, where it has them."""
+    """The names that a cell stands for. In a list the first name says of which type the next ones are, where it has
+    them."""
     match = re.fullmatch(r"the trait `(\w+)`(?:: (.+))?", part)
     if match:
         return [f"{match[1]}::{it}" for it in quoted(match[2] or "")] or [match[1]]
@@ -380,14 +386,15 @@ class Proved:
         return {name: crate.found(name) for name in named}
 
     def same_clauses(self, other, key):
-        """The clauses that a function's are said to be as: those of this name in its type, or of its name in this type."""
+        """The clauses that a function's are said to be as: those of this name in its type, or of its name in this
+        type."""
         owner, _, own = key.rpartition("::")
         name = f"{owner}::{other}" if owner and other[0].islower() else other
         return [it.ensures for crate in self.crates.values() for it in crate.found(name).values()]
 
     def clauses_told(self, cell, key, it):
-        """The clauses that a promise tells of a function, and whether it has them. Names with a colon behind them begin what is
-        said of these clauses; words without a name are those of a clause without one."""
+        """The clauses that a promise tells of a function, and whether it has them. Names with a colon behind them begin
+        what is said of these clauses; words without a name are those of a clause without one."""
         promise = re.sub(r"^Owed: .*?\. ", "", cell)
         if promise.startswith("promises nothing"):
             return (), not it.ensures
@@ -424,8 +431,8 @@ class Proved:
                 self.told.add((crate.name, key, ""))
 
     def hold_refusals(self, row, cells, crate, own):
-        """Holds what cells name: the refusals, and in brackets clauses of a call of the row, of a record that its contract cites,
-        or of the function before them. A function may stand there alone."""
+        """Holds what cells name: the refusals, and in brackets clauses of a call of the row, of a record that its
+        contract cites, or of the function before them. A function may stand there alone."""
         functions = crate.functions
         alone = {clause for it in own for clause in it.ensures} | {it.key for it in functions} | self.sources.fields_cited(own)
         for before, names in in_brackets(" ".join(cells)):
@@ -448,8 +455,8 @@ class Proved:
                 self.hold_refusals(row, row.cells[2:] or ("",), crate, own)
 
     def hold_all(self):
-        """Holds that each crate has its section, in which each public call stands in one row, with all its clauses; and so does
-        each function of a program that stands there."""
+        """Holds that each crate has its section, in which each public call stands in one row, with all its clauses; and
+        so does each function of a program that stands there."""
         sections = {line[3:].split(":")[0]: number for number, line in self.headings if re.match(r"## \w+:", line)}
         for name, number in sections.items():
             self.hold(name in self.sources.told, number, f"there is no crate {name}")
@@ -522,7 +529,8 @@ class Citations:
         self.files = [f"/{it}" for it in files if "out" not in it.parts]
 
     def is_file(self, word):
-        """Whether there is the file: at this place, or one whose path ends so. What the toolchain makes need not be there."""
+        """Whether there is the file: at this place, or one whose path ends so. What the toolchain makes need not be
+        there."""
         path = word[2:] if word.startswith("./") else word
         if "out" in path.split("/"):
             return True

@@ -1,17 +1,19 @@
 #!/usr/bin/env python3
-"""Draws small histories, has the recording's package cut each into parts, and compares the parts with the whole by an exact search.
+"""Draws small histories, has the recording's package cut each into parts, and compares the parts with the whole by an
+exact search.
 
     python3 tests/continuing.py [PROGRAM] [HISTORIES]
 
-PROGRAM isn't used. HISTORIES is how many are cut at moments of rest in each reading (2,000), and half as many in full parts. They have 6
-to 12 calls of 1 to 3 documents on one shard or two, up to 30 % of the calls lost, honest ones and changed ones. Each is recorded in both
-readings of a conflict, in parts of 1 to 4 calls, so that a document moves at drawn moments at which none of its calls is open; and in
-parts that are full at 3 to 6 calls, so that it moves while its calls are open. Some fixed histories have a write whose effect comes late.
-What has to hold:
+PROGRAM isn't used. HISTORIES is how many are cut at moments of rest in each reading (2,000), and half as many in full
+parts. They have 6 to 12 calls of 1 to 3 documents on one shard or two, up to 30 % of the calls lost, honest ones and
+changed ones. Each is recorded in both readings of a conflict, in parts of 1 to 4 calls, so that a document moves at
+drawn moments at which none of its calls is open; and in parts that are full at 3 to 6 calls, so that it moves while its
+calls are open. Some fixed histories have a write whose effect comes late. What has to hold:
 
 - If an order explains the whole, one explains each part.
-- Of the histories without an order, cut at moments of rest, at least 95 % have a part without one, and of those in several parts 90 %.
-  What is missed is mostly a pair that two documents took, with one of them in a part of its own: pairs are compared within a part.
+- Of the histories without an order, cut at moments of rest, at least 95 % have a part without one, and of those in
+  several parts 90 %. What is missed is mostly a pair that two documents took, with one of them in a part of its own:
+  pairs are compared within a part.
 """
 
 import json
@@ -37,8 +39,9 @@ from casbench_recording.continuing import Continuing, TooManyLost
 from casbench_recording.history import MOST_EVENTS, Operation, Pair
 from casbench_recording.past import Conflicts
 
-# How many histories are drawn if no number is named; of these, how many percent are in several parts at least, have an order and have
-# none; and how many percent of those without an order show it in a part, of all and of those in several parts.
+# How many histories are drawn if no number is named; of these, how many percent are in several parts at least, have an
+# order and have none; and how many percent of those without an order show it in a part, of all and of those in several
+# parts.
 DRAWN, CUT, ORDERED, UNORDERED, SHOWN, SHOWN_IF_CUT = 2_000, 40, 40, 20, 95, 90
 
 
@@ -70,8 +73,9 @@ def drawn_history(draws, seed):
     return events, draws.one_of((one_shard, own_shard))
 
 
-# Fixed histories of one document, each with the reading of a conflict in which it has an order: a conflict that hides a write; the same
-# if a get was called before the conflict's reply; and two lost writes of one value, of which the one with a condition was found first.
+# Fixed histories of one document, each with the reading of a conflict in which it has an order: a conflict that hides a
+# write; the same if a get was called before the conflict's reply; and two lost writes of one value, of which the one
+# with a condition was found first.
 STARTED = index(0) + created(0, 1, 0)
 HIDDEN = index(2, condition(1, 0), k=2) + conflict(2)
 LATE = [
@@ -155,7 +159,8 @@ class Parts(ProgramTest):
         self.run_subtests(self.check_late, [(f"{name}, {reading}", text, reading) for name, text, reading in LATE])
 
     def check_counts(self, name, cut, histories):
-        """Enough histories are in several parts, with an order, and without; and enough of those without one show it in a part."""
+        """Enough histories are in several parts, with an order, and without; and enough of those without one show it in
+        a part."""
         are_cut = [it for it in histories if len(it.parts) > 1]
         (unordered, shown), (unordered_cut, shown_cut) = shown_in(histories), shown_in(are_cut)
         ordered = len(histories) - unordered
@@ -171,7 +176,8 @@ class Parts(ProgramTest):
                     self.assertGreaterEqual(count * 100, percent * total)
 
     def test_drawn(self):
-        """If an order explains a drawn history, one explains each part; and most of those without one have a part without one."""
+        """If an order explains a drawn history, one explains each part; and most of those without one have a part
+        without one."""
         for reading in READINGS:
             for cut in Cut:
                 seeds = range(self.drawn if cut is Cut.AT_REST else self.drawn // 2)

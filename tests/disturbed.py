@@ -3,10 +3,10 @@
 
     python3 tests/disturbed.py [--seeds 1000] [PROGRAM]
 
-PROGRAM is the built casbench; if it isn't named, the one that ./casbench would run. The counts of the seeds from 1 on are compared
-with those of examples/README.md if there are 1,000 seeds, else with those below, which are of 20. Drawn arguments are run twice, and
-write the same bytes; if the group is honest the history gets `yes`. A search through seeds finds the first of them that gets no `yes`,
-reports how to play it again, and writes what that writes.
+PROGRAM is the built casbench; if it isn't named, the one that ./casbench would run. The counts of the seeds from 1 on
+are compared with those of examples/README.md if there are 1,000 seeds, else with those below, which are of 20. Drawn
+arguments are run twice, and write the same bytes; if the group is honest the history gets `yes`. A search through seeds
+finds the first of them that gets no `yes`, reports how to play it again, and writes what that writes.
 """
 
 import argparse
@@ -52,8 +52,8 @@ SETTING = {"clients": 4, "calls": 50, "docs": 2, "copies": 3}
 # How many runs are drawn and made twice.
 DRAWN = 50
 
-# A row of the table of examples/README.md: a fault, what it does, and a cell for each disturbance, which has how many are
-# refuted and, behind a comma, how many get `no`.
+# A row of the table of examples/README.md: a fault, what it does, and a cell for each disturbance, which has how many
+# are refuted and, behind a comma, how many get `no`.
 ROW = re.compile(r"\| `([a-z-]+)` \| [^|]+ \|" + r" ([0-9, a-z`]*) \|" * len(DISTURBANCES))
 
 

@@ -4,8 +4,8 @@
     python3 tests/documents.py [PROGRAM]
 
 PROGRAM is the built casbench; if it isn't named, the one that ./casbench would run. A block of a document that begins
-with `$ ` is a session: its commands are those behind `$ ` and `> `, and the lines of a here-document; all other lines are
-what they print on standard output. A line `..` stands for any lines. The example pages are made again too.
+with `$ ` is a session: its commands are those behind `$ ` and `> `, and the lines of a here-document; all other lines
+are what they print on standard output. A line `..` stands for any lines. The example pages are made again too.
 """
 
 import os
@@ -72,7 +72,8 @@ def with_ports(block, ports):
 
 
 def run_document(program, document, ports):
-    """Runs the sessions of a document, one after the other in one copy; returns for each what is wrong with it, or nothing."""
+    """Runs the sessions of a document, one after the other in one copy; returns for each what is wrong with it, or
+    nothing."""
     wrong = []
     environment = {key: it for key, it in os.environ.items() if not key.startswith("OPENSEARCH_")}
     with tempfile.TemporaryDirectory() as folder:

@@ -1,7 +1,8 @@
-"""What drawn recordings are made of: drawn numbers, operations, replies, what an index does, and the lines of a history.
+"""What drawn recordings are made of: drawn numbers, operations, replies, what an index does, and the lines of a
+history.
 
-It is no test itself; tests/agree.py, tests/evidence.py, tests/lines.py, tests/offences.py, tests/orders.py, tests/ruled_out.py and
-tests/small_drawing.py draw with it.
+It is no test itself; tests/agree.py, tests/evidence.py, tests/lines.py, tests/offences.py, tests/orders.py,
+tests/ruled_out.py and tests/small_drawing.py draw with it.
 """
 
 from typing import NamedTuple
@@ -27,7 +28,8 @@ class Draws:
 
 
 class Op(NamedTuple):
-    """An operation: `get`, `index`, `delete` or `create`, with the number that it writes and the pair that it asks for."""
+    """An operation: `get`, `index`, `delete` or `create`, with the number that it writes and the pair that it asks
+    for."""
 
     name: str
     k: int = None
@@ -35,8 +37,8 @@ class Op(NamedTuple):
 
 
 class Reply(NamedTuple):
-    """A reply: `indexed`, `deleted`, `found`, `missing` or `conflict`. If it was indexed, `more` says whether it was created;
-    if it was deleted, whether it was there; if it was found, its number."""
+    """A reply: `indexed`, `deleted`, `found`, `missing` or `conflict`. If it was indexed, `more` says whether it was
+    created; if it was deleted, whether it was there; if it was found, its number."""
 
     kind: str
     pair: tuple = None
@@ -62,8 +64,8 @@ class Ending(NamedTuple):
 
 
 def performed(state, op, pair):
-    """What an index answers, and the document after it. A document that is there is its last pair and its number, else None; a
-    write that is performed takes the pair."""
+    """What an index answers, and the document after it. A document that is there is its last pair and its number, else
+    None; a write that is performed takes the pair."""
     is_there = state is not None
     if op.name == "get":
         return (Reply("found", *state) if is_there else MISSING), state

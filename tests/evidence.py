@@ -3,9 +3,9 @@
 
     python3 tests/evidence.py [PROGRAM]
 
-PROGRAM is the built casbench; if it isn't named, the one that ./casbench would run. The program has to report what a naive body
-finds, which tries all evidence in its order by the definitions of docs/MODEL.md: exactly this evidence, and none if there is
-none. A history without a fault has to get `yes`.
+PROGRAM is the built casbench; if it isn't named, the one that ./casbench would run. The program has to report what a
+naive body finds, which tries all evidence in its order by the definitions of docs/MODEL.md: exactly this evidence, and
+none if there is none. A history without a fault has to get `yes`.
 """
 
 import itertools
@@ -18,14 +18,15 @@ from program_test import ProgramTest, run_tests
 from running import run, said
 from texts import OFFENCE, status_of, yes
 
-# How many seeds each kind of fault has, in how many of them a fault is found at least, and how many seeds have no fault.
+# How many seeds each kind of fault has, in how many of them a fault is found at least, and how many seeds have no
+# fault.
 SEEDS, FAULTS, HONEST = 300, 150, 300
 
 # What the judgement of a seed is if the drawn calls can't have the fault.
 NO_FAULT = "no fault"
 
-# How many steps the calls of a history take, if there are three clients: each is made, performed and answered. How many clients
-# there are of one document if writes are to overtake one another.
+# How many steps the calls of a history take, if there are three clients: each is made, performed and answered. How many
+# clients there are of one document if writes are to overtake one another.
 STEPS, MANY = 60, 6
 
 
@@ -41,7 +42,8 @@ class Waiting:
 
 
 class Clients:
-    """Clients of one to four documents on two shards, and what was recorded of their calls; if no number is named, of two at least."""
+    """Clients of one to four documents on two shards, and what was recorded of their calls; if no number is named, of
+    two at least."""
 
     def __init__(self, seed, clients=3, docs=None):
         self.draws = Draws(seed)
@@ -146,8 +148,8 @@ def is_stale_get(get, write):
 
 
 def is_stale_swap(one, two):
-    """Two different writes of one document were performed, the second with a condition below the pair of the first, though the
-    first stands before it: it was answered before the second was called, or has the lesser pair."""
+    """Two different writes of one document were performed, the second with a condition below the pair of the first,
+    though the first stands before it: it was answered before the second was called, or has the lesser pair."""
     first, second, asked = pair_taken(one.reply), pair_taken(two.reply), two.op.condition
     if one.number == two.number or one.doc != two.doc or first is None or second is None or asked is None:
         return False
@@ -163,7 +165,8 @@ def holds(kind, calls, numbers, reading):
 
 
 def first_evidence(calls, reading):
-    """The first evidence that holds, by its kind, then the number of its first call, then of its second; None if none does."""
+    """The first evidence that holds, by its kind, then the number of its first call, then of its second; None if none
+    does."""
     for kind, count in (("pair-twice", 2), ("no-writer", 1), ("stale-get", 2), ("stale-swap", 2)):
         for numbers in itertools.product(sorted(calls), repeat=count):
             if holds(kind, calls, numbers, reading):
@@ -171,8 +174,8 @@ def first_evidence(calls, reading):
     return None
 
 
-# Each of these puts a fault into the events, of drawn answered calls: it gives the place and the other event, and the evidence
-# of it; or None if these calls can't have it.
+# Each of these puts a fault into the events, of drawn answered calls: it gives the place and the other event, and the
+# evidence of it; or None if these calls can't have it.
 
 
 def pair_twice(one, two, _):
@@ -208,8 +211,8 @@ def stale_get(earlier, write, get):
 
 
 def overtaken_get(slow, fast, get):
-    """The same if the replies of two writes came in the other order than their pairs: a get that was called after both were answered
-    finds what the one gave that was answered last."""
+    """The same if the replies of two writes came in the other order than their pairs: a get that was called after both
+    were answered finds what the one gave that was answered last."""
     old, new = pair_taken(slow.reply), pair_taken(fast.reply)
     if old is None or new is None or slow.op.k is None or get.op.name != "get":
         return None
@@ -264,7 +267,8 @@ def reports(events, evidence, line):
 
 
 def judged(program, put, seed):
-    """Judges a seed with a fault that is put so, or without one; returns whether the drawn calls could have such a fault."""
+    """Judges a seed with a fault that is put so, or without one; returns whether the drawn calls could have such a
+    fault."""
     clients = Clients(seed, MANY, docs=1) if put is overtaken_get else Clients(seed)
     for _ in range(STEPS * len(clients.waiting) // 3):
         clients.step()

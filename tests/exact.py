@@ -29,7 +29,8 @@ def room_between(pairs):
 
 
 def has_known_outcome(call, reading):
-    """Whether the reply shows what became of the call: under maybe a write that was answered with a conflict may have been performed."""
+    """Whether the reply shows what became of the call: under maybe a write that was answered with a conflict may have
+    been performed."""
     return call.reply is not None and not (call.reply == CONFLICT and reading == "maybe")
 
 
@@ -51,8 +52,8 @@ class Ranked(NamedTuple):
 
 
 class After(NamedTuple):
-    """What a front of an order leaves: the calls behind it, of each document what it is and the rank that it took last, and how often
-    each rank of each shard was given."""
+    """What a front of an order leaves: the calls behind it, of each document what it is and the rank that it took last,
+    and how often each rank of each shard was given."""
 
     left: frozenset
     states: tuple
@@ -65,9 +66,10 @@ def changed(row, at, item):
 
 
 class Search:
-    """The search for an order. The pairs that the history shows have odd ranks, and those between each two, before the first and
-    after the last have the even rank between: no reply and no condition distinguishes these. The ranks of a shard stand one after the
-    other, and those of the next shard behind them; of a document they are counted from its shard's first."""
+    """The search for an order. The pairs that the history shows have odd ranks, and those between each two, before the
+    first and after the last have the even rank between: no reply and no condition distinguishes these. The ranks of a
+    shard stand one after the other, and those of the next shard behind them; of a document they are counted from its
+    shard's first."""
 
     def __init__(self, calls, reading, shard_of):
         shown = [it.op.condition for it in calls] + [it.reply.pair for it in calls if it.reply]

@@ -3,19 +3,20 @@
 
     python3 tests/failing.py [PROGRAM]
 
-PROGRAM is the built casbench; if it isn't named, the one that ./casbench would run. It needs a C compiler, cc, and is skipped if
-there is none.
+PROGRAM is the built casbench; if it isn't named, the one that ./casbench would run. It needs a C compiler, cc, and is
+skipped if there is none.
 
-Each row below is a command with its texts: all six commands, with a history that is named and one that is standard input. Of each
-file of a row, a text that is read or an output that is written, each call fails in a run of its own: the first, the second and so
-on to the last, and then one that is never made. Calls move 1 to 9 bytes at most, or some more, or as many as they can. A file that
-takes 150 calls or more, which is a page or a story, has only the first two fail, the middle one and the last two. A read fails with
-EIO or, in turn, as one that is interrupted; a write fails so too, and in another run takes no byte. These are some 2,700 reads and
-5,800 writes that fail, and 500 calls that are never made.
+Each row below is a command with its texts: all six commands, with a history that is named and one that is standard
+input. Of each file of a row, a text that is read or an output that is written, each call fails in a run of its own: the
+first, the second and so on to the last, and then one that is never made. Calls move 1 to 9 bytes at most, or some more,
+or as many as they can. A file that takes 150 calls or more, which is a page or a story, has only the first two fail,
+the middle one and the last two. A read fails with EIO or, in turn, as one that is interrupted; a write fails so too,
+and in another run takes no byte. These are some 2,700 reads and 5,800 writes that fail, and 500 calls that are never
+made.
 
-After a read fault nothing has been written; after a write fault a front of what is written else, just up to that write; if no call
-fails the answer is what it is else. A page is there only if no call failed, and whole then; no other file is left beside it. Each
-time just those calls are made that are wanted, file by file, and none after the one that fails.
+After a read fault nothing has been written; after a write fault a front of what is written else, just up to that write;
+if no call fails the answer is what it is else. A page is there only if no call failed, and whole then; no other file is
+left beside it. Each time just those calls are made that are wanted, file by file, and none after the one that fails.
 """
 
 import errno
@@ -78,7 +79,8 @@ class Row(NamedTuple):
 
 
 class Failing(NamedTuple):
-    """The call of a file that fails, by its number from 1, with an error, or with 0 by moving no byte; the most bytes of a call."""
+    """The call of a file that fails, by its number from 1, with an error, or with 0 by moving no byte; the most bytes
+    of a call."""
 
     name: str
     number: int
@@ -87,8 +89,8 @@ class Failing(NamedTuple):
 
 
 class Ended(NamedTuple):
-    """How a run ended: its status, both outputs, the page if there is one, the calls that were made, and the files that it left beside
-    these."""
+    """How a run ended: its status, both outputs, the page if there is one, the calls that were made, and the files that
+    it left beside these."""
 
     status: int
     out: bytes
@@ -98,8 +100,8 @@ class Ended(NamedTuple):
     left: tuple
 
 
-# A get that was not answered, and the same cut short; one that finds nothing, with its witness; one that finds what nobody wrote;
-# and one that ends twice, the second time on line 3.
+# A get that was not answered, and the same cut short; one that finds nothing, with its witness; one that finds what
+# nobody wrote; and one that ends twice, the second time on line 3.
 OPEN = get(0)
 CUT = OPEN[:20]
 MISSED = OPEN + missing(0)
@@ -116,9 +118,9 @@ def history(text, needed=None):
     return Text("history", text, needed)
 
 
-# What comes after a line that is refused is not read, and a witness not at all if the history is refused; both texts of a bulk
-# are read before either is judged. A text that ends within a line is read to its end. A run with one client writes the same text
-# each time.
+# What comes after a line that is refused is not read, and a witness not at all if the history is refused; both texts of
+# a bulk are read before either is judged. A text that ends within a line is read to its end. A run with one client
+# writes the same text each time.
 ROWS = [
     Row("", 0, yes(1), (history(MISSED),)),
     Row("check history --workers 2 --conflicts maybe", 1, no_writer(1, 0), (history(STRAY),)),
@@ -195,7 +197,8 @@ def numbers(count):
 
 
 def errors(file, number, size):
-    """What a call fails with, one after the other: with an error and, if it is a write that is made, by moving no byte."""
+    """What a call fails with, one after the other: with an error and, if it is a write that is made, by moving no
+    byte."""
     error = ERRORS[(number + size) % 2]
     return [error] if isinstance(file, Text) or number > file.calls(size) else [error, 0]
 

@@ -1,14 +1,15 @@
 #!/usr/bin/env python3
-"""Draws honest recordings, with calls that are lost before or after they took effect, and has the built program judge them.
+"""Draws honest recordings, with calls that are lost before or after they took effect, and has the built program judge
+them.
 
     python3 tests/honest.py [PROGRAM]
     python3 tests/honest.py --seed 7 [--docs 4] [--shards 1] [--clients 8] [--calls 800] [--loss 0.05] [--maybe 0.01]    writes one
     python3 tests/honest.py --long 200 [--sizes 20000,50000,200000] [--workers 2] [PROGRAM]    judges so many long ones
 
 PROGRAM is the built casbench; if it isn't named, the one that ./casbench would run. Each recording is of an index that
-kept its promise, so each should get `yes`. If calls were lost the search may miss an order, and so a few may get `no` all
-the same: SETS says how many. Each `yes` is verified by its own witness. Long ones have 1 to 1,024 documents, 8 or 32 clients,
-and 1, 5 or 20 % of their calls lost, by their seeds, from 0 on.
+kept its promise, so each should get `yes`. If calls were lost the search may miss an order, and so a few may get `no`
+all the same: SETS says how many. Each `yes` is verified by its own witness. Long ones have 1 to 1,024 documents, 8 or
+32 clients, and 1, 5 or 20 % of their calls lost, by their seeds, from 0 on.
 """
 
 import argparse
@@ -24,8 +25,8 @@ from running import asked
 
 
 class Set(NamedTuple):
-    """Recordings that are drawn alike: how many, on how many shards, how a conflict is read, how many calls each has (a few hundred if
-    none are given), and how many of them get `no`."""
+    """Recordings that are drawn alike: how many, on how many shards, how a conflict is read, how many calls each has (a
+    few hundred if none are given), and how many of them get `no`."""
 
     count: int
     shards: int
@@ -34,8 +35,9 @@ class Set(NamedTuple):
     no: int
 
 
-# How many get `no` is no promise: these numbers are what the program of this checkout answers. A change of the search may lessen them,
-# and then they are renewed with it; if one grows, or changes without a change of the search, orders are missed that were found.
+# How many get `no` is no promise: these numbers are what the program of this checkout answers. A change of the search
+# may lessen them, and then they are renewed with it; if one grows, or changes without a change of the search, orders
+# are missed that were found.
 SETS = {
     "plain": Set(200, 1, "plain", None, 0),
     "plain, three shards": Set(200, 3, "plain", None, 0),
@@ -47,7 +49,8 @@ SETS = {
 
 
 class Index:
-    """An index of some shards. The changes on each shard take rising numbers; a document is on the shard of its number."""
+    """An index of some shards. The changes on each shard take rising numbers; a document is on the shard of its
+    number."""
 
     def __init__(self, draw, docs, term, shards):
         self.draw, self.new_term, self.shards = draw, term, shards
@@ -198,7 +201,8 @@ def long_settings(seed, calls):
 
 
 def judged_with(program, settings, reading, seed):
-    """Judges a recording with these settings: `yes` if that is the answer and its own witness verifies it, or else `no`."""
+    """Judges a recording with these settings: `yes` if that is the answer and its own witness verifies it, or else
+    `no`."""
     history = "".join(Recording(seed, **settings).lines())
     status, order = asked(program, "witness", history, conflicts=reading)
     if status == 1 and order.startswith("no "):
@@ -219,7 +223,8 @@ class HonestRecordings(ProgramTest):
     """Sets of recordings."""
 
     def test_sets(self):
-        """Each recording gets `yes`, which its own witness verifies, or else `no`; of each set just so many get `no` as SETS says."""
+        """Each recording gets `yes`, which its own witness verifies, or else `no`; of each set just so many get `no` as
+        SETS says."""
         # (the long ones first, so that none of them is left for the end)
         names = sorted(SETS, key=lambda name: -(SETS[name].calls or 0))
         seeds = [(name, seed) for name in names for seed in range(SETS[name].count)]

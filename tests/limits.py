@@ -37,7 +37,8 @@ TEXTS = [
 ]
 
 
-# Documents of many versions. Each of these gives the lines of so many, whose calls are numbered from 0, and how many calls there are.
+# Documents of many versions. Each of these gives the lines of so many, whose calls are numbered from 0, and how many
+# calls there are.
 
 
 def answered_versions(count):
@@ -56,8 +57,8 @@ def shown_versions(count):
     return [index(2 * n, k=n) + get(2 * n + 1) + found(2 * n + 1, 1, n, k=n) for n in range(count)], 2 * count
 
 
-# How many versions these documents have: many more than fit into a page of memory, and as many as the events of a history allow with
-# two more; each version is two events, or three.
+# How many versions these documents have: many more than fit into a page of memory, and as many as the events of a
+# history allow with two more; each version is two events, or three.
 SOME, MOST_ANSWERED, MOST_SHOWN = 10_000, (EVENTS - 2) // 2, (EVENTS - 2) // 3
 LONG = [
     (answered_versions, SOME),
@@ -97,7 +98,8 @@ def item_lines(number, more=""):
 
 CONDITION = item_lines(1, condition(1, NUMBERS[0]))
 
-# A command, its texts, in which an @ is left for what is put there, what is put there in turn, and the lines that are wanted.
+# A command, its texts, in which an @ is left for what is put there, what is put there in turn, and the lines that are
+# wanted.
 PLACES = [
     # numbers of a history
     ("check", [get("@")], NUMBERS, [LEFT_OUT, LEFT_OUT, LEFT_OUT, RANGE]),
@@ -134,8 +136,8 @@ PLACES = [
     ),
 ]
 
-# Name, arguments, the file that standard output is, how standard error has to end, and the exit status. If there is no such
-# file, nothing may come on standard output.
+# Name, arguments, the file that standard output is, how standard error has to end, and the exit status. If there is no
+# such file, nothing may come on standard output.
 FAULTS = [
     ("a file that isn't there", "check /nonexistent", None, READ_FAULT, 4),
     ("a folder for a file", "check /", None, READ_FAULT, 4),
@@ -170,7 +172,8 @@ class Limits(ProgramTest):
         self.assertEqual(run(self.program, ["check", "--rule-out"], text), answer_of(wanted))
 
     def test_long(self):
-        """A document of many versions is ruled out, in the time that a run has, by an unconditional index that is refused at last."""
+        """A document of many versions is ruled out, in the time that a run has, by an unconditional index that is
+        refused at last."""
         rows = [(f"{versions.__name__}, {count} of them", versions, count) for versions, count in LONG]
         self.run_subtests(self.check_long, rows)
 

@@ -3,16 +3,18 @@
 
     python3 tests/lines.py [PROGRAM]
 
-PROGRAM is the built casbench; if it isn't named, the one that ./casbench would run. A line that is refused is reported with its
-number and its first cause. A line that is accepted stands in a small history whose answer or story would be another one if the
-line were read otherwise. Texts are read with few bytes at hand at a time; of several faults of a bulk the first is reported.
+PROGRAM is the built casbench; if it isn't named, the one that ./casbench would run. A line that is refused is reported
+with its number and its first cause. A line that is accepted stands in a small history whose answer or story would be
+another one if the line were read otherwise. Texts are read with few bytes at hand at a time; of several faults of a
+bulk the first is reported.
 
-There are three ways to the fields of a line: the quick one leaves escapes and bytes past ASCII to the second, and both leave
-numbers that aren't digits alone to the third. Drawn lines get the same story by each; and plain lines are read by the quick one,
-which is seen by the growths that a check asks for. These are counted with a library that cc, a C compiler, makes; if there is
-none, that test is skipped.
+There are three ways to the fields of a line: the quick one leaves escapes and bytes past ASCII to the second, and both
+leave numbers that aren't digits alone to the third. Drawn lines get the same story by each; and plain lines are read by
+the quick one, which is seen by the growths that a check asks for. These are counted with a library that cc, a C
+compiler, makes; if there is none, that test is skipped.
 
-Drawn histories without an order are cut behind the event that is named: the first events alone are judged as within the whole.
+Drawn histories without an order are cut behind the event that is named: the first events alone are judged as within the
+whole.
 """
 
 import re
@@ -56,7 +58,8 @@ TEXTS = [
     ("a call without a number", '{"e":"call","id":"d","op":"get"}', refused(1, "shape")),
     ("an array", '["e","call"]', refused(1, "shape")),
     ("a loss without its call", '{"e":"lost","n":0}', refused(1, "no-call")),
-    # of several causes the first is reported: a field of another kind, an empty id, half of a condition, a number that isn't whole
+    # of several causes the first is reported: a field of another kind, an empty id, half of a condition, a number that
+    # isn't whole
     ("another kind before an empty id", '{"e":"call","n":1.5,"id":"","op":"index","k":"1","if_seq_no":0}', refused(1, "shape")),
     ("an empty id before half of a condition", '{"e":"call","n":1.5,"id":"","op":"index","k":1,"if_seq_no":0}', refused(1, "id")),
     ("half of a condition before a range", '{"e":"call","n":1.5,"id":"d","op":"index","k":1,"if_seq_no":0}', refused(1, "half")),
@@ -70,13 +73,13 @@ TEXTS = [
     ("the last shard again", LAST_SHARD + get(1, ',"shard":1023'), yes(2, left_out=2)),
     ("the last shard, then the one before", LAST_SHARD + get(1, ',"shard":1022'), refused(2, "shard-moved")),
     ("the last shard, then none", LAST_SHARD + get(1), refused(2, "shard-moved")),
-    # a delete without a condition: another operation can't be answered so, which would leave it out, and with a condition no
-    # order would have a document deleted that isn't there
+    # a delete without a condition: another operation can't be answered so, which would leave it out, and with a
+    # condition no order would have a document deleted that isn't there
     ("a delete", delete(0) + not_found(0, 1, 0), yes(1)),
     # the greatest number, which the answer names, of a get
     ("the greatest number of a call", LAST_NUMBER + found(MOST_NUMBER, 1, 0), no_writer(1, MOST_NUMBER)),
-    # one more event behind the three calls, of which 0 and 2 are ended and 1 is open. A call that is taken is counted, and so is
-    # a new document; its shard is in a story below
+    # one more event behind the three calls, of which 0 and 2 are ended and 1 is open. A call that is taken is counted,
+    # and so is a new document; its shard is in a story below
     ("three calls", THREE_CALLS, yes(3, left_out=2, docs=2)),
     ("a second call", THREE_CALLS + get(0, ',"shard":3'), refused(6, "second-call")),
     ("a second call before a shard that moved", THREE_CALLS + get(0, ',"shard":5'), refused(6, "second-call")),
@@ -87,8 +90,8 @@ TEXTS = [
     ("a second reply", THREE_CALLS + created(0, 1, 0), refused(6, "ended")),
     ("a second reply that is of another operation", THREE_CALLS + found(0, 1, 0), refused(6, "ended")),
     ("a reply to a lost call", THREE_CALLS + found(2, 1, 0), refused(6, "ended")),
-    # (a reply that is of another operation is of unknown outcome, so the get stays in no place; a get that found what was written
-    # has one, and one that missed it can't have any)
+    # (a reply that is of another operation is of unknown outcome, so the get stays in no place; a get that found what
+    # was written has one, and one that missed it can't have any)
     ("a reply that is of another operation", THREE_CALLS + created(1, 1, 0), yes(3, left_out=2, docs=2)),
     ("a get that finds what was written", THREE_CALLS + found(1, 1, 0), yes(3, left_out=1, docs=2)),
     ("a get that misses what was written", THREE_CALLS + missing(1), no(5, 1)),
@@ -158,8 +161,8 @@ STORIES = [
     ),
 ]
 
-# Two of the three documents, which a witness names, and the number of the third: they are numbered in the order of their first
-# calls.
+# Two of the three documents, which a witness names, and the number of the third: they are numbered in the order of
+# their first calls.
 LEFT_OUT = [("ac", 0), ("bc", 1), ("ba", 2)]
 
 # An index of "a", a delete of "b" and another index of "a".
@@ -183,8 +186,8 @@ STRANGER_THEN_KIND = '{"items":[{"index":{}},{"delete":{"_id":"x"}},{"delete":{}
 # Name, number of the first call, body and reply of a bulk, and what is written.
 BULKS = [
     ("the last numbers", FIRST, BULK, UNKNOWN_ITEMS, BULK_OF_LAST_NUMBERS),
-    # the body's fault is reported first, then the reply's, then a stranger, then that the numbers are past the greatest, as in each
-    # of these rows
+    # the body's fault is reported first, then the reply's, then a stranger, then that the numbers are past the
+    # greatest, as in each of these rows
     ("a body's fault before the reply's", MOST_NUMBER, "{}", "{", refused(1, "action")),
     ("a reply's fault before the numbers", MOST_NUMBER, BULK, "{", refused(1, "syntax")),
     ("an item that is none before a stranger", MOST_NUMBER, BULK, STRANGER_THEN_KIND, refused_item(2)),
@@ -261,7 +264,8 @@ ODD = [
 # Bytes that damage a line.
 DAMAGE = [b"\xff", b"\x80", b"\x1f", b'"', b"\\", b" ", b",", b"}", b":"]
 
-# How many lines are drawn, what the numbers of their calls are below, and how many of them have to be accepted at least.
+# How many lines are drawn, what the numbers of their calls are below, and how many of them have to be accepted at
+# least.
 DRAWN_LINES, NUMBERS, LEAST_ACCEPTED = 600, 24, 100
 
 # The calls before a drawn line: the replies that are drawn fit some of them. The last four are lost.
@@ -272,7 +276,8 @@ BEFORE += "".join(map(lost, range(12, 16)))
 DRAWN_AT = BEFORE.count("\n") + 1
 CAUSES = {"json", "shape", "id", "half", "range", "second-call", "shard-moved", "no-call", "ended", "stranger"}
 
-# How many histories of ten calls are drawn, and how many recordings with one reply changed; the shard of each document in them.
+# How many histories of ten calls are drawn, and how many recordings with one reply changed; the shard of each document
+# in them.
 WILD, RECORDED, CALLS, SHARDS = 50, 48, 10, (5, 0, 1023)
 
 # How many of them must at least be cut so that both stories have the same order before the event.
@@ -301,8 +306,8 @@ def drawn_line(draws):
     return line
 
 
-# A member that is no field, with an escape in its key, so that the quick way doesn't read the line; and one whose number is not
-# digits alone, so that the second doesn't read it either.
+# A member that is no field, with an escape in its key, so that the quick way doesn't read the line; and one whose
+# number is not digits alone, so that the second doesn't read it either.
 ESCAPED, FRACTION = b'"\\u0061t":0,', b'"at":0.5,'
 
 
@@ -318,8 +323,8 @@ def document_of(line):
 
 
 def story_around(program, line, document):
-    """The story of the line behind some calls and before a get that finds what nobody wrote, so that it shows all calls of the
-    document. Of a refused line its own bytes are left out."""
+    """The story of the line behind some calls and before a get that finds what nobody wrote, so that it shows all calls
+    of the document. Of a refused line its own bytes are left out."""
     after = get(99, doc="@").encode().replace(b'"@"', document) + found(99, 9, 9, k=99).encode()
     status, story = answer(program, "explain", BEFORE.encode() + line + b"\n" + after)
     return status, story.partition("\nHow the line begins:\n")[0]
@@ -371,9 +376,9 @@ def recorded_events(seed):
 
 
 def judged_when_cut(program, events):
-    """Judges a history; returns `yes`, or how its first events compare with the whole. Those up to the event that is named have no
-    order; those before it have one if that is said. It is `order` if both stories have the same one before that event, on the same
-    reply."""
+    """Judges a history; returns `yes`, or how its first events compare with the whole. Those up to the event that is
+    named have no order; those before it have one if that is said. It is `order` if both stories have the same one
+    before that event, on the same reply."""
     text = list(lines(events, lambda doc: SHARDS[doc]))
     _, story = answer(program, "explain", "".join(text))
     offence = OFFENCE.match(story)
@@ -446,8 +451,8 @@ class Lines(ProgramTest):
 
     @needs_compiler
     def test_quick_lines(self):
-        """A check of a plain line with a space before a colon, which leaves it to another way, asks for more growths than without the
-        space."""
+        """A check of a plain line with a space before a colon, which leaves it to another way, asks for more growths
+        than without the space."""
         with tempfile.TemporaryDirectory() as folder:
             growths = Growths(self.program, folder)
             self.run_subtests(self.check_spaced, [(f"quickly: {rest}", growths, rest) for rest in PLAIN])
@@ -463,7 +468,8 @@ class Lines(ProgramTest):
             self.assertGreaterEqual(causes["accepted"], LEAST_ACCEPTED)
 
     def test_cut_histories(self):
-        """Drawn histories that are cut are judged as within the whole. Enough of them have an order before the event."""
+        """Drawn histories that are cut are judged as within the whole. Enough of them have an order before the
+        event."""
         rows = [(f"wild history {seed}", self.program, wild_events(seed)) for seed in range(WILD)]
         rows += [(f"recording {seed}", self.program, recorded_events(seed)) for seed in range(RECORDED)]
         cuts = Counter(self.run_subtests(judged_when_cut, rows))

@@ -1,16 +1,17 @@
 #!/usr/bin/env python3
-"""Draws honest recordings, changes one reply of each, and has the built program report at which event the search first fails.
+"""Draws honest recordings, changes one reply of each, and has the built program report at which event the search first
+fails.
 
     python3 tests/offences.py [PROGRAM]
 
-PROGRAM is the built casbench; if it isn't named, the one that ./casbench would run. If no order is found, the answer names the
-event of a reply. The text up to that event, itself with it, must then get no `yes`; and the text before it must get `yes` if the
-answer says `shown`, and none if it says `unshown`. The recordings are of one document or four; in half of them no call is lost,
-and there the event must not stand before the changed reply.
+PROGRAM is the built casbench; if it isn't named, the one that ./casbench would run. If no order is found, the answer
+names the event of a reply. The text up to that event, itself with it, must then get no `yes`; and the text before it
+must get `yes` if the answer says `shown`, and none if it says `unshown`. The recordings are of one document or four; in
+half of them no call is lost, and there the event must not stand before the changed reply.
 
-Of long recordings the reply is mostly guessed, so that it isn't looked for by some twenty searches more: in nine of ten the check
-takes less than six times the processor time of the check of the recording before the change. So it is if each document has an order
-by itself, and a number is missing for a lost delete.
+Of long recordings the reply is mostly guessed, so that it isn't looked for by some twenty searches more: in nine of ten
+the check takes less than six times the processor time of the check of the recording before the change. So it is if each
+document has an order by itself, and a number is missing for a lost delete.
 """
 
 import os
@@ -25,14 +26,15 @@ from program_test import ProgramTest, run_tests
 from running import run, said
 from texts import OFFENCE, no, status_of
 
-# How many recordings there are of each change and number of documents. Some changes leave an order; so that not too much is
-# tried in vain, so many of each must have none, and so many percent of all.
+# How many recordings there are of each change and number of documents. Some changes leave an order; so that not too
+# much is tried in vain, so many of each must have none, and so many percent of all.
 SEEDS, LEAST, LEAST_PERCENT = 32, 4, 62
 
 # What the judgement of a recording is that keeps an order.
 ORDER = "an order"
 
-# How many calls a long recording has, its seed, and how many times the processor time a check may take if the guess is right.
+# How many calls a long recording has, its seed, and how many times the processor time a check may take if the guess is
+# right.
 LONG_CALLS, LONG_SEED, MOST_TIMES = 60_000, 7, 6
 
 
@@ -53,7 +55,8 @@ class Clients:
         self.begun, self.seq, self.events = 0, 0, []
 
     def operation(self, doc):
-        """A drawn operation: a condition names the pair that was shown last of the document. Each number is written once."""
+        """A drawn operation: a condition names the pair that was shown last of the document. Each number is written
+        once."""
         k, shown, draw = self.begun, self.shown[doc], self.draws.below(17)
         if 6 <= draw <= 9 and shown:
             return Op("index", k, shown)
@@ -74,7 +77,8 @@ class Clients:
         return self.draws.below(200) < self.lost
 
     def go_on(self, waiting):
-        """What a client does next: nothing is waited for, or a call that has not met the index, or a call and its reply."""
+        """What a client does next: nothing is waited for, or a call that has not met the index, or a call and its
+        reply."""
         if waiting is None:
             if self.begun == self.calls:
                 return None
@@ -107,8 +111,8 @@ class Clients:
 
 
 class ScarceClients(Clients):
-    """Clients in the midst of whose calls a document is created, deleted by a lost call, and created again two numbers later; another
-    document takes the number between."""
+    """Clients in the midst of whose calls a document is created, deleted by a lost call, and created again two numbers
+    later; another document takes the number between."""
 
     def operation(self, doc):
         if self.begun == self.calls // 2:
@@ -278,7 +282,8 @@ class Offences(ProgramTest):
             self.assertGreaterEqual(count * 100, LEAST_PERCENT * len(rows))
 
     def test_long(self):
-        """In long recordings the reply is mostly guessed, so that looking for it takes little time. Enough of them have no order."""
+        """In long recordings the reply is mostly guessed, so that looking for it takes little time. Enough of them have
+        no order."""
         changes = [(self.program, change, docs) for change in CHANGES for docs in (1, 4)]
         with ProcessPoolExecutor() as pool:
             times = [it for it in pool.map(times_longer, *zip(*changes)) if it is not None]

@@ -1,16 +1,19 @@
 #!/usr/bin/env python3
-"""Checks the orders that the built program finds: of cases, of the drawn calls of one document, and of honest recordings.
+"""Checks the orders that the built program finds: of cases, of the drawn calls of one document, and of honest
+recordings.
 
     python3 tests/orders.py [PROGRAM]
 
-PROGRAM is the built casbench; if it isn't named, the one that ./casbench would run. Of cases the places of an order are wanted, or
-the answer to places that are verified against a history, or the answer to histories with and without evidence.
+PROGRAM is the built casbench; if it isn't named, the one that ./casbench would run. Of cases the places of an order are
+wanted, or the answer to places that are verified against a history, or the answer to histories with and without
+evidence.
 
-Drawn calls are judged by two naive bodies. One tries the answered calls in all orders; if it finds one, the program has to, and
-gives no pair. The other follows the rules for lost writes word by word (docs/ARCHITECTURE.md, the search for one document); if what
-they lead to is valid, the program has to find just that, place by place and pair by pair. If it isn't, the program may find another
-order, which gives pairs, or none. Last, one document is taken out of each of many honest recordings, whose other documents took
-numbers between: it should have an order. Each order that is found is verified.
+Drawn calls are judged by two naive bodies. One tries the answered calls in all orders; if it finds one, the program has
+to, and gives no pair. The other follows the rules for lost writes word by word (docs/ARCHITECTURE.md, the search for
+one document); if what they lead to is valid, the program has to find just that, place by place and pair by pair. If it
+isn't, the program may find another order, which gives pairs, or none. Last, one document is taken out of each of many
+honest recordings, whose other documents took numbers between: it should have an order. Each order that is found is
+verified.
 """
 
 import re
@@ -27,8 +30,8 @@ from program_test import ProgramTest, run_tests
 from running import asked
 from texts import READINGS, broken, no, no_writer, pair_of, places_of, refuted, status_of, verified, witness_of
 
-# A case, how a conflict is read, and the places of the order: a record each, with the pair that is given to it. What stands in
-# tests/cases with its witness is left out.
+# A case, how a conflict is read, and the places of the order: a record each, with the pair that is given to it. What
+# stands in tests/cases with its witness is left out.
 ORDERS = [
     ("overlapping-gets", "maybe", "0 3 1 2"),
     ("overlapping-gets-and-lost-delete", "plain", "0 3 1 2"),
@@ -49,7 +52,8 @@ VERIFIED = [
     ("index-then-get", "x", "0 1", broken("doc-stranger")),
 ]
 
-# A history without an order, and the answer to it in both readings of a conflict. The documents c and d are on the second shard.
+# A history without an order, and the answer to it in both readings of a conflict. The documents c and d are on the
+# second shard.
 UNORDERED = [
     # A pair is taken twice, by calls whose numbers fall; a get finds what nobody wrote.
     (
@@ -75,7 +79,8 @@ UNORDERED = [
 # The seeds of the drawn calls, in each reading of a conflict; the last ones reach rules that those before them don't.
 SEEDS = [*range(200), 359, 414, 493, 750, 1358, 1549]
 
-# How many drawn histories have an order of the answered calls alone, one by the rules, another one, and none: at least so many.
+# How many drawn histories have an order of the answered calls alone, one by the rules, another one, and none: at least
+# so many.
 LEAST = {"answered": 100, "rules": 380, "another": 180, "none": 20}
 
 # How many recordings there are in each reading, and how many of them may get no order.
@@ -87,7 +92,8 @@ MOST = {"plain no": 0, "maybe no": 0}
 
 
 def event_of(words):
-    """The event: `0 index a 1` is the call 0, an index of the document a with the number 1; `0 created 1/0` is its reply."""
+    """The event: `0 index a 1` is the call 0, an index of the document a with the number 1; `0 created 1/0` is its
+    reply."""
     number, word, *rest = words.split()
     if word in ("get", "index", "create"):
         doc, *k = rest
@@ -160,8 +166,9 @@ def by_reply(calls):
 
 
 class Rules:
-    """The rules for lost writes, straight from what they say: after each write that comes into the chain all begins again, but for
-    conflicts that no document refuses. The stretch 0 lies before the first write of the chain, and the stretch j after the j-th."""
+    """The rules for lost writes, straight from what they say: after each write that comes into the chain all begins
+    again, but for conflicts that no document refuses. The stretch 0 lies before the first write of the chain, and the
+    stretch j after the j-th."""
 
     def __init__(self, records, reading):
         self.records, self.is_maybe = records, reading == "maybe"
@@ -192,8 +199,8 @@ class Rules:
     # The pairs that are named.
 
     def next_named(self):
-        """The least pair that a get found, with its number, and that no write of the chain has; else the least one that a condition
-        of the chain names."""
+        """The least pair that a get found, with its number, and that no write of the chain has; else the least one that
+        a condition of the chain names."""
         shown = [(it.reply.pair, it.reply.more) for it in self.records if it.reply and it.reply.kind == "found"]
         named = [(it.write.op.condition, None) for it in self.chain if it.write.op.condition]
         for pairs in (shown, named):
@@ -237,7 +244,8 @@ class Rules:
         return needs(self.chain[stretch].write) if stretch < len(self.chain) else None
 
     def limit(self, stretch):
-        """The place before which a write has to be called to stand in the stretch: the least reply of the later writes."""
+        """The place before which a write has to be called to stand in the stretch: the least reply of the later
+        writes."""
         return min((it.write.replied for it in self.chain[stretch:] if it.write.reply), default=float("inf"))
 
     def would_be_performed(self, op, stretch):
@@ -252,8 +260,8 @@ class Rules:
         return next((it for it in able if self.would_be_performed(it.op, stretch)), None)
 
     def refused(self, stretch, kinds):
-        """The first conflict by reply that no document refuses, of these kinds, whose reply stands after the calls of all writes
-        before the stretch's end, if it is called in time."""
+        """The first conflict by reply that no document refuses, of these kinds, whose reply stands after the calls of
+        all writes before the stretch's end, if it is called in time."""
         latest = max((it.write.called for it in self.chain[:stretch]), default=0)
         able = [it for it in self.outside() if is_unrefused(it) and it.op.name in kinds and latest < it.replied]
         return next((it for it in by_reply(able)[:1] if it.called < self.limit(stretch)), None)
@@ -297,7 +305,8 @@ class Rules:
         return next((it for it in reversed(able) if self.allows(call, it)), None)
 
     def first_unplaced(self):
-        """Gives the answered records outside the chain their stretches, by falling call; returns the first that finds none."""
+        """Gives the answered records outside the chain their stretches, by falling call; returns the first that finds
+        none."""
         self.given = {}
         for call in reversed(self.outside()):
             if call.reply and not is_unrefused(call):
@@ -320,7 +329,8 @@ class Rules:
         return self.takes_unrefused()
 
     def takes_for_flag(self):
-        """Before the first write whose flag doesn't fit a delete is inserted, or a write of the document; false if all fit."""
+        """Before the first write whose flag doesn't fit a delete is inserted, or a write of the document; false if all
+        fit."""
         for stretch in range(len(self.chain)):
             if self.next_needs(stretch) not in (None, self.is_live(stretch)):
                 kinds = WRITES if self.next_needs(stretch) else DELETES
@@ -330,7 +340,8 @@ class Rules:
         return False
 
     def takes_unrefused(self):
-        """The conflicts that no document refuses become writes, by reply; flags are seen to at once. False if none is left."""
+        """The conflicts that no document refuses become writes, by reply; flags are seen to at once. False if none is
+        left."""
         takes = False
         while True:
             left = by_reply(it for it in self.outside() if is_unrefused(it))
@@ -360,8 +371,8 @@ class Rules:
             self.take_refused(call)
 
     def take_refused(self, call):
-        """A conflict becomes a write, under maybe alone: directly after its condition's write, or before the first write that is
-        called after its reply."""
+        """A conflict becomes a write, under maybe alone: directly after its condition's write, or before the first
+        write that is called after its reply."""
         if not self.is_maybe:
             raise Stuck
         later = [at for at, it in enumerate(self.chain) if it.write.called > call.replied]
@@ -394,9 +405,10 @@ class Rules:
 
 
 class Clients:
-    """Two to four clients of one document, which make five to fourteen calls, and what was recorded of them. Other documents take
-    numbers between, and now and then the term rises. One of ten gets finds what was there before the last change, so that some
-    histories have no order; under maybe one of five writes that were performed is answered as refused."""
+    """Two to four clients of one document, which make five to fourteen calls, and what was recorded of them. Other
+    documents take numbers between, and now and then the term rises. One of ten gets finds what was there before the
+    last change, so that some histories have no order; under maybe one of five writes that were performed is answered as
+    refused."""
 
     def __init__(self, seed, reading):
         self.draws, self.is_maybe = Draws(seed), reading == "maybe"
@@ -446,8 +458,8 @@ class Clients:
         return CONFLICT if self.is_maybe and reply != CONFLICT and self.is_one_in(5) else reply
 
     def go_on(self, waiting, calls):
-        """What a client does next: nothing is waited for, or a call that has not met the document, or a call and its reply. One
-        call in five is lost, and one reply; the pair of a lost reply may be named all the same."""
+        """What a client does next: nothing is waited for, or a call that has not met the document, or a call and its
+        reply. One call in five is lost, and one reply; the pair of a lost reply may be named all the same."""
         if waiting is None:
             return self.call() if self.calls < calls else None
         call, reply = waiting
@@ -470,7 +482,8 @@ class Clients:
 
 
 def shown_at_last(events):
-    """The events, then an index that is lost and a get that finds its number: the answered calls alone have no order."""
+    """The events, then an index that is lost and a get that finds its number: the answered calls alone have no
+    order."""
     calls = [it for it in events if isinstance(it, Call)]
     pairs = [it.op.condition for it in calls] + [it.reply.pair for it in events if isinstance(it, Ending)]
     pair = max((it[0] for it in pairs if it), default=0) + 1, 0
@@ -482,7 +495,8 @@ def shown_at_last(events):
 
 
 def settings(seed, reading):
-    """The settings of a recording: 50 to 400 calls of each of one to five documents, of a hundred of which 1 to 20 are lost."""
+    """The settings of a recording: 50 to 400 calls of each of one to five documents, of a hundred of which 1 to 20 are
+    lost."""
     draws = Draws(seed)
     docs = draws.below(5) + 1
     return {
@@ -585,7 +599,8 @@ class Orders(ProgramTest):
         self.run_subtests(self.check_words, rows)
 
     def run_drawn(self, judge, rows):
-        """Judges drawn histories; returns the counts of their kinds. Those of which few may be aren't counted as subtests."""
+        """Judges drawn histories; returns the counts of their kinds. Those of which few may be aren't counted as
+        subtests."""
         kinds = self.run_subtests(judge, rows, ProcessPoolExecutor, chunksize=4, not_counted=tuple(MOST))
         counts = Counter(filter(None, kinds))
         print(", ".join(f"{count} {kind}" for kind, count in sorted(counts.items())))

@@ -3,10 +3,10 @@
 
     python3 tests/pages.py [PROGRAM]
 
-PROGRAM is the built casbench; if it isn't named, the one that ./casbench would run. Each run has a folder of its own. A page that
-is the history itself is refused before anything is written. An old page stays as it was until the new one is whole, whatever fails
-or interrupts it; and nothing else is left in the folder, unless the program is killed. If there is no C compiler, cc, the tests in
-which a write or a renaming fails are skipped.
+PROGRAM is the built casbench; if it isn't named, the one that ./casbench would run. Each run has a folder of its own. A
+page that is the history itself is refused before anything is written. An old page stays as it was until the new one is
+whole, whatever fails or interrupts it; and nothing else is left in the folder, unless the program is killed. If there
+is no C compiler, cc, the tests in which a write or a renaming fails are skipped.
 """
 
 import contextlib
@@ -30,8 +30,8 @@ HISTORY = index(0) + created(0, 1, 0) + index(1) + updated(1, 1, 1) + get(2) + f
 LINE = refuted("stale-get", "2,1", 5, 2)
 OLD = "an old page\n" * 10_000
 
-# Besides the history `h` and the old page the folder has a hard link `hard` to the history, these symbolic links, a pipe `pipe`, and an
-# empty folder `sub`.
+# Besides the history `h` and the old page the folder has a hard link `hard` to the history, these symbolic links, a
+# pipe `pipe`, and an empty folder `sub`.
 LINKS = {"link": "h", "link.html": "old.html", "astray.html": "absent.html"}
 
 
@@ -116,12 +116,14 @@ UNREAD = ["sub --html old.html", "absent --html old.html", "sub --html new.html"
 
 # A page that can't be written.
 
-# Names at which it can't be made: no folder, a folder that takes no file, a file for a folder, a folder for a file, and no name.
+# Names at which it can't be made: no folder, a folder that takes no file, a file for a folder, a folder for a file, and
+# no name.
 NOWHERE = ["absent/new.html", "/proc/new.html", "h/new.html", "sub", "sub/", "@"]
 
 
 class Failure(NamedTuple):
-    """How a page comes to fail: what is in the environment of the calls that fail, the most bytes of a file, and whether it is killed."""
+    """How a page comes to fail: what is in the environment of the calls that fail, the most bytes of a file, and
+    whether it is killed."""
 
     name: str
     calls: Optional[dict] = None
@@ -223,7 +225,8 @@ class Pages(ProgramTest):
 
     @needs_compiler
     def test_failing_calls(self):
-        """What was there stays as it was if a write or a renaming fails, and nothing else comes beside it unless the program is killed."""
+        """What was there stays as it was if a write or a renaming fails, and nothing else comes beside it unless the
+        program is killed."""
         with tempfile.TemporaryDirectory() as folder:
             library = library_in(folder, "fail_calls")
             self.run_rows(self.check_kept, [(*row, library) for row in self.failures(has_calls=True)])
@@ -262,8 +265,8 @@ class Pages(ProgramTest):
         self.assertTrue((folder / link).read_text() == self.page)
 
     def test_written_through_links(self):
-        """The name of the link has the whole page afterwards. The page may take the place of the link, or of what the link leads to:
-        that has the old text, or the page."""
+        """The name of the link has the whole page afterwards. The page may take the place of the link, or of what the
+        link leads to: that has the old text, or the page."""
         self.run_rows(self.check_written_through, [(it, it) for it in ("link.html", "astray.html")])
 
     def test_pipe(self):

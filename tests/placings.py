@@ -1,4 +1,5 @@
-"""A naive body of the walk that rules documents out, straight from the placings of docs/MODEL.md, with the least floors.
+"""A naive body of the walk that rules documents out, straight from the placings of docs/MODEL.md, with the least
+floors.
 
 It is no test itself. The records of a document are the calls of evidence.Known, in the order of their calls.
 """
@@ -14,8 +15,8 @@ def is_performed(call):
 
 
 class Placings:
-    """The positions that the calls of a document may have. Position 0 is that of a document which was never written; between and
-    behind the known pairs, in their order, lie 1, 3, 5 and on, and at them 2, 4, 6 and on."""
+    """The positions that the calls of a document may have. Position 0 is that of a document which was never written;
+    between and behind the known pairs, in their order, lie 1, 3, 5 and on, and at them 2, 4, 6 and on."""
 
     def __init__(self, records, reading):
         self.wild = [it for it in records if not has_known_outcome(it, reading)]

@@ -29,12 +29,14 @@ class ProgramTest(unittest.TestCase):
     program = ""
 
     def interrupt(self):
-        """Ends what checks have started. It is called if subtests are interrupted, before their checks are waited for."""
+        """Ends what checks have started. It is called if subtests are interrupted, before their checks are waited
+        for."""
 
     def run_subtests(self, check, rows, executor=ThreadPoolExecutor, workers=None, chunksize=1, not_counted=()):
-        """Runs a subtest for each row, several at a time. A row is a name and the arguments of the check, which raises an
-        exception if the subtest fails. Processes need a check that is a function of a module. A row isn't counted as a subtest
-        if the check returns one of the values that are not counted. Returns what each check returned, None if it failed."""
+        """Runs a subtest for each row, several at a time. A row is a name and the arguments of the check, which raises
+        an exception if the subtest fails. Processes need a check that is a function of a module. A row isn't counted as
+        a subtest if the check returns one of the values that are not counted. Returns what each check returned, None if
+        it failed."""
         rows = list(rows)
         with executor(workers) as pool:
             try:
@@ -86,8 +88,8 @@ class CountingRunner(unittest.TextTestRunner):
 
 
 def run_tests(arguments=None, needs_program=True):
-    """Runs the tests of the script, and prints in the last line how many passed and failed; returns the exit status. The first
-    argument is the program unless it is an option, and the others are those of unittest."""
+    """Runs the tests of the script, and prints in the last line how many passed and failed; returns the exit status.
+    The first argument is the program unless it is an option, and the others are those of unittest."""
     arguments = sys.argv[1:] if arguments is None else arguments
     has_program = bool(arguments) and not arguments[0].startswith("-")
     if needs_program:

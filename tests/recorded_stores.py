@@ -1,13 +1,14 @@
 #!/usr/bin/env python3
-"""Tests the checker on recordings of real stores, of Debian's packages, whose nodes run on the loopback: etcd, PostgreSQL, Redis and ZooKeeper.
+"""Tests the checker on recordings of real stores, of Debian's packages, whose nodes run on the loopback: etcd,
+PostgreSQL, Redis and ZooKeeper.
 
     python3 tests/recorded_stores.py [PROGRAM]
 
-PROGRAM is the built casbench; if it isn't named, the one that ./casbench would run. A line says which stores aren't installed; of
-these nothing is tested. The last line says how many tests passed and failed.
+PROGRAM is the built casbench; if it isn't named, the one that ./casbench would run. A line says which stores aren't
+installed; of these nothing is tested. The last line says how many tests passed and failed.
 
-Each recording is made by a command of its own (examples/stores/*/record.py). Its nodes are ended with it, however it ends; and it ends with
-this test.
+Each recording is made by a command of its own (examples/stores/*/record.py). Its nodes are ended with it, however it
+ends; and it ends with this test.
 """
 
 import contextlib
@@ -74,7 +75,8 @@ def recording(store, folder, *arguments, starts=()):
 
 
 def recorded(store, folder, name, *arguments):
-    """A recording: its file, that of the witness by the store's log, and how many calls there are, were lost, and took effect of these."""
+    """A recording: its file, that of the witness by the store's log, and how many calls there are, were lost, and took
+    effect of these."""
     history, witness = folder / f"{store}-{name}.ndjson", folder / f"{store}-{name}.witness"
     with recording(store, folder, history, "--witness", witness, *arguments) as child:
         status, out, err = ended(child, MOST_SECONDS)
@@ -163,7 +165,8 @@ class Table(ProgramTest):
     """The table of README, and the mappings of the stores."""
 
     def check_row(self, row, happens, count, answers, by_log):
-        """The row is that of a scenario, of ten recordings or more, none of which was answered against the store's log."""
+        """The row is that of a scenario, of ten recordings or more, none of which was answered against the store's
+        log."""
         self.assertEqual(happens, row.happens)
         answers, by_log = counts_of(answers), counts_of(by_log)
         self.assertEqual(answers.get("yes", 0), by_log.get("verified", 0))
@@ -198,7 +201,8 @@ class StoppedNodes(ProgramTest):
     """What is done to nodes, whichever store they are of."""
 
     def test_node_that_is_stopped(self):
-        """A node and what it started are stopped, and go on, also if the node is killed in the meantime. Both end with the nodes."""
+        """A node and what it started are stopped, and go on, also if the node is killed in the meantime. Both end with
+        the nodes."""
         with folder_of_nodes() as (folder, wait_for):
             with Nodes(pathlib.Path(folder)) as nodes:
                 nodes.start("node", A_NODE)
@@ -226,8 +230,8 @@ class StoppedNodes(ProgramTest):
             wait_for("S")
 
 
-# Honest recordings, by their stores: a name, how many calls there are, the name of the recording, its options, and how many calls are
-# lost at least, and take effect of these. What takes longest comes first.
+# Honest recordings, by their stores: a name, how many calls there are, the name of the recording, its options, and how
+# many calls are lost at least, and take effect of these. What takes longest comes first.
 LONGER = ["--calls", "5000"]
 HONEST = {
     "etcd": [
@@ -289,7 +293,8 @@ class Recordings(ProgramTest):
             child.terminate()
 
     def check_honest(self, folder, store, calls, name, options, least_lost=0, least_effects=0):
-        """The recording is explained, and the witness that the store's own log is explains it, whatever calls are left out."""
+        """The recording is explained, and the witness that the store's own log is explains it, whatever calls are left
+        out."""
         history, witness, (_, lost, effects) = recorded(store, folder, name, *options)
         self.assertGreaterEqual(lost, least_lost)
         self.assertGreaterEqual(effects, least_effects)
@@ -304,8 +309,8 @@ class Recordings(ProgramTest):
         self.assertEqual(answer_by_log(self.program, history, witness).split()[0], "broken")
 
     def check_interrupted(self, store, scenario, starts, sent, nodes):
-        """A recording gets this signal, or what started it does, in the midst of its work. The history is explained, no process is left,
-        and no folder."""
+        """A recording gets this signal, or what started it does, in the midst of its work. The history is explained, no
+        process is left, and no folder."""
         with reachable_folder("casbench-interrupted-") as folder:
             history = pathlib.Path(folder) / "history.ndjson"
             with recording(store, folder, history, "--scenario", scenario, "--calls", "500000", starts=starts) as child:

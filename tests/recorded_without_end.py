@@ -1,12 +1,12 @@
 #!/usr/bin/env python3
-"""Records a load through the proxy in parts, under each fault of the stand-in, and compares what is said of the parts with the table of
-docs/RECORDING.md.
+"""Records a load through the proxy in parts, under each fault of the stand-in, and compares what is said of the parts
+with the table of docs/RECORDING.md.
 
     python3 tests/recorded_without_end.py [PROGRAM] [CALLS] [PART]
 
-PROGRAM is the built casbench; if it isn't named, the one that ./casbench would run. CALLS is how many calls the load makes (1,600), and
-PART how many a part has (150). A fault that breaks the promise has to show in a part, by the evidence that the table names; under any
-other each part has to get `yes`.
+PROGRAM is the built casbench; if it isn't named, the one that ./casbench would run. CALLS is how many calls the load
+makes (1,600), and PART how many a part has (150). A fault that breaks the promise has to show in a part, by the
+evidence that the table names; under any other each part has to get `yes`.
 """
 
 import os
@@ -21,7 +21,8 @@ from program import TOP
 from program_test import ProgramTest, run_tests
 from recordings import Started, environment, judged
 
-# How many calls the load makes, and how many a part has, if they aren't named; how many clients there are, and how many loads at once.
+# How many calls the load makes, and how many a part has, if they aren't named; how many clients there are, and how many
+# loads at once.
 CALLS, PART, CLIENTS, AT_ONCE = 1_600, 150, 8, 3
 
 # More options of the stand-in and of the load: an answer that is late comes after the load has given the call up.
@@ -29,7 +30,8 @@ OPTIONS = {"late": (("--late", "0.8", "--every", "100"), ("--timeout", "0.5"))}
 
 
 def table():
-    """The faults of the stand-in, each with the answer that docs/RECORDING.md names: `yes`, or `refuted` and the kind of its evidence."""
+    """The faults of the stand-in, each with the answer that docs/RECORDING.md names: `yes`, or `refuted` and the kind
+    of its evidence."""
     page = (TOP / "docs" / "RECORDING.md").read_text(encoding="utf-8")
     section = page[page.index("## What the stand-in can do wrong") :]
     return re.findall(r"^\| `(.*)` \| .* \| `(yes|refuted kind=[\w-]+)`", section, re.MULTILINE)

@@ -1,4 +1,5 @@
-"""What the tests of recorders have in common: the package in recording/, folders of their own, and what casbench says of a file.
+"""What the tests of recorders have in common: the package in recording/, folders of their own, and what casbench says
+of a file.
 
 It is no test itself.
 """
@@ -36,7 +37,8 @@ if signal.getsignal(signal.SIGINT) is signal.SIG_IGN:
 
 
 class Started:
-    """A command of the package that listens, and runs until the block ends. The first line that it says is its address."""
+    """A command of the package that listens, and runs until the block ends. The first line that it says is its
+    address."""
 
     def __init__(self, name, *words, start=(), stderr=subprocess.PIPE, **more):
         words = [*(start or (sys.executable, "-m", f"casbench_recording.{name}")), *words]

@@ -3,14 +3,14 @@
 
     python3 tests/replies.py [PROGRAM]
 
-PROGRAM is the built casbench; if it isn't named, the one that ./casbench would run. A text that is refused is reported with its
-line and cause. One that is accepted stands in small histories, or in other texts, of which one at least would be answered
-otherwise if it were read otherwise: a get finds what was written, and in another history what was not; a conflict has its cause,
-or none; two writes take one pair.
+PROGRAM is the built casbench; if it isn't named, the one that ./casbench would run. A text that is refused is reported
+with its line and cause. One that is accepted stands in small histories, or in other texts, of which one at least would
+be answered otherwise if it were read otherwise: a get finds what was written, and in another history what was not; a
+conflict has its cause, or none; two writes take one pair.
 
-There are two ways to the fields of a line, and the quick one leaves a line with a space before a colon to the other: so each line
-of a history is tried with such a space too. The quick way asks for no growth, which shows the lines that it takes. Growths are
-counted with a library that cc, a C compiler, makes; if there is none, that test is skipped.
+There are two ways to the fields of a line, and the quick one leaves a line with a space before a colon to the other: so
+each line of a history is tried with such a space too. The quick way asks for no growth, which shows the lines that it
+takes. Growths are counted with a library that cc, a C compiler, makes; if there is none, that test is skipped.
 """
 
 import itertools
@@ -65,7 +65,8 @@ def made(term, seq, k=1):
 
 
 def created_shown(asked, term, seq):
-    # A get finds the pair, and none with another number. As an update the reply would be wrong where nothing was written.
+    # A get finds the pair, and none with another number. As an update the reply would be wrong where nothing was
+    # written.
     return [
         ([asked, HERE, get(1), found(1, term, seq)], yes(2)),
         ([asked, HERE, get(1), found(1, term, seq + 1)], no_writer(3, 1)),
@@ -106,7 +107,8 @@ def missing_shown(asked):
 
 
 def conflict_shown(asked):
-    # It is wrong without a condition, and right under one that isn't met. Of unknown outcome the call would be left out.
+    # It is wrong without a condition, and right under one that isn't met. Of unknown outcome the call would be left
+    # out.
     under_condition = index(0, condition(1, 5))
     return [([asked, HERE], no(1, 0)), ([*made(1, 0), under_condition, HERE], yes(2))]
 
@@ -156,7 +158,8 @@ TAKEN = [
     (
         '{"e":"call","n":2,"id":"d","op":"index","k":3,"if_primary_term":1,"if_seq_no":0}',
         [
-            # Its condition is 1/0: there is no conflict where the document is at that pair, and one where it is at another.
+            # Its condition is 1/0: there is no conflict where the document is at that pair, and one where it is at
+            # another.
             ([index(0), created(0, 1, 0), HERE, conflict(2)], no(3, 2)),
             ([index(0), created(0, 1, 1), HERE, conflict(2)], yes(2)),
             ([index(0), created(0, 2, 0), HERE, conflict(2)], yes(2)),
@@ -222,7 +225,8 @@ TAKEN = [
     (
         '{"e":"lost","n":18446744073709551615,"status":"x"}',
         [
-            # It ends the call with the greatest number, and tells nothing of it. As a reply it would be refused for its status.
+            # It ends the call with the greatest number, and tells nothing of it. As a reply it would be refused for its
+            # status.
             ([index(MOST_NUMBER), HERE], yes(1, left_out=1)),
             ([index(MOST_NUMBER), HERE, conflict(MOST_NUMBER)], refused(3, "ended")),
             ([index(MOST_NUMBER - 1), HERE], refused(2, "no-call")),
@@ -397,8 +401,8 @@ def members(names, numbers):
 
 
 def condition_rows(seq, term, pair):
-    """The numbers as a condition: of a call, for which there may be a conflict where the document is at another pair, and nowhere
-    else; and of a bulk's action, whose call line has them."""
+    """The numbers as a condition: of a call, for which there may be a conflict where the document is at another pair,
+    and nowhere else; and of a bulk's action, whose call line has them."""
     rest = members(("if_seq_no", "if_primary_term"), (seq, term))
     action = f'{{"delete":{{"_id":"a"{rest}}}}}\n'
     if isinstance(pair, str):
@@ -470,7 +474,8 @@ BULKS = [
     ('{"delete":{"_id":"a"}}\r\n\n\t {}', NO_ITEMS, refused(3, "action")),
 ]
 
-# The body of the case `bulk`: an index, a delete and an index. The lines of its calls, and those that tell nothing of them.
+# The body of the case `bulk`: an index, a delete and an index. The lines of its calls, and those that tell nothing of
+# them.
 BODY = case_text("bulk", "body")
 CALLS = "".join(case_text("bulk", "stdout").splitlines(keepends=True)[:3])
 LOST = "".join(map(lost, range(3)))
@@ -525,7 +530,8 @@ PARTS = [
         ("{}", refused(1, "shape")),
         ("{}\r\n\n\t x", refused(1, "shape")),
         ("{}\r\n\n\t x\n", refused(1, "shape")),
-        # The same with a first line that is taken: the third is told as the third, with a line feed and without, and read whole.
+        # The same with a first line that is taken: the third is told as the third, with a line feed and without, and
+        # read whole.
         (ASKED + "\r\n\n\t x", refused(3, "json")),
         (ASKED + "\r\n\n\t x\n", refused(3, "json")),
         (ASKED + "\r\n\n\t " + ANSWERED, yes(1)),
@@ -652,8 +658,8 @@ class Replies(ProgramTest):
 
     @needs_compiler
     def test_quick_lines(self):
-        """The lines that are read by the quick way ask for no more growths than an object with nothing in it. The others don't get the
-        next growth here, and so there is no answer to them."""
+        """The lines that are read by the quick way ask for no more growths than an object with nothing in it. The
+        others don't get the next growth here, and so there is no answer to them."""
         with tempfile.TemporaryDirectory() as folder:
             growths = Growths(self.program, folder)
             few = growths.count("{}")

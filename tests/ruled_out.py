@@ -3,13 +3,14 @@
 
     python3 tests/ruled_out.py [PROGRAM]
 
-PROGRAM is the built casbench; if it isn't named, the one that ./casbench would run. Recordings have one fault each, of those that
-a cluster makes; small histories have one or more, and at most nine calls, so that an exact search decides whether they have an
-order. If it finds one the program must not refute, and if it finds none the program must not answer yes, and only seldom no.
+PROGRAM is the built casbench; if it isn't named, the one that ./casbench would run. Recordings have one fault each, of
+those that a cluster makes; small histories have one or more, and at most nine calls, so that an exact search decides
+whether they have an order. If it finds one the program must not refute, and if it finds none the program must not
+answer yes, and only seldom no.
 
-The answer has to have the evidence of the four older kinds if a naive body finds it, and else the least call at which a naive body
-of the walk rules a document out, if it does. A witness and a story begin with the same line, and without the option the line is
-the same, but `no` for a document that is ruled out.
+The answer has to have the evidence of the four older kinds if a naive body finds it, and else the least call at which a
+naive body of the walk rules a document out, if it does. A witness and a story begin with the same line, and without the
+option the line is the same, but `no` for a document that is ruled out.
 """
 
 import json
@@ -29,8 +30,8 @@ from program_test import ProgramTest, run_tests
 from running import run, said
 from texts import OFFENCE, READINGS, status_of
 
-# How many recordings there are, half with each percentage of lost calls, and in how many of them a document is ruled out at least, in
-# each reading.
+# How many recordings there are, half with each percentage of lost calls, and in how many of them a document is ruled
+# out at least, in each reading.
 RECORDINGS, LOST, RULED_OUT = 400, (5, 20), 80
 
 # How many small histories there are, how many calls each has at most, and how many of them have no order at least.
@@ -161,7 +162,8 @@ def recording(seed):
 
 
 def small_history(seed):
-    """The events of six to nine calls, of one document or two, with one to three faults; a third of the calls are lost."""
+    """The events of six to nine calls, of one document or two, with one to three faults; a third of the calls are
+    lost."""
     cluster = Cluster(seed, seed % 2 + 1)
     cluster.calls, cluster.lost = CALLS - cluster.draws.below(4), 33
     for _ in range(cluster.draws.below(3) + 1):
@@ -194,7 +196,8 @@ def evidence_of(line):
 
 
 def naive_evidence(calls, reading):
-    """The evidence that the naive bodies find: that of the four older kinds, else the least call at which a document is ruled out."""
+    """The evidence that the naive bodies find: that of the four older kinds, else the least call at which a document is
+    ruled out."""
     number = least_ruled_out(calls.values(), reading)
     return first_evidence(calls, reading) or (None if number is None else ("ruled-out", (number,)))
 
@@ -306,7 +309,8 @@ class RuledOut(ProgramTest):
     """Drawn recordings and small histories, in each reading of a conflict."""
 
     def judge_seeds(self, name, judge, count, reading):
-        """Judges so many seeds; returns the seeds, each with what is returned of it, but for those that are judged wrongly."""
+        """Judges so many seeds; returns the seeds, each with what is returned of it, but for those that are judged
+        wrongly."""
         rows = [(f"{name} {seed}, {reading}", self.program, seed, reading) for seed in range(count)]
         returned = self.run_subtests(judge, rows, ProcessPoolExecutor, chunksize=4)
         return [(seed, it) for seed, it in enumerate(returned) if it]
@@ -324,7 +328,8 @@ class RuledOut(ProgramTest):
                 self.assertGreaterEqual(sum(kind == "ruled-out" for _, kind in kinds), RULED_OUT)
 
     def test_small_histories(self):
-        """Small histories are answered as the exact search says. Enough of them have no order, and few of these get no."""
+        """Small histories are answered as the exact search says. Enough of them have no order, and few of these get
+        no."""
         for reading in READINGS:
             returned = [it for _, it in self.judge_seeds("small history", judged_exactly, SMALL, reading)]
             kinds = [kind for kind, is_explained in returned if not is_explained]

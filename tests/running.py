@@ -89,7 +89,8 @@ def ended(child, seconds=SECONDS):
 
 
 def fed(command, its, ours, text, size, is_ended, **how):
-    """How a command ends that reads the one end of a channel, if so many bytes of the text at a time are sent from the other end."""
+    """How a command ends that reads the one end of a channel, if so many bytes of the text at a time are sent from the
+    other end."""
     given = bytes_of(text)
     with ours, its, started(command, **how) as child:
         its.close()
@@ -102,15 +103,15 @@ def fed(command, its, ours, text, size, is_ended, **how):
 
 
 def run_by_parts(program, command, text, size, is_ended=True):
-    """How a command ends if each read of standard input gives so many bytes of the text, and no more: a socket keeps the bounds of
-    what is sent. If the text is not ended, the answer has to come all the same."""
+    """How a command ends if each read of standard input gives so many bytes of the text, and no more: a socket keeps
+    the bounds of what is sent. If the text is not ended, the answer has to come all the same."""
     its, ours = socket.socketpair(socket.AF_UNIX, socket.SOCK_SEQPACKET)
     return fed([program, command], its, ours, text, size, is_ended, stdin=its)
 
 
 def run_on_parts(program, arguments, text, size):
-    """The same of a file that is named behind the arguments: a pipe, which can be opened by a name, and keeps the bounds of 4096 bytes or
-    fewer."""
+    """The same of a file that is named behind the arguments: a pipe, which can be opened by a name, and keeps the
+    bounds of 4096 bytes or fewer."""
     its, ours = os.pipe2(os.O_DIRECT | os.O_CLOEXEC)
     command = [program, *arguments, f"/dev/fd/{its}"]
     return fed(command, open(its, "rb", 0), open(ours, "wb", 0), text, size, True, stdin=subprocess.DEVNULL, pass_fds=[its])

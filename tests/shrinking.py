@@ -3,11 +3,11 @@
 
     python3 tests/shrinking.py [PROGRAM]
 
-PROGRAM is the built casbench; if it isn't named, the one that ./casbench would run. The recordings are those of tests/ruled_out.py,
-with one fault each, that get another answer than yes. What is left has to be lines of the recording as they stood, to get the same
-answer, to be few calls if the evidence is two calls alone, and to lose that answer if any one call more is left out. None of it comes
-into the history, whatever name that has. With a witness its part that is left has to be verified: honest recordings are cut down by a
-program that is made to answer them with no.
+PROGRAM is the built casbench; if it isn't named, the one that ./casbench would run. The recordings are those of
+tests/ruled_out.py, with one fault each, that get another answer than yes. What is left has to be lines of the recording
+as they stood, to get the same answer, to be few calls if the evidence is two calls alone, and to lose that answer if
+any one call more is left out. None of it comes into the history, whatever name that has. With a witness its part that
+is left has to be verified: honest recordings are cut down by a program that is made to answer them with no.
 """
 
 import json
@@ -60,7 +60,8 @@ def is_proved(text, number):
 
 
 def reported(program, text, reading, options):
-    """What an answer says that has to stay: the kind and the calls of evidence, else the call that is named and whether that is proved."""
+    """What an answer says that has to stay: the kind and the calls of evidence, else the call that is named and whether
+    that is proved."""
     line = answer(program, "check", text, reading, *options)
     if kind_of(line) != "no":
         return kind_of(line), evidence_of(line)
@@ -125,8 +126,8 @@ class Alarmed(Program):
 
 
 def false_alarm(program, seed):
-    """Cuts down an honest recording, of which the program says no as long as three calls are in it, with its witness by the index's log. Gives
-    the answers to what is left: with the witness, and without one."""
+    """Cuts down an honest recording, of which the program says no as long as three calls are in it, with its witness by
+    the index's log. Gives the answers to what is left: with the witness, and without one."""
     recording = Recording(seed, docs=2, clients=4, calls=80, loss=0.1)
     recording.index = Honest(recording.draw, 2, 0.0, 1)
     text = "".join(recording.lines()).encode()
@@ -171,7 +172,8 @@ class Recordings(ProgramTest):
                 self.assertIn(kind, kinds)
 
     def test_false_alarms(self):
-        """All false alarms that are cut down with their witness are verified; some that are cut down without one have no order."""
+        """All false alarms that are cut down with their witness are verified; some that are cut down without one have
+        no order."""
         answers = self.run_subtests(false_alarm, [(f"seed {seed}", self.program, seed) for seed in range(FALSE_ALARMS)])
         with_witness, without_one = zip(*filter(None, answers))
         self.assertEqual(set(with_witness), {"verified"})
@@ -228,8 +230,8 @@ class Command(ProgramTest):
         self.assertEqual(text, WROTE + MISSED)
 
     def test_history_itself(self):
-        """A history stays as it is, which the command is given by one name, and its output goes to by another. A shell opens the output
-        so if the command ends with `>>history` or `1<>history`."""
+        """A history stays as it is, which the command is given by one name, and its output goes to by another. A shell
+        opens the output so if the command ends with `>>history` or `1<>history`."""
         ways = (os.O_WRONLY | os.O_APPEND, os.O_RDWR)
         self.run_subtests(self.check_itself, [(it, it, way) for it in ("history", "./history", "link", "other") for way in ways])
 

@@ -1,4 +1,5 @@
-"""Small histories that are drawn: three to eight calls, of one to three documents on one shard or two, honest ones and changed ones.
+"""Small histories that are drawn: three to eight calls, of one to three documents on one shard or two, honest ones and
+changed ones.
 
 It is no test itself; tests/small_histories.py judges them.
 """
@@ -55,8 +56,8 @@ def with_pair(event, pair):
 
 
 def drawn_pairs(draws, count):
-    """So many pairs in their order, close together or with room between: from the least one on, up to the greatest one, or about the
-    end of a term."""
+    """So many pairs in their order, close together or with room between: from the least one on, up to the greatest one,
+    or about the end of a term."""
     offsets = [0]
     for _ in range(count - 1):
         offsets.append(offsets[-1] + draws.one_of(STEPS))

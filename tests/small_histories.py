@@ -10,11 +10,11 @@ tests/small_drawing.py, each in both readings of a conflict. What has to hold of
 - `refuted` is answered only if there is none, with --rule-out and without it.
 - With --rule-out the line is the same, or it is `refuted kind=ruled-out` in the place of `no`.
 - What README says in SENTENCES.
-- `explain` begins with the line of `check`; it says that this is proved, or that there is no order, only if there is none; and the
-  reason that it names is that of the line.
+- `explain` begins with the line of `check`; it says that this is proved, or that there is no order, only if there is
+  none; and the reason that it names is that of the line.
 
-Some fixed histories show what is not promised: that a `no` is proved if a write may have been performed that no reply shows, and
-that every history without an order is refuted.
+Some fixed histories show what is not promised: that a `no` is proved if a write may have been performed that no reply
+shows, and that every history without an order is refuted.
 """
 
 import sys
@@ -46,8 +46,8 @@ LEAST = {
     "unsettled, no order, refuted": 500,
 }
 
-# What README says, word for word. The first one is checked in each settled history that gets `no`; of the second one the first half in
-# each that has an order, and the second half by the fixed histories.
+# What README says, word for word. The first one is checked in each settled history that gets `no`; of the second one
+# the first half in each that has an order, and the second half by the fixed histories.
 SENTENCES = (
     "Where every write has a reply (under `--conflicts maybe`, a reply other than a conflict), a `no` is proved: there is no order",
     "With `--rule-out` a `no` never becomes `refuted` if an order exists; not every history without an order is refuted",
@@ -154,8 +154,8 @@ def judged_small(program, seed):
 
 
 def kind_in_words(program, history):
-    """Judges a history; returns its kind in words: whether it is settled, whether it has an order, and its answer without --rule-out,
-    then with it if that is another one."""
+    """Judges a history; returns its kind in words: whether it is settled, whether it has an order, and its answer
+    without --rule-out, then with it if that is another one."""
     words = ["settled" if history.is_settled else "unsettled", "an order" if history.is_explained else "no order"]
     for line in dict.fromkeys(judged(program, history)):
         words.append(("then " if line.startswith("refuted kind=ruled-out ") else "") + line.partition(" ")[0])
@@ -176,7 +176,8 @@ NEEDED_TWICE = index(0) + created(0, 1, 0) + delete(1) + lost(1) + index(2, k=2)
 # A write without a reply, whose number a get found at the version of another write.
 OTHER_NUMBER = index(0) + created(0, 1, 0) + index(1, k=7) + lost(1) + get(2) + found(2, 1, 0, k=7)
 
-# Name, text, reading, the lines of `check` and of `check --rule-out`, whether each write is settled, and whether there is an order.
+# Name, text, reading, the lines of `check` and of `check --rule-out`, whether each write is settled, and whether there
+# is an order.
 FIXED = [
     ("a hidden write", HIDDEN, "maybe", no(3, 1), no(3, 1), False, True),
     ("the same if nothing is hidden", HIDDEN, "plain", no(3, 1), refuted("ruled-out", 1, 3, 1), True, False),

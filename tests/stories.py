@@ -3,10 +3,11 @@
 
     python3 tests/stories.py [PROGRAM]
 
-PROGRAM is the built casbench; if it isn't named, the one that ./casbench would run. The history of each text case gets a story: it
-begins with the line of a check and ends with its status, and is the same if a page is written too. The texts below get one too: a text
-with an id that is markup, two that are too long for a whole story, and some that were written by hand for the reasons that a story gives.
-What is wanted of those follows from the rules of the register, and not from the program.
+PROGRAM is the built casbench; if it isn't named, the one that ./casbench would run. The history of each text case gets
+a story: it begins with the line of a check and ends with its status, and is the same if a page is written too. The
+texts below get one too: a text with an id that is markup, two that are too long for a whole story, and some that were
+written by hand for the reasons that a story gives. What is wanted of those follows from the rules of the register, and
+not from the program.
 """
 
 import datetime
@@ -103,8 +104,8 @@ TEXTS = [
 ]
 
 
-# An order may be there that was not found: one write without a reply is needed twice, for a version that a get shows and for a
-# conflict.
+# An order may be there that was not found: one write without a reply is needed twice, for a version that a get shows
+# and for a conflict.
 NEEDED_TWICE = (
     index(0) + created(0, 1, 0) + index(1, k=9) + lost(1) + get(2) + found(2, 1, 1, k=9)
     + index(3, condition(1, 1), k=2) + updated(3, 1, 2) + index(4, condition(1, 2), k=4) + conflict(4)
@@ -169,8 +170,8 @@ TEXTS += [
 # The greatest pair.
 GREATEST = MOST_OF_PAIR, MOST_OF_PAIR
 
-# Documents that are ruled out, each by a call that has no place. Name, text, the reply at which the search fails and its call and the
-# call that has no place, what the story has, and what the page has how often.
+# Documents that are ruled out, each by a call that has no place. Name, text, the reply at which the search fails and
+# its call and the call that has no place, what the story has, and what the page has how often.
 RULED_OUT = [
     (
         "an index without a condition that met a conflict, and a lost write elsewhere",
@@ -481,7 +482,8 @@ class Stories(ProgramTest):
         self.check_counts(page, counts)
 
     def test_reasons(self):
-        """A story gives the reason why its document is ruled out: the same with the option, whose line says so, and without it."""
+        """A story gives the reason why its document is ruled out: the same with the option, whose line says so, and
+        without it."""
         self.run_subtests(self.check_reason, RULED_OUT)
 
 

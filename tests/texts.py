@@ -5,8 +5,8 @@ It is no test itself; the tests write their texts with it, and what is wanted of
 
 import re
 
-# The most bytes of a line and of an id, the most lines of a text, the most events of a history, the most documents and places of a
-# witness, and how deep values may stand in one another.
+# The most bytes of a line and of an id, the most lines of a text, the most events of a history, the most documents and
+# places of a witness, and how deep values may stand in one another.
 LINE_BYTES, ID_BYTES, LINES, EVENTS, ITEMS, DEPTH = 65_536, 512, 4_194_304, 1_048_576, 2_097_152, 127
 
 # The greatest number of a call, the greatest of a pair, and the greatest record.

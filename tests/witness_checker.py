@@ -1,11 +1,13 @@
 #!/usr/bin/env python3
-"""Compares the package's witness checker, which shares nothing with casbench, with `casbench verify`: the answers and the first faults.
+"""Compares the package's witness checker, which shares nothing with casbench, with `casbench verify`: the answers and
+the first faults.
 
     python3 tests/witness_checker.py [PROGRAM]
 
-PROGRAM is the built casbench; if it isn't named, the one that ./casbench would run. Compared are all text cases, those of verify with
-their witnesses and all histories with the witness that the program writes of them, and 2,000 drawn witnesses: of histories of two to four
-documents, as the program writes them, and changed. Then the sentence that comes with each cause is checked, and the command.
+PROGRAM is the built casbench; if it isn't named, the one that ./casbench would run. Compared are all text cases, those
+of verify with their witnesses and all histories with the witness that the program writes of them, and 2,000 drawn
+witnesses: of histories of two to four documents, as the program writes them, and changed. Then the sentence that comes
+with each cause is checked, and the command.
 """
 
 import json
@@ -38,7 +40,8 @@ MOST_LINES = 150
 
 
 def compared(program, history, witness, reading):
-    """What both say of a witness: the word, and the cause if it is broken. They say the same but for the cause of a refusal."""
+    """What both say of a witness: the word, and the cause if it is broken. They say the same but for the cause of a
+    refusal."""
     history, witness = (it.encode() if isinstance(it, str) else it for it in (history, witness))
     status, line = asked(program, "verify", history, witness, conflicts=reading)
     wanted = line.partition(" cause=")[0] if status == 2 else line.rstrip("\n")
@@ -109,7 +112,8 @@ def change_places(draws, places):
 
 
 def change_pair(draws, places):
-    """A place gives another pair, mostly the next one or the one before, or one although it has none, or none although it has one."""
+    """A place gives another pair, mostly the next one or the one before, or one although it has none, or none although
+    it has one."""
     given = [it for it, (_, pair) in enumerate(places) if pair]
     at = draws.one_of(given) if given and draws.below(4) else draws.below(len(places))
     record, pair = places[at]
@@ -133,7 +137,8 @@ def changed(draws, text):
 
 
 def hidden(draws, history, text):
-    """The history with a conflict in the place of a reply that shows a performed write, and the witness with the pair that it hides."""
+    """The history with a conflict in the place of a reply that shows a performed write, and the witness with the pair
+    that it hides."""
     rows, witness = history.decode().splitlines(keepends=True), Witness(text)
     events = [json.loads(it) for it in rows]
     shown = [at for at, it in enumerate(events) if it["e"] == "reply" and "result" in it["body"]]

@@ -3,11 +3,11 @@
 
     python3 tests/witnesses.py [PROGRAM]
 
-PROGRAM is the built casbench; if it isn't named, the one that ./casbench would run. Places are verified against the calls of one
-document, in both readings of a conflict: the answer has the counts if they are valid, else the first fault. A text that is accepted
-stands beside small histories, whose answers show what was read. Texts are read whole, and seven bytes at a time. A line that is
-refused is reported with its first cause, before any document and after one. The witness of a history is compared byte for byte, and
-read back.
+PROGRAM is the built casbench; if it isn't named, the one that ./casbench would run. Places are verified against the
+calls of one document, in both readings of a conflict: the answer has the counts if they are valid, else the first
+fault. A text that is accepted stands beside small histories, whose answers show what was read. Texts are read whole,
+and seven bytes at a time. A line that is refused is reported with its first cause, before any document and after one.
+The witness of a history is compared byte for byte, and read back.
 """
 
 import json
@@ -25,8 +25,8 @@ from texts import missing, not_found, places_of, refused, updated, verified, wit
 # The condition that the document is at 1/0.
 FIRST = condition(1, 0)
 
-# An index, an index under a condition, and two gets that find the second and the first; all but the first are open at one time.
-# In the other history the last get is called when the first one was answered.
+# An index, an index under a condition, and two gets that find the second and the first; all but the first are open at
+# one time. In the other history the last get is called when the first one was answered.
 TWO_WRITES = [index(0), created(0, 1, 0), index(1, FIRST, k=2), get(2)]
 OVERLAPPING = [*TWO_WRITES, get(3), found(2, 1, 1, k=2), found(3, 1, 0), updated(1, 1, 1)]
 NOT_OVERLAPPING = [*TWO_WRITES, found(2, 1, 1, k=2), get(3), found(3, 1, 0), updated(1, 1, 1)]
@@ -42,8 +42,8 @@ UNANSWERED = [create(0, k=1), delete(1), create(2, k=2), get(3)]
 # The get 1 and the delete are not answered.
 MIXED = [index(0), created(0, 1, 0), get(1), delete(2), get(3), found(3, 1, 0), get(4), missing(4)]
 
-# A history, and places that are verified against it; the answer if a conflict hides nothing, and, if it differs, the answer if a
-# conflict may hide a pair. The places 0 1=3/2 are the record 0, and the record 1 with the pair 3/2.
+# A history, and places that are verified against it; the answer if a conflict hides nothing, and, if it differs, the
+# answer if a conflict may hide a pair. The places 0 1=3/2 are the record 0, and the record 1 with the pair 3/2.
 PLACES = [
     (OVERLAPPING, "0 3 1 2", "valid"),
     (OVERLAPPING, "0 2 1 3", "illegal place=1"),
@@ -88,7 +88,8 @@ PLACES = [
     ([create(0), created(0, 1, 0), delete(1), not_found(1, 1, 1), create(2), created(2, 1, 2)], "0 1 2", "illegal place=1"),
     ([create(0), created(0, 1, 0), delete(1), deleted(1, 1, 1), create(2), created(2, 1, 1)], "0 1 2", "illegal place=2"),
     ([create(0), created(0, 1, 0), create(1), conflict(1), delete(2), deleted(2, 1, 1)], "0 1 2", "valid"),
-    # No create is answered so: it is of unknown outcome, and as it is not answered it needs a pair; but it can't take one there.
+    # No create is answered so: it is of unknown outcome, and as it is not answered it needs a pair; but it can't take
+    # one there.
     ([create(0), created(0, 1, 0), create(1), updated(1, 1, 1), delete(2), deleted(2, 1, 1)], "0 1 2", "pair-missing place=1"),
     ([create(0), created(0, 1, 0), create(1), updated(1, 1, 1), delete(2), deleted(2, 1, 2)], "0 1=1/1 2", "illegal place=1"),
     # Calls without a reply may be left out; a write among them that is not is performed with the pair given.
@@ -130,8 +131,8 @@ def document(doc, places=""):
     return witness_of(doc, places_of(places))
 
 
-# What is shown of a pair: a write of the number 2 is lost, and a get after it finds 2 at a pair, which has to be the pair that a
-# witness gives to the write.
+# What is shown of a pair: a write of the number 2 is lost, and a get after it finds 2 at a pair, which has to be the
+# pair that a witness gives to the write.
 
 
 def lost_then_found(first, term, seq, doc="d"):
@@ -146,7 +147,8 @@ def two_documents(pair_of_a, pair_of_b):
 
 
 def three_documents(*endings):
-    """Gets of three documents: a is called once, b eight times, and c once, each call numbered on; and these lines after them."""
+    """Gets of three documents: a is called once, b eight times, and c once, each call numbered on; and these lines
+    after them."""
     return [get(0, doc="a"), *(get(n, doc="b") for n in range(1, 9)), get(9, doc="c"), *endings]
 
 
@@ -269,8 +271,8 @@ LIMITS = [
     (ONE_GET, b'{"doc":"d"}\n' + b'{"rec":0}\n' * ITEMS, not_read(ITEMS + 1, "full")),
 ]
 
-# Ids of letters that JSON escapes, and of letters of more than one byte; the longest of letters of one to four bytes, and of those
-# that take the most bytes in a text.
+# Ids of letters that JSON escapes, and of letters of more than one byte; the longest of letters of one to four bytes,
+# and of those that take the most bytes in a text.
 IDS = ['"', "\\", "\n", "\r\t ", "\b\f", "\0\x1f\x7f", "/", "\u00e9", "\u2028", "\U0001f600", '{"doc":"d"}', "x"]
 LONGEST = [letter * (ID_BYTES // len(letter.encode())) for letter in ("x", "\u00e9", "\U0001f600", '"', "\x01")]
 
@@ -358,7 +360,8 @@ class Witnesses(ProgramTest):
         self.run_subtests(self.check_answer, rows)
 
     def test_ids(self):
-        """The ids, spelled as they are and with escapes: what is written of a document and read back, and what is read of a text."""
+        """The ids, spelled as they are and with escapes: what is written of a document and read back, and what is read
+        of a text."""
         written, read, line = [], [], verified(1, left_out=1)
         for name in IDS + LONGEST:
             plain = json.dumps(name, ensure_ascii=False)

@@ -3,8 +3,8 @@
 
     python3 tests/words.py [PROGRAM]
 
-PROGRAM is the built casbench; if it isn't named, the one that ./casbench would run. Each row is run in a new folder that has the files
-below; if a row names no standard input, that is empty.
+PROGRAM is the built casbench; if it isn't named, the one that ./casbench would run. Each row is run in a new folder
+that has the files below; if a row names no standard input, that is empty.
 """
 
 import errno
@@ -242,8 +242,8 @@ STORIES = [
 # The documents and calls of a run, as the answer to it has them.
 MADE = "docs=3 calls=200"
 
-# Each fault of a group, how the answer to a run with it begins, and whether the term rises in it: a promotion keeps it if
-# the fault is same-term.
+# Each fault of a group, how the answer to a run with it begins, and whether the term rises in it: a promotion keeps it
+# if the fault is same-term.
 FAULTS = [
     ("none", f"yes {MADE} ", True),
     ("dirty", f"yes {MADE} ", True),
@@ -383,7 +383,8 @@ class Words(ProgramTest):
             self.assertEqual(ended(child), (0, wanted.decode(), ""))
 
     def test_files_in_turn(self):
-        """The first file is opened before the second, both before one is read, and the first is read to its end first."""
+        """The first file is opened before the second, both before one is read, and the first is read to its end
+        first."""
         self.run_rows(self.check_turn, TURNS)
 
     def test_page_is_made_last(self):

@@ -3,9 +3,9 @@
 
     python3 tests/workers.py [PROGRAM]
 
-PROGRAM is the built casbench; if it isn't named, the one that ./casbench would run. Each worker has a thread of its own, the
-first of them the one that the program has anyway; if no number of workers is named there is one worker. It needs a C compiler,
-cc, and is skipped if there is none.
+PROGRAM is the built casbench; if it isn't named, the one that ./casbench would run. Each worker has a thread of its
+own, the first of them the one that the program has anyway; if no number of workers is named there is one worker. It
+needs a C compiler, cc, and is skipped if there is none.
 """
 
 import os
