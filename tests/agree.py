@@ -1,24 +1,23 @@
 #!/usr/bin/env python3
-"""Asks several commands of the built program about one history, and looks whether what they answer agrees.
+"""Runs several commands of the built program on one history, and checks that their answers agree.
 
     python3 tests/agree.py [PROGRAM]
 
-PROGRAM is the built casbench; where it is not named, the one that ./casbench would run. The histories are those of the text
-cases, drawn ones of two to four documents, such with some bytes changed, and runs of a group without a fault. A witness that
-is written is verified, with the counts that a check tells; where a check says no, a witness says it with the same words; and
-where one refuses a line, all of them do, and that is the first line that can't stay.
+PROGRAM is the built casbench; if it isn't named, the one that ./casbench would run. The histories are those of the text
+cases, drawn ones of two to four documents, such with some bytes changed, and runs of a group without a fault. A witness
+that is written is verified, with the counts of the check; if a check says no, a witness says the same; and if one
+command refuses a line, all of them do, and that is the first line that can't stay.
 """
 
 import re
 import sys
 from collections import Counter
-from concurrent.futures import ThreadPoolExecutor
 
+from case_files import all_cases
 from drawing import MISSING, Call, Draws, Ending, Op, lines, pair_taken, performed
-from program import CASES, built_program
+from program_test import ProgramTest, run_tests
 from running import asked, text_of_run
 from texts import READINGS, yes
-from trials import Trial, Wrong, tell, try_all
 
 # How many histories are drawn, and how many steps the calls of each take: each call is made, performed and answered.
 DRAWN, STEPS = 300, 40
@@ -88,13 +87,14 @@ class Group:
         return call, reply
 
     def end(self, call, reply):
-        """The ending of a call is recorded. A group that forgets may answer that a document which was found is missing."""
+        """The ending of a call is recorded. A group that forgets may answer that a document which was found is
+        missing."""
         if self.draw.below(6) == 0:
-            self.events.append(Ending(call.no, None))
+            self.events.append(Ending(call.number, None))
             return
         if reply.kind == "found" and self.forgets and self.draw.below(2) == 0:
             reply = MISSING
-        self.events.append(Ending(call.no, reply))
+        self.events.append(Ending(call.number, reply))
         self.shown[call.doc] = reply.pair
 
     def step(self):
@@ -144,7 +144,7 @@ def changed_text(seed):
 
 
 def agreed(program, text, conflicts):
-    """The first word of a check's answer, where the other commands agree with it."""
+    """The first word of a check's answer, with which the other commands agree."""
     checked = status, line = asked(program, "check", text, conflicts=conflicts)
     witnessed = asked(program, "witness", text, conflicts=conflicts)
     if status == 0:
@@ -156,69 +156,76 @@ def agreed(program, text, conflicts):
     else:
         verified, is_right = None, witnessed == checked
     if not is_right:
-        raise Wrong(f"{checked}, {witnessed} and {verified}")
+        raise AssertionError(f"{checked}, {witnessed} and {verified}")
     return line.split()[0]
 
 
 def refused_first(program, text):
-    """Whether the line that is refused is the first that can't stay; `taken` where none is refused."""
+    """`refused` if a line is, which is the first that can't stay; else `accepted`."""
     word = agreed(program, text, "plain")
     if word != "refused":
-        return "taken"
+        return "accepted"
     refusal = asked(program, "check", text)
     number = int(re.fullmatch(r"refused line=(\d+) cause=[a-z-]+\n", refusal[1])[1])
     rows = text.split(b"\n")
     before, through = (asked(program, "check", b"\n".join(rows[:count])) for count in (number - 1, number))
     if before[0] == 2 or through != refusal:
-        raise Wrong(f"{refusal}, before it {before}, and alone {through}")
+        raise AssertionError(f"{refusal}, before it {before}, and alone {through}")
     return word
 
 
-def explained_run(program, seed, copies):
-    """Whether a run of two clients, which keep each other company on two documents, is explained."""
+def judged_run(program, seed, copies):
+    """The first word of the answer to a run of two clients, which keep each other company on two documents."""
     return agreed(program, text_of_run(program, seed=seed, clients=2, calls=20, docs=2, copies=copies), "plain")
 
 
-def one_call(program):
-    """Whether a run of one call is a call and its ending, and is explained."""
-    text = text_of_run(program)
-    is_right = text.count("\n") == 2 and text.startswith('{"e":"call","id":"d0",')
-    return "yes" if is_right and asked(program, "check", text) == (0, yes(1)) else ""
+def print_counts(kind, words):
+    """Prints how many texts of this kind got each word; returns the counts."""
+    counts = Counter(filter(None, words))
+    print(f"{kind}: " + ", ".join(f"{count} {word}" for word, count in sorted(counts.items())))
+    return counts
 
 
-def trials_by_kind(program):
-    """All trials: what is asked, of what. A word is told of each."""
-    return {
-        "case": [
-            Trial(f"case {it.stem}, {reading}", agreed, (program, it.read_bytes(), reading))
-            for it in sorted(CASES.glob("*.history"))
-            for reading in READINGS
-        ],
-        "drawn": [Trial(f"drawn {seed}", agreed, (program, drawn(seed), READINGS[seed % 2])) for seed in range(DRAWN)],
-        "changed": [Trial(f"changed {seed}", refused_first, (program, changed_text(seed))) for seed in range(TEXTS)],
-        "run": [Trial(f"run {seed}, {copies} copies", explained_run, (program, seed, copies)) for copies in COPIES for seed in SEEDS]
-        + [Trial("run of one call", one_call, (program,))],
-    }
+class Agreeing(ProgramTest):
+    """Commands that agree on histories."""
 
+    def test_cases(self):
+        histories = {name: texts["history"] for name, texts in all_cases().items() if "history" in texts}
+        rows = [(f"{name}, {it}", self.program, history, it) for name, history in histories.items() for it in READINGS]
+        print_counts("cases", self.run_subtests(agreed, rows))
 
-def main():
-    told, wrong, passed = {}, [], 0
-    with ThreadPoolExecutor() as pool:
-        for kind, trials in trials_by_kind(built_program(sys.argv[1:])).items():
-            words, failed = try_all(trials, pool)
-            told[kind] = Counter(filter(None, words))
-            wrong, passed = wrong + failed, passed + len(trials) - len(failed)
-            print(f"{kind}: " + ", ".join(f"{count} {word}" for word, count in sorted(told[kind].items())))
-    # The faults of drawn histories are gets that answer missing, and no evidence tells of those.
-    rules = [
-        (told["drawn"]["yes"] >= LEAST_YES and told["drawn"]["no"] >= LEAST_NO, "so few drawn histories are explained, or are not"),
-        (told["drawn"]["refuted"] == told["drawn"]["refused"] == 0, "a drawn history is refuted or refused"),
-        (LEAST_REFUSED <= told["changed"]["refused"] <= MOST_REFUSED, "so few changed texts are refused, or so many"),
-        (set(told["run"]) == {"yes"}, "a run without a fault is not explained"),
-    ]
-    broken = [why for is_right, why in rules if not is_right]
-    return tell(passed + len(rules) - len(broken), wrong + broken)
+    def test_drawn(self):
+        """Drawn histories: enough are explained, and enough are not. Their faults are gets that answer missing, of
+        which there is no evidence."""
+        rows = [(f"seed {seed}", self.program, drawn(seed), READINGS[seed % 2]) for seed in range(DRAWN)]
+        counts = print_counts("drawn", self.run_subtests(agreed, rows))
+        with self.subTest("how many are explained"):
+            self.assertGreaterEqual(counts["yes"], LEAST_YES)
+            self.assertGreaterEqual(counts["no"], LEAST_NO)
+        with self.subTest("how many are refuted or refused"):
+            self.assertEqual((counts["refuted"], counts["refused"]), (0, 0))
+
+    def test_changed(self):
+        """Changed texts: enough are refused, and not too many."""
+        rows = [(f"seed {seed}", self.program, changed_text(seed)) for seed in range(TEXTS)]
+        counts = print_counts("changed", self.run_subtests(refused_first, rows))
+        with self.subTest("how many are refused"):
+            self.assertIn(counts["refused"], range(LEAST_REFUSED, MOST_REFUSED + 1))
+
+    def test_runs(self):
+        """Runs without a fault, each of which is explained."""
+        rows = [(f"seed {seed}, {copies} copies", self.program, seed, copies) for copies in COPIES for seed in SEEDS]
+        counts = print_counts("runs", self.run_subtests(judged_run, rows))
+        with self.subTest("how many are explained"):
+            self.assertEqual(set(counts), {"yes"})
+
+    def test_run_of_one_call(self):
+        """A run of one call is a call and its ending, and is explained."""
+        text = text_of_run(self.program)
+        self.assertEqual(text.count("\n"), 2)
+        self.assertTrue(text.startswith('{"e":"call","id":"d0",'))
+        self.assertEqual(asked(self.program, "check", text), (0, yes(1)))
 
 
 if __name__ == "__main__":
-    sys.exit(main())
+    sys.exit(run_tests())

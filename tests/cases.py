@@ -3,41 +3,37 @@
 
     python3 tests/cases.py [PROGRAM]
 
-PROGRAM is the built casbench; where it is not named, the one that ./casbench would run. A case is the files
-tests/cases/NAME.*: NAME.args has the words, one a line, where the words history, witness, body and reply stand for the
-case's files of these names; where no word does, NAME.history is standard input. NAME.stdout is what has to come on
-standard output, byte for byte, and NAME.status the exit status; on standard error nothing may come.
+PROGRAM is the built casbench; if it isn't named, the one that ./casbench would run. A case is a file
+tests/cases/NAME.case, whose format tests/case_files.py describes: arguments, texts, and the exit status and standard
+output that have to come, byte for byte.
 """
 
+import pathlib
 import sys
+import tempfile
 
-from program import CASES, built_program, case_text
+from case_files import FILES, all_cases
+from program_test import ProgramTest, run_tests
 from running import run
-from trials import Trial, try_and_tell
-
-# The words that stand for files of the case.
-FILES = ("history", "witness", "body", "reply")
 
 
-def run_case(program, case):
-    """Runs a case; tells how it ends."""
-    words = case.read_text().split()
-    # (the first word is a command, also where it is `witness`)
-    files = [str(case.with_suffix("." + word)) if word in FILES else word for word in words[1:]]
-    reads_standard_input = not set(words[1:]) & set(FILES)
-    given = case.with_suffix(".history").read_bytes() if reads_standard_input else ""
-    return run(program, [*words[:1], *files], given)
+class Cases(ProgramTest):
+    """Each case, in a folder that has its files."""
 
+    def check_case(self, texts):
+        arguments = texts["args"].decode().split("\n")[:-1]
+        reads_standard_input = not set(arguments[1:]) & set(FILES)
+        given = texts["history"] if reads_standard_input else b""
+        with tempfile.TemporaryDirectory() as folder:
+            for name in FILES:
+                if name in texts:
+                    (pathlib.Path(folder) / name).write_bytes(texts[name])
+            ended = run(self.program, arguments, given, cwd=folder)
+        self.assertEqual(ended, (int(texts["status"]), texts["stdout"].decode(), ""))
 
-def wanted_of(case):
-    """How a case has to end, with nothing on standard error."""
-    return int(case_text(case.stem, "status")), case_text(case.stem, "stdout"), ""
-
-
-def main():
-    program = built_program(sys.argv[1:])
-    return try_and_tell([Trial(case.stem, run_case, (program, case), wanted_of(case)) for case in sorted(CASES.glob("*.args"))])
+    def test_cases(self):
+        self.run_subtests(self.check_case, all_cases().items())
 
 
 if __name__ == "__main__":
-    sys.exit(main())
+    sys.exit(run_tests())

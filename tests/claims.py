@@ -5,15 +5,17 @@
 
 No program is run; one may be named, as for the other tests. What is held:
 
-- docs/MODEL.md has a heading `### CRATE/specs/FILE.antt` for each file of definitions. The tables below it tell the definitions
-  of that file, each of them and no others; names in brackets are parts of a definition. Types are there, with their values.
-- docs/PROVED.md has a section for each crate. Each public call stands there in one row, which tells each of its clauses and no
-  others, and that something is owed where the call has a `requires`, and only there. Each law stands in a row with its
-  definition. Clauses in brackets are those of a call of their row, refusals are values of some type, and what stands in brackets
-  in a promise is a definition.
-- docs/ARCHITECTURE.md has a row for each crate in "The rooms", with the libraries that crates.txt gives it; the table of the
-  gate tells how many edits must fail.
-- Files, links, modules of lemmas, `CRATE::NAME` and `Type::name` that a document names are there, and clauses behind these.
+- docs/MODEL.md has a heading `### CRATE/specs/FILE.antt` for each file of definitions. The tables below it tell the
+  definitions of that file, each of them and no others; names in brackets are parts of a definition. Types are there,
+  with their values.
+- docs/PROVED.md has a section for each crate. Each public call stands there in one row, which tells each of its clauses
+  and no others, and that something is owed where the call has a `requires`, and only there. Each law stands in a row
+  with its definition. Clauses in brackets are those of a call of their row, refusals are values of some type, and what
+  stands in brackets in a promise is a definition.
+- docs/ARCHITECTURE.md has a row for each crate in "The rooms", with the libraries that crates.txt gives it; the table
+  of the gate tells how many edits must fail.
+- Files, links, modules of lemmas, `CRATE::NAME` and `Type::name` that a document names are there, and clauses behind
+  these.
 
 Each name that is held counts one.
 """
@@ -25,6 +27,7 @@ from collections import Counter
 from typing import NamedTuple
 
 from program import TOP
+from program_test import ProgramTest, run_tests
 
 CRATES = TOP / "crates"
 STORES = [f"examples/stores/{it}README.md" for it in ("", "redis/", "postgresql/", "zookeeper/")]
@@ -49,20 +52,6 @@ FOLDERS = ("tests", "crates", "examples", "recording", "docs", "dist", ".ci")
 ENDINGS = (".antt", ".c", ".html", ".md", ".ndjson", ".png", ".py", ".rt", ".txt", ".witness")
 
 
-class Tally:
-    """How many names were held, and what is wrong."""
-
-    def __init__(self):
-        self.passed, self.wrong = 0, []
-
-    def hold(self, is_so, page, line, told):
-        """Counts a name, or notes what is wrong with it at a line of a page."""
-        if is_so:
-            self.passed += 1
-        else:
-            self.wrong.append((page, line, told))
-
-
 # ---- documents
 
 
@@ -81,7 +70,8 @@ def quoted(text):
 
 
 def in_brackets(text):
-    """What stands in brackets where it is names and nothing else, parted at `; `: what stands before `: `, and the names."""
+    """What stands in brackets where it is names and nothing else, parted at `; `: what stands before `: `, and the
+    names."""
     for group in re.findall(r"\(([^()]*`[^()]*)\)", text):
         for piece in group.split("; "):
             before, _, names = piece.rpartition(": ")
@@ -104,7 +94,7 @@ def headings_of(page):
     return [(number, line) for number, line in lines_of(page) if re.match(r"#+ ", line)]
 
 
-def rows_of(page, tally):
+def rows_of(page, claims):
     """The rows of the tables of a document. Each has as many cells as its head."""
     heading, head, rows = "", (), []
     for number, line in lines_of(page):
@@ -115,7 +105,7 @@ def rows_of(page, tally):
         elif not all(re.fullmatch(r":?-+:?", it) for it in cells):
             rows.append(Row(number, heading, head, cells + ("",) * (len(head) - len(cells))))
             if len(cells) != len(head):
-                tally.hold(False, page, number, f"the row of {cells[0]} has {len(cells)} cells, its head {len(head)}")
+                claims.hold(False, page, number, f"the row of {cells[0]} has {len(cells)} cells, its head {len(head)}")
     return rows
 
 
@@ -123,8 +113,8 @@ def rows_of(page, tally):
 
 
 class Function(NamedTuple):
-    """A function: its module, the impl or the trait that it stands in, its name and its contract. What an impl gives to a trait
-    is one without a name, with the names of what is given as its clauses."""
+    """A function: its module, the impl or the trait that it stands in, its name and its contract. What an impl gives to
+    a trait is one without a name, with the names of what is given as its clauses."""
 
     module: str
     owner: str
@@ -143,9 +133,9 @@ def owner_of(line):
     """`Type`, `Type as Trait` or `Trait` where the line begins an impl or a trait, `tests` where it begins a module."""
     while re.search(r"<[^<>]*>", line):
         line = re.sub(r"<[^<>]*>", "", line)
-    found = re.match(r"impl (?:(\S+) for )?(\S+) \{|(?:pub(?:\(\w+\))? )?trait (\w+)", line)
-    if found:
-        return found[3] or (f"{found[2]} as {found[1]}" if found[1] else found[2])
+    match = re.match(r"impl (?:(\S+) for )?(\S+) \{|(?:pub(?:\(\w+\))? )?trait (\w+)", line)
+    if match:
+        return match[3] or (f"{match[2]} as {match[1]}" if match[1] else match[2])
     return "tests" if re.match(r"mod \w+ \{", line) else ""
 
 
@@ -168,18 +158,19 @@ def functions_of(module, text):
     for place, line in enumerate(lines):
         if line and line[0].isalpha():
             owner = owner_of(line)
-        found = re.match(r"( *)(pub )?(?:pub\([^)]*\) )?(?:const |unsafe )*fn (\w+)", line)
-        if found and owner != "tests" and len(found[1]) <= 4:
-            header = header_of(lines[place:], len(found[1]))
-            clauses = re.findall(rf"^{found[1]}    (ensures|requires)(?: (\w+))? \{{", header, re.MULTILINE)
+        match = re.match(r"( *)(pub )?(?:pub\([^)]*\) )?(?:const |unsafe )*fn (\w+)", line)
+        if match and owner != "tests" and len(match[1]) <= 4:
+            header = header_of(lines[place:], len(match[1]))
+            clauses = re.findall(rf"^{match[1]}    (ensures|requires)(?: (\w+))? \{{", header, re.MULTILINE)
             ensures = tuple(name for kind, name in clauses if kind == "ensures")
             owes = any(kind == "requires" for kind, _ in clauses)
-            functions.append(Function(module, owner if found[1] else "", found[3], bool(found[2]), ensures, owes, header))
+            functions.append(Function(module, owner if match[1] else "", match[3], bool(match[2]), ensures, owes, header))
     return functions
 
 
 class Crate:
-    """A crate: its functions, its public calls by the names that documents give them, its types with their values, and more."""
+    """A crate: its functions, its public calls by the names that documents give them, its types with their values, and
+    more."""
 
     def __init__(self, folder):
         self.name, self.is_library = folder.name, (folder / "src" / "lib.rt").exists()
@@ -222,7 +213,8 @@ class Crate:
         return f"{self.open[it.module]}::{it.name}" if it.is_public and it.module in self.open else ""
 
     def found(self, name):
-        """The functions that a document's name stands for: a call, all of a trait, or what an impl gives to its trait."""
+        """The functions that a document's name stands for: a call, all of a trait, or what an impl gives to its
+        trait."""
         if name in self.traits:
             return {key: it for key, it in self.calls.items() if it.owner == name}
         if name in self.impls:
@@ -286,20 +278,20 @@ class Model:
 
     page = "docs/MODEL.md"
 
-    def __init__(self, sources, tally):
-        self.sources, self.tally = sources, tally
+    def __init__(self, sources, claims):
+        self.sources, self.claims = sources, claims
 
     def hold(self, is_so, line, told):
-        self.tally.hold(is_so, self.page, line, told)
+        self.claims.hold(is_so, self.page, line, told)
 
     def hold_types(self, row):
         """Holds a row of types. Where values of one type are told, all of them are."""
-        found = re.search(r"\(crate (\w+)\)", row.cells[0]) or re.match(r"### (\w+)/", row.heading)
-        types = self.sources.crates[found[1]].types if found and found[1] in self.sources.crates else {}
+        match = re.search(r"\(crate (\w+)\)", row.cells[0]) or re.match(r"### (\w+)/", row.heading)
+        types = self.sources.crates[match[1]].types if match and match[1] in self.sources.crates else {}
         names = [it.split()[0] for it in quoted(row.cells[0])]
         told = {it for text in quoted(row.cells[1]) for it in re.findall(r"^\w+", text)}
         for name in names:
-            self.hold(name in types, row.line, f"the type {name} is not declared in {found[1] if found else 'a crate'}")
+            self.hold(name in types, row.line, f"the type {name} is not declared in {match[1] if match else 'a crate'}")
         for value in sorted(types.get(names[0], ())) if len(names) == 1 and told & types.get(names[0], set()) else []:
             self.hold(value in told, row.line, f"the value {value} of {names[0]} is not told")
 
@@ -324,7 +316,7 @@ class Model:
         told = {name: set() for name in headings}
         for name, number in headings.items():
             self.hold(name in specs, number, f"there is no file crates/{name}")
-        for row in rows_of(self.page, self.tally):
+        for row in rows_of(self.page, self.claims):
             if row.head[0] == "type":
                 self.hold_types(row)
             elif row.head[0] == "name" and row.heading[4:] in specs:
@@ -347,16 +339,17 @@ NAMES = r"`\w+`(?:(?:, | and )`\w+`)*"
 
 
 def names_of_part(part, has):
-    """The names that a cell stands for. In a list the first name says of which type the next ones are, where it has them."""
-    found = re.fullmatch(r"the trait `(\w+)`(?:: (.+))?", part)
-    if found:
-        return [f"{found[1]}::{it}" for it in quoted(found[2] or "")] or [found[1]]
-    found = re.fullmatch(r"`(\w+)`(?: as an? `(\w+)`|, as a (reader))", part)
-    if found:
-        return [f"{found[1]} as {found[2] or SPELLED_TRAITS[found[3]]}"]
-    found = re.fullmatch(r"`(==|hash)` of `(\w+)`", part)
-    if found:
-        return [f"{found[2]} as {SPELLED_TRAITS[found[1]]}"]
+    """The names that a cell stands for. In a list the first name says of which type the next ones are, where it has
+    them."""
+    match = re.fullmatch(r"the trait `(\w+)`(?:: (.+))?", part)
+    if match:
+        return [f"{match[1]}::{it}" for it in quoted(match[2] or "")] or [match[1]]
+    match = re.fullmatch(r"`(\w+)`(?: as an? `(\w+)`|, as a (reader))", part)
+    if match:
+        return [f"{match[1]} as {match[2] or SPELLED_TRAITS[match[3]]}"]
+    match = re.fullmatch(r"`(==|hash)` of `(\w+)`", part)
+    if match:
+        return [f"{match[2]} as {SPELLED_TRAITS[match[1]]}"]
     owner, names = "", []
     for name in quoted(part):
         if owner and "::" not in name and has(f"{owner}::{name}"):
@@ -371,17 +364,17 @@ class Proved:
 
     page = "docs/PROVED.md"
 
-    def __init__(self, sources, tally):
-        self.sources, self.crates, self.tally = sources, sources.crates, tally
+    def __init__(self, sources, claims):
+        self.sources, self.crates, self.claims = sources, sources.crates, claims
         self.headings = headings_of(self.page)
         # The rows of the sections of crates, each with its crate.
-        named = ((re.match(r"## (\w+):", it.heading), it) for it in rows_of(self.page, tally))
-        self.rows = [(sources.told[found[1]], it) for found, it in named if found and found[1] in sources.told]
+        named = ((re.match(r"## (\w+):", it.heading), it) for it in rows_of(self.page, claims))
+        self.rows = [(sources.told[match[1]], it) for match, it in named if match and match[1] in sources.told]
         # In how many rows the calls stand, and which clauses are told, by the name of the crate and the call.
         self.stands, self.told = Counter(), set()
 
     def hold(self, is_so, line, told):
-        self.tally.hold(is_so, self.page, line, told)
+        self.claims.hold(is_so, self.page, line, told)
 
     def calls_told(self, row, crate):
         """For each name of a row's first cell the functions that it stands for."""
@@ -393,14 +386,15 @@ class Proved:
         return {name: crate.found(name) for name in named}
 
     def same_clauses(self, other, key):
-        """The clauses that a function's are said to be as: those of this name in its type, or of its name in this type."""
+        """The clauses that a function's are said to be as: those of this name in its type, or of its name in this
+        type."""
         owner, _, own = key.rpartition("::")
         name = f"{owner}::{other}" if owner and other[0].islower() else other
         return [it.ensures for crate in self.crates.values() for it in crate.found(name).values()]
 
     def clauses_told(self, cell, key, it):
-        """The clauses that a promise tells of a function, and whether it has them. Names with a colon behind them begin what is
-        said of these clauses; words without a name are those of a clause without one."""
+        """The clauses that a promise tells of a function, and whether it has them. Names with a colon behind them begin
+        what is said of these clauses; words without a name are those of a clause without one."""
         promise = re.sub(r"^Owed: .*?\. ", "", cell)
         if promise.startswith("promises nothing"):
             return (), not it.ensures
@@ -437,8 +431,8 @@ class Proved:
                 self.told.add((crate.name, key, ""))
 
     def hold_refusals(self, row, cells, crate, own):
-        """Holds what cells name: the refusals, and in brackets clauses of a call of the row, of a record that its contract cites,
-        or of the function before them. A function may stand there alone."""
+        """Holds what cells name: the refusals, and in brackets clauses of a call of the row, of a record that its
+        contract cites, or of the function before them. A function may stand there alone."""
         functions = crate.functions
         alone = {clause for it in own for clause in it.ensures} | {it.key for it in functions} | self.sources.fields_cited(own)
         for before, names in in_brackets(" ".join(cells)):
@@ -461,8 +455,8 @@ class Proved:
                 self.hold_refusals(row, row.cells[2:] or ("",), crate, own)
 
     def hold_all(self):
-        """Holds that each crate has its section, in which each public call stands in one row, with all its clauses; and so does
-        each function of a program that stands there."""
+        """Holds that each crate has its section, in which each public call stands in one row, with all its clauses; and
+        so does each function of a program that stands there."""
         sections = {line[3:].split(":")[0]: number for number, line in self.headings if re.match(r"## \w+:", line)}
         for name, number in sections.items():
             self.hold(name in self.sources.told, number, f"there is no crate {name}")
@@ -483,8 +477,8 @@ class Proved:
     def hold_headline(self):
         """Holds the points that begin with calls and their clauses."""
         for number, line in lines_of(self.page):
-            found = re.match(rf"- (`\w+`(?: and `\w+`)*), ({NAMES}):", line)
-            for name, clause in ((name, it) for name in quoted(found[1]) for it in quoted(found[2])) if found else ():
+            match = re.match(rf"- (`\w+`(?: and `\w+`)*), ({NAMES}):", line)
+            for name, clause in ((name, it) for name in quoted(match[1]) for it in quoted(match[2])) if match else ():
                 functions = [it for crate in self.sources.told.values() for it in crate.found(name).values()]
                 self.hold(any(clause in it.ensures for it in functions), number, f"{name} has no clause {clause}")
 
@@ -492,29 +486,29 @@ class Proved:
 # ---- ARCHITECTURE.md
 
 
-def hold_rooms(page, rows, sources, tally):
+def hold_rooms(page, rows, sources, claims):
     """Holds the table of crates with what they stand on."""
     rows = [it for it in rows if it.head[0] == "crate" and it.head[-1] == "stands on"]
     for row in rows:
         name, cell = row.cells[0], row.cells[-1]
-        tally.hold(name in sources.uses, page, row.line, f"crates.txt has no crate {name}")
+        claims.hold(name in sources.uses, page, row.line, f"crates.txt has no crate {name}")
         wanted = [it if it in sources.crates else f"`{it}`" for it in sources.uses.get(name, [])]
         is_so = sorted(filter(None, cell.split(", "))) == sorted(wanted)
         told = f"{name} stands on {cell or 'nothing'}, by crates.txt on {', '.join(wanted) or 'nothing'}"
-        tally.hold(is_so, page, row.line, told)
+        claims.hold(is_so, page, row.line, told)
     for name in sources.told:
         is_so = name in {row.cells[0] for row in rows}
-        tally.hold(is_so, page, rows[0].line if rows else 1, f"the crate {name} has no row in the rooms")
+        claims.hold(is_so, page, rows[0].line if rows else 1, f"the crate {name} has no row in the rooms")
 
 
-def hold_gate(page, rows, sources, tally):
+def hold_gate(page, rows, sources, claims):
     """Holds the table of what the gate takes: its crates, the crates of tests, and how many edits must fail."""
     for row in (it for it in rows if it.head[0] == "crate" and "edits" in it.head):
         for name in (row.cells[0], *re.findall(r"\w+_tests", " ".join(row.cells))):
-            tally.hold(name in sources.crates, page, row.line, f"there is no crate {name}")
+            claims.hold(name in sources.crates, page, row.line, f"there is no crate {name}")
         edits = len(list((CRATES / row.cells[0]).glob("must-fail/*.edit")))
         told = row.cells[row.head.index("edits")]
-        tally.hold(told == (str(edits) if edits else ""), page, row.line, f"{row.cells[0]} has {edits or 'no'} edits")
+        claims.hold(told == (str(edits) if edits else ""), page, row.line, f"{row.cells[0]} has {edits or 'no'} edits")
 
 
 # ---- what is cited
@@ -528,14 +522,15 @@ def anchors_of(page):
 class Citations:
     """What documents cite."""
 
-    def __init__(self, sources, tally):
-        self.crates, self.tally = sources.crates, tally
+    def __init__(self, sources, claims):
+        self.crates, self.claims = sources.crates, claims
         self.functions = {key for it in self.crates.values() for key in (*it.calls, *(own.key for own in it.functions))}
         files = [it.relative_to(TOP) for name in FOLDERS for it in (TOP / name).rglob("*.*")]
         self.files = [f"/{it}" for it in files if "out" not in it.parts]
 
     def is_file(self, word):
-        """Whether there is the file: at this place, or one whose path ends so. What the toolchain makes need not be there."""
+        """Whether there is the file: at this place, or one whose path ends so. What the toolchain makes need not be
+        there."""
         path = word[2:] if word.startswith("./") else word
         if "out" in path.split("/"):
             return True
@@ -569,36 +564,49 @@ class Citations:
                 word = re.sub(r"^(casbench_recording)\.(\w+)$", r"recording/\1/\2.py", word)  # (a module)
                 is_path = word.startswith(tuple(f"{it}/" for it in (".", *FOLDERS))) or word.endswith(ENDINGS)
                 if is_path and re.fullmatch(r"(\./)?(\w|\*|\.ci)[\w.*-]*(/[\w.*-]+)*/?", word):
-                    self.tally.hold(self.is_file(word), page, number, f"there is no file {word}")
+                    self.claims.hold(self.is_file(word), page, number, f"there is no file {word}")
                 if re.fullmatch(r"\w+Lemmas", word):
-                    self.tally.hold(self.is_file(f"{word}.antt"), page, number, f"there is no module of lemmas {word}")
+                    self.claims.hold(self.is_file(f"{word}.antt"), page, number, f"there is no module of lemmas {word}")
                 if re.fullmatch(r"\w+(::\w+)+", word):
-                    self.tally.hold(self.is_named(word), page, number, f"there is no {word}")
+                    self.claims.hold(self.is_named(word), page, number, f"there is no {word}")
             for path, name in re.findall(r"`(\w+(?:::\w+)+)`, (?:clause )?`(\w+)`", line):
                 if path.split("::")[0] in self.crates:
-                    self.tally.hold(self.is_behind(path, name), page, number, f"{path} has no clause {name}")
+                    self.claims.hold(self.is_behind(path, name), page, number, f"{path} has no clause {name}")
             for link in re.findall(r"\]\(([^):]+)\)", line):
-                self.tally.hold(self.is_linked(page, link), page, number, f"there is nothing behind the link {link}")
+                self.claims.hold(self.is_linked(page, link), page, number, f"there is nothing behind the link {link}")
 
 
-def main():
-    tally, sources = Tally(), Sources()
-    Model(sources, tally).hold_all()
-    proved = Proved(sources, tally)
-    proved.hold_headline()
-    proved.hold_all()
-    page = "docs/ARCHITECTURE.md"
-    rows = rows_of(page, tally)
-    hold_rooms(page, rows, sources, tally)
-    hold_gate(page, rows, sources, tally)
-    citations = Citations(sources, tally)
-    for page in DOCUMENTS:
-        citations.hold_document(page)
-    for page, line, told in sorted(tally.wrong):
-        print(f"FAILED: {page}:{line}: {told}")
-    print(f"{tally.passed} passed, {len(tally.wrong)} failed")
-    return 1 if tally.wrong or not tally.passed else 0
+class Claims(ProgramTest):
+    """What the documents say. Each name that is held is a subtest."""
+
+    @classmethod
+    def setUpClass(cls):
+        cls.sources = Sources()
+
+    def hold(self, is_so, page, line, fault):
+        """Holds a name at a line of a page."""
+        with self.subTest(f"{page}:{line}"):
+            self.assertTrue(is_so, fault)
+
+    def test_model(self):
+        Model(self.sources, self).hold_all()
+
+    def test_proved(self):
+        proved = Proved(self.sources, self)
+        proved.hold_headline()
+        proved.hold_all()
+
+    def test_architecture(self):
+        page = "docs/ARCHITECTURE.md"
+        rows = rows_of(page, self)
+        hold_rooms(page, rows, self.sources, self)
+        hold_gate(page, rows, self.sources, self)
+
+    def test_citations(self):
+        citations = Citations(self.sources, self)
+        for page in DOCUMENTS:
+            citations.hold_document(page)
 
 
 if __name__ == "__main__":
-    sys.exit(main())
+    sys.exit(run_tests(needs_program=False))

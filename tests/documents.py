@@ -3,9 +3,9 @@
 
     python3 tests/documents.py [PROGRAM]
 
-PROGRAM is the built casbench; where it is not named, the one that ./casbench would run. A block of a document that begins
-with `$ ` is a session: its commands are those behind `$ ` and `> `, and the lines of a here-document; all other lines are
-what they print on standard output. A line `..` stands for any lines. The example pages are made again too.
+PROGRAM is the built casbench; if it isn't named, the one that ./casbench would run. A block of a document that begins
+with `$ ` is a session: its commands are those behind `$ ` and `> `, and the lines of a here-document; all other lines
+are what they print on standard output. A line `..` stands for any lines. The example pages are made again too.
 """
 
 import os
@@ -16,10 +16,11 @@ import subprocess
 import sys
 import tempfile
 from concurrent.futures import ThreadPoolExecutor
+from itertools import repeat
 
-from program import TOP, built_program
+from program import TOP
+from program_test import ProgramTest, run_tests
 from running import free_ports, run
-from trials import tell
 
 STORES = [f"examples/stores/{it}/README.md" for it in ("redis", "postgresql", "zookeeper")]
 DOCUMENTS = ["README.md", "examples/README.md", *STORES, "docs/RECORDING.md"]
@@ -37,8 +38,8 @@ def parted(block):
             ends = None if line.strip() == ends else ends
         elif line.startswith(("$ ", "> ")):
             commands.append(line[2:])
-            found = re.search(r"<<'(\w+)'", line)
-            ends = found and found.group(1)
+            here_document = re.search(r"<<'(\w+)'", line)
+            ends = here_document and here_document[1]
         else:
             wanted.append(line)
     return "".join(commands), "".join(wanted)
@@ -71,48 +72,49 @@ def with_ports(block, ports):
 
 
 def run_document(program, document, ports):
-    """Runs the sessions of a document, one after the other in one copy; tells how many there are, and what is wrong."""
+    """Runs the sessions of a document, one after the other in one copy; returns for each what is wrong with it, or
+    nothing."""
     wrong = []
-    blocks = sessions(document)
     environment = {key: it for key, it in os.environ.items() if not key.startswith("OPENSEARCH_")}
     with tempfile.TemporaryDirectory() as folder:
         folder = pathlib.Path(folder)
         copied_checkout(program, folder)
-        for block in blocks:
+        for block in sessions(document):
             commands, wanted = parted(with_ports(block, ports))
             how = {"cwd": folder, "env": environment, "text": True, "timeout": 600}
             ran = subprocess.run(["bash", "-c", commands], stdin=subprocess.DEVNULL, capture_output=True, **how)
-            if not is_as_wanted(ran.stdout, wanted):
-                wrong.append(f"{document}: {commands}wrote\n{ran.stdout[:2000]}and not\n{wanted}{ran.stderr[:2000]}")
-    return len(blocks), wrong
+            fault = f"{commands}wrote\n{ran.stdout[:2000]}and not\n{wanted}{ran.stderr[:2000]}"
+            wrong.append("" if is_as_wanted(ran.stdout, wanted) else fault)
+    return wrong
 
 
-def run_page(program, page):
-    """Makes an example's page again; tells what is wrong with it."""
-    history = page.with_suffix(".ndjson")
-    with tempfile.TemporaryDirectory() as folder:
-        made = pathlib.Path(folder) / page.name
-        run(program, ["explain", history, "--html", made])
-        if not made.exists() or made.read_bytes() != page.read_bytes():
-            name = page.relative_to(TOP)
-            return f"{name} is not what ./casbench explain {name.with_suffix('.ndjson')} --html {name} makes"
-    return ""
+class Documents(ProgramTest):
+    """The sessions of the documents, and the pages of the examples."""
 
-
-def main():
-    program = built_program(sys.argv[1:])
-    pages = sorted((TOP / "examples").glob("*.html"))
-    with ThreadPoolExecutor() as pool:
+    def test_sessions(self):
+        """Each session prints what its document shows. The documents are run side by side, and each has sessions."""
         ports = free_ports(len(DOCUMENTS) * len(PORTS))
         shares = [ports[at :: len(DOCUMENTS)] for at in range(len(DOCUMENTS))]
-        told = list(pool.map(lambda it: run_document(program, *it), zip(DOCUMENTS, shares)))
-        wrong = [it for it in pool.map(lambda page: run_page(program, page), pages) if it]
-    wrong += [it for _, some in told for it in some]
-    passed = sum(it for it, _ in told) + len(pages) - len(wrong)
-    wrong += [f"{document} has no sessions" for document, (count, _) in zip(DOCUMENTS, told) if not count]
-    wrong += [] if pages else ["there are no pages"]
-    return tell(passed, wrong)
+        with ThreadPoolExecutor() as pool:
+            for document, wrong in zip(DOCUMENTS, pool.map(run_document, repeat(self.program), DOCUMENTS, shares)):
+                with self.subTest(f"whether {document} has sessions"):
+                    self.assertNotEqual(wrong, [])
+                for number, fault in enumerate(wrong, 1):
+                    with self.subTest(f"session {number} of {document}"):
+                        self.assertFalse(fault, fault)
+
+    def check_page(self, page):
+        with tempfile.TemporaryDirectory() as folder:
+            made = pathlib.Path(folder) / page.name
+            run(self.program, ["explain", page.with_suffix(".ndjson"), "--html", made])
+            self.assertTrue(made.exists() and made.read_bytes() == page.read_bytes(), "it isn't the page of its history")
+
+    def test_pages(self):
+        """The page of each example is that of its history."""
+        pages = sorted((TOP / "examples").glob("*.html"))
+        self.assertNotEqual(pages, [])
+        self.run_subtests(self.check_page, [(str(it.relative_to(TOP)), it) for it in pages])
 
 
 if __name__ == "__main__":
-    sys.exit(main())
+    sys.exit(run_tests())

@@ -1,7 +1,8 @@
-"""What drawn recordings are made of: drawn numbers, operations, replies, what an index does, and the lines of a history.
+"""What drawn recordings are made of: drawn numbers, operations, replies, what an index does, and the lines of a
+history.
 
-It is no test itself; tests/agree.py, tests/evidence.py, tests/lines.py, tests/offences.py, tests/orders.py, tests/ruled_out.py and
-tests/small_drawing.py draw with it.
+It is no test itself; tests/agree.py, tests/evidence.py, tests/lines.py, tests/offences.py, tests/orders.py,
+tests/ruled_out.py and tests/small_drawing.py draw with it.
 """
 
 from typing import NamedTuple
@@ -27,7 +28,8 @@ class Draws:
 
 
 class Op(NamedTuple):
-    """An operation: `get`, `index`, `delete` or `create`, with the number that it writes and the pair that it asks for."""
+    """An operation: `get`, `index`, `delete` or `create`, with the number that it writes and the pair that it asks
+    for."""
 
     name: str
     k: int = None
@@ -35,8 +37,8 @@ class Op(NamedTuple):
 
 
 class Reply(NamedTuple):
-    """A reply: `indexed`, `deleted`, `found`, `missing` or `conflict`. Where it was indexed, `more` says whether it was created;
-    where it was deleted, whether it was there; where it was found, its number."""
+    """A reply: `indexed`, `deleted`, `found`, `missing` or `conflict`. If it was indexed, `more` says whether it was
+    created; if it was deleted, whether it was there; if it was found, its number."""
 
     kind: str
     pair: tuple = None
@@ -49,7 +51,7 @@ MISSING, CONFLICT = Reply("missing"), Reply("conflict")
 class Call(NamedTuple):
     """The event of a call. Documents are numbered from 0."""
 
-    no: int
+    number: int
     doc: int
     op: Op
 
@@ -57,13 +59,13 @@ class Call(NamedTuple):
 class Ending(NamedTuple):
     """The event of a reply, or of a lost call, which has none."""
 
-    no: int
+    number: int
     reply: Reply
 
 
 def performed(state, op, pair):
-    """What an index answers, and the document after it. A document that is there is its last pair and its number, else None; a
-    write that is performed takes the pair."""
+    """What an index answers, and the document after it. A document that is there is its last pair and its number, else
+    None; a write that is performed takes the pair."""
     is_there = state is not None
     if op.name == "get":
         return (Reply("found", *state) if is_there else MISSING), state
@@ -75,7 +77,7 @@ def performed(state, op, pair):
 
 
 def pair_taken(reply):
-    """The pair that a reply shows to have been taken; None where it shows none."""
+    """The pair that a reply shows to have been taken; None if it shows none."""
     return reply.pair if reply and reply.kind in ("indexed", "deleted") else None
 
 
@@ -88,27 +90,27 @@ def call_line(call, shard):
         more += texts.condition(*call.op.condition)
     if shard:
         more += f',"shard":{shard}'
-    return texts.call(call.no, call.op.name, more, NAMES[call.doc])
+    return texts.call(call.number, call.op.name, more, NAMES[call.doc])
 
 
-def reply_line(no, doc, reply):
+def reply_line(number, doc, reply):
     name = NAMES[doc]
     if reply.kind == "indexed":
-        return (texts.created if reply.more else texts.updated)(no, *reply.pair, name)
+        return (texts.created if reply.more else texts.updated)(number, *reply.pair, name)
     if reply.kind == "deleted":
-        return (texts.deleted if reply.more else texts.not_found)(no, *reply.pair, name)
+        return (texts.deleted if reply.more else texts.not_found)(number, *reply.pair, name)
     if reply.kind == "found":
-        return texts.found(no, *reply.pair, reply.more, name)
-    return texts.missing(no, name) if reply == MISSING else texts.conflict(no)
+        return texts.found(number, *reply.pair, reply.more, name)
+    return texts.missing(number, name) if reply == MISSING else texts.conflict(number)
 
 
 def lines(events, shard_of):
     """The lines of a history of these events: one for each."""
-    doc_of = {it.no: it.doc for it in events if isinstance(it, Call)}
+    doc_of = {it.number: it.doc for it in events if isinstance(it, Call)}
     for it in events:
         if isinstance(it, Call):
             yield call_line(it, shard_of(it.doc))
         elif it.reply:
-            yield reply_line(it.no, doc_of[it.no], it.reply)
+            yield reply_line(it.number, doc_of[it.number], it.reply)
         else:
-            yield texts.lost(it.no)
+            yield texts.lost(it.number)

@@ -3,9 +3,9 @@
 
     python3 tests/evidence.py [PROGRAM]
 
-PROGRAM is the built casbench; where it is not named, the one that ./casbench would run. What the program has to tell is what
-a naive body finds, which tries all evidence in its order by the definitions of docs/MODEL.md. Of a history with evidence
-exactly this has to be told; of one without, there must be none. A history without a fault has to get `yes`.
+PROGRAM is the built casbench; if it isn't named, the one that ./casbench would run. The program has to report what a
+naive body finds, which tries all evidence in its order by the definitions of docs/MODEL.md: exactly this evidence, and
+none if there is none. A history without a fault has to get `yes`.
 """
 
 import itertools
@@ -14,16 +14,19 @@ from collections import Counter
 from concurrent.futures import ProcessPoolExecutor
 
 from drawing import CONFLICT, MISSING, Call, Draws, Ending, Op, Reply, lines, pair_taken, performed
-from program import built_program
+from program_test import ProgramTest, run_tests
 from running import run, said
 from texts import OFFENCE, status_of, yes
-from trials import Trial, Wrong, tell, try_all
 
-# How many seeds each kind of fault has, in how many of them a fault is found at least, and how many seeds have no fault.
+# How many seeds each kind of fault has, in how many of them a fault is found at least, and how many seeds have no
+# fault.
 SEEDS, FAULTS, HONEST = 300, 150, 300
 
-# How many steps the calls of a history take, where there are three clients: each is made, performed and answered. How many clients
-# there are of one document where writes are to overtake one another.
+# What the judgement of a seed is if the drawn calls can't have the fault.
+NO_FAULT = "no fault"
+
+# How many steps the calls of a history take, if there are three clients: each is made, performed and answered. How many
+# clients there are of one document if writes are to overtake one another.
 STEPS, MANY = 60, 6
 
 
@@ -39,7 +42,8 @@ class Waiting:
 
 
 class Clients:
-    """Clients of one to four documents on two shards, and what was recorded of their calls; where no number is named, of two at least."""
+    """Clients of one to four documents on two shards, and what was recorded of their calls; if no number is named, of
+    two at least."""
 
     def __init__(self, seed, clients=3, docs=None):
         self.draws = Draws(seed)
@@ -65,7 +69,7 @@ class Clients:
         return Waiting(call)
 
     def perform(self, waiting):
-        """A call is performed. Each has the next number of the shards, also where it takes none."""
+        """A call is performed. Each has the next number of the shards, also if it takes none."""
         doc = waiting.call.doc
         waiting.reply, self.states[doc] = performed(self.states[doc], waiting.call.op, (1, self.performed))
         self.performed += 1
@@ -73,7 +77,7 @@ class Clients:
     def end(self, waiting):
         """The ending of a call is recorded: one of eight is lost."""
         is_lost = self.draws.below(8) == 0
-        self.events.append(Ending(waiting.call.no, None if is_lost else waiting.reply))
+        self.events.append(Ending(waiting.call.number, None if is_lost else waiting.reply))
         if not is_lost:
             self.shown[waiting.call.doc] = waiting.reply.pair
 
@@ -91,10 +95,10 @@ class Clients:
 
 
 class Known:
-    """A call of a history as all events tell it: its place, and the place of its reply and the reply, where it has one."""
+    """A call of a history by all events: its place, and the place of its reply and the reply, if it has one."""
 
     def __init__(self, called, call):
-        self.called, self.no, self.doc, self.op = called, call.no, call.doc, call.op
+        self.called, self.number, self.doc, self.op = called, call.number, call.doc, call.op
         self.replied, self.reply = None, None
 
 
@@ -103,13 +107,13 @@ def known_calls(events):
     calls = {}
     for place, event in enumerate(events):
         if isinstance(event, Call):
-            calls[event.no] = Known(place, event)
+            calls[event.number] = Known(place, event)
         elif event.reply:
-            calls[event.no].replied, calls[event.no].reply = place, event.reply
+            calls[event.number].replied, calls[event.number].reply = place, event.reply
     return calls
 
 
-def found(call):
+def found_document(call):
     """Whether it is a get that found its document."""
     return call.reply is not None and call.reply.kind == "found"
 
@@ -117,7 +121,7 @@ def found(call):
 def is_pair_twice(one, two):
     """Two different writes of one shard were performed with the same pair."""
     pair = pair_taken(one.reply)
-    return one.no != two.no and shard_of(one.doc) == shard_of(two.doc) and pair is not None and pair == pair_taken(two.reply)
+    return one.number != two.number and shard_of(one.doc) == shard_of(two.doc) and pair is not None and pair == pair_taken(two.reply)
 
 
 def may_take(call, pair, reading):
@@ -134,34 +138,35 @@ def is_without_writer(get, calls, reading):
         gives = call.op.name in ("index", "create") and call.doc == get.doc and call.op.k == get.reply.more
         return gives and call.called < get.replied and may_take(call, get.reply.pair, reading)
 
-    return found(get) and not any(is_writer(call) for call in calls)
+    return found_document(get) and not any(is_writer(call) for call in calls)
 
 
 def is_stale_get(get, write):
     """A write of the get's document was answered before the get was called, which found a lesser pair."""
     pair = pair_taken(write.reply)
-    return found(get) and pair is not None and write.doc == get.doc and write.replied < get.called and get.reply.pair < pair
+    return found_document(get) and pair is not None and write.doc == get.doc and write.replied < get.called and get.reply.pair < pair
 
 
 def is_stale_swap(one, two):
-    """Two different writes of one document were performed, the second with a condition below the pair of the first, though the
-    first stands before it: it was answered before the second was called, or has the lesser pair."""
+    """Two different writes of one document were performed, the second with a condition below the pair of the first,
+    though the first stands before it: it was answered before the second was called, or has the lesser pair."""
     first, second, asked = pair_taken(one.reply), pair_taken(two.reply), two.op.condition
-    if one.no == two.no or one.doc != two.doc or first is None or second is None or asked is None:
+    if one.number == two.number or one.doc != two.doc or first is None or second is None or asked is None:
         return False
     return asked < first and (one.replied < two.called or first < second)
 
 
 def holds(kind, calls, numbers, reading):
     """Whether evidence of the kind holds of the calls with these numbers."""
-    named = [calls[no] for no in numbers]
+    named = [calls[number] for number in numbers]
     if kind == "no-writer":
         return is_without_writer(*named, calls.values(), reading)
     return {"pair-twice": is_pair_twice, "stale-get": is_stale_get, "stale-swap": is_stale_swap}[kind](*named)
 
 
 def first_evidence(calls, reading):
-    """The first evidence that holds, by its kind, then the number of its first call, then of its second; None where none does."""
+    """The first evidence that holds, by its kind, then the number of its first call, then of its second; None if none
+    does."""
     for kind, count in (("pair-twice", 2), ("no-writer", 1), ("stale-get", 2), ("stale-swap", 2)):
         for numbers in itertools.product(sorted(calls), repeat=count):
             if holds(kind, calls, numbers, reading):
@@ -169,30 +174,30 @@ def first_evidence(calls, reading):
     return None
 
 
-# Each of these puts a fault into the events, of drawn answered calls: it gives the place and the other event, and the evidence
-# of it; or None where these calls can't have it.
+# Each of these puts a fault into the events, of drawn answered calls: it gives the place and the other event, and the
+# evidence of it; or None if these calls can't have it.
 
 
 def pair_twice(one, two, _):
     """The pair of a write is given to another one of its shard too."""
     pair = pair_taken(one.reply)
-    if pair is None or pair_taken(two.reply) is None or shard_of(one.doc) != shard_of(two.doc) or one.no == two.no:
+    if pair is None or pair_taken(two.reply) is None or shard_of(one.doc) != shard_of(two.doc) or one.number == two.number:
         return None
-    return two.replied, Ending(two.no, two.reply._replace(pair=pair)), ("pair-twice", (one.no, two.no))
+    return two.replied, Ending(two.number, two.reply._replace(pair=pair)), ("pair-twice", (one.number, two.number))
 
 
 def no_writer(get, *_):
     """A get finds a number that nobody wrote."""
-    if not found(get):
+    if not found_document(get):
         return None
-    return get.replied, Ending(get.no, get.reply._replace(more=1_000_000)), ("no-writer", (get.no,))
+    return get.replied, Ending(get.number, get.reply._replace(more=1_000_000)), ("no-writer", (get.number,))
 
 
 def refused_writer(write, get, _):
     """A get finds the number of a write that was answered with a conflict."""
-    if not found(get) or write.reply != CONFLICT or write.op.k is None or write.doc != get.doc or get.replied < write.called:
+    if not found_document(get) or write.reply != CONFLICT or write.op.k is None or write.doc != get.doc or get.replied < write.called:
         return None
-    return get.replied, Ending(get.no, get.reply._replace(more=write.op.k)), ("no-writer", (get.no,))
+    return get.replied, Ending(get.number, get.reply._replace(more=write.op.k)), ("no-writer", (get.number,))
 
 
 def stale_get(earlier, write, get):
@@ -202,18 +207,18 @@ def stale_get(earlier, write, get):
         return None
     if not earlier.doc == write.doc == get.doc or new <= old or get.called < write.replied:
         return None
-    return get.replied, Ending(get.no, Reply("found", old, earlier.op.k)), ("stale-get", (get.no, write.no))
+    return get.replied, Ending(get.number, Reply("found", old, earlier.op.k)), ("stale-get", (get.number, write.number))
 
 
 def overtaken_get(slow, fast, get):
-    """The same where the replies of two writes came in the other order than their pairs: a get that was called after both were answered
-    finds what the one gave that was answered last."""
+    """The same if the replies of two writes came in the other order than their pairs: a get that was called after both
+    were answered finds what the one gave that was answered last."""
     old, new = pair_taken(slow.reply), pair_taken(fast.reply)
     if old is None or new is None or slow.op.k is None or get.op.name != "get":
         return None
     if not slow.doc == fast.doc == get.doc or new <= old or not fast.replied < slow.replied < get.called:
         return None
-    return get.replied, Ending(get.no, Reply("found", old, slow.op.k)), ("stale-get", (get.no, fast.no))
+    return get.replied, Ending(get.number, Reply("found", old, slow.op.k)), ("stale-get", (get.number, fast.number))
 
 
 def stale_swap(earlier, one, two):
@@ -223,19 +228,19 @@ def stale_swap(earlier, one, two):
         return None
     if two.op.name not in ("index", "delete"):
         return None
-    return two.called, Call(two.no, two.doc, two.op._replace(condition=old)), ("stale-swap", (one.no, two.no))
+    return two.called, Call(two.number, two.doc, two.op._replace(condition=old)), ("stale-swap", (one.number, two.number))
 
 
 def forgotten(get, *_):
-    """A document that was found is missing: no kind of evidence tells of that."""
-    return (get.replied, Ending(get.no, MISSING), None) if found(get) else None
+    """A document that was found is missing: there is no kind of evidence of that."""
+    return (get.replied, Ending(get.number, MISSING), None) if found_document(get) else None
 
 
 FAULT_KINDS = [pair_twice, no_writer, refused_writer, stale_get, overtaken_get, stale_swap, forgotten]
 
 
 def drawn_fault(draws, calls, put):
-    """A fault that is put so, where one is found in so many tries."""
+    """A fault that is put so, if one is found in so many tries."""
     answered = sorted((it for it in calls.values() if it.reply), key=lambda it: it.replied)
     for _ in range(4_000):
         fault = put(*(draws.one_of(answered) for _ in range(3)))
@@ -244,24 +249,26 @@ def drawn_fault(draws, calls, put):
     return None
 
 
-def is_reply(events, place, no):
+def is_reply(events, place, number):
     """Whether the event at the place is a reply to the call with the number."""
-    return place < len(events) and isinstance(events[place], Ending) and events[place].reply is not None and events[place].no == no
+    event = events[place] if place < len(events) else None
+    return isinstance(event, Ending) and event.reply is not None and event.number == number
 
 
-def is_told(events, evidence, line):
-    """Whether the program told just this evidence, or none where there is none."""
-    told = OFFENCE.fullmatch(line)
-    if told is None:
+def reports(events, evidence, line):
+    """Whether the line reports just this evidence, or none if there is none."""
+    offence = OFFENCE.fullmatch(line)
+    if offence is None:
         calls = known_calls(events).values()
         return evidence is None and line.startswith(yes(len(calls), left_out="", docs=len({it.doc for it in calls})).rstrip())
     kind, numbers = evidence or (None, None)
-    is_right = told["kind"] == kind and told["calls"] == (numbers and ",".join(map(str, numbers)))
-    return is_right and is_reply(events, int(told["event"]), int(told["call"]))
+    is_right = offence["kind"] == kind and offence["calls"] == (numbers and ",".join(map(str, numbers)))
+    return is_right and is_reply(events, int(offence["event"]), int(offence["call"]))
 
 
 def judged(program, put, seed):
-    """Judges a seed with a fault that is put so, or without one; tells whether the drawn calls could have such a fault."""
+    """Judges a seed with a fault that is put so, or without one; returns whether the drawn calls could have such a
+    fault."""
     clients = Clients(seed, MANY, docs=1) if put is overtaken_get else Clients(seed)
     for _ in range(STEPS * len(clients.waiting) // 3):
         clients.step()
@@ -270,7 +277,7 @@ def judged(program, put, seed):
     if put:
         fault = drawn_fault(clients.draws, known_calls(events), put)
         if fault is None:
-            return "no fault"
+            return NO_FAULT
         place, event, mine = fault
         events[place] = event
     if put is refused_writer and reading == "maybe":
@@ -279,31 +286,31 @@ def judged(program, put, seed):
     calls = known_calls(events)
     evidence = first_evidence(calls, reading)
     if (evidence is None) != (mine is None) or mine and not holds(mine[0], calls, mine[1], reading):
-        raise Wrong(f"the naive body tells {evidence}, and {mine} was put in")
+        raise AssertionError(f"the naive body finds {evidence}, and {mine} was put in")
     status, line = said(run(program, ["check", "--conflicts", reading], "".join(lines(events, shard_of))))
-    if status != status_of(line) or not is_told(events, evidence, line) or not (put or line.startswith("yes ")):
-        raise Wrong(f"{reading}, {status}: {line}, and the naive body tells {evidence}")
+    if status != status_of(line) or not reports(events, evidence, line) or not (put or line.startswith("yes ")):
+        raise AssertionError(f"{reading}, {status}: {line}, and the naive body finds {evidence}")
     return "fault"
 
 
-def main():
-    program = built_program(sys.argv[1:])
-    trials = [
-        Trial(f"{put.__name__}, seed {number * SEEDS + at}", judged, (program, put, number * SEEDS + at))
-        for number, put in enumerate(FAULT_KINDS)
-        for at in range(SEEDS)
-    ]
-    trials += [Trial(f"no fault, seed {seed}", judged, (program, None, seed)) for seed in range(HONEST)]
-    with ProcessPoolExecutor() as pool:
-        told, wrong = try_all(trials, pool, chunksize=20)
-    passed = len(trials) - len(wrong) - told.count("no fault")
-    # (what is wrong had a fault too)
-    faults = Counter(trial.of[1] for trial, it in zip(trials, told) if it != "no fault")
-    for put in FAULT_KINDS:
-        print(f"{put.__name__}: {faults[put]} faults, of at least {FAULTS}")
-        wrong += [f"{put.__name__}: only {faults[put]} faults"] if faults[put] < FAULTS else []
-    return tell(passed, wrong)
+class Evidence(ProgramTest):
+    """Drawn histories, with a fault and without."""
+
+    def test_faults(self):
+        """Evidence of a fault is reported. Enough histories have each fault."""
+        puts = [put for put in FAULT_KINDS for _ in range(SEEDS)]
+        rows = [(f"{put.__name__}, seed {seed}", self.program, put, seed) for seed, put in enumerate(puts)]
+        returned = self.run_subtests(judged, rows, ProcessPoolExecutor, chunksize=20, not_counted=(NO_FAULT,))
+        faults = Counter(put for put, it in zip(puts, returned) if it != NO_FAULT)
+        for put in FAULT_KINDS:
+            print(f"{put.__name__}: {faults[put]} faults, of at least {FAULTS}")
+            with self.subTest(f"how many have {put.__name__}"):
+                self.assertGreaterEqual(faults[put], FAULTS)
+
+    def test_no_fault(self):
+        rows = [(f"seed {seed}", self.program, None, seed) for seed in range(HONEST)]
+        self.run_subtests(judged, rows, ProcessPoolExecutor, chunksize=20)
 
 
 if __name__ == "__main__":
-    sys.exit(main())
+    sys.exit(run_tests())

@@ -1,6 +1,6 @@
 """The exact search: whether any order of all calls explains a history, straight from the definitions of docs/MODEL.md.
 
-It is no test itself. The history has a few calls. Its calls are as evidence.Known tells them.
+It is no test itself. The history has a few calls. Its calls are those of evidence.Known.
 """
 
 from typing import NamedTuple
@@ -28,18 +28,19 @@ def room_between(pairs):
     return [high - low - 1 for low, high in zip(edges, edges[1:])]
 
 
-def is_told(call, reading):
-    """Whether it is told what became of the call: under maybe a write that was answered with a conflict may have been performed."""
+def has_known_outcome(call, reading):
+    """Whether the reply shows what became of the call: under maybe a write that was answered with a conflict may have
+    been performed."""
     return call.reply is not None and not (call.reply == CONFLICT and reading == "maybe")
 
 
 def one_shard(_):
-    """The shard of a document, where all are on one."""
+    """The shard of a document, if all are on one."""
     return 0
 
 
 class Ranked(NamedTuple):
-    """A call with ranks for pairs; where it was not answered there is no reply, and its place is behind all."""
+    """A call with ranks for pairs; if it was not answered there is no reply, and its place is behind all."""
 
     called: int
     replied: float
@@ -47,12 +48,12 @@ class Ranked(NamedTuple):
     shard: int
     op: Op
     reply: Reply
-    is_told: bool
+    has_known_outcome: bool
 
 
 class After(NamedTuple):
-    """What a front of an order leaves: the calls behind it, of each document what it is and the rank that it took last, and how often
-    each rank of each shard was given."""
+    """What a front of an order leaves: the calls behind it, of each document what it is and the rank that it took last,
+    and how often each rank of each shard was given."""
 
     left: frozenset
     states: tuple
@@ -65,9 +66,10 @@ def changed(row, at, item):
 
 
 class Search:
-    """The search for an order. The pairs that the history shows have odd ranks, and those between each two, before the first and
-    after the last have the even rank between: no reply and no condition tells these apart. The ranks of a shard stand one after the
-    other, and those of the next shard behind them; of a document they are counted from its shard's first."""
+    """The search for an order. The pairs that the history shows have odd ranks, and those between each two, before the
+    first and after the last have the even rank between: no reply and no condition distinguishes these. The ranks of a
+    shard stand one after the other, and those of the next shard behind them; of a document they are counted from its
+    shard's first."""
 
     def __init__(self, calls, reading, shard_of):
         shown = [it.op.condition for it in calls] + [it.reply.pair for it in calls if it.reply]
@@ -78,7 +80,7 @@ class Search:
         kept = [it for it in calls if it.reply or it.op.name != "get"]
         shards = sorted({shard_of(it.doc) for it in kept})
         self.calls = [self.ranked(it, reading, shards.index(shard_of(it.doc))) for it in kept]
-        self.told = [self.at(it, pair_taken(it.reply)) for it in self.calls if pair_taken(it.reply)]
+        self.shown = [self.at(it, pair_taken(it.reply)) for it in self.calls if pair_taken(it.reply)]
         self.room = self.rooms(pairs, len(shards))
         self.failed = set()
 
@@ -86,25 +88,25 @@ class Search:
         reply = call.reply and call.reply._replace(pair=self.ranks[call.reply.pair])
         replied = float("inf") if reply is None else call.replied
         op = call.op._replace(condition=self.ranks[call.op.condition])
-        return Ranked(call.called, replied, call.doc, shard, op, reply, is_told(call, reading))
+        return Ranked(call.called, replied, call.doc, shard, op, reply, has_known_outcome(call, reading))
 
     def at(self, call, rank):
         """Where the rank stands among those of all shards, for a call."""
         return call.shard * self.count + rank
 
     def rooms(self, pairs, shards):
-        """How often each rank of each shard may be given to writes whose reply doesn't tell a pair."""
+        """How often each rank of each shard may be given to writes whose reply doesn't show a pair."""
         room = [1] * self.count
         room[::2] = room_between(pairs)
         room *= shards
-        for place in self.told:
+        for place in self.shown:
             room[place] = 0
         return room
 
     def has_order(self):
         docs = max((it.doc for it in self.calls), default=0) + 1
         start = After(frozenset(range(len(self.calls))), (None,) * docs, (-1,) * docs, (0,) * len(self.room))
-        return len(set(self.told)) == len(self.told) and self.goes_on(start)
+        return len(set(self.shown)) == len(self.shown) and self.goes_on(start)
 
     def goes_on(self, after):
         """Whether the calls that are left can stand behind; of the unanswered ones none has to."""
@@ -114,19 +116,19 @@ class Search:
         if after not in self.failed:
             self.failed.add(after)
             able = [it for it in after.left if self.calls[it].called < min(answered)]
-            return any(self.goes_on(it) for no in able for it in self.steps(after, no))
+            return any(self.goes_on(it) for number in able for it in self.steps(after, number))
         return False
 
-    def steps(self, after, no):
-        """What is left where the call stands next, in each way that it can."""
-        call = self.calls[no]
+    def steps(self, after, number):
+        """What is left if the call stands next, in each way that it can."""
+        call = self.calls[number]
         state, last = after.states[call.doc], after.last[call.doc]
         if call.reply:
             taken = pair_taken(call.reply)
             reply, then = performed(state, call.op, taken)
             if reply == call.reply and (taken is None or last < taken):
-                yield self.stepped(after, no, then, last if taken is None else taken)
-        if not call.is_told:
+                yield self.stepped(after, number, then, last if taken is None else taken)
+        if not call.has_known_outcome:
             for rank in range(max(last, 0), self.count):
                 # (an even rank can be taken again)
                 place = self.at(call, rank)
@@ -134,11 +136,11 @@ class Search:
                 reply, then = performed(state, call.op, rank)
                 if is_free and reply != CONFLICT:
                     given = changed(after.given, place, after.given[place] + 1)
-                    yield self.stepped(after._replace(given=given), no, then, rank)
+                    yield self.stepped(after._replace(given=given), number, then, rank)
 
-    def stepped(self, after, no, then, last):
-        doc = self.calls[no].doc
-        return After(after.left - {no}, changed(after.states, doc, then), changed(after.last, doc, last), after.given)
+    def stepped(self, after, number, then, last):
+        doc = self.calls[number].doc
+        return After(after.left - {number}, changed(after.states, doc, then), changed(after.last, doc, last), after.given)
 
 
 def has_order(calls, reading, shard_of=one_shard):

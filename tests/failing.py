@@ -3,19 +3,20 @@
 
     python3 tests/failing.py [PROGRAM]
 
-PROGRAM is the built casbench; where it is not named, the one that ./casbench would run. It asks for a C compiler, cc, and says
-so where there is none.
+PROGRAM is the built casbench; if it isn't named, the one that ./casbench would run. It needs a C compiler, cc, and is
+skipped if there is none.
 
-Each row below is a command with its texts: all six commands, with a history that is named and one that is standard input. Of each
-file of a row, a text that is read or an output that is written, each call fails in a run of its own: the first, the second and so
-on to the last, and then one that is never made. Calls move 1 to 9 bytes at most, or some more, or as many as they can. A file that
-takes 150 calls or more, which is a page or a story, has only the first two fail, the middle one and the last two. A read fails with
-EIO or, in turn, as one that is interrupted; a write fails so too, and in another run takes no byte. These are some 2,700 reads and
-5,800 writes that fail, and 500 calls that are never made.
+Each row below is a command with its texts: all six commands, with a history that is named and one that is standard
+input. Of each file of a row, a text that is read or an output that is written, each call fails in a run of its own: the
+first, the second and so on to the last, and then one that is never made. Calls move 1 to 9 bytes at most, or some more,
+or as many as they can. A file that takes 150 calls or more, which is a page or a story, has only the first two fail,
+the middle one and the last two. A read fails with EIO or, in turn, as one that is interrupted; a write fails so too,
+and in another run takes no byte. These are some 2,700 reads and 5,800 writes that fail, and 500 calls that are never
+made.
 
-After a read fault nothing has been written; after a write fault a front of what is written else, just up to that write; where
-no call fails the answer is what it is else. A page is there only where no call failed, and whole then; no other file is left beside
-it. Each time just those calls are made that are wanted, file by file, and none after the one that fails.
+After a read fault nothing has been written; after a write fault a front of what is written else, just up to that write;
+if no call fails the answer is what it is else. A page is there only if no call failed, and whole then; no other file is
+left beside it. Each time just those calls are made that are wanted, file by file, and none after the one that fails.
 """
 
 import errno
@@ -24,13 +25,13 @@ import pathlib
 import subprocess
 import sys
 import tempfile
+from collections import Counter
 from concurrent.futures import ThreadPoolExecutor
 from typing import NamedTuple, Optional
 
-from program import built_program
-from running import has_compiler, library_in, run_words
+from program_test import ProgramTest, run_tests
+from running import library_in, needs_compiler, run_arguments
 from texts import READ_FAULT, WRITE_FAULT, broken, found, get, lost, missing, no_writer, places_of, refused, verified, witness_of, yes
-from trials import tell
 
 # How many bytes a call moves at most: a few, more, and as many as it can.
 SIZES = [*range(1, 10), 20, 40, 100, 1_000, 2**20]
@@ -38,18 +39,15 @@ SIZES = [*range(1, 10), 20, 40, 100, 1_000, 2**20]
 # The errors that calls fail with, in turn.
 ERRORS = (errno.EIO, errno.EINTR)
 
-# The names of the outputs, and of the file in which the calls are told.
-OUT, PAGE, TOLD = "out", "page", "told"
+# The names of the outputs, and of the file in which the calls are noted.
+OUT, PAGE, NOTED = "out", "page", "noted"
 
 # A file of so many calls has only some of them fail.
 MANY = 150
 
-# What a row without words is called.
-NO_WORDS = "no words"
-
 
 class Text(NamedTuple):
-    """A text that is read: its file's name, and how many bytes have to be read of it; None where it is read to its end."""
+    """A text that is read: its file's name, and how many bytes have to be read of it; None if it is read to its end."""
 
     name: str
     text: str
@@ -74,14 +72,15 @@ class Output(NamedTuple):
 class Row(NamedTuple):
     """A command, the exit status and the beginning of its answer, and the texts that it reads, in their order."""
 
-    words: str
+    arguments: str
     status: int
     begins: str
     texts: tuple
 
 
 class Failing(NamedTuple):
-    """The call of a file that fails, by its number from 1, with an error, or with 0 by moving no byte; the most bytes of a call."""
+    """The call of a file that fails, by its number from 1, with an error, or with 0 by moving no byte; the most bytes
+    of a call."""
 
     name: str
     number: int
@@ -90,8 +89,8 @@ class Failing(NamedTuple):
 
 
 class Ended(NamedTuple):
-    """How a run ended: its status, both outputs, the page if there is one, the calls that were made, and the files that it left beside
-    these."""
+    """How a run ended: its status, both outputs, the page if there is one, the calls that were made, and the files that
+    it left beside these."""
 
     status: int
     out: bytes
@@ -101,8 +100,8 @@ class Ended(NamedTuple):
     left: tuple
 
 
-# A get that was not answered, and the same cut short; one that finds nothing, with its witness; one that finds what nobody wrote;
-# and one that ends twice, the second time on line 3.
+# A get that was not answered, and the same cut short; one that finds nothing, with its witness; one that finds what
+# nobody wrote; and one that ends twice, the second time on line 3.
 OPEN = get(0)
 CUT = OPEN[:20]
 MISSED = OPEN + missing(0)
@@ -119,9 +118,9 @@ def history(text, needed=None):
     return Text("history", text, needed)
 
 
-# What comes after a line that is refused is not read, and a witness not at all where the history is refused; both texts of a bulk
-# are read before either is judged. A text that ends within a line is read to its end. A run with one client writes the same text
-# each time.
+# What comes after a line that is refused is not read, and a witness not at all if the history is refused; both texts of
+# a bulk are read before either is judged. A text that ends within a line is read to its end. A run with one client
+# writes the same text each time.
 ROWS = [
     Row("", 0, yes(1), (history(MISSED),)),
     Row("check history --workers 2 --conflicts maybe", 1, no_writer(1, 0), (history(STRAY),)),
@@ -137,7 +136,7 @@ ROWS = [
     Row("bulk body reply", 2, refused(1, "syntax"), (Text("body", CUT), Text("reply", ""))),
     Row("explain", 2, f'{refused(1, "json")}\n', (history(CUT),)),
     Row("explain history --html page", 0, f"{yes(1, left_out=1)}\n", (history(OPEN),)),
-    Row(run_words(), 0, '{"e":"call","id":"d0",', ()),
+    Row(run_arguments(), 0, '{"e":"call","id":"d0",', ()),
 ]
 
 
@@ -150,25 +149,25 @@ def filled(name, row):
 
 
 def ended(program, row, folder, more):
-    """How a run of the row ends in the folder, with more in its environment; None where it doesn't end."""
-    words = row.words.split()
-    out, told, page = (folder / name for name in (OUT, TOLD, PAGE))
-    told.write_bytes(b"")
+    """How a run of the row ends in the folder, with more in its environment; None if it doesn't end."""
+    arguments = row.arguments.split()
+    out, noted, page = (folder / name for name in (OUT, NOTED, PAGE))
+    noted.write_bytes(b"")
     page.unlink(missing_ok=True)
-    takes_input = row.texts and row.texts[0].name not in words
+    takes_input = row.texts and row.texts[0].name not in arguments
     with open(folder / row.texts[0].name if takes_input else os.devnull, "rb") as given, open(out, "wb") as taken:
-        where = {**os.environ, **more}
+        how = {"cwd": folder, "env": {**os.environ, **more}, "stdin": given, "stdout": taken, "stderr": subprocess.PIPE}
         try:
-            ran = subprocess.run([program, *words], cwd=folder, env=where, stdin=given, stdout=taken, stderr=subprocess.PIPE, timeout=60)
+            ran = subprocess.run([program, *arguments], timeout=60, **how)
         except subprocess.TimeoutExpired:
             return None
     written = page.read_bytes() if page.exists() else None
-    left = {it.name for it in folder.iterdir()} - {it.name for it in row.texts} - {OUT, PAGE, TOLD}
-    return Ended(ran.returncode, out.read_bytes(), ran.stderr.decode(), written, told.read_text(), tuple(sorted(left)))
+    left = {it.name for it in folder.iterdir()} - {it.name for it in row.texts} - {OUT, PAGE, NOTED}
+    return Ended(ran.returncode, out.read_bytes(), ran.stderr.decode(), written, noted.read_text(), tuple(sorted(left)))
 
 
 def plain_end(program, row):
-    """How a run of the row ends where all calls are left alone."""
+    """How a run of the row ends if all calls are left alone."""
     with tempfile.TemporaryDirectory() as name:
         return ended(program, row, filled(name, row), {})
 
@@ -180,7 +179,7 @@ def files_of(row, plain):
 
 
 def wanted(row, plain, failing):
-    """How the run has to end, and its calls, where that call fails; as else where it is never made."""
+    """How the run has to end, and its calls, if that call fails; as else if it is never made."""
     name, number, _, size = failing
     files = files_of(row, plain)
     at = [it.name for it in files].index(name)
@@ -198,42 +197,34 @@ def numbers(count):
 
 
 def errors(file, number, size):
-    """What a call fails with, one after the other: with an error and, where it is a write that is made, by moving no byte."""
+    """What a call fails with, one after the other: with an error and, if it is a write that is made, by moving no
+    byte."""
     error = ERRORS[(number + size) % 2]
     return [error] if isinstance(file, Text) or number > file.calls(size) else [error, 0]
 
 
 def failures(row, plain, size):
-    """All ways in which a call of the row fails, where calls move so many bytes at most."""
+    """All ways in which a call of the row fails, if calls move so many bytes at most."""
     for file in files_of(row, plain):
         for number in numbers(file.calls(size)):
             for error in errors(file, number, size):
                 yield Failing(file.name, number, error, size)
 
 
-def is_right(program, library, row, plain, folder, failing):
-    """Whether a run in which that call fails ends as it has to."""
-    name, number, error, size = failing
+def fault_of(program, library, row, plain, folder, failing):
+    """How a run ends in which that call fails, if it ends wrongly; else None."""
     # (what is written of a page gets its name only at last)
-    file = "*" if name == PAGE else name
-    more = {"FILE": file, "NUMBER": str(number), "ERROR": str(error), "MOST": str(size), "TOLD": TOLD, "LD_PRELOAD": str(library)}
-    return ended(program, row, folder, more) == wanted(row, plain, failing)
+    file = "*" if failing.name == PAGE else failing.name
+    numbers = {"NUMBER": str(failing.number), "ERROR": str(failing.error), "MOST": str(failing.size)}
+    end = ended(program, row, folder, {"FILE": file, **numbers, "TOLD": NOTED, "LD_PRELOAD": str(library)})
+    return None if end == wanted(row, plain, failing) else end
 
 
-def tried(work):
-    """Tries those failures of a row, one after the other in one folder; tells of each whether it was right."""
-    program, library, row, plain, failing_ones = work
+def faults_of(program, library, row, plain, failing_calls):
+    """The same of each of these calls, one after the other in one folder."""
     with tempfile.TemporaryDirectory() as name:
         folder = filled(name, row)
-        return [is_right(program, library, row, plain, folder, it) for it in failing_ones]
-
-
-def is_plain(row, plain):
-    """Whether the row's answer is the one that is wanted where all calls are left alone."""
-    if plain is None or (plain.page is not None) != (PAGE in row.words):
-        return False
-    is_page = plain.page is None or plain.page.startswith(b"<!doctype html>")
-    return (plain.status, plain.why, plain.left) == (row.status, "", ()) and plain.out.startswith(row.begins.encode()) and is_page
+        return [fault_of(program, library, row, plain, folder, it) for it in failing_calls]
 
 
 def kind(row, plain, failing):
@@ -244,25 +235,39 @@ def kind(row, plain, failing):
     return "reads" if isinstance(file, Text) else "writes"
 
 
-def main():
-    if not has_compiler("no call failed"):
-        print("0 passed, 0 failed")
-        return 0
-    program = built_program(sys.argv[1:])
-    with tempfile.TemporaryDirectory() as folder, ThreadPoolExecutor() as pool:
-        library = library_in(folder, "fail_calls")
-        plains = [plain_end(program, row) for row in ROWS]
-        wrong = [f"{row.words or NO_WORDS}: {plain}" for row, plain in zip(ROWS, plains) if not is_plain(row, plain)]
-        pairs = [(row, plain) for row, plain in zip(ROWS, plains) if is_plain(row, plain)]
-        work = [(program, library, *it, list(failures(*it, size))) for it in pairs for size in SIZES]
-        told = list(pool.map(tried, work))
-    kinds = []
-    for (_, _, row, plain, failing_ones), rights in zip(work, told):
-        kinds += [kind(row, plain, it) for it in failing_ones]
-        wrong += [f"{row.words or NO_WORDS}: {it}" for it, right in zip(failing_ones, rights) if not right]
-    print(", ".join(f"{kinds.count(it)} {it}" for it in sorted(set(kinds))))
-    return tell(len(ROWS) + len(kinds) - len(wrong), wrong)
+@needs_compiler
+class FailingCalls(ProgramTest):
+    """Runs in which one call fails."""
+
+    @classmethod
+    def setUpClass(cls):
+        cls.plains = [plain_end(cls.program, row) for row in ROWS]
+
+    def test_plain(self):
+        """Each row gets its answer if all calls are left alone."""
+        for row, plain in zip(ROWS, self.plains):
+            with self.subTest(row.arguments):
+                self.assertIsNotNone(plain)
+                self.assertEqual((plain.status, plain.why, plain.left), (row.status, "", ()))
+                self.assertEqual(plain.out[: len(row.begins)], row.begins.encode())
+                self.assertEqual(plain.page is not None, PAGE in row.arguments)
+                self.assertTrue(plain.page is None or plain.page.startswith(b"<!doctype html>"))
+
+    def test_failing_calls(self):
+        """A run ends as it has to if one of its calls fails."""
+        with tempfile.TemporaryDirectory() as folder, ThreadPoolExecutor() as pool:
+            library = library_in(folder, "fail_calls")
+            rows = [(row, plain) for row, plain in zip(ROWS, self.plains) if plain]
+            groups = [(*it, list(failures(*it, size))) for it in rows for size in SIZES]
+            faults = list(pool.map(lambda group: faults_of(self.program, library, *group), groups))
+        kinds = Counter()
+        for (row, plain, failing_calls), ends in zip(groups, faults):
+            for failing, end in zip(failing_calls, ends):
+                kinds[kind(row, plain, failing)] += 1
+                with self.subTest(f"{row.arguments}: {failing}"):
+                    self.assertIsNone(end)
+        print(", ".join(f"{count} {name}" for name, count in sorted(kinds.items())))
 
 
 if __name__ == "__main__":
-    sys.exit(main())
+    sys.exit(run_tests())

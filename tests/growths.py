@@ -24,7 +24,8 @@ class Growths:
         self.program, self.folder, self.refusing = program, folder, Refusing(folder)
 
     def check(self, text, few):
-        """How a check of the text ends that gets so many growths and not the next one, and whether it asked for that."""
+        """How a check of the text ends that gets so many growths and not the next one, and whether it asked for
+        that."""
         with tempfile.NamedTemporaryFile(dir=self.folder) as file:
             file.write(text.encode())
             file.flush()

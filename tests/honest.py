@@ -1,14 +1,15 @@
 #!/usr/bin/env python3
-"""Draws honest recordings, with calls that are lost before or after they took effect, and has the built program judge them.
+"""Draws honest recordings, with calls that are lost before or after they took effect, and has the built program judge
+them.
 
     python3 tests/honest.py [PROGRAM]
     python3 tests/honest.py --seed 7 [--docs 4] [--shards 1] [--clients 8] [--calls 800] [--loss 0.05] [--maybe 0.01]    writes one
     python3 tests/honest.py --long 200 [--sizes 20000,50000,200000] [--workers 2] [PROGRAM]    judges so many long ones
 
-PROGRAM is the built casbench; where it is not named, the one that ./casbench would run. Each recording is of an index that
-kept its promise, so each should get `yes`. If calls were lost the search may miss an order, and so a few may get `no` all
-the same: SETS says how many. Each `yes` is verified by its own witness. Long ones have 1 to 1,024 documents, 8 or 32 clients,
-and 1, 5 or 20 % of their calls lost, by their seeds, from 0 on.
+PROGRAM is the built casbench; if it isn't named, the one that ./casbench would run. Each recording is of an index that
+kept its promise, so each should get `yes`. If calls were lost the search may miss an order, and so a few may get `no`
+all the same: SETS says how many. Each `yes` is verified by its own witness. Long ones have 1 to 1,024 documents, 8 or
+32 clients, and 1, 5 or 20 % of their calls lost, by their seeds, from 0 on.
 """
 
 import argparse
@@ -19,13 +20,13 @@ from typing import NamedTuple, Optional
 
 import texts
 from program import built_program
+from program_test import ProgramTest, run_tests
 from running import asked
-from trials import Trial, Wrong, tell, try_all
 
 
 class Set(NamedTuple):
-    """Recordings that are drawn alike: how many, on how many shards, how a conflict is read, how many calls each has (a few hundred if
-    none are given), and how many of them get `no`."""
+    """Recordings that are drawn alike: how many, on how many shards, how a conflict is read, how many calls each has (a
+    few hundred if none are given), and how many of them get `no`."""
 
     count: int
     shards: int
@@ -34,8 +35,9 @@ class Set(NamedTuple):
     no: int
 
 
-# How many get `no` is no promise: these numbers are what the program of this checkout answers. A change of the search may lessen them,
-# and then they are renewed with it; where one grows, or changes without a change of the search, orders are missed that were found.
+# How many get `no` is no promise: these numbers are what the program of this checkout answers. A change of the search
+# may lessen them, and then they are renewed with it; if one grows, or changes without a change of the search, orders
+# are missed that were found.
 SETS = {
     "plain": Set(200, 1, "plain", None, 0),
     "plain, three shards": Set(200, 3, "plain", None, 0),
@@ -47,12 +49,13 @@ SETS = {
 
 
 class Index:
-    """An index of some shards. The changes on each shard take rising numbers; a document is on the shard of its number."""
+    """An index of some shards. The changes on each shard take rising numbers; a document is on the shard of its
+    number."""
 
     def __init__(self, draw, docs, term, shards):
         self.draw, self.new_term, self.shards = draw, term, shards
         self.term, self.seq = [1] * shards, [0] * shards
-        # Of each document the pair of its last change, and its value; None where it isn't there.
+        # Of each document the pair of its last change, and its value; None if it isn't there.
         self.last, self.value = [None] * docs, [None] * docs
 
     def shard_of(self, doc):
@@ -78,10 +81,10 @@ class Index:
         self.last[doc] = self.next_pair(self.shard_of(doc))
         self.value[doc] = call.value
         if kind == "delete":
-            told = texts.deleted if is_there else texts.not_found
+            reply = texts.deleted if is_there else texts.not_found
         else:
-            told = texts.updated if is_there else texts.created
-        return told(n, *self.last[doc], name)
+            reply = texts.updated if is_there else texts.created
+        return reply(n, *self.last[doc], name)
 
 
 class Call:
@@ -145,7 +148,7 @@ class Recording:
         return call.line()
 
     def end(self, client, call):
-        """Ends a call: gives its line, which is empty where nothing more is heard of it."""
+        """Ends a call: gives its line, which is empty if nothing more is heard of it."""
         self.open[client] = None
         if call.is_lost:
             if call.has_effect and call.is_late:
@@ -176,7 +179,7 @@ class Recording:
 
 
 def short_settings(seed, kind):
-    """The settings of a short recording: of one document or more, but of several where there are several shards."""
+    """The settings of a short recording: of one document or more, but of several if there are several shards."""
     draw = random.Random(f"settings {seed} {kind.reading}")
     docs = draw.choice([1, 1, 4, 40]) if kind.shards == 1 else draw.choice([4, 7, 40])
     return {
@@ -198,14 +201,15 @@ def long_settings(seed, calls):
 
 
 def judged_with(program, settings, reading, seed):
-    """Judges a recording with these settings: `yes` if that is the answer and its own witness verifies it, or else `no`."""
+    """Judges a recording with these settings: `yes` if that is the answer and its own witness verifies it, or else
+    `no`."""
     history = "".join(Recording(seed, **settings).lines())
     status, order = asked(program, "witness", history, conflicts=reading)
     if status == 1 and order.startswith("no "):
         return "no"
     status, line = asked(program, "verify", history, order, conflicts=reading)
     if status != 0 or not line.startswith("verified "):
-        raise Wrong(f"{order[:100]}, and {line}")
+        raise AssertionError(f"{order[:100]}, and {line}")
     return "yes"
 
 
@@ -215,55 +219,71 @@ def judged(program, kind, seed):
     return judged_with(program, settings, kind.reading, seed)
 
 
-def judge_long(words):
-    """Judges long recordings of many settings."""
-    asked_for = argparse.ArgumentParser()
-    asked_for.add_argument("--long", type=int)
-    asked_for.add_argument("--sizes", type=lambda sizes: [int(it) for it in sizes.split(",")], default=[20_000, 50_000, 200_000])
-    asked_for.add_argument("--workers", type=int, default=2)
-    asked_for.add_argument("program", nargs="*")
-    given = asked_for.parse_args(words)
-    program, trials = built_program(given.program), []
-    for seed in range(given.long):
+class HonestRecordings(ProgramTest):
+    """Sets of recordings."""
+
+    def test_sets(self):
+        """Each recording gets `yes`, which its own witness verifies, or else `no`; of each set just so many get `no` as
+        SETS says."""
+        # (the long ones first, so that none of them is left for the end)
+        names = sorted(SETS, key=lambda name: -(SETS[name].calls or 0))
+        seeds = [(name, seed) for name in names for seed in range(SETS[name].count)]
+        rows = [(f"{name}, {seed}", self.program, SETS[name], seed) for name, seed in seeds]
+        answers = dict(zip(seeds, self.run_subtests(judged, rows, ProcessPoolExecutor)))
+        for name, kind in SETS.items():
+            unfound = [seed for seed in range(kind.count) if answers[name, seed] == "no"]
+            print(f"{name}: {len(unfound)} of {kind.count} got no")
+            with self.subTest(f"how many get no: {name}"):
+                self.assertEqual(len(unfound), kind.no, unfound)
+
+
+class LongRecordings(ProgramTest):
+    """Long recordings of many settings, which are asked for."""
+
+    seeds, sizes, workers = 0, [], 2
+
+    def settings(self, seed):
         draw = random.Random(f"settings {seed} of many")
         settings = {"docs": draw.choice([1, 4, 16, 64, 1024]), "clients": draw.choice([8, 32])}
-        settings |= {"calls": draw.choice(given.sizes), "loss": draw.choice([0.01, 0.05, 0.2])}
-        trials.append(Trial(f"{seed}: {settings}", judged_with, (program, settings, "plain", seed)))
-    with ProcessPoolExecutor(given.workers) as pool:
-        told, wrong = try_all(trials, pool)
-    unfound = [trial.name for trial, it in zip(trials, told) if it == "no"]
-    print(f"{len(unfound)} of {given.long} got no", *unfound, sep="\n")
-    return tell(len(told) - len(wrong), wrong)
+        return settings | {"calls": draw.choice(self.sizes), "loss": draw.choice([0.01, 0.05, 0.2])}
+
+    def test_recordings(self):
+        settings = list(map(self.settings, range(self.seeds)))
+        rows = [(f"{seed}: {it}", self.program, it, "plain", seed) for seed, it in enumerate(settings)]
+        answers = self.run_subtests(judged_with, rows, ProcessPoolExecutor, workers=self.workers)
+        unfound = [name for (name, *_), it in zip(rows, answers) if it == "no"]
+        print(f"{len(unfound)} of {self.seeds} got no", *unfound, sep="\n")
 
 
-def write_one(words):
-    """Writes the recording that the words ask for."""
-    asked = argparse.ArgumentParser()
+def judge_long(arguments):
+    """Judges long recordings of many settings."""
+    parser = argparse.ArgumentParser()
+    parser.add_argument("--long", type=int)
+    parser.add_argument("--sizes", type=lambda sizes: [int(it) for it in sizes.split(",")], default=[20_000, 50_000, 200_000])
+    parser.add_argument("--workers", type=int, default=2)
+    parser.add_argument("program", nargs="*")
+    given = parser.parse_args(arguments)
+    LongRecordings.seeds, LongRecordings.sizes, LongRecordings.workers = given.long, given.sizes, given.workers
+    return run_tests([built_program(given.program), LongRecordings.__name__])
+
+
+def write_one(arguments):
+    """Writes the recording that the arguments ask for."""
+    parser = argparse.ArgumentParser()
     settings = {"seed": 1, "docs": 4, "clients": 8, "calls": 800, "loss": 0.05, "creates": 0.0, "term": 0.0, "maybe": 0.0, "shards": 1}
     for name, default in settings.items():
-        asked.add_argument(f"--{name}", type=type(default), default=default)
-    sys.stdout.writelines(Recording(**vars(asked.parse_args(words))).lines())
+        parser.add_argument(f"--{name}", type=type(default), default=default)
+    sys.stdout.writelines(Recording(**vars(parser.parse_args(arguments))).lines())
 
 
 def main():
-    words = sys.argv[1:]
-    if words and words[0] == "--long":
-        return judge_long(words)
-    if words and words[0].startswith("--"):
-        write_one(words)
+    arguments = sys.argv[1:]
+    if arguments[:1] == ["--long"]:
+        return judge_long(arguments)
+    if arguments and arguments[0].startswith("--"):
+        write_one(arguments)
         return 0
-    program = built_program(words)
-    trials = [(name, Trial(f"{name}, {seed}", judged, (program, kind, seed))) for name, kind in SETS.items() for seed in range(kind.count)]
-    # (the long ones first, so that none of them is left for the end)
-    trials.sort(key=lambda it: -(SETS[it[0]].calls or 0))
-    with ProcessPoolExecutor() as pool:
-        told, wrong = try_all([trial for _, trial in trials], pool)
-    passed = len(told) - len(wrong)
-    for name, kind in SETS.items():
-        unfound = [trial.name for (own, trial), it in zip(trials, told) if own == name and it == "no"]
-        print(f"{name}: {len(unfound)} of {kind.count} got no")
-        wrong += [f"{name}: {len(unfound)} got no, and not {kind.no}: {unfound}"] if len(unfound) != kind.no else []
-    return tell(passed, wrong)
+    return run_tests([built_program(arguments[:1]), *arguments[1:], HonestRecordings.__name__])
 
 
 if __name__ == "__main__":

@@ -3,7 +3,7 @@
 
     python3 tests/limits.py [PROGRAM]
 
-PROGRAM is the built casbench; where it is not named, the one that ./casbench would run.
+PROGRAM is the built casbench; if it isn't named, the one that ./casbench would run.
 """
 
 import os
@@ -11,12 +11,11 @@ import subprocess
 import sys
 import tempfile
 
-from program import built_program
-from running import run, run_on_files, run_words
+from program_test import ProgramTest, run_tests
+from running import run, run_on_files, run_arguments
 from texts import DEPTH, EVENTS, ID_BYTES, LINE_BYTES, LINES, READ_FAULT, SETTING_FAULT, WRITE_FAULT
 from texts import answer_of, broken, condition, conflict, created, delete, found, get, index, lost, nested, refused, refuted, updated, verified
 from texts import witness_of, written_call, yes
-from trials import Trial, try_and_tell
 
 # As many calls as a history may have.
 MOST_GETS = "".join(map(get, range(EVENTS)))
@@ -38,11 +37,12 @@ TEXTS = [
 ]
 
 
-# Documents of many versions. Each of these gives the lines of so many, whose calls are numbered from 0, and how many calls there are.
+# Documents of many versions. Each of these gives the lines of so many, whose calls are numbered from 0, and how many
+# calls there are.
 
 
-def told_versions(count):
-    """Each version is told by the reply to its write, and there is room for another one between each two."""
+def answered_versions(count):
+    """Each version is shown by the reply to its write, and there is room for another one between each two."""
     return [index(n, k=n) + (updated if n else created)(n, 1, 2 * n + 1) for n in range(count)], count
 
 
@@ -53,30 +53,21 @@ def versions_after_open_writes(count):
 
 
 def shown_versions(count):
-    """Each version is told by a get alone, its write being without a reply."""
+    """Each version is shown by a get alone, its write being without a reply."""
     return [index(2 * n, k=n) + get(2 * n + 1) + found(2 * n + 1, 1, n, k=n) for n in range(count)], 2 * count
 
 
-# How many versions these documents have: many more than fit into a page of memory, and as many as the events of a history allow with
-# two more; each version is two events, or three.
-SOME, MOST_TOLD, MOST_SHOWN = 10_000, (EVENTS - 2) // 2, (EVENTS - 2) // 3
+# How many versions these documents have: many more than fit into a page of memory, and as many as the events of a
+# history allow with two more; each version is two events, or three.
+SOME, MOST_ANSWERED, MOST_SHOWN = 10_000, (EVENTS - 2) // 2, (EVENTS - 2) // 3
 LONG = [
-    (told_versions, SOME),
-    (told_versions, MOST_TOLD),
+    (answered_versions, SOME),
+    (answered_versions, MOST_ANSWERED),
     (versions_after_open_writes, SOME),
     (versions_after_open_writes, MOST_SHOWN),
     (shown_versions, SOME),
     (shown_versions, MOST_SHOWN),
 ]
-
-
-def ruled_out_at_last(program, versions, count):
-    """Whether such a document is ruled out, in the time that a run has, by an index without a condition that is refused at last."""
-    rows, calls = versions(count)
-    text = "".join(rows)
-    events = text.count("\n")
-    ran = run(program, ["check", "--rule-out"], text + index(calls) + conflict(calls))
-    return ran == answer_of(refuted("ruled-out", calls, events + 1, calls))
 
 
 # 2^63-1, 2^63, 2^64-1 and 2^64.
@@ -86,7 +77,7 @@ NESTED = [nested(DEPTH - 1), nested(DEPTH)]
 IDS = ["d" * ID_BYTES, "d" * (ID_BYTES + 1)]
 SPACES = [" " * LINE_BYTES, " " * (LINE_BYTES + 1)]
 
-# A history of one write that nobody answered, and a reply to a bulk request that tells of one item that nothing is known of it.
+# A history of one write that nobody answered, and a reply to a bulk request with one item of unknown outcome.
 OPEN_WRITE = index(0)
 UNKNOWN_ITEM = '{"items":[{"index":{"status":503}}]}'
 
@@ -107,7 +98,8 @@ def item_lines(number, more=""):
 
 CONDITION = item_lines(1, condition(1, NUMBERS[0]))
 
-# A command, its texts, in which an @ is left for what is put there, what is put there in turn, and the lines that are wanted.
+# A command, its texts, in which an @ is left for what is put there, what is put there in turn, and the lines that are
+# wanted.
 PLACES = [
     # numbers of a history
     ("check", [get("@")], NUMBERS, [LEFT_OUT, LEFT_OUT, LEFT_OUT, RANGE]),
@@ -144,43 +136,65 @@ PLACES = [
     ),
 ]
 
-# Name, words, where standard output goes, how standard error has to end, and the exit status. Where standard output goes
-# nowhere, nothing may come there.
+# Name, arguments, the file that standard output is, how standard error has to end, and the exit status. If there is no
+# such file, nothing may come on standard output.
 FAULTS = [
     ("a file that isn't there", "check /nonexistent", None, READ_FAULT, 4),
     ("a folder for a file", "check /", None, READ_FAULT, 4),
     ("an output that is full", "check", "/dev/full", WRITE_FAULT, 4),
-    ("more clients than there may be", run_words(clients=9), None, SETTING_FAULT, 64),
-    ("no calls", run_words(calls=0), None, SETTING_FAULT, 64),
-    ("more documents than there may be", run_words(docs=1_025), None, SETTING_FAULT, 64),
-    ("more copies than there may be", run_words(copies=6), None, SETTING_FAULT, 64),
+    ("more clients than there may be", run_arguments(clients=9), None, SETTING_FAULT, 64),
+    ("no calls", run_arguments(calls=0), None, SETTING_FAULT, 64),
+    ("more documents than there may be", run_arguments(docs=1_025), None, SETTING_FAULT, 64),
+    ("more copies than there may be", run_arguments(copies=6), None, SETTING_FAULT, 64),
 ]
 
 
-def fault_is_right(program, words, output, wanted, status):
-    with open(output, "wb") if output else tempfile.TemporaryFile() as out:
-        ran = subprocess.run([program, *words.split()], stdin=subprocess.DEVNULL, stdout=out, stderr=subprocess.PIPE, timeout=60)
-        wrote = not output and os.fstat(out.fileno()).st_size
-    return ran.stderr.decode().endswith(wanted) and ran.returncode == status and not wrote
+class Limits(ProgramTest):
+    """Texts at their limits, and failing files."""
+
+    def check_text(self, text, wanted):
+        self.assertEqual(run(self.program, ["check"], text), answer_of(wanted))
+
+    def test_texts(self):
+        self.run_subtests(self.check_text, TEXTS)
+
+    def check_place(self, command, texts, wanted):
+        self.assertEqual(run_on_files(self.program, command, texts), answer_of(wanted))
+
+    def test_places(self):
+        """What stands in the place of each @."""
+        self.run_subtests(self.check_place, place_rows())
+
+    def check_long(self, versions, count):
+        rows, calls = versions(count)
+        text = "".join(rows) + index(calls) + conflict(calls)
+        wanted = refuted("ruled-out", calls, text.count("\n") - 1, calls)
+        self.assertEqual(run(self.program, ["check", "--rule-out"], text), answer_of(wanted))
+
+    def test_long(self):
+        """A document of many versions is ruled out, in the time that a run has, by an unconditional index that is
+        refused at last."""
+        rows = [(f"{versions.__name__}, {count} of them", versions, count) for versions, count in LONG]
+        self.run_subtests(self.check_long, rows)
+
+    def check_fault(self, arguments, output, wanted, status):
+        with open(output, "wb") if output else tempfile.TemporaryFile() as out:
+            words = [self.program, *arguments.split()]
+            ran = subprocess.run(words, stdin=subprocess.DEVNULL, stdout=out, stderr=subprocess.PIPE, timeout=60)
+            size = 0 if output else os.fstat(out.fileno()).st_size
+        why = ran.stderr.decode()
+        self.assertEqual((ran.returncode, why[-len(wanted) :], size), (status, wanted, 0))
+
+    def test_faults(self):
+        self.run_subtests(self.check_fault, FAULTS)
 
 
-def trials(program):
-    """All trials: a name, what is asked, of what, and the answer."""
-    for name, text, wanted in TEXTS:
-        yield Trial(name, run, (program, ["check"], text), answer_of(wanted))
+def place_rows():
+    """A name, a command, texts in which something is put in the place of each @, and the answer."""
     for command, texts, puts, lines in PLACES:
         for put, line in zip(puts, lines):
-            put_in = [text.replace("@", put) for text in texts]
-            yield Trial(f"{command} with {put[:20]}: {texts}", run_on_files, (program, command, put_in), answer_of(line))
-    for row in LONG:
-        yield Trial(f"{row[0].__name__}, {row[1]} of them", ruled_out_at_last, (program, *row))
-    for name, *row in FAULTS:
-        yield Trial(name, fault_is_right, (program, *row))
-
-
-def main():
-    return try_and_tell(trials(built_program(sys.argv[1:])))
+            yield f"{command} with {put[:20]}: {texts}", command, [text.replace("@", put) for text in texts], line
 
 
 if __name__ == "__main__":
-    sys.exit(main())
+    sys.exit(run_tests())

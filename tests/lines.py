@@ -1,35 +1,36 @@
 #!/usr/bin/env python3
-"""Has the built program read single lines and small histories, and looks at how it read them.
+"""Has the built program read single lines and small histories, and checks how it read them.
 
     python3 tests/lines.py [PROGRAM]
 
-PROGRAM is the built casbench; where it is not named, the one that ./casbench would run. A line that is refused is told with its
-number and its first cause. A line that is taken stands in a small history whose answer or story would be another one if the line
-were read otherwise. Texts are read with few bytes at hand at a time; of several faults of a bulk the first is told.
+PROGRAM is the built casbench; if it isn't named, the one that ./casbench would run. A line that is refused is reported
+with its number and its first cause. A line that is accepted stands in a small history whose answer or story would be
+another one if the line were read otherwise. Texts are read with few bytes at hand at a time; of several faults of a
+bulk the first is reported.
 
-There are three ways to the fields of a line: the quick one leaves escapes and bytes past ASCII to the second, and both leave
-numbers that aren't digits alone to the third. Drawn lines get the same story by each; and plain lines are told by the quick one,
-which is seen by the growths that a check asks for. These are counted with a library that cc, a C compiler, makes; where there is
-none, that is said, and they aren't counted.
+There are three ways to the fields of a line: the quick one leaves escapes and bytes past ASCII to the second, and both
+leave numbers that aren't digits alone to the third. Drawn lines get the same story by each; and plain lines are read by
+the quick one, which is seen by the growths that a check asks for. These are counted with a library that cc, a C
+compiler, makes; if there is none, that test is skipped.
 
-Drawn histories without an order are cut behind the event that is named: the first events alone are judged as within the whole.
+Drawn histories without an order are cut behind the event that is named: the first events alone are judged as within the
+whole.
 """
 
 import re
 import sys
 import tempfile
 from collections import Counter
-from concurrent.futures import ThreadPoolExecutor
 
+from case_files import case_text
 from drawing import CONFLICT, MISSING, Call, Draws, Ending, Op, Reply, lines
 from growths import NO_MEMORY, Growths
 from offences import CHANGES, Clients, changed
-from program import built_program, case_text
-from running import has_compiler, run, run_by_parts, run_on_files, said
+from program_test import ProgramTest, run_tests
+from running import needs_compiler, run, run_by_parts, run_on_files, said
 from texts import LINE_BYTES, LINES, MOST_NUMBER, MOST_OF_PAIR, OFFENCE, REFUSED_COUNT
 from texts import answer_of, call, condition, created, delete, doc_missing, found, get, index, lost, missing, nested, no, no_writer
 from texts import not_found, refused, refused_item, status_of, updated, witness_of, written_call, yes
-from trials import Trial, Wrong, tell, try_all
 
 # An index of "d" on shard 3 that was answered, a get of "d" that is open, and a get of "e" on shard 4 that is lost.
 THREE_CALLS = index(0, ',"shard":3') + created(0, 1, 0) + get(1, ',"shard":3') + get(2, ',"shard":4', "e") + lost(2)
@@ -57,7 +58,8 @@ TEXTS = [
     ("a call without a number", '{"e":"call","id":"d","op":"get"}', refused(1, "shape")),
     ("an array", '["e","call"]', refused(1, "shape")),
     ("a loss without its call", '{"e":"lost","n":0}', refused(1, "no-call")),
-    # of several causes the first is told: a field of another kind, an empty id, half of a condition, a number that isn't whole
+    # of several causes the first is reported: a field of another kind, an empty id, half of a condition, a number that
+    # isn't whole
     ("another kind before an empty id", '{"e":"call","n":1.5,"id":"","op":"index","k":"1","if_seq_no":0}', refused(1, "shape")),
     ("an empty id before half of a condition", '{"e":"call","n":1.5,"id":"","op":"index","k":1,"if_seq_no":0}', refused(1, "id")),
     ("half of a condition before a range", '{"e":"call","n":1.5,"id":"d","op":"index","k":1,"if_seq_no":0}', refused(1, "half")),
@@ -71,13 +73,13 @@ TEXTS = [
     ("the last shard again", LAST_SHARD + get(1, ',"shard":1023'), yes(2, left_out=2)),
     ("the last shard, then the one before", LAST_SHARD + get(1, ',"shard":1022'), refused(2, "shard-moved")),
     ("the last shard, then none", LAST_SHARD + get(1), refused(2, "shard-moved")),
-    # a delete without a condition: another operation can't be answered so, which would leave it out, and with a condition no
-    # order would have a document deleted that isn't there
+    # a delete without a condition: another operation can't be answered so, which would leave it out, and with a
+    # condition no order would have a document deleted that isn't there
     ("a delete", delete(0) + not_found(0, 1, 0), yes(1)),
     # the greatest number, which the answer names, of a get
     ("the greatest number of a call", LAST_NUMBER + found(MOST_NUMBER, 1, 0), no_writer(1, MOST_NUMBER)),
-    # one more event behind the three calls, of which 0 and 2 are ended and 1 is open. A call that is taken is counted, and so is
-    # a new document; its shard is told in a story below
+    # one more event behind the three calls, of which 0 and 2 are ended and 1 is open. A call that is taken is counted,
+    # and so is a new document; its shard is in a story below
     ("three calls", THREE_CALLS, yes(3, left_out=2, docs=2)),
     ("a second call", THREE_CALLS + get(0, ',"shard":3'), refused(6, "second-call")),
     ("a second call before a shard that moved", THREE_CALLS + get(0, ',"shard":5'), refused(6, "second-call")),
@@ -88,8 +90,8 @@ TEXTS = [
     ("a second reply", THREE_CALLS + created(0, 1, 0), refused(6, "ended")),
     ("a second reply that is of another operation", THREE_CALLS + found(0, 1, 0), refused(6, "ended")),
     ("a reply to a lost call", THREE_CALLS + found(2, 1, 0), refused(6, "ended")),
-    # (a reply that is of another operation is of unknown outcome, so the get stays in no place; a get that found what was written
-    # has one, and one that missed it can't have any)
+    # (a reply that is of another operation is of unknown outcome, so the get stays in no place; a get that found what
+    # was written has one, and one that missed it can't have any)
     ("a reply that is of another operation", THREE_CALLS + created(1, 1, 0), yes(3, left_out=2, docs=2)),
     ("a get that finds what was written", THREE_CALLS + found(1, 1, 0), yes(3, left_out=1, docs=2)),
     ("a get that misses what was written", THREE_CALLS + missing(1), no(5, 1)),
@@ -105,7 +107,7 @@ TEXTS = [
 ]
 
 # Name, text, the answer with which its story begins, and what the story has. Each text ends with a reply that no order
-# explains; so its story tells the document with its shard, and each call of it with all that was read.
+# explains; so its story shows the document with its shard, and each call of it with all that was read.
 STORIES = [
     (
         "a get on the last shard",
@@ -159,8 +161,8 @@ STORIES = [
     ),
 ]
 
-# Two of the three documents, which a witness names, and the number of the third: they are numbered in the order of their first
-# calls.
+# Two of the three documents, which a witness names, and the number of the third: they are numbered in the order of
+# their first calls.
 LEFT_OUT = [("ac", 0), ("bc", 1), ("ba", 2)]
 
 # An index of "a", a delete of "b" and another index of "a".
@@ -184,8 +186,8 @@ STRANGER_THEN_KIND = '{"items":[{"index":{}},{"delete":{"_id":"x"}},{"delete":{}
 # Name, number of the first call, body and reply of a bulk, and what is written.
 BULKS = [
     ("the last numbers", FIRST, BULK, UNKNOWN_ITEMS, BULK_OF_LAST_NUMBERS),
-    # the body's fault is told first, then the reply's, then a stranger, then that the numbers are past the greatest, as in each
-    # of these rows
+    # the body's fault is reported first, then the reply's, then a stranger, then that the numbers are past the
+    # greatest, as in each of these rows
     ("a body's fault before the reply's", MOST_NUMBER, "{}", "{", refused(1, "action")),
     ("a reply's fault before the numbers", MOST_NUMBER, BULK, "{", refused(1, "syntax")),
     ("an item that is none before a stranger", MOST_NUMBER, BULK, STRANGER_THEN_KIND, refused_item(2)),
@@ -209,7 +211,7 @@ AT_HAND = [
 ]
 BYTES_AT_HAND = [1, 50, 64, 4096]
 
-# What follows the number in lines whose fields the quick way tells, some of them refused later.
+# What follows the number in lines whose fields the quick way reads, some of them refused later.
 PLAIN = [
     '"e":"call","id":"d","op":"get"}',
     '"e":"call","id":"e","op":"index","k":17,"shard":0}',
@@ -262,8 +264,9 @@ ODD = [
 # Bytes that damage a line.
 DAMAGE = [b"\xff", b"\x80", b"\x1f", b'"', b"\\", b" ", b",", b"}", b":"]
 
-# How many lines are drawn, what the numbers of their calls are below, and how many of them have to be taken at least.
-DRAWN_LINES, NUMBERS, LEAST_TAKEN = 600, 24, 100
+# How many lines are drawn, what the numbers of their calls are below, and how many of them have to be accepted at
+# least.
+DRAWN_LINES, NUMBERS, LEAST_ACCEPTED = 600, 24, 100
 
 # The calls before a drawn line: the replies that are drawn fit some of them. The last four are lost.
 BEFORE = "".join(call(n, ["get", "index", "index", "delete"][n % 4], f',"k":{n}', "dded"[n % 4]) for n in range(16))
@@ -273,25 +276,20 @@ BEFORE += "".join(map(lost, range(12, 16)))
 DRAWN_AT = BEFORE.count("\n") + 1
 CAUSES = {"json", "shape", "id", "half", "range", "second-call", "shard-moved", "no-call", "ended", "stranger"}
 
-# How many histories of ten calls are drawn, and how many recordings with one reply changed; the shard of each document in them.
+# How many histories of ten calls are drawn, and how many recordings with one reply changed; the shard of each document
+# in them.
 WILD, RECORDED, CALLS, SHARDS = 50, 48, 10, (5, 0, 1023)
 
-# How many of them must at least be cut with the same order told before the event.
+# How many of them must at least be cut so that both stories have the same order before the event.
 LEAST_ORDERS = 40
 
-# What the story of a history without an order tells of the events before the one that is named.
+# What the story of a history without an order says of the events before the one that is named.
 ORDER_BEFORE = re.compile(r"\nAn order of the document's calls before that reply:\n(?:.+\n)*")
 
 
 def answer(program, command, text):
     """The exit status and the answer of a command to the text."""
     return said(run(program, [command], text))
-
-
-def is_told(program, text, line, parts):
-    """Whether the story of the text begins with the line and has the parts."""
-    status, told = answer(program, "explain", text)
-    return status == status_of(line) and told.startswith(line) and all(it in told for it in parts)
 
 
 def drawn_line(draws):
@@ -308,8 +306,8 @@ def drawn_line(draws):
     return line
 
 
-# A member that is no field, with an escape in its key, so that the quick way tells nothing of the line; and one whose number is
-# not digits alone, so that the second tells nothing either.
+# A member that is no field, with an escape in its key, so that the quick way doesn't read the line; and one whose
+# number is not digits alone, so that the second doesn't read it either.
 ESCAPED, FRACTION = b'"\\u0061t":0,', b'"at":0.5,'
 
 
@@ -319,36 +317,29 @@ def with_member(line, member):
 
 
 def document_of(line):
-    """The document that a line names last, as it is spelled there; `d` where it names none."""
+    """The document that a line names last, as it is spelled there; `d` if it names none."""
     named = re.findall(rb'"id": ?("(?:[^"\\]|\\.)*")', line)
     return named[-1] if named else b'"d"'
 
 
 def story_around(program, line, document):
-    """The story of the line behind some calls and before a get that finds what nobody wrote, which has all calls of the document
-    told. Of a refused line its own bytes are left out."""
+    """The story of the line behind some calls and before a get that finds what nobody wrote, so that it shows all calls
+    of the document. Of a refused line its own bytes are left out."""
     after = get(99, doc="@").encode().replace(b'"@"', document) + found(99, 9, 9, k=99).encode()
-    status, told = answer(program, "explain", BEFORE.encode() + line + b"\n" + after)
-    return status, told.partition("\nHow the line begins:\n")[0]
+    status, story = answer(program, "explain", BEFORE.encode() + line + b"\n" + after)
+    return status, story.partition("\nHow the line begins:\n")[0]
 
 
-def told_alike(program, line):
-    """The cause for which a drawn line is refused, or `taken`, where it is told the same by each way."""
+def read_alike(program, line):
+    """The cause for which a drawn line is refused, or `accepted`; each way reads it alike."""
     document = document_of(line)
-    status, told = story = story_around(program, line, document)
+    status, text = story = story_around(program, line, document)
     for member in (ESCAPED, FRACTION):
         other = story_around(program, with_member(line, member), document)
         if story != other or status not in (1, 2):
-            raise Wrong(f"{story}, and with {member.decode()} {other}")
-    cause = re.match(rf"refused line={DRAWN_AT} cause=([a-z-]+)\n", told)
-    return cause[1] if cause else "taken"
-
-
-def check_spaced(growths, rest):
-    """How a check of a plain line with a space before a colon ends, which leaves it to another way, where it gets no more growths
-    than without the space; and whether it asked for another one."""
-    plain, spaced = (f'{{"at"{space}:0,"n":3,{rest}' for space in ("", " "))
-    return growths.check(spaced, growths.count(plain))
+            raise AssertionError(f"{story}, and with {member.decode()} {other}")
+    cause = re.match(rf"refused line={DRAWN_AT} cause=([a-z-]+)\n", text)
+    return cause[1] if cause else "accepted"
 
 
 def wild_reply(draws, number):
@@ -370,90 +361,121 @@ def wild_events(seed):
         events.append(Call(number, doc, waiting[number]))
         for _ in range(2):
             ended = draws.below(number + 1)
-            told = wild_reply(draws, ended)
-            if ended in waiting and (told is None or told.kind in KINDS[waiting[ended].name]):
-                events.append(Ending(ended, told))
+            reply = wild_reply(draws, ended)
+            if ended in waiting and (reply is None or reply.kind in KINDS[waiting[ended].name]):
+                events.append(Ending(ended, reply))
                 del waiting[ended]
     return events
 
 
 def recorded_events(seed):
-    """A recording of three documents with one reply changed, where one can be."""
+    """A recording of three documents with one reply changed, if one can be."""
     events = Clients(seed, len(SHARDS)).recorded()
     changed(events, CHANGES[seed % len(CHANGES)])
     return events
 
 
-def told_when_cut(program, events):
-    """What is told of a history: `yes`; else whether its first events are judged as within the whole. Those up to the event that
-    is named have no order, those before it have one where that is said; and `order` is it where both stories tell the same one
+def judged_when_cut(program, events):
+    """Judges a history; returns `yes`, or how its first events compare with the whole. Those up to the event that is
+    named have no order; those before it have one if that is said. It is `order` if both stories have the same one
     before that event, on the same reply."""
     text = list(lines(events, lambda doc: SHARDS[doc]))
     _, story = answer(program, "explain", "".join(text))
     offence = OFFENCE.match(story)
     if not offence:
-        return "yes" if story.startswith("yes ") else ""
+        if not story.startswith("yes "):
+            raise AssertionError(story)
+        return "yes"
     event = int(offence["event"])
     _, through = answer(program, "explain", "".join(text[: event + 1]))
     _, before = answer(program, "check", "".join(text[:event]))
     if through.startswith("yes ") or before.startswith("yes ") != (offence["before"] == "shown"):
-        raise Wrong(f"{story}, through the event {through}, and before it {before}")
+        raise AssertionError(f"{story}, through the event {through}, and before it {before}")
     named = ("event", "call", "before")
     if OFFENCE.match(through).group(*named) != offence.group(*named):
         return "another event"
-    told, wanted = ORDER_BEFORE.findall(through), ORDER_BEFORE.findall(story)
-    if told != wanted:
-        raise Wrong(f"{story}, and through the event {through}")
-    return "order" if told else "no order"
+    order, wanted = ORDER_BEFORE.findall(through), ORDER_BEFORE.findall(story)
+    if order != wanted:
+        raise AssertionError(f"{story}, and through the event {through}")
+    return "order" if order else "no order"
 
 
-def row_trials(program):
-    """The rows above."""
-    for name, text, wanted in TEXTS:
-        yield Trial(name, run, (program, ["check"], text), answer_of(wanted))
-    for name, *row in STORIES:
-        yield Trial(name, is_told, (program, *row))
-    for names, number in LEFT_OUT:
-        texts = THREE_DOCUMENTS, "".join(witness_of(name, []) for name in names)
-        yield Trial(f"a witness of {names}", run_on_files, (program, "verify", texts), answer_of(doc_missing(number)))
-    for name, first, body, given, wanted in BULKS:
-        of = program, "bulk", (body, given), ["--first", str(first)]
-        yield Trial(f"a bulk: {name}", run_on_files, of, answer_of(wanted))
-    for command, text, wanted in AT_HAND:
-        for count in BYTES_AT_HAND:
-            yield Trial(f"{command} {text[:40]!r} by {count} bytes", run_by_parts, (program, command, text, count), answer_of(wanted))
+class Lines(ProgramTest):
+    """How lines are read."""
 
+    def check_text(self, text, wanted):
+        self.assertEqual(run(self.program, ["check"], text), answer_of(wanted))
 
-def quick_trials(program, folder):
-    """Which lines are read by the quick way, where growths can be counted."""
-    if has_compiler("no growth was counted"):
-        growths = Growths(program, folder)
-        yield from (Trial(f"quickly: {rest}", check_spaced, (growths, rest), (NO_MEMORY, True)) for rest in PLAIN)
+    def test_texts(self):
+        self.run_subtests(self.check_text, TEXTS)
 
+    def check_story(self, text, line, parts):
+        status, story = answer(self.program, "explain", text)
+        self.assertEqual((status, story[: len(line)]), (status_of(line), line))
+        for part in parts:
+            self.assertIn(part, story)
 
-def drawn_trials(program):
-    """The drawn lines, and the drawn histories."""
-    draws = Draws(7)
-    drawn = [drawn_line(draws) for _ in range(DRAWN_LINES)]
-    wild = [Trial(f"wild history {seed}", told_when_cut, (program, wild_events(seed))) for seed in range(WILD)]
-    recorded = [Trial(f"recording {seed}", told_when_cut, (program, recorded_events(seed))) for seed in range(RECORDED)]
-    return [Trial(f"drawn line {line[:200]!r}", told_alike, (program, line)) for line in drawn], wild + recorded
+    def test_stories(self):
+        """A story begins with the line and has the parts."""
+        self.run_subtests(self.check_story, STORIES)
 
+    def check_files(self, command, texts, wanted, *options):
+        self.assertEqual(run_on_files(self.program, command, texts, options), answer_of(wanted))
 
-def main():
-    program = built_program(sys.argv[1:])
-    with tempfile.TemporaryDirectory() as folder, ThreadPoolExecutor() as pool:
-        parts = [[*row_trials(program), *quick_trials(program, folder)], *drawn_trials(program)]
-        told, wrong = zip(*(try_all(part, pool) for part in parts))
-    _, causes, cuts = map(Counter, told)
-    rules = [
-        (CAUSES <= set(causes), f"no drawn line is refused for {CAUSES - set(causes)}"),
-        (causes["taken"] >= LEAST_TAKEN, f"only {causes['taken']} drawn lines are taken"),
-        (cuts["order"] >= LEAST_ORDERS, f"only {cuts['order']} drawn histories are cut with an order before the event"),
-    ]
-    failed = sum(wrong, []) + [why for is_right, why in rules if not is_right]
-    return tell(sum(map(len, parts)) + len(rules) - len(failed), failed)
+    def test_witnesses(self):
+        """The document that a witness lacks is named by its number."""
+        rows = []
+        for names, number in LEFT_OUT:
+            texts = THREE_DOCUMENTS, "".join(witness_of(name, []) for name in names)
+            rows.append((f"a witness of {names}", "verify", texts, doc_missing(number)))
+        self.run_subtests(self.check_files, rows)
+
+    def test_bulks(self):
+        rows = [(name, "bulk", (body, reply), wanted, "--first", str(first)) for name, first, body, reply, wanted in BULKS]
+        self.run_subtests(self.check_files, rows)
+
+    def check_parts(self, command, text, count, wanted):
+        self.assertEqual(run_by_parts(self.program, command, text, count), answer_of(wanted))
+
+    def test_few_bytes_at_hand(self):
+        rows = [
+            (f"{command} {text[:40]!r} by {count} bytes", command, text, count, wanted)
+            for command, text, wanted in AT_HAND
+            for count in BYTES_AT_HAND
+        ]
+        self.run_subtests(self.check_parts, rows)
+
+    def check_spaced(self, growths, rest):
+        plain, spaced = (f'{{"at"{space}:0,"n":3,{rest}' for space in ("", " "))
+        self.assertEqual(growths.check(spaced, growths.count(plain)), (NO_MEMORY, True))
+
+    @needs_compiler
+    def test_quick_lines(self):
+        """A check of a plain line with a space before a colon, which leaves it to another way, asks for more growths
+        than without the space."""
+        with tempfile.TemporaryDirectory() as folder:
+            growths = Growths(self.program, folder)
+            self.run_subtests(self.check_spaced, [(f"quickly: {rest}", growths, rest) for rest in PLAIN])
+
+    def test_drawn_lines(self):
+        """Drawn lines are read alike by each way. Enough are accepted, and each cause refuses some."""
+        draws = Draws(7)
+        drawn = [drawn_line(draws) for _ in range(DRAWN_LINES)]
+        causes = Counter(self.run_subtests(read_alike, [(f"drawn line {it[:200]!r}", self.program, it) for it in drawn]))
+        with self.subTest("causes"):
+            self.assertLessEqual(CAUSES, set(causes))
+        with self.subTest("accepted lines"):
+            self.assertGreaterEqual(causes["accepted"], LEAST_ACCEPTED)
+
+    def test_cut_histories(self):
+        """Drawn histories that are cut are judged as within the whole. Enough of them have an order before the
+        event."""
+        rows = [(f"wild history {seed}", self.program, wild_events(seed)) for seed in range(WILD)]
+        rows += [(f"recording {seed}", self.program, recorded_events(seed)) for seed in range(RECORDED)]
+        cuts = Counter(self.run_subtests(judged_when_cut, rows))
+        with self.subTest("orders before the event"):
+            self.assertGreaterEqual(cuts["order"], LEAST_ORDERS)
 
 
 if __name__ == "__main__":
-    sys.exit(main())
+    sys.exit(run_tests())

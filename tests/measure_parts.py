@@ -3,7 +3,7 @@
 
     python3 tests/measure_parts.py [PROGRAM] [CALLS] [SECONDS]
 
-PROGRAM is the built casbench; where it is not named, the one that ./casbench would run. CALLS is how many calls are recorded in parts of
+PROGRAM is the built casbench; if it isn't named, the one that ./casbench would run. CALLS is how many calls are recorded in parts of
 50,000 calls (2,000,000), of 1,000 documents whose sources are always new: index and get by turns. SECONDS is how long a history is watched
 that grows by 1,000 calls a second (60).
 """

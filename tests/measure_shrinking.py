@@ -3,7 +3,7 @@
 
     python3 tests/measure_shrinking.py [PROGRAM] [CALLS]
 
-PROGRAM is the built casbench; where it is not named, the one that ./casbench would run. An honest recording of CALLS calls is drawn
+PROGRAM is the built casbench; if it isn't named, the one that ./casbench would run. An honest recording of CALLS calls is drawn
 (524,288), with eight clients, 16 documents and 5 % of the calls lost. The program is made to say no of it as long as some calls of one document
 are in it, beside all that it does else: six that are near each other, and one more that is far before them. A line is printed for each, with
 how many calls are left, after how many checks, and how many seconds of a processor that took, and the program of these.

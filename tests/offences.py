@@ -1,16 +1,17 @@
 #!/usr/bin/env python3
-"""Draws honest recordings, changes one reply of each, and has the built program tell where the search first fails.
+"""Draws honest recordings, changes one reply of each, and has the built program report at which event the search first
+fails.
 
     python3 tests/offences.py [PROGRAM]
 
-PROGRAM is the built casbench; where it is not named, the one that ./casbench would run. Where no order is found, the answer
-names the event of a reply. The text up to that event, itself with it, must then get no `yes`; and the text before it must get
-`yes` where the answer says `shown`, and none where it says `unshown`. The recordings are of one document or four; in half of
-them no call is lost, and there the event must not stand before the changed reply.
+PROGRAM is the built casbench; if it isn't named, the one that ./casbench would run. If no order is found, the answer
+names the event of a reply. The text up to that event, itself with it, must then get no `yes`; and the text before it
+must get `yes` if the answer says `shown`, and none if it says `unshown`. The recordings are of one document or four; in
+half of them no call is lost, and there the event must not stand before the changed reply.
 
-Of long recordings the reply is mostly guessed, so that it isn't looked for by some twenty searches more: in nine of ten the check
-takes less than six times the processor time of the check of the recording before the change. So it is if each document has an order
-by itself, and a number is missing for a lost delete.
+Of long recordings the reply is mostly guessed, so that it isn't looked for by some twenty searches more: in nine of ten
+the check takes less than six times the processor time of the check of the recording before the change. So it is if each
+document has an order by itself, and a number is missing for a lost delete.
 """
 
 import os
@@ -20,19 +21,20 @@ import tempfile
 from concurrent.futures import ProcessPoolExecutor
 
 from drawing import CONFLICT, MISSING, Call, Draws, Ending, Op, Reply, lines, pair_taken, performed
-from program import built_program
+from evidence import is_reply
+from program_test import ProgramTest, run_tests
 from running import run, said
 from texts import OFFENCE, no, status_of
-from trials import Trial, Wrong, tell, try_all
 
-# How many recordings there are of each change and number of documents. Some changes leave an order; so that not too much is
-# tried in vain, so many of each must have none, and so many percent of all.
+# How many recordings there are of each change and number of documents. Some changes leave an order; so that not too
+# much is tried in vain, so many of each must have none, and so many percent of all.
 SEEDS, LEAST, LEAST_PERCENT = 32, 4, 62
 
-# What is told of a recording that keeps an order.
+# What the judgement of a recording is that keeps an order.
 ORDER = "an order"
 
-# How many calls a long recording has, its seed, and how many times the processor time a check may take where the guess is right.
+# How many calls a long recording has, its seed, and how many times the processor time a check may take if the guess is
+# right.
 LONG_CALLS, LONG_SEED, MOST_TIMES = 60_000, 7, 6
 
 
@@ -46,19 +48,20 @@ class Clients:
         self.lost = self.draws.below(20) + 1
         if seed % 2 == 0:
             self.lost = 0
-        # Of each document what it is, and the pair that was told last.
-        self.states, self.told = [None] * docs, [None] * docs
+        # Of each document what it is, and the pair that was shown last.
+        self.states, self.shown = [None] * docs, [None] * docs
         # Calls that were given up and may yet meet the index.
         self.late = []
         self.begun, self.seq, self.events = 0, 0, []
 
     def operation(self, doc):
-        """A drawn operation: a condition names the pair that was told last of the document. Each number is written once."""
-        k, told, draw = self.begun, self.told[doc], self.draws.below(17)
-        if 6 <= draw <= 9 and told:
-            return Op("index", k, told)
-        if 10 <= draw <= 11 and told:
-            return Op("delete", None, told)
+        """A drawn operation: a condition names the pair that was shown last of the document. Each number is written
+        once."""
+        k, shown, draw = self.begun, self.shown[doc], self.draws.below(17)
+        if 6 <= draw <= 9 and shown:
+            return Op("index", k, shown)
+        if 10 <= draw <= 11 and shown:
+            return Op("delete", None, shown)
         if draw <= 11:
             return Op("get")
         return Op("create", k) if draw == 16 else Op("index", k) if draw <= 13 else Op("delete")
@@ -74,7 +77,8 @@ class Clients:
         return self.draws.below(200) < self.lost
 
     def go_on(self, waiting):
-        """What a client does next: nothing is waited for, or a call that has not met the index, or a call and its reply."""
+        """What a client does next: nothing is waited for, or a call that has not met the index, or a call and its
+        reply."""
         if waiting is None:
             if self.begun == self.calls:
                 return None
@@ -87,12 +91,12 @@ class Clients:
         if self.is_lost():
             if reply is None and self.draws.below(2) == 0:
                 self.late.append(call)
-            self.events.append(Ending(call.no, None))
+            self.events.append(Ending(call.number, None))
             return None
         if reply is None:
             return call, self.answer(call)
-        self.told[call.doc] = reply.pair
-        self.events.append(Ending(call.no, reply))
+        self.shown[call.doc] = reply.pair
+        self.events.append(Ending(call.number, reply))
         return None
 
     def recorded(self):
@@ -107,8 +111,8 @@ class Clients:
 
 
 class ScarceClients(Clients):
-    """Clients in the midst of whose calls a document is created, deleted by a lost call, and created again two numbers later; another
-    document takes the number between."""
+    """Clients in the midst of whose calls a document is created, deleted by a lost call, and created again two numbers
+    later; another document takes the number between."""
 
     def operation(self, doc):
         if self.begun == self.calls // 2:
@@ -127,7 +131,7 @@ class ScarceClients(Clients):
         yield from (Call(number + 3, one, Op("create", 3)), Ending(number + 3, Reply("indexed", third, True)))
 
 
-# Each of these changes the reply to an operation, and gives None where it can't; `fresh` is a pair that no write has.
+# Each of these changes the reply to an operation, and gives None if it can't; `fresh` is a pair that no write has.
 
 
 def missing(_, reply, __):
@@ -146,7 +150,7 @@ def other_number(_, reply, __):
 
 
 def other_flag(op, reply, _):
-    """An index tells the other thing of whether it created the document."""
+    """An index says the other thing of whether it created the document."""
     return reply._replace(more=not reply.more) if op.name == "index" and reply.kind == "indexed" else None
 
 
@@ -156,7 +160,7 @@ def performed_after_all(op, reply, fresh):
 
 
 def refused(_, reply, __):
-    """A write that was performed is told to be refused."""
+    """A write that was performed gets the reply that it was refused."""
     return CONFLICT if pair_taken(reply) else None
 
 
@@ -164,17 +168,17 @@ CHANGES = [missing, old_pair, other_number, other_flag, performed_after_all, ref
 
 
 def changed(events, change):
-    """Changes the first reply of the later half that can have the change. Gives its place; None where none can."""
-    operations = {it.no: it.op for it in events if isinstance(it, Call)}
+    """Changes the first reply of the later half that can have the change. Gives its place; None if none can."""
+    operations = {it.number: it.op for it in events if isinstance(it, Call)}
     named = [it.reply.pair for it in events if isinstance(it, Ending) and it.reply and it.reply.pair]
     named += [it.condition for it in operations.values() if it.condition]
     fresh = (1, max(seq for _, seq in named) + 1)
     for place in range(len(events) // 2, len(events)):
         event = events[place]
         if isinstance(event, Ending) and event.reply:
-            other = change(operations[event.no], event.reply, fresh)
+            other = change(operations[event.number], event.reply, fresh)
             if other:
-                events[place] = Ending(event.no, other)
+                events[place] = Ending(event.number, other)
                 return place
     return None
 
@@ -183,7 +187,7 @@ def answer(program, rows):
     """The answer to a history of these lines."""
     status, line = said(run(program, ["check"], "".join(rows)))
     if status != status_of(line):
-        raise Wrong(f"{line} with status {status}")
+        raise AssertionError(f"{line} with status {status}")
     return line
 
 
@@ -192,8 +196,7 @@ def is_explained(program, rows):
 
 
 def judged(program, change, docs, seed):
-    """Judges a recording: tells the line where what is told is right, and `an order` where no reply of it can be changed, or an order
-    is found."""
+    """Judges a recording: returns the line, or `an order` if no reply of it can be changed, or an order is found."""
     events = Clients(seed, docs).recorded()
     place = changed(events, change)
     if place is None:
@@ -202,18 +205,18 @@ def judged(program, change, docs, seed):
     line = answer(program, text)
     if line.startswith("yes "):
         return ORDER
-    told = OFFENCE.fullmatch(line)
-    if not told:
-        raise Wrong(f"{line} names no event")
-    event = int(told["event"])
-    if event >= len(events) or not isinstance(events[event], Ending) or not events[event].reply or events[event].no != int(told["call"]):
-        raise Wrong(f"{line}: the event is no reply to the call")
+    offence = OFFENCE.fullmatch(line)
+    if not offence:
+        raise AssertionError(f"{line} names no event")
+    event = int(offence["event"])
+    if not is_reply(events, event, int(offence["call"])):
+        raise AssertionError(f"{line}: the event is no reply to the call")
     if is_explained(program, text[: event + 1]):
-        raise Wrong(f"{line}: the events up to it have an order")
-    if is_explained(program, text[:event]) != (told["before"] == "shown"):
-        raise Wrong(f"{line}: it is the other way round with the events before it")
+        raise AssertionError(f"{line}: the events up to it have an order")
+    if is_explained(program, text[:event]) != (offence["before"] == "shown"):
+        raise AssertionError(f"{line}: it is the other way round with the events before it")
     if seed % 2 == 0 and event < place:
-        raise Wrong(f"{line}: the changed reply is later, at {place}")
+        raise AssertionError(f"{line}: the changed reply is later, at {place}")
     return line
 
 
@@ -226,15 +229,15 @@ def seconds_of(program, events):
         for _ in range(2):
             ran = subprocess.Popen([program, "check", file.name], stdout=subprocess.PIPE, text=True)
             line = ran.stdout.read()
-            usage = os.wait4(ran.pid, 0)[2]
+            _, status, usage = os.wait4(ran.pid, 0)
+            ran.returncode = os.waitstatus_to_exitcode(status)
             ran.stdout.close()
             times.append(usage.ru_utime + usage.ru_stime)
     return min(times), line
 
 
-def times_longer(work):
-    """How many times as long the check of a long recording takes after a change; None where the change leaves an order."""
-    program, change, docs = work
+def times_longer(program, change, docs):
+    """How many times as long the check of a long recording takes after a change; None if the change leaves an order."""
     clients = Clients(LONG_SEED, docs)
     clients.calls = LONG_CALLS
     events = clients.recorded()
@@ -245,9 +248,8 @@ def times_longer(work):
     return None if line.startswith("yes ") else after / before
 
 
-def scarce(work):
-    """What is wrong with the answer to a long recording that lacks a number, or with the time that it takes."""
-    program, docs = work
+def check_scarce(program, docs):
+    """Checks the answer to a long recording that lacks a number, and the time that it takes."""
     honest, clients = Clients(LONG_SEED, docs), ScarceClients(LONG_SEED, docs)
     honest.calls = clients.calls = LONG_CALLS
     before, _ = seconds_of(program, honest.recorded())
@@ -256,40 +258,45 @@ def scarce(work):
     last = LONG_CALLS + 3
     wanted = no(events.index(Ending(last, Reply("indexed", (1, clients.missing + 1), True))), last)
     if line.strip() != wanted.strip():
-        return [f"{docs} documents and a missing number: {line}, and not {wanted}"]
-    return [] if after < before * MOST_TIMES else [f"{docs} documents and a missing number take {after:.2f} s, and not {before:.2f}"]
+        raise AssertionError(f"{line}, and not {wanted}")
+    if after >= before * MOST_TIMES:
+        raise AssertionError(f"it takes {after:.2f} s, and the honest recording {before:.2f}")
 
 
-def guessed(program, pool):
-    """What is wrong with the time that looking for the reply takes in long recordings."""
-    work = [(program, change, docs) for change in CHANGES for docs in (1, 4)]
-    times = [it for it in pool.map(times_longer, work) if it is not None]
-    right = sum(it < MOST_TIMES for it in times)
-    print(f"{len(times)} of {len(work)} long recordings have no order; {right} are checked within {MOST_TIMES} times the time")
-    if len(times) * 4 < len(work) * 3:
-        return ["too few long recordings have no order"]
-    return [] if right * 10 >= len(times) * 9 else ["the reply is seldom guessed"]
+class Offences(ProgramTest):
+    """Recordings with one changed reply."""
 
+    def test_drawn(self):
+        """The event that is named is right. Of each kind of change enough recordings have no order, and of all."""
+        kinds = {f"{change.__name__}, {docs} documents": (change, docs) for change in CHANGES for docs in (1, 4)}
+        rows = [(f"{kind}, seed {it}", self.program, *settings, it) for kind, settings in kinds.items() for it in range(SEEDS)]
+        returned = self.run_subtests(judged, rows, ProcessPoolExecutor, chunksize=4, not_counted=(ORDER,))
+        for at, kind in enumerate(kinds):
+            count = SEEDS - returned[at * SEEDS : (at + 1) * SEEDS].count(ORDER)
+            print(f"{kind}: {count} of {SEEDS} have no order")
+            with self.subTest(f"how many have no order: {kind}"):
+                self.assertGreaterEqual(count, LEAST)
+        count = len(rows) - returned.count(ORDER)
+        print(f"{count} of {len(rows)} have no order")
+        with self.subTest("how many of all have no order"):
+            self.assertGreaterEqual(count * 100, LEAST_PERCENT * len(rows))
 
-def main():
-    program = built_program(sys.argv[1:])
-    kinds = {f"{change.__name__}, {docs} documents": (change, docs) for change in CHANGES for docs in (1, 4)}
-    trials = [Trial(f"{kind}, seed {seed}", judged, (program, *of, seed)) for kind, of in kinds.items() for seed in range(SEEDS)]
-    with ProcessPoolExecutor() as pool:
-        told, wrong = try_all(trials, pool, chunksize=4)
-        slow = guessed(program, pool)
-        slow += [it for found in pool.map(scarce, [(program, docs) for docs in (1, 2)]) for it in found]
-    count = len(told) - told.count(ORDER)
-    passed = count - len(wrong) + (not slow)
-    for at, kind in enumerate(kinds):
-        some = SEEDS - told[at * SEEDS : (at + 1) * SEEDS].count(ORDER)
-        print(f"{kind}: {some} of {SEEDS} have no order")
-        wrong += [f"{kind}: fewer than {LEAST} have no order"] if some < LEAST else []
-    if count * 100 < LEAST_PERCENT * len(trials):
-        wrong.append("too few of all have no order")
-    print(f"{count} of {len(trials)} have no order")
-    return tell(passed, wrong + slow)
+    def test_long(self):
+        """In long recordings the reply is mostly guessed, so that looking for it takes little time. Enough of them have
+        no order."""
+        changes = [(self.program, change, docs) for change in CHANGES for docs in (1, 4)]
+        with ProcessPoolExecutor() as pool:
+            times = [it for it in pool.map(times_longer, *zip(*changes)) if it is not None]
+        right = sum(it < MOST_TIMES for it in times)
+        print(f"{len(times)} of {len(changes)} long recordings have no order; {right} are checked within {MOST_TIMES} times the time")
+        self.assertGreaterEqual(len(times) * 4, len(changes) * 3)
+        self.assertGreaterEqual(right * 10, len(times) * 9)
+
+    def test_missing_number(self):
+        """A number that is missing for a lost delete is reported in time, if each document has an order by itself."""
+        rows = [(f"{docs} documents", self.program, docs) for docs in (1, 2)]
+        self.run_subtests(check_scarce, rows, ProcessPoolExecutor)
 
 
 if __name__ == "__main__":
-    sys.exit(main())
+    sys.exit(run_tests())

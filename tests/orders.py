@@ -1,16 +1,19 @@
 #!/usr/bin/env python3
-"""Tries the orders that the built program finds: of cases, of the drawn calls of one document, and of honest recordings.
+"""Checks the orders that the built program finds: of cases, of the drawn calls of one document, and of honest
+recordings.
 
     python3 tests/orders.py [PROGRAM]
 
-PROGRAM is the built casbench; where it is not named, the one that ./casbench would run. Of cases the places of an order are wanted,
-or what is told of places that are tried against a history, or what is told of histories with and without evidence.
+PROGRAM is the built casbench; if it isn't named, the one that ./casbench would run. Of cases the places of an order are
+wanted, or the answer to places that are verified against a history, or the answer to histories with and without
+evidence.
 
-Drawn calls are judged by two naive bodies. One tries the answered calls in all orders; where it finds one, the program has to, and
-gives no pair. The other follows the rules for lost writes word by word (docs/ARCHITECTURE.md, the search for one document); where
-what they lead to is valid, the program has to find just that, place by place and pair by pair. Where it isn't, the program may find
-another order, which gives pairs, or none. Last, one document is taken out of each of many honest recordings, whose other documents
-took numbers between: it should have an order. Each order that is found is verified.
+Drawn calls are judged by two naive bodies. One tries the answered calls in all orders; if it finds one, the program has
+to, and gives no pair. The other follows the rules for lost writes word by word (docs/ARCHITECTURE.md, the search for
+one document); if what they lead to is valid, the program has to find just that, place by place and pair by pair. If it
+isn't, the program may find another order, which gives pairs, or none. Last, one document is taken out of each of many
+honest recordings, whose other documents took numbers between: it should have an order. Each order that is found is
+verified.
 """
 
 import re
@@ -19,16 +22,16 @@ from collections import Counter
 from concurrent.futures import ProcessPoolExecutor
 from typing import NamedTuple
 
+from case_files import case_text
 from drawing import CONFLICT, MISSING, NAMES, Call, Draws, Ending, Op, Reply, lines, pair_taken, performed
 from evidence import Known, known_calls, shard_of
 from honest import Recording
-from program import built_program, case_text
+from program_test import ProgramTest, run_tests
 from running import asked
 from texts import READINGS, broken, no, no_writer, pair_of, places_of, refuted, status_of, verified, witness_of
-from trials import Trial, Wrong, tell, try_all
 
-# A case, how a conflict is read, and the places of the order: a record each, with the pair that is given to it. What stands in
-# tests/cases with its witness is left out.
+# A case, how a conflict is read, and the places of the order: a record each, with the pair that is given to it. What
+# stands in tests/cases with its witness is left out.
 ORDERS = [
     ("overlapping-gets", "maybe", "0 3 1 2"),
     ("overlapping-gets-and-lost-delete", "plain", "0 3 1 2"),
@@ -41,16 +44,17 @@ ORDERS = [
     ("status-503-is-unknown", "plain", "0=1/0 1"),
 ]
 
-# A case, a document with places that are tried against it, and what is told of them.
-TRIED = [
+# A case, a document with places that are verified against it, and the answer.
+VERIFIED = [
     ("index-then-get", "d", "0 1", verified(2)),
     ("index-then-get", "d", "1 0", broken("illegal place=0")),
     ("index-then-get", "d", "0", broken("absent rec=1")),
     ("index-then-get", "x", "0 1", broken("doc-stranger")),
 ]
 
-# A history without an order, and what is told of it in both readings of a conflict. The documents c and d are on the second shard.
-TOLD = [
+# A history without an order, and the answer to it in both readings of a conflict. The documents c and d are on the
+# second shard.
+UNORDERED = [
     # A pair is taken twice, by calls whose numbers fall; a get finds what nobody wrote.
     (
         "9 index a 1, 9 created 1/0, 8 index b 2, 8 created 1/0, 7 index a 3, 7 updated 1/1, 1 get a, 1 found 1/1 7",
@@ -75,7 +79,8 @@ TOLD = [
 # The seeds of the drawn calls, in each reading of a conflict; the last ones reach rules that those before them don't.
 SEEDS = [*range(200), 359, 414, 493, 750, 1358, 1549]
 
-# How many drawn histories have an order of the answered calls alone, one by the rules, another one, and none: at least so many.
+# How many drawn histories have an order of the answered calls alone, one by the rules, another one, and none: at least
+# so many.
 LEAST = {"answered": 100, "rules": 380, "another": 180, "none": 20}
 
 # How many recordings there are in each reading, and how many of them may get no order.
@@ -87,11 +92,12 @@ MOST = {"plain no": 0, "maybe no": 0}
 
 
 def event_of(words):
-    """The event: `0 index a 1` is the call 0, an index of the document a with the number 1; `0 created 1/0` is its reply."""
-    no, word, *rest = words.split()
+    """The event: `0 index a 1` is the call 0, an index of the document a with the number 1; `0 created 1/0` is its
+    reply."""
+    number, word, *rest = words.split()
     if word in ("get", "index", "create"):
         doc, *k = rest
-        return Call(int(no), NAMES.index(doc), Op(word, *map(int, k)))
+        return Call(int(number), NAMES.index(doc), Op(word, *map(int, k)))
     replies = {
         "created": lambda pair: Reply("indexed", pair_of(pair), True),
         "updated": lambda pair: Reply("indexed", pair_of(pair), False),
@@ -99,22 +105,22 @@ def event_of(words):
         "missing": lambda: MISSING,
         "lost": lambda: None,
     }
-    return Ending(int(no), replies[word](*rest))
+    return Ending(int(number), replies[word](*rest))
 
 
 def text_of(events):
     return "".join(lines(events, shard_of))
 
 
-# The naive bodies. Their records are calls as evidence.Known tells them, whose numbers are their places.
+# The naive bodies. Their records are the calls of evidence.Known, whose numbers are their places.
 
 
 def has_order(left, state=None, last=(0, 0), failed=None):
-    """Whether the answered calls that are left have an order, where the document is so and had this pair last."""
+    """Whether the answered calls that are left have an order, if the document is so and had this pair last."""
     failed = set() if failed is None else failed
     if not left:
         return True
-    key = frozenset(it.no for it in left), state, last
+    key = frozenset(it.number for it in left), state, last
     if key not in failed:
         failed.add(key)
         first_reply = min(it.replied for it in left)
@@ -132,7 +138,7 @@ class Stuck(Exception):
 
 
 class Link(NamedTuple):
-    """A write of the chain, and its pair; None where that is yet to be invented."""
+    """A write of the chain, and its pair; None if that is yet to be invented."""
 
     pair: tuple
     write: Known
@@ -142,7 +148,7 @@ DELETES, WRITES = {"delete"}, {"index", "create"}
 
 
 def needs(write):
-    """Whether the document has to be there before the write, or has not to be; None where either will do."""
+    """Whether the document has to be there before the write, or has not to be; None if either will do."""
     if write.reply and write.reply.kind in ("indexed", "deleted"):
         return write.reply.more == (write.reply.kind == "deleted")
     if write.op.name == "create":
@@ -160,8 +166,9 @@ def by_reply(calls):
 
 
 class Rules:
-    """The rules for lost writes, straight from what they say: after each write that comes into the chain all begins again, but for
-    conflicts that no document refuses. The stretch 0 lies before the first write of the chain, and the stretch j after the j-th."""
+    """The rules for lost writes, straight from what they say: after each write that comes into the chain all begins
+    again, but for conflicts that no document refuses. The stretch 0 lies before the first write of the chain, and the
+    stretch j after the j-th."""
 
     def __init__(self, records, reading):
         self.records, self.is_maybe = records, reading == "maybe"
@@ -171,7 +178,7 @@ class Rules:
         self.seen = tuple(max((it[at] for it in pairs if it), default=0) for at in (0, 1))
 
     def order(self):
-        """The places of the order to which the rules lead; None where they lead to none."""
+        """The places of the order to which the rules lead; None if they lead to none."""
         try:
             self.name_writes()
             while self.takes_more():
@@ -182,8 +189,8 @@ class Rules:
 
     def outside(self):
         """The records that are not in the chain."""
-        inside = {it.write.no for it in self.chain}
-        return [it for it in self.records if it.no not in inside]
+        inside = {it.write.number for it in self.chain}
+        return [it for it in self.records if it.number not in inside]
 
     def stretch_of(self, pair):
         """The stretch that begins with the write of the pair."""
@@ -192,8 +199,8 @@ class Rules:
     # The pairs that are named.
 
     def next_named(self):
-        """The least pair that a get found, with its number, and that no write of the chain has; else the least one that a condition
-        of the chain names."""
+        """The least pair that a get found, with its number, and that no write of the chain has; else the least one that
+        a condition of the chain names."""
         shown = [(it.reply.pair, it.reply.more) for it in self.records if it.reply and it.reply.kind == "found"]
         named = [(it.write.op.condition, None) for it in self.chain if it.write.op.condition]
         for pairs in (shown, named):
@@ -203,7 +210,7 @@ class Rules:
         return None
 
     def writer(self, k):
-        """The first lost index, of the number where there is one; under maybe else a refused one of the number."""
+        """The first lost index, of the number if there is one; under maybe else a refused one of the number."""
         able = [it for it in self.outside() if it.op.name in WRITES and it.op.k == k or it.op.name == "index" and k is None]
         lost = [it for it in able if it.reply is None]
         refused = [it for it in able if it.reply == CONFLICT and self.is_maybe and k is not None]
@@ -237,7 +244,8 @@ class Rules:
         return needs(self.chain[stretch].write) if stretch < len(self.chain) else None
 
     def limit(self, stretch):
-        """The place before which a write has to be called to stand in the stretch: the least reply of the later writes."""
+        """The place before which a write has to be called to stand in the stretch: the least reply of the later
+        writes."""
         return min((it.write.replied for it in self.chain[stretch:] if it.write.reply), default=float("inf"))
 
     def would_be_performed(self, op, stretch):
@@ -252,8 +260,8 @@ class Rules:
         return next((it for it in able if self.would_be_performed(it.op, stretch)), None)
 
     def refused(self, stretch, kinds):
-        """The first conflict by reply that no document refuses, of these kinds, whose reply stands after the calls of all writes
-        before the stretch's end, where it is called in time."""
+        """The first conflict by reply that no document refuses, of these kinds, whose reply stands after the calls of
+        all writes before the stretch's end, if it is called in time."""
         latest = max((it.write.called for it in self.chain[:stretch]), default=0)
         able = [it for it in self.outside() if is_unrefused(it) and it.op.name in kinds and latest < it.replied]
         return next((it for it in by_reply(able)[:1] if it.called < self.limit(stretch)), None)
@@ -280,7 +288,7 @@ class Rules:
     def last_stretch(self, call):
         """The last stretch that is not after a write, or the stretch of a record, whose call stands after the reply."""
         writes = [at for at, it in enumerate(self.chain) if it.write.called > call.replied]
-        others = [at for no, at in self.given.items() if self.records[no].called > call.replied]
+        others = [at for number, at in self.given.items() if self.records[number].called > call.replied]
         return min(writes + others, default=len(self.chain))
 
     def allows(self, call, stretch):
@@ -297,20 +305,21 @@ class Rules:
         return next((it for it in reversed(able) if self.allows(call, it)), None)
 
     def first_unplaced(self):
-        """Gives the answered records outside the chain their stretches, by falling call; the first that finds none is told."""
+        """Gives the answered records outside the chain their stretches, by falling call; returns the first that finds
+        none."""
         self.given = {}
         for call in reversed(self.outside()):
             if call.reply and not is_unrefused(call):
                 stretch = self.stretch_for(call)
                 if stretch is None:
                     return call
-                self.given[call.no] = stretch
+                self.given[call.number] = stretch
         return None
 
     # What asks for a write, one after another.
 
     def takes_more(self):
-        """Takes more writes into the chain; false where nothing asks for one."""
+        """Takes more writes into the chain; false if nothing asks for one."""
         if self.takes_for_flag():
             return True
         unplaced = self.first_unplaced()
@@ -320,7 +329,8 @@ class Rules:
         return self.takes_unrefused()
 
     def takes_for_flag(self):
-        """Before the first write whose flag doesn't fit a delete is inserted, or a write of the document; false where all fit."""
+        """Before the first write whose flag doesn't fit a delete is inserted, or a write of the document; false if all
+        fit."""
         for stretch in range(len(self.chain)):
             if self.next_needs(stretch) not in (None, self.is_live(stretch)):
                 kinds = WRITES if self.next_needs(stretch) else DELETES
@@ -330,7 +340,8 @@ class Rules:
         return False
 
     def takes_unrefused(self):
-        """The conflicts that no document refuses become writes, by reply; flags are seen to at once. False where none is left."""
+        """The conflicts that no document refuses become writes, by reply; flags are seen to at once. False if none is
+        left."""
         takes = False
         while True:
             left = by_reply(it for it in self.outside() if is_unrefused(it))
@@ -350,7 +361,7 @@ class Rules:
         return stretch, {None: DELETES | WRITES, True: WRITES, False: DELETES}[following]
 
     def take_for_call(self, call):
-        """For a call that finds no stretch a write is inserted; where there is none, a conflict becomes one itself."""
+        """For a call that finds no stretch a write is inserted; if there is none, a conflict becomes one itself."""
         stretch, kinds = self.wanted_for(call)
         try:
             self.insert(stretch, None if stretch is None else self.candidate(stretch, kinds, call.replied))
@@ -360,8 +371,8 @@ class Rules:
             self.take_refused(call)
 
     def take_refused(self, call):
-        """A conflict becomes a write, under maybe alone: directly after its condition's write, or before the first write that is
-        called after its reply."""
+        """A conflict becomes a write, under maybe alone: directly after its condition's write, or before the first
+        write that is called after its reply."""
         if not self.is_maybe:
             raise Stuck
         later = [at for at, it in enumerate(self.chain) if it.write.called > call.replied]
@@ -381,12 +392,12 @@ class Rules:
         """The places of the order, once nothing asks for a write."""
         places, last = [], None
         for stretch in range(len(self.chain) + 1):
-            reads = by_reply(self.records[no] for no, it in self.given.items() if it == stretch)
-            places += [(it.no, None) for it in reads]
+            reads = by_reply(self.records[number] for number, it in self.given.items() if it == stretch)
+            places += [(it.number, None) for it in reads]
             if stretch < len(self.chain):
                 pair, write = self.chain[stretch]
                 last = pair or self.invented(stretch, last, len(places))
-                places.append((write.no, None if pair_taken(write.reply) else last))
+                places.append((write.number, None if pair_taken(write.reply) else last))
         return places
 
 
@@ -394,9 +405,10 @@ class Rules:
 
 
 class Clients:
-    """Two to four clients of one document, which make five to fourteen calls, and what was recorded of them. Other documents take
-    numbers between, and now and then the term rises. One of ten gets finds what was there before the last change, so that some
-    histories have no order; under maybe one of five writes that were performed is told to be refused."""
+    """Two to four clients of one document, which make five to fourteen calls, and what was recorded of them. Other
+    documents take numbers between, and now and then the term rises. One of ten gets finds what was there before the
+    last change, so that some histories have no order; under maybe one of five writes that were performed is answered as
+    refused."""
 
     def __init__(self, seed, reading):
         self.draws, self.is_maybe = Draws(seed), reading == "maybe"
@@ -446,8 +458,8 @@ class Clients:
         return CONFLICT if self.is_maybe and reply != CONFLICT and self.is_one_in(5) else reply
 
     def go_on(self, waiting, calls):
-        """What a client does next: nothing is waited for, or a call that has not met the document, or a call and its reply. One
-        call in five is lost, and one reply; the pair of a lost reply may be named all the same."""
+        """What a client does next: nothing is waited for, or a call that has not met the document, or a call and its
+        reply. One call in five is lost, and one reply; the pair of a lost reply may be named all the same."""
         if waiting is None:
             return self.call() if self.calls < calls else None
         call, reply = waiting
@@ -457,7 +469,7 @@ class Clients:
         if reply.pair and (not is_lost or self.is_one_in(3)):
             self.known.append(reply.pair)
         if not is_lost:
-            self.events.append(Ending(call.no, reply))
+            self.events.append(Ending(call.number, reply))
         return None
 
     def recorded(self):
@@ -470,7 +482,8 @@ class Clients:
 
 
 def shown_at_last(events):
-    """The events, then an index that is lost and a get that finds its number: the answered calls alone have no order."""
+    """The events, then an index that is lost and a get that finds its number: the answered calls alone have no
+    order."""
     calls = [it for it in events if isinstance(it, Call)]
     pairs = [it.op.condition for it in calls] + [it.reply.pair for it in events if isinstance(it, Ending)]
     pair = max((it[0] for it in pairs if it), default=0) + 1, 0
@@ -482,7 +495,8 @@ def shown_at_last(events):
 
 
 def settings(seed, reading):
-    """The settings of a recording: 50 to 400 calls of each of one to five documents, of a hundred of which 1 to 20 are lost."""
+    """The settings of a recording: 50 to 400 calls of each of one to five documents, of a hundred of which 1 to 20 are
+    lost."""
     draws = Draws(seed)
     docs = draws.below(5) + 1
     return {
@@ -506,7 +520,7 @@ def taken_out(recording):
             yield line
 
 
-# What is tried.
+# How a history is judged.
 
 
 def is_valid(program, text, witness, reading):
@@ -517,7 +531,7 @@ def answered(program, text, reading):
     """What `witness` answers; an order is verified first."""
     status, answer = asked(program, "witness", text, conflicts=reading)
     if status == 0 and not is_valid(program, text, answer, reading):
-        raise Wrong(f"its own witness is not verified: {answer}")
+        raise AssertionError(f"its own witness is not verified: {answer}")
     return answer
 
 
@@ -530,28 +544,28 @@ def gives_pair(answer):
 
 
 def checked(program, words, reading):
-    """What is told of a history in words."""
+    """The answer to a history in words."""
     return asked(program, "check", text_of([event_of(it) for it in words.split(", ")]), conflicts=reading)
 
 
 def judged(program, seed, reading, is_shown_at_last):
-    """Judges a drawn history by the naive bodies; tells which of them finds an order."""
+    """Judges a drawn history by the naive bodies; returns which of them finds an order."""
     events = Clients(seed, reading).recorded()
     events = shown_at_last(events) if is_shown_at_last else events
     records, text = list(known_calls(events).values()), text_of(events)
     answer = answered(program, text, reading)
     if has_order([it for it in records if it.reply]):
         if not is_order(answer) or gives_pair(answer):
-            raise Wrong(f"{answer}, though the answered calls have an order")
+            raise AssertionError(f"{answer}, though the answered calls have an order")
         return "answered"
     places = Rules(records, reading).order()
     mine = None if places is None else witness_of("a", places)
     if mine and answer == mine:
         return "rules"
     if mine and is_valid(program, text, mine, reading):
-        raise Wrong(f"{answer}, and not {mine}")
+        raise AssertionError(f"{answer}, and not {mine}")
     if is_order(answer) and not gives_pair(answer):
-        raise Wrong(f"{answer} gives no pair")
+        raise AssertionError(f"{answer} gives no pair")
     return "another" if is_order(answer) else "none"
 
 
@@ -560,44 +574,58 @@ def judged_alone(program, seed, reading):
     return f"{reading} yes" if is_order(answered(program, text, reading)) else f"{reading} no"
 
 
-def word_trials(program):
-    """The orders of cases, and what is told of places and of histories in words."""
-    for case, reading, places in ORDERS:
-        yield Trial(f"{case}, {reading}", answered, (program, case_text(case), reading), witness_of("d", places_of(places)))
-    for case, doc, places, wanted in TRIED:
+class Orders(ProgramTest):
+    """The orders that are found, and the answers if there is none."""
+
+    def check_case(self, case, reading, places):
+        self.assertEqual(answered(self.program, case_text(case), reading), witness_of("d", places_of(places)))
+
+    def test_cases(self):
+        self.run_subtests(self.check_case, [(f"{row[0]}, {row[1]}", *row) for row in ORDERS])
+
+    def check_places(self, case, doc, places, wanted):
         texts = case_text(case), witness_of(doc, places_of(places))
-        yield Trial(f"{case}, {doc} {places}", asked, (program, "verify", *texts), (status_of(wanted), wanted))
-    for words, wanted in TOLD:
+        self.assertEqual(asked(self.program, "verify", *texts), (status_of(wanted), wanted))
+
+    def test_places(self):
+        """Places that are verified against the history of a case."""
+        self.run_subtests(self.check_places, [(f"{case}, {doc} {places}", case, doc, places, it) for case, doc, places, it in VERIFIED])
+
+    def check_words(self, words, reading, wanted):
+        self.assertEqual(checked(self.program, words, reading), (status_of(wanted), wanted))
+
+    def test_histories_in_words(self):
+        rows = [(f"{words}, {reading}", words, reading, wanted) for words, wanted in UNORDERED for reading in READINGS]
+        self.run_subtests(self.check_words, rows)
+
+    def run_drawn(self, judge, rows):
+        """Judges drawn histories; returns the counts of their kinds. Those of which few may be aren't counted as
+        subtests."""
+        kinds = self.run_subtests(judge, rows, ProcessPoolExecutor, chunksize=4, not_counted=tuple(MOST))
+        counts = Counter(filter(None, kinds))
+        print(", ".join(f"{count} {kind}" for kind, count in sorted(counts.items())))
+        return counts
+
+    def test_drawn(self):
+        """Drawn calls are judged as by the naive bodies. Enough histories are of each kind."""
+        rows = []
         for reading in READINGS:
-            yield Trial(f"{words}, {reading}", checked, (program, words, reading), (status_of(wanted), wanted))
+            for seed in SEEDS:
+                rows.append((f"drawn {seed}, {reading}", self.program, seed, reading, False))
+                rows.append((f"drawn {seed}, {reading}, shown at last", self.program, seed, reading, True))
+        counts = self.run_drawn(judged, rows)
+        for kind, least in LEAST.items():
+            with self.subTest(f"how many are {kind}"):
+                self.assertGreaterEqual(counts[kind], least)
 
-
-def drawn_trials(program):
-    """The drawn calls and the recordings."""
-    for reading in READINGS:
-        for seed in SEEDS:
-            yield Trial(f"drawn {seed}, {reading}", judged, (program, seed, reading, False))
-            yield Trial(f"drawn {seed}, {reading}, shown at last", judged, (program, seed, reading, True))
-        for seed in range(RECORDINGS):
-            yield Trial(f"recording {seed}, {reading}", judged_alone, (program, seed, reading))
-
-
-def main():
-    program = built_program(sys.argv[1:])
-    drawn = list(drawn_trials(program))
-    with ProcessPoolExecutor() as pool:
-        rows, wrong = try_all(word_trials(program), pool, chunksize=4)
-        kinds, others = try_all(drawn, pool, chunksize=4)
-    wrong += others
-    counts = Counter(filter(None, kinds))
-    print(", ".join(f"{count} {kind}" for kind, count in sorted(counts.items())))
-    passed = len(rows) + len(drawn) - len(wrong) - sum(counts[kind] for kind in MOST)
-    wrong += [f"{counts[kind]} {kind}, which are fewer than {least}" for kind, least in LEAST.items() if counts[kind] < least]
-    for kind, most in MOST.items():
-        names = [trial.name for trial, it in zip(drawn, kinds) if it == kind]
-        wrong += [f"{len(names)} {kind}, which are more than {most}: {names}"] if len(names) > most else []
-    return tell(passed, wrong)
+    def test_recordings(self):
+        """Documents of honest recordings have an order, but for few."""
+        rows = [(f"recording {seed}, {it}", self.program, seed, it) for it in READINGS for seed in range(RECORDINGS)]
+        counts = self.run_drawn(judged_alone, rows)
+        for kind, most in MOST.items():
+            with self.subTest(f"how many are {kind}"):
+                self.assertLessEqual(counts[kind], most)
 
 
 if __name__ == "__main__":
-    sys.exit(main())
+    sys.exit(run_tests())

@@ -1,14 +1,15 @@
 #!/usr/bin/env python3
-"""Has the built program write pages where a file stands: the history itself, by whatever name, or an old page.
+"""Has the built program write pages in the place of a file: the history itself, by whatever name, or an old page.
 
     python3 tests/pages.py [PROGRAM]
 
-PROGRAM is the built casbench; where it is not named, the one that ./casbench would run. Each run has a folder of its own. A page that is
-the history itself is refused before anything is written. An old page stays as it was until the new one is whole, whatever fails or
-interrupts it; and nothing else is left in the folder, but where the program is killed. Where there is no C compiler, cc, no write and no
-renaming fails, and it is said so.
+PROGRAM is the built casbench; if it isn't named, the one that ./casbench would run. Each run has a folder of its own. A
+page that is the history itself is refused before anything is written. An old page stays as it was until the new one is
+whole, whatever fails or interrupts it; and nothing else is left in the folder, unless the program is killed. If there
+is no C compiler, cc, the tests in which a write or a renaming fails are skipped.
 """
 
+import contextlib
 import errno
 import os
 import pathlib
@@ -20,18 +21,17 @@ import sys
 import tempfile
 from typing import NamedTuple, Optional
 
-from program import built_program
-from running import SECONDS, has_compiler, library_in
+from program_test import ProgramTest, run_tests
+from running import SECONDS, library_in, needs_compiler
 from texts import READ_FAULT, WRITE_FAULT, created, found, get, index, refuted, updated
-from trials import Trial, Wrong, try_and_tell
 
-# A history that is refuted, the line that is told of it, and an old page, which is longer than the new one.
+# A history that is refuted, the answer that it gets, and an old page, which is longer than the new one.
 HISTORY = index(0) + created(0, 1, 0) + index(1) + updated(1, 1, 1) + get(2) + found(2, 1, 0)
 LINE = refuted("stale-get", "2,1", 5, 2)
 OLD = "an old page\n" * 10_000
 
-# Besides the history `h` and the old page the folder has a hard link `hard` to the history, these symbolic links, a pipe `pipe`, and an
-# empty folder `sub`.
+# Besides the history `h` and the old page the folder has a hard link `hard` to the history, these symbolic links, a
+# pipe `pipe`, and an empty folder `sub`.
 LINKS = {"link": "h", "link.html": "old.html", "astray.html": "absent.html"}
 
 
@@ -68,36 +68,26 @@ def all_in(folder):
     return {str(it.relative_to(folder)): seen(it) for it in sorted(folder.rglob("*"))}
 
 
-def ended(program, folder, words, given="/dev/null", **how):
-    """How a run of `explain` with these words ends in the folder, whose name stands there for a `@`."""
-    words = [program, "explain", *words.replace("@", str(folder)).split()]
+def ended(program, folder, arguments, given="/dev/null", **how):
+    """How a run of `explain` with these arguments ends in the folder, whose name is put in the place of each `@`."""
+    words = [program, "explain", *arguments.replace("@", str(folder)).split()]
     before = all_in(folder)
     with open(folder / given, "rb") as text:
         ran = subprocess.run(words, cwd=folder, stdin=text, capture_output=True, text=True, timeout=SECONDS, **how)
     return End(ran.returncode, ran.stdout, ran.stderr, before, all_in(folder))
 
 
-def in_new_folder(ask, *of):
-    """What comes of a trial in a folder of its own."""
+@contextlib.contextmanager
+def new_folder():
+    """A folder that is filled, and removed at last."""
     with tempfile.TemporaryDirectory(prefix="casbench-pages-") as name:
-        folder = pathlib.Path(name)
-        filled(folder)
-        return ask(folder, *of)
-
-
-def plain_end(program):
-    """What is written on standard output, and the page, where nothing stands in the way."""
-
-    def ask(folder):
-        told = ended(program, folder, "h --html new.html")
-        return told.out, told.after["new.html"]
-
-    return in_new_folder(ask)
+        filled(pathlib.Path(name))
+        yield pathlib.Path(name)
 
 
 # A page that is the history.
 
-# The words, and what is standard input.
+# The arguments, and what is standard input.
 ITSELF = [
     ("h --html h", None),
     ("./h --html h", None),
@@ -119,35 +109,21 @@ ITSELF = [
 ]
 
 
-def is_refused(folder, program, words, given):
-    """Whether a page is refused that is the history."""
-    told = ended(program, folder, words, given or "/dev/null")
-    page = words.split()[-1].replace("@", str(folder))
-    why = f"casbench: {page}: the history would be overwritten\n{WRITE_FAULT}"
-    if told != End(4, "", why, told.before, told.before):
-        raise Wrong(f"{told.status}, {told.out[:60]!r}, {told.err!r}, and the history is{' not' * (told.after.get('h') != HISTORY)} as it was")
-    return True
-
-
 # A history that can't be read.
 
 UNREAD = ["sub --html old.html", "absent --html old.html", "sub --html new.html", "absent --html link.html", "sub --html astray.html"]
 
 
-def is_unread(folder, program, words):
-    """Whether nothing is changed where the history can't be read."""
-    told = ended(program, folder, words)
-    return (told.status, told.out, told.after) == (4, "", told.before) and told.err.endswith(READ_FAULT)
-
-
 # A page that can't be written.
 
-# Where it can't be made: no folder, a folder that takes no file, a file for a folder, a folder for a file, and no name.
+# Names at which it can't be made: no folder, a folder that takes no file, a file for a folder, a folder for a file, and
+# no name.
 NOWHERE = ["absent/new.html", "/proc/new.html", "h/new.html", "sub", "sub/", "@"]
 
 
 class Failure(NamedTuple):
-    """How a page comes to fail: what is in the environment of the calls that fail, the most bytes of a file, and whether it is killed."""
+    """How a page comes to fail: what is in the environment of the calls that fail, the most bytes of a file, and
+    whether it is killed."""
 
     name: str
     calls: Optional[dict] = None
@@ -169,7 +145,7 @@ FAILURES = [
     Failure("a file that may not grow", most_bytes=1_000),
 ]
 
-# The page that is written then, where there was one, through a link, and where there was none.
+# The page that is written then: one that was there, one through a link, and one that wasn't there.
 PAGES = ["old.html", "link.html", "new.html"]
 
 
@@ -179,91 +155,130 @@ def limit_files(most_bytes):
     resource.setrlimit(resource.RLIMIT_FSIZE, (most_bytes, most_bytes))
 
 
-def is_kept(folder, program, library, plain, page, failure):
-    """Whether what was there stays as it was where the page fails, and nothing comes beside it; where the program was killed, something
-    may. The line that is told may have been written before."""
-    how = {}
-    if failure.calls:
-        how["env"] = {**os.environ, **failure.calls, "TOLD": "/dev/null", "LD_PRELOAD": str(library)}
-    if failure.most_bytes:
-        how["preexec_fn"] = lambda: limit_files(failure.most_bytes)
-    told = ended(program, folder, f"h --html {page}", **how)
-    after = {name: it for name, it in told.after.items() if name in told.before or name == page or not failure.is_killed}
-    status, why = (-signal.SIGKILL, "") if failure.is_killed else (4, WRITE_FAULT)
-    if told.status != status or not told.err.endswith(why) or not plain[0].startswith(told.out) or after != told.before:
-        changed = sorted(name for name in {*told.before, *after} if told.before.get(name) != after.get(name))
-        raise Wrong(f"{told.status}, {told.err!r}, and changed is {changed}")
-    return True
+class Pages(ProgramTest):
+    """Pages, each written in a folder of its own."""
 
+    @classmethod
+    def setUpClass(cls):
+        """What is written on standard output, and the page, if nothing stands in the way."""
+        with new_folder() as folder:
+            end = ended(cls.program, folder, "h --html new.html")
+        cls.out, cls.page = end.out, end.after["new.html"]
 
-def is_nowhere(folder, program, plain, page):
-    """Whether nothing is changed where the page can't be made."""
-    told = ended(program, folder, f"h --html {page}")
-    return told.status == 4 and told.err.endswith(WRITE_FAULT) and told.out in ("", plain[0]) and told.after == told.before
+    def ended(self, folder, arguments, *given, **how):
+        return ended(self.program, folder, arguments, *given, **how)
 
+    def in_new_folder(self, check, *arguments):
+        with new_folder() as folder:
+            check(folder, *arguments)
 
-# A page that is written.
+    def run_rows(self, check, rows):
+        """Runs a subtest for each row, in a new folder."""
+        self.run_subtests(self.in_new_folder, [(name, check, *row) for name, *row in rows])
 
+    def test_page(self):
+        """The story and the page are whole if nothing stands in the way."""
+        self.assertTrue(self.out.startswith(LINE))
+        self.assertTrue(self.page.startswith("<!doctype html>") and self.page.endswith("</html>\n"))
 
-def is_written(folder, program, plain, page):
-    """Whether the whole page stands there afterwards, and nothing else is new."""
-    told = ended(program, folder, f"h --html {page}")
-    return told == End(1, plain[0], "", told.before, {**told.before, page: plain[1]})
+    def check_itself(self, folder, arguments, given):
+        end = self.ended(folder, arguments, given or "/dev/null")
+        page = arguments.split()[-1].replace("@", str(folder))
+        why = f"casbench: {page}: the history would be overwritten\n{WRITE_FAULT}"
+        self.assertEqual((end.status, end.out[:60], end.err), (4, "", why))
+        self.assertTrue(end.after == end.before, f"the history is{' not' * (end.after.get('h') != HISTORY)} as it was")
 
+    def test_history_itself(self):
+        """A page is refused that is the history."""
+        rows = [(f"{arguments} <{given}" if given else arguments, arguments, given) for arguments, given in ITSELF]
+        self.run_rows(self.check_itself, rows)
 
-def is_written_through(folder, program, plain, link):
-    """Whether the whole page is what the link's name has afterwards. The page may take the place of the link, or of what the link leads
-    to: of that the old text is there, or the page."""
-    told = ended(program, folder, f"h --html {link}")
-    target = LINKS[link]
-    others = {name: it for name, it in told.before.items() if name not in (link, target)}
-    is_other = {name: it for name, it in told.after.items() if name not in (link, target)} == others
-    is_old = told.after.get(target) in (told.before.get(target), plain[1])
-    return told[:3] == (1, plain[0], "") and is_other and is_old and (folder / link).read_text() == plain[1]
+    def check_unread(self, folder, arguments):
+        end = self.ended(folder, arguments)
+        self.assertEqual((end.status, end.out), (4, ""))
+        self.assertTrue(end.err.endswith(READ_FAULT), end.err)
+        self.assertTrue(end.after == end.before)
 
+    def test_unread(self):
+        """Nothing is changed if the history can't be read."""
+        self.run_rows(self.check_unread, [(it, it) for it in UNREAD])
 
-def goes_through_a_pipe(folder, program, plain):
-    """Whether the page goes through a pipe that is named, which stays: what is no file is nothing that could be lost."""
-    pipe = os.open(folder / "pipe", os.O_RDONLY | os.O_NONBLOCK)
-    told = ended(program, folder, "h --html pipe")
-    with open(pipe, "rb") as taken:
-        text = (taken.read() or b"").decode()
-    return told == End(1, plain[0], "", told.before, told.before) and text == plain[1]
+    def check_kept(self, folder, page, failure, library=None):
+        how = {}
+        if failure.calls:
+            how["env"] = {**os.environ, **failure.calls, "TOLD": "/dev/null", "LD_PRELOAD": str(library)}
+        if failure.most_bytes:
+            how["preexec_fn"] = lambda: limit_files(failure.most_bytes)
+        end = self.ended(folder, f"h --html {page}", **how)
+        status, why = (-signal.SIGKILL, "") if failure.is_killed else (4, WRITE_FAULT)
+        self.assertEqual((end.status, end.err[len(end.err) - len(why) :]), (status, why))
+        # (the answer may have been written before)
+        self.assertTrue(self.out.startswith(end.out), end.out)
+        after = {name: it for name, it in end.after.items() if name in end.before or name == page or not failure.is_killed}
+        changed = [name for name in {*end.before, *after} if end.before.get(name) != after.get(name)]
+        self.assertEqual(changed, [])
 
+    def failures(self, has_calls):
+        """The failures that need a library of failing calls, or those that need none."""
+        for page in PAGES:
+            yield from ((f"{page}: {it.name}", page, it) for it in FAILURES if bool(it.calls) == has_calls)
 
-def trials(program, library):
-    """All trials: a name, what is asked, and of what."""
-    out, page = plain = plain_end(program)
-    yield Trial("a page", is_page, (out, page))
-    for words, given in ITSELF:
-        name = f"{words} <{given}" if given else words
-        yield Trial(f"itself: {name}", in_new_folder, (is_refused, program, words, given))
-    for words in UNREAD:
-        yield Trial(f"unread: {words}", in_new_folder, (is_unread, program, words))
-    for page in PAGES:
-        for failure in FAILURES:
-            if library or not failure.calls:
-                yield Trial(f"{page}: {failure.name}", in_new_folder, (is_kept, program, library, plain, page, failure))
-    for page in NOWHERE:
-        yield Trial(f"nowhere: {page}", in_new_folder, (is_nowhere, program, plain, page))
-    for page in ("old.html", "new.html", "sub/new.html", "./new.html"):
-        yield Trial(f"written: {page}", in_new_folder, (is_written, program, plain, os.path.normpath(page)))
-    for link in ("link.html", "astray.html"):
-        yield Trial(f"written through {link}", in_new_folder, (is_written_through, program, plain, link))
-    yield Trial("through a pipe", in_new_folder, (goes_through_a_pipe, program, plain))
+    @needs_compiler
+    def test_failing_calls(self):
+        """What was there stays as it was if a write or a renaming fails, and nothing else comes beside it unless the
+        program is killed."""
+        with tempfile.TemporaryDirectory() as folder:
+            library = library_in(folder, "fail_calls")
+            self.run_rows(self.check_kept, [(*row, library) for row in self.failures(has_calls=True)])
 
+    def test_limited_files(self):
+        """The same if a file may not grow."""
+        self.run_rows(self.check_kept, self.failures(has_calls=False))
 
-def is_page(out, page):
-    """Whether the story and the page are whole, where nothing stands in the way."""
-    return out.startswith(LINE) and page.startswith("<!doctype html>") and page.endswith("</html>\n")
+    def check_nowhere(self, folder, page):
+        end = self.ended(folder, f"h --html {page}")
+        self.assertEqual(end.status, 4)
+        self.assertTrue(end.err.endswith(WRITE_FAULT), end.err)
+        self.assertIn(end.out, ("", self.out))
+        self.assertTrue(end.after == end.before)
 
+    def test_nowhere(self):
+        """Nothing is changed if the page can't be made."""
+        self.run_rows(self.check_nowhere, [(it, it) for it in NOWHERE])
 
-def main():
-    program = built_program(sys.argv[1:])
-    with tempfile.TemporaryDirectory() as folder:
-        library = library_in(folder, "fail_calls") if has_compiler("no write of a page and no renaming failed") else None
-        return try_and_tell(trials(program, library))
+    def check_written(self, folder, page):
+        end = self.ended(folder, f"h --html {page}")
+        self.assertTrue(end == End(1, self.out, "", end.before, {**end.before, page: self.page}))
+
+    def test_written(self):
+        """The whole page stands there afterwards, and nothing else is new."""
+        pages = map(os.path.normpath, ("old.html", "new.html", "sub/new.html", "./new.html"))
+        self.run_rows(self.check_written, [(it, it) for it in pages])
+
+    def check_written_through(self, folder, link):
+        end = self.ended(folder, f"h --html {link}")
+        self.assertEqual(end[:3], (1, self.out, ""))
+        target = LINKS[link]
+        before, after = ({name: it for name, it in its.items() if name not in (link, target)} for its in (end.before, end.after))
+        self.assertTrue(after == before)
+        self.assertTrue(end.after.get(target) in (end.before.get(target), self.page))
+        self.assertTrue((folder / link).read_text() == self.page)
+
+    def test_written_through_links(self):
+        """The name of the link has the whole page afterwards. The page may take the place of the link, or of what the
+        link leads to: that has the old text, or the page."""
+        self.run_rows(self.check_written_through, [(it, it) for it in ("link.html", "astray.html")])
+
+    def test_pipe(self):
+        """The page goes through a pipe that is named, which stays: what is no file is nothing that could be lost."""
+        with new_folder() as folder:
+            pipe = os.open(folder / "pipe", os.O_RDONLY | os.O_NONBLOCK)
+            end = self.ended(folder, "h --html pipe")
+            with open(pipe, "rb") as taken:
+                text = (taken.read() or b"").decode()
+        self.assertTrue(end == End(1, self.out, "", end.before, end.before))
+        self.assertTrue(text == self.page)
 
 
 if __name__ == "__main__":
-    sys.exit(main())
+    sys.exit(run_tests())

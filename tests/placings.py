@@ -1,10 +1,11 @@
-"""A naive body of the walk that rules documents out, straight from the placings of docs/MODEL.md, with the least floors.
+"""A naive body of the walk that rules documents out, straight from the placings of docs/MODEL.md, with the least
+floors.
 
-It is no test itself. The records of a document are calls as evidence.Known tells them, in the order of their calls.
+It is no test itself. The records of a document are the calls of evidence.Known, in the order of their calls.
 """
 
 from drawing import pair_taken
-from exact import GREATEST, LEAST, is_told, number_of
+from exact import GREATEST, LEAST, has_known_outcome, number_of
 
 GIVES, DELETES = ("index", "create"), ("delete",)
 
@@ -14,18 +15,18 @@ def is_performed(call):
 
 
 class Placings:
-    """The positions that the calls of a document may have. Position 0 is that of a document which was never written; between and
-    behind the known pairs, in their order, lie 1, 3, 5 and on, and at them 2, 4, 6 and on."""
+    """The positions that the calls of a document may have. Position 0 is that of a document which was never written;
+    between and behind the known pairs, in their order, lie 1, 3, 5 and on, and at them 2, 4, 6 and on."""
 
     def __init__(self, records, reading):
-        self.wild = [it for it in records if not is_told(it, reading)]
-        self.answered = sorted((it for it in records if is_told(it, reading)), key=lambda it: it.replied)
+        self.wild = [it for it in records if not has_known_outcome(it, reading)]
+        self.answered = sorted((it for it in records if has_known_outcome(it, reading)), key=lambda it: it.replied)
         shown = {it.reply.pair for it in self.answered} | {it.op.condition for it in self.answered if is_performed(it)}
         self.known = sorted(number_of(it) for it in shown if it)
         self.edges = [LEAST - 1, *self.known, GREATEST + 1]
-        self.told = {number_of(it.reply.pair) for it in self.answered if is_performed(it)}
+        self.shown = {number_of(it.reply.pair) for it in self.answered if is_performed(it)}
         self.gone = {number_of(it.reply.pair) for it in self.answered if it.reply.kind == "deleted"}
-        self.floors = {it.no: 0 for it in records}
+        self.floors = {it.number: 0 for it in records}
 
     def gap(self, number):
         """The position of a call that takes the pair with the number."""
@@ -36,11 +37,11 @@ class Placings:
         return self.gap(number) + 1
 
     def ruled_out_at(self):
-        """The number of the first call, in the order of the replies, that has no position; None where each has one."""
+        """The number of the first call, in the order of the replies, that has no position; None if each has one."""
         for call in self.answered:
-            position = next((it for it in range(self.floors[call.no], self.gap(GREATEST + 1) + 1) if self.may_stand(call, it)), None)
+            position = next((it for it in range(self.floors[call.number], self.gap(GREATEST + 1) + 1) if self.may_stand(call, it)), None)
             if position is None:
-                return call.no
+                return call.number
             self.lift(call, self.version(number_of(call.reply.pair)) if is_performed(call) else position)
         return None
 
@@ -48,7 +49,7 @@ class Placings:
         """The calls that are made after the reply stand no lower."""
         for later in self.answered + self.wild:
             if call.replied < later.called:
-                self.floors[later.no] = max(self.floors[later.no], position)
+                self.floors[later.number] = max(self.floors[later.number], position)
 
     def may_stand(self, call, position):
         return self.may_answer(call, position) and self.is_reached(call.replied, position)
@@ -59,7 +60,7 @@ class Placings:
         """The calls without a reply that may stand at the position, and above the known pair."""
         for call in self.wild:
             asked = number_of(call.op.condition) if call.op.condition else known
-            if call.op.name in kinds and call.called < event and self.floors[call.no] <= position and known <= asked:
+            if call.op.name in kinds and call.called < event and self.floors[call.number] <= position and known <= asked:
                 yield call, asked
 
     def may_change(self, kinds, event, position):
@@ -75,7 +76,7 @@ class Placings:
         return any(asked < number and found <= {it.op.k} for it, asked in able)
 
     def is_reached(self, event, position):
-        open_ones = [it for it in self.known if it not in self.told and self.version(it) <= position]
+        open_ones = [it for it in self.known if it not in self.shown and self.version(it) <= position]
         return all(self.has_writer(event, it) for it in open_ones)
 
     # What the document may be at a position.
@@ -122,7 +123,7 @@ class Placings:
 
 
 def least_ruled_out(calls, reading):
-    """The least number of a call at which a document of the history is ruled out; None where none is."""
+    """The least number of a call at which a document of the history is ruled out; None if none is."""
     docs = {it.doc for it in calls}
     numbers = [Placings([it for it in calls if it.doc == doc], reading).ruled_out_at() for doc in docs]
     return min((it for it in numbers if it is not None), default=None)

@@ -4,9 +4,8 @@ import os
 import pathlib
 import subprocess
 
-# The top of the checkout, and the text cases.
+# The top of the checkout.
 TOP = pathlib.Path(__file__).resolve().parent.parent
-CASES = TOP / "tests" / "cases"
 
 
 def built_program(words):
@@ -15,8 +14,3 @@ def built_program(words):
         return os.path.realpath(words[0])
     ran = subprocess.run([TOP / "casbench", "--program"], stdout=subprocess.PIPE, text=True, check=True)
     return ran.stdout.strip()
-
-
-def case_text(name, kind="history"):
-    """The text of this kind that a text case has, with its ends of lines as they are."""
-    return (CASES / f"{name}.{kind}").read_bytes().decode()

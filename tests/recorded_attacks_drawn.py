@@ -3,7 +3,7 @@
 
     python3 tests/recorded_attacks_drawn.py [PROGRAM]
 
-PROGRAM is the built casbench; where it is not named, the one that ./casbench would run. Each history can be read; that of a cluster
+PROGRAM is the built casbench; if it isn't named, the one that ./casbench would run. Each history can be read; that of a cluster
 which answers right gets `yes`; behind the clients no descriptor, no thread and no memory is left; and SIGTERM ends the proxy soon, at
 any moment. The last line says how many tests passed and failed.
 """
@@ -19,7 +19,7 @@ from concurrent.futures import ThreadPoolExecutor
 from types import SimpleNamespace
 
 from attacks import AttackTest, Client, Cluster, answer_of, descriptors, end_of, megabytes, request_of, threads
-from recordings import run_tests
+from program_test import run_tests
 
 from casbench_recording.http1 import BadMessage
 from casbench_recording.http1 import request_of as head_of

@@ -3,7 +3,7 @@
 
     python3 tests/recorded_attacks_on_liveness.py [PROGRAM]
 
-PROGRAM is the built casbench; where it is not named, the one that ./casbench would run. The last line says how many tests
+PROGRAM is the built casbench; if it isn't named, the one that ./casbench would run. The last line says how many tests
 passed and failed.
 """
 
@@ -17,7 +17,7 @@ import threading
 import time
 
 from attacks import AttackTest, Cluster, Watched, answer_of, descriptors, end_of, found, megabytes, packed, request_of, threads
-from recordings import run_tests
+from program_test import run_tests
 
 GET = request_of("GET", "/carts/_doc/d")
 OTHER = request_of("GET", "/other/_doc/d")

@@ -3,7 +3,7 @@
 
     python3 tests/recorded_attacks_on_records.py [PROGRAM]
 
-PROGRAM is the built casbench; where it is not named, the one that ./casbench would run. The last line says how many tests
+PROGRAM is the built casbench; if it isn't named, the one that ./casbench would run. The last line says how many tests
 passed and failed.
 """
 
@@ -17,7 +17,7 @@ import threading
 import time
 
 from attacks import CERTIFICATE, AttackTest, Cluster, answer_of, deep, found, request_of
-from recordings import run_tests
+from program_test import run_tests
 
 CREATED = {"_index": "carts", "_id": "d", "result": "created", "_seq_no": 0, "_primary_term": 1}
 

@@ -22,7 +22,8 @@ from types import SimpleNamespace
 from unittest import mock
 
 from program import TOP
-from recordings import FolderTest, run_tests
+from program_test import run_tests
+from recordings import FolderTest
 
 from casbench_recording.client_side import ClientSide
 from casbench_recording.connecting import Addresses, Connecting

@@ -3,7 +3,7 @@
 
     python3 tests/recorded_continuing.py [PROGRAM]
 
-PROGRAM is the built casbench; where it is not named, the one that ./casbench would run. The last line says how many tests passed and
+PROGRAM is the built casbench; if it isn't named, the one that ./casbench would run. The last line says how many tests passed and
 failed. That what is refuted of a part is true of the whole is tested by tests/continuing.py.
 """
 
@@ -16,7 +16,8 @@ import resource
 import signal
 import sys
 
-from recordings import FolderTest, judged, run_tests
+from program_test import run_tests
+from recordings import FolderTest, judged
 from texts import created, found, get, index, lost, missing, updated
 
 from casbench_recording.continuing import MOST_GROWING, MOST_LOST, Continuing, TooManyLost

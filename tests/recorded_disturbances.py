@@ -3,7 +3,7 @@
 
     python3 tests/recorded_disturbances.py [PROGRAM]
 
-PROGRAM is the built casbench; where it is not named, the one that ./casbench would run. The last line says how many tests
+PROGRAM is the built casbench; if it isn't named, the one that ./casbench would run. The last line says how many tests
 passed and failed.
 """
 
@@ -17,7 +17,8 @@ import time
 import unittest
 from unittest import mock
 
-from recordings import FolderTest, Started, environment, run_tests
+from program_test import run_tests
+from recordings import FolderTest, Started, environment
 
 from casbench_recording.disturb import Disturbance, PlanError, fault_of, plan_of
 from casbench_recording.history import CallError, History

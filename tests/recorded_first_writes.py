@@ -3,7 +3,7 @@
 
     python3 tests/recorded_first_writes.py [PROGRAM]
 
-PROGRAM is the built casbench; where it is not named, the one that ./casbench would run. The last line says how many tests
+PROGRAM is the built casbench; if it isn't named, the one that ./casbench would run. The last line says how many tests
 passed and failed.
 """
 
@@ -15,7 +15,8 @@ import time
 from concurrent.futures import ThreadPoolExecutor
 
 from attacks import AttackTest, Cluster, answer_of, request_of
-from recordings import Started, run_tests
+from program_test import run_tests
+from recordings import Started
 
 
 class Made(Cluster):

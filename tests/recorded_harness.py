@@ -4,7 +4,7 @@ dictionary; and the connection that asks each thing once.
 
     python3 tests/recorded_harness.py [PROGRAM]
 
-PROGRAM is the built casbench; where it is not named, the one that ./casbench would run. The last line says how many tests
+PROGRAM is the built casbench; if it isn't named, the one that ./casbench would run. The last line says how many tests
 passed and failed.
 """
 
@@ -18,7 +18,8 @@ import sys
 import threading
 
 from program import TOP
-from recordings import FolderTest, environment, judged, run_tests
+from program_test import run_tests
+from recordings import FolderTest, environment, judged
 
 from casbench_recording.cluster import ClusterError, NoAnswer, connection_to
 from casbench_recording.history import CallError, History, Pair

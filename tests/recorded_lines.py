@@ -3,7 +3,7 @@
 
     python3 tests/recorded_lines.py [PROGRAM]
 
-PROGRAM is the built casbench; where it is not named, the one that ./casbench would run. The last line says how many tests
+PROGRAM is the built casbench; if it isn't named, the one that ./casbench would run. The last line says how many tests
 passed and failed.
 """
 
@@ -16,7 +16,8 @@ import sys
 import threading
 import unittest
 
-from recordings import PACKAGE, FolderTest, environment, judged, run_tests
+from program_test import run_tests
+from recordings import PACKAGE, FolderTest, environment, judged
 
 from casbench_recording.history import LONGEST_LINE, CallError, Ended, History, HistoryError, Operation, Pair
 from casbench_recording.parts import Parts

@@ -3,7 +3,7 @@
 
     python3 tests/recorded_load.py [PROGRAM]
 
-PROGRAM is the built casbench; where it is not named, the one that ./casbench would run. The last line says how many tests passed and failed.
+PROGRAM is the built casbench; if it isn't named, the one that ./casbench would run. The last line says how many tests passed and failed.
 """
 
 import sys
@@ -13,7 +13,8 @@ from collections import Counter
 from itertools import groupby
 
 from program import TOP
-from recordings import FolderTest, run_tests
+from program_test import run_tests
+from recordings import FolderTest
 
 from casbench_recording.history import History, Pair
 from casbench_recording.load import MIXTURE, Draw, Habits, Kind, Load, NoOutcome, Outcome, Unreachable, lost_by

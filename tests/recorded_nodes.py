@@ -3,7 +3,7 @@
 
     python3 tests/recorded_nodes.py [PROGRAM]
 
-PROGRAM is the built casbench; where it is not named, the one that ./casbench would run. The last line says how many tests
+PROGRAM is the built casbench; if it isn't named, the one that ./casbench would run. The last line says how many tests
 passed and failed.
 """
 
@@ -11,7 +11,8 @@ import os
 import subprocess
 import sys
 
-from recordings import FolderTest, Started, environment, judged, run_tests
+from program_test import run_tests
+from recordings import FolderTest, Started, environment, judged
 
 
 class Nodes(FolderTest):

@@ -3,7 +3,7 @@
 
     python3 tests/recorded_parts.py [PROGRAM]
 
-PROGRAM is the built casbench; where it is not named, the one that ./casbench would run. GNU parallel is tried where it is installed; else
+PROGRAM is the built casbench; if it isn't named, the one that ./casbench would run. GNU parallel is tried where it is installed; else
 a line says so. The last line says how many tests passed and failed.
 """
 
@@ -19,7 +19,8 @@ import time
 import unittest
 
 from program import TOP
-from recordings import FolderTest, Started, environment, judged, run_tests
+from program_test import run_tests
+from recordings import FolderTest, Started, environment, judged
 from texts import created, found, get, index, refused, refuted, updated, yes
 
 from casbench_recording.continuing import Continuing

@@ -4,7 +4,7 @@ libsearch-elasticsearch-perl.
 
     python3 tests/recorded_real_client.py [PROGRAM]
 
-PROGRAM is the built casbench; where it is not named, the one that ./casbench would run. If a client isn't installed, that for Python
+PROGRAM is the built casbench; if it isn't named, the one that ./casbench would run. If a client isn't installed, that for Python
 neither for the Python that runs this nor for /usr/bin/python3, a line says so and it isn't tried. The last line says how many tests passed
 and failed.
 """
@@ -15,7 +15,8 @@ import sys
 import unittest
 
 from program import TOP
-from recordings import FolderTest, Started, run_tests
+from program_test import run_tests
+from recordings import FolderTest, Started
 
 
 def python_with_client():

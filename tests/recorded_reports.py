@@ -3,7 +3,7 @@
 
     python3 tests/recorded_reports.py [PROGRAM]
 
-PROGRAM is the built casbench; where it is not named, the one that ./casbench would run. The last line says how many tests
+PROGRAM is the built casbench; if it isn't named, the one that ./casbench would run. The last line says how many tests
 passed and failed.
 """
 
@@ -19,7 +19,8 @@ import socket
 import subprocess
 import sys
 
-from recordings import FolderTest, Started, environment, run_tests
+from program_test import run_tests
+from recordings import FolderTest, Started, environment
 
 ENDED = "casbench_recording.proxy: the recording ended early: "
 

@@ -3,7 +3,7 @@
 
     python3 tests/recorded_requests.py [PROGRAM]
 
-PROGRAM is the built casbench; where it is not named, the one that ./casbench would run. The last line says how many tests
+PROGRAM is the built casbench; if it isn't named, the one that ./casbench would run. The last line says how many tests
 passed and failed.
 """
 
@@ -12,7 +12,8 @@ import os
 import sys
 from unittest import mock
 
-from recordings import FolderTest, run_tests
+from program_test import run_tests
+from recordings import FolderTest
 
 from casbench_recording.answering import Answering
 from casbench_recording.asking import Asking

@@ -3,7 +3,7 @@
 
     python3 tests/recorded_through_proxy.py [PROGRAM]
 
-PROGRAM is the built casbench; where it is not named, the one that ./casbench would run. The last line says how many tests
+PROGRAM is the built casbench; if it isn't named, the one that ./casbench would run. The last line says how many tests
 passed and failed.
 """
 
@@ -28,7 +28,8 @@ from unittest import mock
 
 from measure_proxy import run_clients
 from program import TOP
-from recordings import FolderTest, Started, judged, run_tests
+from program_test import run_tests
+from recordings import FolderTest, Started, judged
 
 from casbench_recording.cluster import ClusterError
 from casbench_recording.http1 import request_of, split_head

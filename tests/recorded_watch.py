@@ -3,7 +3,7 @@
 
     python3 tests/recorded_watch.py [PROGRAM]
 
-PROGRAM is the built casbench; where it is not named, the one that ./casbench would run. The last line says how many tests passed and
+PROGRAM is the built casbench; if it isn't named, the one that ./casbench would run. The last line says how many tests passed and
 failed.
 """
 
@@ -20,7 +20,8 @@ import sys
 import time
 import unittest
 
-from recordings import FolderTest, Started, environment, judged, run_tests
+from program_test import run_tests
+from recordings import FolderTest, Started, environment, judged
 from texts import created, delete, found, get, index, lost, updated
 
 from casbench_recording.history import Pair

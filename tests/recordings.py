@@ -1,4 +1,5 @@
-"""What the tests of recorders have in common: the package in recording/, folders of their own, and what casbench says of a file.
+"""What the tests of recorders have in common: the package in recording/, folders of their own, and what casbench says
+of a file.
 
 It is no test itself.
 """
@@ -9,10 +10,10 @@ import signal
 import subprocess
 import sys
 import tempfile
-import unittest
 import urllib.request
 
-from program import TOP, built_program
+from program import TOP
+from program_test import ProgramTest
 
 PACKAGE = TOP / "recording"
 sys.path.insert(0, str(PACKAGE))
@@ -36,7 +37,8 @@ if signal.getsignal(signal.SIGINT) is signal.SIG_IGN:
 
 
 class Started:
-    """A command of the package that listens, and runs until the block ends. The first line that it says is its address."""
+    """A command of the package that listens, and runs until the block ends. The first line that it says is its
+    address."""
 
     def __init__(self, name, *words, start=(), stderr=subprocess.PIPE, **more):
         words = [*(start or (sys.executable, "-m", f"casbench_recording.{name}")), *words]
@@ -74,10 +76,8 @@ class Started:
             pass
 
 
-class FolderTest(unittest.TestCase):
+class FolderTest(ProgramTest):
     """A test with a folder of its own, in which a history is recorded."""
-
-    program = ""
 
     def setUp(self):
         folder = tempfile.TemporaryDirectory(prefix="casbench-recorded-")
@@ -93,14 +93,3 @@ class FolderTest(unittest.TestCase):
         """The lines of the history."""
         with open(self.file, encoding="utf-8") as lines:
             return [json.loads(it) for it in lines]
-
-
-def run_tests():
-    """Runs the tests of the script on the program that its words name, and tells in the last line how many passed and failed."""
-    words = sys.argv[1:]
-    has_program = bool(words) and not words[0].startswith("-")
-    FolderTest.program = built_program(words[:1] if has_program else [])
-    told = unittest.main(argv=[sys.argv[0], *words[has_program:]], exit=False).result
-    failed = len(told.failures) + len(told.errors) + len(told.unexpectedSuccesses)
-    print(f"{told.testsRun - len(told.skipped) - failed} passed, {failed} failed")
-    return 0 if told.wasSuccessful() else 1

@@ -1,16 +1,16 @@
 #!/usr/bin/env python3
-"""Shows how the built program reads lines, replies, bulk requests and numbers, and what replies it writes.
+"""Checks how the built program reads lines, replies, bulk requests and numbers, and what replies it writes.
 
     python3 tests/replies.py [PROGRAM]
 
-PROGRAM is the built casbench; where it is not named, the one that ./casbench would run. A text that is refused is told with its
-line and cause. One that is taken stands in small histories, or in other texts, of which one at least would be answered otherwise
-if it were read otherwise: a get finds what was written, and in another history what was not; a conflict has its cause, or none;
-two writes take one pair.
+PROGRAM is the built casbench; if it isn't named, the one that ./casbench would run. A text that is refused is reported
+with its line and cause. One that is accepted stands in small histories, or in other texts, of which one at least would
+be answered otherwise if it were read otherwise: a get finds what was written, and in another history what was not; a
+conflict has its cause, or none; two writes take one pair.
 
-There are two ways to the fields of a line, and the quick one leaves a line with a space before a colon to the other: so each line
-of a history is tried with such a space too. The quick way asks for no growth, which shows the lines that it takes. Growths are
-counted with a library that cc, a C compiler, makes; where there is none, that is said, and they aren't counted.
+There are two ways to the fields of a line, and the quick one leaves a line with a space before a colon to the other: so
+each line of a history is tried with such a space too. The quick way asks for no growth, which shows the lines that it
+takes. Growths are counted with a library that cc, a C compiler, makes; if there is none, that test is skipped.
 """
 
 import itertools
@@ -18,14 +18,14 @@ import json
 import sys
 import tempfile
 
+from case_files import case_text
 from growths import NO_MEMORY, Growths
-from program import built_program, case_text
-from running import has_compiler, run_by_parts, run_on_files, text_of_run
+from program_test import ProgramTest, run_tests
+from running import needs_compiler, run_by_parts, run_on_files, text_of_run
 from texts import DEPTH, LINE_BYTES, MOST_NUMBER, MOST_OF_PAIR, REFUSED_COUNT
 from texts import answer_of, broken, call, condition, conflict, created, delete, deleted, found, get, index, lost, missing, nested, no
 from texts import no_writer, not_found, pair_of, pair_twice, refused, refused_item, reply, updated, verified, witness_of
 from texts import written_call, written_reply, yes
-from trials import Trial, try_and_tell
 
 # Where the line that a row is about stands in a history.
 HERE = "@\n"
@@ -65,7 +65,8 @@ def made(term, seq, k=1):
 
 
 def created_shown(asked, term, seq):
-    # A get finds the pair, and none with another number. As an update the reply would be wrong where nothing was written.
+    # A get finds the pair, and none with another number. As an update the reply would be wrong where nothing was
+    # written.
     return [
         ([asked, HERE, get(1), found(1, term, seq)], yes(2)),
         ([asked, HERE, get(1), found(1, term, seq + 1)], no_writer(3, 1)),
@@ -106,7 +107,8 @@ def missing_shown(asked):
 
 
 def conflict_shown(asked):
-    # It is wrong without a condition, and right under one that isn't met. Of unknown outcome the call would be left out.
+    # It is wrong without a condition, and right under one that isn't met. Of unknown outcome the call would be left
+    # out.
     under_condition = index(0, condition(1, 5))
     return [([asked, HERE], no(1, 0)), ([*made(1, 0), under_condition, HERE], yes(2))]
 
@@ -156,7 +158,8 @@ TAKEN = [
     (
         '{"e":"call","n":2,"id":"d","op":"index","k":3,"if_primary_term":1,"if_seq_no":0}',
         [
-            # Its condition is 1/0: there is no conflict where the document is at that pair, and one where it is at another.
+            # Its condition is 1/0: there is no conflict where the document is at that pair, and one where it is at
+            # another.
             ([index(0), created(0, 1, 0), HERE, conflict(2)], no(3, 2)),
             ([index(0), created(0, 1, 1), HERE, conflict(2)], yes(2)),
             ([index(0), created(0, 2, 0), HERE, conflict(2)], yes(2)),
@@ -222,7 +225,8 @@ TAKEN = [
     (
         '{"e":"lost","n":18446744073709551615,"status":"x"}',
         [
-            # It ends the call with the greatest number, and tells nothing of it. As a reply it would be refused for its status.
+            # It ends the call with the greatest number, and tells nothing of it. As a reply it would be refused for its
+            # status.
             ([index(MOST_NUMBER), HERE], yes(1, left_out=1)),
             ([index(MOST_NUMBER), HERE, conflict(MOST_NUMBER)], refused(3, "ended")),
             ([index(MOST_NUMBER - 1), HERE], refused(2, "no-call")),
@@ -396,9 +400,9 @@ def members(names, numbers):
     return "".join(f',"{name}":{number}' for name, number in zip(names, numbers) if number is not None)
 
 
-def condition_trials(seq, term, pair):
-    """The numbers as a condition: of a call, for which there may be a conflict where the document is at another pair, and nowhere
-    else; and of a bulk's action, whose call line has them."""
+def condition_rows(seq, term, pair):
+    """The numbers as a condition: of a call, for which there may be a conflict where the document is at another pair,
+    and nowhere else; and of a bulk's action, whose call line has them."""
     rest = members(("if_seq_no", "if_primary_term"), (seq, term))
     action = f'{{"delete":{{"_id":"a"{rest}}}}}\n'
     if isinstance(pair, str):
@@ -412,7 +416,7 @@ def condition_trials(seq, term, pair):
     yield "bulk", [action, '{"items":[{"delete":{}}]}'], bulk
 
 
-def witness_trials(seq, term, pair):
+def witness_rows(seq, term, pair):
     """The numbers as the pair that a witness gives to a lost write; the get after it has to find the same."""
     witness = witness_of("d", []) + f'{{"rec":0{members(("seq", "term"), (seq, term))}}}\n{{"rec":1}}\n'
     for at in PAIRS_HELD:
@@ -470,7 +474,8 @@ BULKS = [
     ('{"delete":{"_id":"a"}}\r\n\n\t {}', NO_ITEMS, refused(3, "action")),
 ]
 
-# The body of the case `bulk`: an index, a delete and an index. The lines of its calls, and those that tell nothing of them.
+# The body of the case `bulk`: an index, a delete and an index. The lines of its calls, and those that tell nothing of
+# them.
 BODY = case_text("bulk", "body")
 CALLS = "".join(case_text("bulk", "stdout").splitlines(keepends=True)[:3])
 LOST = "".join(map(lost, range(3)))
@@ -501,12 +506,12 @@ WRITTEN = [
 ]
 
 
-def written_trial(action, status, fields, body):
+def written_row(action, status, fields, body):
     """A bulk of one item, and the lines that are written of it."""
     source, k = ('{"k":7}\n', ',"k":7') if action == "index" else ("", "")
     item = f'{{"{action}":{{"_id":"a","status":{status},{fields}}}}}'
-    told = written_call(0, action, "a", k) + written_reply(0, status, body)
-    return "bulk", [f'{{"{action}":{{"_id":"a"}}}}\n{source}', f'{{"items":[{item}]}}'], told
+    wanted = written_call(0, action, "a", k) + written_reply(0, status, body)
+    return "bulk", [f'{{"{action}":{{"_id":"a"}}}}\n{source}', f'{{"items":[{item}]}}'], wanted
 
 
 # How many calls and documents a run of one client has, in which gets find documents and miss them.
@@ -525,7 +530,8 @@ PARTS = [
         ("{}", refused(1, "shape")),
         ("{}\r\n\n\t x", refused(1, "shape")),
         ("{}\r\n\n\t x\n", refused(1, "shape")),
-        # The same with a first line that is taken: the third is told as the third, with a line feed and without, and read whole.
+        # The same with a first line that is taken: the third is told as the third, with a line feed and without, and
+        # read whole.
         (ASKED + "\r\n\n\t x", refused(3, "json")),
         (ASKED + "\r\n\n\t x\n", refused(3, "json")),
         (ASKED + "\r\n\n\t " + ANSWERED, yes(1)),
@@ -552,13 +558,6 @@ def spaced(line):
     return line.replace('":', '" :', 1)
 
 
-def line_shown(program, text, size):
-    """The status of a story of a refused line, its first line, and the refused line as the story shows it."""
-    status, out, err = run_by_parts(program, "explain", text, size)
-    first, *_, last = out.splitlines(keepends=True)
-    return status, first, last.strip() + err
-
-
 def gets_of(lines):
     """The gets in the lines of a run: the place of each reply, and what it has to be after the writes before it."""
     held = {}
@@ -573,7 +572,7 @@ def gets_of(lines):
             held[name] = None if asked["op"] == "delete" else f'{numbers},"_source":{{"k":{asked["k"]}}}'
 
 
-def history_trials():
+def history_rows():
     """The rows about lines of histories: the texts of a check, and its answers."""
     rows = list(TAKEN)
     for op, status, body, heard in REPLIES:
@@ -590,64 +589,82 @@ def history_trials():
         yield "".join(map(spaced, lines)), answer
 
 
-def text_trials():
+def text_rows():
     """The rows about texts in files: a command, its texts, and what it writes."""
-    yield from (("check", [text], wanted) for text, wanted in history_trials())
+    yield from (("check", [text], wanted) for text, wanted in history_rows())
     for row in PAIRS:
-        yield from condition_trials(*row)
-        yield from witness_trials(*row)
+        yield from condition_rows(*row)
+        yield from witness_rows(*row)
     yield from (("bulk", [body, answer], wanted) for body, answer, wanted in BULKS)
     yield from (("bulk", [BODY, answer], wanted) for answer, wanted in BULK_REPLIES)
-    yield from (written_trial(*row) for row in WRITTEN)
+    yield from (written_row(*row) for row in WRITTEN)
 
 
-def run_trials(program):
-    """What a run writes of gets, and how it is read back: what was found, and nothing else."""
-    text = text_of_run(program, calls=RUN_CALLS, docs=RUN_DOCS)
-    lines = text.splitlines(keepends=True)
-    gets = list(gets_of(lines))
-    yield Trial("gets of a run", lambda: [lines[at] for at, _ in gets], (), [wanted for _, wanted in gets])
-    yield Trial("kinds of replies to them", lambda: {json.loads(wanted)["status"] for _, wanted in gets}, (), {200, 404})
-    yield Trial("a run", run_on_files, (program, "check", [text]), answer_of(yes(RUN_CALLS, docs=RUN_DOCS)))
-    first_found = [(at, line) for at, line in gets if '"found":true' in line][:1]
-    for (at, line), name in itertools.product(first_found, ("k", "_seq_no", "_primary_term")):
-        other = "".join([*lines[:at], line.replace(f'"{name}":', f'"{name}":9'), *lines[at + 1 :]])
-        yield Trial(f"a run with another {name}", run_on_files, (program, "check", [other]), answer_of(no_writer(at, json.loads(line)["n"])))
+class Replies(ProgramTest):
+    """How texts are read, and what is written."""
 
+    def check_text(self, command, texts, wanted):
+        self.assertEqual(run_on_files(self.program, command, texts), answer_of(wanted))
 
-def quick_trials(program, folder):
-    """Which lines are read by the quick way: they ask for no more growths than an object with nothing in it. The others don't get
-    the next growth here, and so there is no answer to them."""
-    if not has_compiler("no growth was counted"):
-        return
-    growths = Growths(program, folder)
-    few = growths.count("{}")
-    for line, cause, is_quick in QUICK:
+    def test_texts(self):
+        rows = [(f"{command} {texts}", command, texts, wanted) for command, texts, wanted in text_rows()]
+        self.run_subtests(self.check_text, rows)
+
+    def check_parts(self, text, size, wanted):
+        self.assertEqual(run_by_parts(self.program, "check", text, size), answer_of(wanted))
+
+    def test_parts(self):
+        """Texts that are read so many bytes at a time."""
+        self.run_subtests(self.check_parts, [(f"{text} by {size}", text, size, wanted) for text, size, wanted in PARTS])
+
+    def check_shown(self, text, size, wanted, line):
+        status, out, err = run_by_parts(self.program, "explain", text, size)
+        first, *_, last = out.splitlines(keepends=True)
+        self.assertEqual((status, first, last.strip() + err), (2, wanted, line))
+
+    def test_shown_lines(self):
+        """The story of a refused line shows it."""
+        rows = itertools.product(SHOWN_LINES, (1, 2, 3, 64))
+        rows = [(f"the line of {text} by {size}", text, size, wanted, line) for (text, wanted, line), size in rows]
+        self.run_subtests(self.check_shown, rows)
+
+    def test_line_without_end(self):
+        """A line that is too long is refused before its end comes."""
+        for size in (4_096, 32_768):
+            with self.subTest(size=size):
+                ended = run_by_parts(self.program, "check", " " * (LINE_BYTES + 1), size, False)
+                self.assertEqual(ended, answer_of(refused(1, "long")))
+
+    def test_run(self):
+        """What a run writes of gets, and how it is read back: what was found, and nothing else."""
+        text = text_of_run(self.program, calls=RUN_CALLS, docs=RUN_DOCS)
+        lines = text.splitlines(keepends=True)
+        gets = list(gets_of(lines))
+        with self.subTest("the gets"):
+            self.assertEqual([lines[at] for at, _ in gets], [wanted for _, wanted in gets])
+        with self.subTest("the kinds of replies to them"):
+            self.assertEqual({json.loads(wanted)["status"] for _, wanted in gets}, {200, 404})
+        with self.subTest("the run as it is"):
+            self.check_text("check", [text], yes(RUN_CALLS, docs=RUN_DOCS))
+        at, line = next((at, line) for at, line in gets if '"found":true' in line)
+        for name in ("k", "_seq_no", "_primary_term"):
+            other = "".join([*lines[:at], line.replace(f'"{name}":', f'"{name}":9'), *lines[at + 1 :]])
+            with self.subTest(f"another {name}"):
+                self.check_text("check", [other], no_writer(at, json.loads(line)["n"]))
+
+    def check_growths(self, growths, few, line, cause, is_quick):
         wanted = ((2, refused(1, cause).encode(), b""), False) if is_quick else (NO_MEMORY, True)
-        yield Trial(f"growths of {line}", growths.check, (line, few), wanted)
+        self.assertEqual(growths.check(line, few), wanted)
 
-
-def trials(program, folder):
-    """All trials: a name, what is asked, of what, and the answer."""
-    for command, texts, wanted in text_trials():
-        yield Trial(f"{command} {texts}", run_on_files, (program, command, texts), answer_of(wanted))
-    for text, size, wanted in PARTS:
-        yield Trial(f"{text} by {size}", run_by_parts, (program, "check", text, size), answer_of(wanted))
-    for (text, wanted, line), size in itertools.product(SHOWN_LINES, (1, 2, 3, 64)):
-        yield Trial(f"the line of {text} by {size}", line_shown, (program, text, size), (2, wanted, line))
-    for size in (4_096, 32_768):
-        long_line = " " * (LINE_BYTES + 1)
-        wanted = answer_of(refused(1, "long"))
-        yield Trial(f"a line that doesn't end, by {size}", run_by_parts, (program, "check", long_line, size, False), wanted)
-    yield from run_trials(program)
-    yield from quick_trials(program, folder)
-
-
-def main():
-    program = built_program(sys.argv[1:])
-    with tempfile.TemporaryDirectory() as folder:
-        return try_and_tell(trials(program, folder))
+    @needs_compiler
+    def test_quick_lines(self):
+        """The lines that are read by the quick way ask for no more growths than an object with nothing in it. The
+        others don't get the next growth here, and so there is no answer to them."""
+        with tempfile.TemporaryDirectory() as folder:
+            growths = Growths(self.program, folder)
+            few = growths.count("{}")
+            self.run_subtests(self.check_growths, [(f"growths of {row[0]}", growths, few, *row) for row in QUICK])
 
 
 if __name__ == "__main__":
-    sys.exit(main())
+    sys.exit(run_tests())

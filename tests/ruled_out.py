@@ -3,13 +3,14 @@
 
     python3 tests/ruled_out.py [PROGRAM]
 
-PROGRAM is the built casbench; where it is not named, the one that ./casbench would run. Recordings have one fault each, of those
-that a cluster makes; small histories have one or more, and at most nine calls, so that an exact search tells whether they have an
-order. Where it tells one the program must not refute, and where it tells none the program must not answer yes, and only seldom no.
+PROGRAM is the built casbench; if it isn't named, the one that ./casbench would run. Recordings have one fault each, of
+those that a cluster makes; small histories have one or more, and at most nine calls, so that an exact search decides
+whether they have an order. If it finds one the program must not refute, and if it finds none the program must not
+answer yes, and only seldom no.
 
-What is told has to be the evidence of the four older kinds where a naive body finds it, and else the least call at which a naive
-body of the walk rules a document out, where it does. A witness and a story begin with the same line, and without the option the
-line is the same, but `no` for a document that is ruled out.
+The answer has to have the evidence of the four older kinds if a naive body finds it, and else the least call at which a
+naive body of the walk rules a document out, if it does. A witness and a story begin with the same line, and without the
+option the line is the same, but `no` for a document that is ruled out.
 """
 
 import json
@@ -19,18 +20,18 @@ from concurrent.futures import ProcessPoolExecutor
 from typing import Callable, NamedTuple
 
 import offences
+from case_files import all_cases
 from drawing import CONFLICT, MISSING, Call, Ending, Op, Reply, pair_taken, performed
 from evidence import first_evidence, holds, known_calls
 from exact import has_order
 from orders import text_of
 from placings import least_ruled_out
-from program import CASES, built_program, case_text
+from program_test import ProgramTest, run_tests
 from running import run, said
 from texts import OFFENCE, READINGS, status_of
-from trials import Trial, Wrong, tell, try_all
 
-# How many recordings there are, half with each percentage of lost calls, and in how many of them a document is ruled out at least, in
-# each reading.
+# How many recordings there are, half with each percentage of lost calls, and in how many of them a document is ruled
+# out at least, in each reading.
 RECORDINGS, LOST, RULED_OUT = 400, (5, 20), 80
 
 # How many small histories there are, how many calls each has at most, and how many of them have no order at least.
@@ -39,7 +40,7 @@ SMALL, CALLS, UNORDERED = 3_000, 9, 500
 # Of the small histories without an order, how many in a hundred may get no.
 MOST_NO = {"plain": 4, "maybe": 10}
 
-# The kinds of evidence that are told without the option too, and what is answered.
+# The kinds of evidence that are reported without the option too, and of answers.
 OLDER = ("pair-twice", "no-writer", "stale-get", "stale-swap")
 KINDS = ("yes", *OLDER, "ruled-out", "no")
 
@@ -71,7 +72,7 @@ class Cluster(offences.Clients):
 
     def answer(self, call):
         for due in self.faults:
-            reply = due.put(self, call) if due.since <= call.no else None
+            reply = due.put(self, call) if due.since <= call.number else None
             if reply:
                 self.faults.remove(due)
                 return reply
@@ -82,7 +83,7 @@ class Cluster(offences.Clients):
         return performed(self.states[call.doc], call.op, (1, self.seq))[0]
 
 
-# The faults. Each answers a call wrongly, and gives None where the call can't be answered so.
+# The faults. Each answers a call wrongly, and gives None if the call can't be answered so.
 
 
 def stale_get(index, call):
@@ -92,7 +93,7 @@ def stale_get(index, call):
 
 
 def lost_update(index, call):
-    """A write is told to be performed, and its document stays as it was."""
+    """A write is answered as performed, and its document stays as it was."""
     was = index.states[call.doc]
     if pair_taken(index.would_answer(call)) is None:
         return None
@@ -101,16 +102,16 @@ def lost_update(index, call):
     return reply
 
 
-def win_told_as_conflict(index, call):
-    """A write is performed, and told to be refused."""
+def win_as_conflict(index, call):
+    """A write is performed, and answered as refused."""
     if pair_taken(index.would_answer(call)) is None:
         return None
     index.rightly(call)
     return CONFLICT
 
 
-def conflict_told_as_win(index, call):
-    """A write is refused, and told to be performed."""
+def conflict_as_win(index, call):
+    """A write is refused, and answered as performed."""
     if index.would_answer(call) != CONFLICT:
         return None
     index.seq += 1
@@ -119,7 +120,7 @@ def conflict_told_as_win(index, call):
 
 
 def wrong_pair(index, call):
-    """The pair before or after the right one is told."""
+    """The reply has the pair before or after the right one."""
     reply = index.would_answer(call)
     if not reply.pair:
         return None
@@ -128,7 +129,7 @@ def wrong_pair(index, call):
 
 
 def wrong_flag(index, call):
-    """It is told that a document was there which wasn't, or the other way round."""
+    """The reply says that a document was there which wasn't, or the other way round."""
     reply = index.would_answer(call)
     if pair_taken(reply) is None or call.op.name == "create":
         return None
@@ -143,7 +144,7 @@ def pair_twice(index, call):
     return index.rightly(call)
 
 
-FAULTS = [stale_get, lost_update, win_told_as_conflict, conflict_told_as_win, wrong_pair, wrong_flag, pair_twice]
+FAULTS = [stale_get, lost_update, win_as_conflict, conflict_as_win, wrong_pair, wrong_flag, pair_twice]
 
 
 def setting_of(seed):
@@ -161,7 +162,8 @@ def recording(seed):
 
 
 def small_history(seed):
-    """The events of six to nine calls, of one document or two, with one to three faults; a third of the calls are lost."""
+    """The events of six to nine calls, of one document or two, with one to three faults; a third of the calls are
+    lost."""
     cluster = Cluster(seed, seed % 2 + 1)
     cluster.calls, cluster.lost = CALLS - cluster.draws.below(4), 33
     for _ in range(cluster.draws.below(3) + 1):
@@ -169,32 +171,33 @@ def small_history(seed):
     return cluster.recorded()
 
 
-# What is told of them.
+# How they are answered.
 
 
-def answer(program, command, text, reading, *words):
+def answer(program, command, text, reading, *options):
     """The first line that a command answers to the text."""
-    status, told = said(run(program, [command, "--conflicts", reading, *words], text))
-    line = "".join(told.splitlines(keepends=True)[:1])
+    status, out = said(run(program, [command, "--conflicts", reading, *options], text))
+    line = "".join(out.splitlines(keepends=True)[:1])
     if status != status_of(line):
-        raise Wrong(f"{line} with status {status}")
+        raise AssertionError(f"{line} with status {status}")
     return line
 
 
 def kind_of(line):
-    """The kind of evidence that the line tells; `no` where it tells none, and `yes`."""
-    told = OFFENCE.fullmatch(line)
-    return told["kind"] or "no" if told else line.partition(" ")[0]
+    """The kind of evidence that the line reports; `no` if it reports none, and `yes`."""
+    offence = OFFENCE.fullmatch(line)
+    return offence["kind"] or "no" if offence else line.partition(" ")[0]
 
 
 def evidence_of(line):
-    """The kind of evidence that the line tells, with the numbers of its calls; None where it tells none."""
-    told = OFFENCE.fullmatch(line)
-    return (told["kind"], tuple(map(int, told["calls"].split(",")))) if told and told["kind"] else None
+    """The kind of evidence that the line reports, with the numbers of its calls; None if it reports none."""
+    offence = OFFENCE.fullmatch(line)
+    return (offence["kind"], tuple(map(int, offence["calls"].split(",")))) if offence and offence["kind"] else None
 
 
 def naive_evidence(calls, reading):
-    """The evidence that the naive bodies tell: that of the four older kinds, else the least call at which a document is ruled out."""
+    """The evidence that the naive bodies find: that of the four older kinds, else the least call at which a document is
+    ruled out."""
     number = least_ruled_out(calls.values(), reading)
     return first_evidence(calls, reading) or (None if number is None else ("ruled-out", (number,)))
 
@@ -204,41 +207,41 @@ def without_option(line):
     return "no " + line[line.index("event=") :] if kind_of(line) == "ruled-out" else line
 
 
-def line_told(program, text, reading):
+def line_of(program, text, reading):
     """The line of a check with the option, which agrees with that of a check without it."""
-    line, other = (answer(program, "check", text, reading, *words) for words in (["--rule-out"], []))
+    line, other = (answer(program, "check", text, reading, *options) for options in (["--rule-out"], []))
     if other != without_option(line):
-        raise Wrong(f"{line}, and without the option {other}")
+        raise AssertionError(f"{line}, and without the option {other}")
     return line
 
 
 def judged(program, seed, reading):
-    """Judges a recording; tells the kind of its answer."""
+    """Judges a recording; returns the kind of its answer."""
     events = recording(seed)
-    line, calls = line_told(program, text_of(events), reading), known_calls(events)
+    line, calls = line_of(program, text_of(events), reading), known_calls(events)
     kind, evidence = kind_of(line), evidence_of(line)
-    # (the naive bodies take long where there are many calls; tests/evidence.py has them tell the older kinds)
+    # (the naive bodies take long if there are many calls; tests/evidence.py has them find the older kinds)
     if kind in ("no", "ruled-out") and evidence != naive_evidence(calls, reading):
-        raise Wrong(f"{line}, and the naive bodies tell {naive_evidence(calls, reading)}")
+        raise AssertionError(f"{line}, and the naive bodies find {naive_evidence(calls, reading)}")
     if kind in OLDER and not holds(kind, calls, evidence[1], reading):
-        raise Wrong(f"{line}, which doesn't hold")
+        raise AssertionError(f"{line}, which doesn't hold")
     return kind
 
 
 def judged_exactly(program, seed, reading):
-    """Judges a small history; tells the kind of its answer, and whether it has an order."""
+    """Judges a small history; returns the kind of its answer, and whether it has an order."""
     events = small_history(seed)
     text, calls = text_of(events), known_calls(events)
-    line, is_explained = line_told(program, text, reading), has_order(list(calls.values()), reading)
+    line, is_explained = line_of(program, text, reading), has_order(list(calls.values()), reading)
     kind = kind_of(line)
     if kind != "no" and (kind == "yes") != is_explained:
-        raise Wrong(f"{line}, and the exact search finds {'an' if is_explained else 'no'} order")
+        raise AssertionError(f"{line}, and the exact search finds {'an' if is_explained else 'no'} order")
     if kind != "yes":
         if evidence_of(line) != naive_evidence(calls, reading):
-            raise Wrong(f"{line}, and the naive bodies tell {naive_evidence(calls, reading)}")
+            raise AssertionError(f"{line}, and the naive bodies find {naive_evidence(calls, reading)}")
         others = [answer(program, command, text, reading, "--rule-out") for command in ("witness", "explain")]
         if others != [line, line]:
-            raise Wrong(f"{line}, and a witness and a story begin with {others}")
+            raise AssertionError(f"{line}, and a witness and a story begin with {others}")
     return kind, is_explained
 
 
@@ -246,7 +249,7 @@ def judged_exactly(program, seed, reading):
 
 
 def reply_of(row):
-    """The reply that the line of a case tells; None where it tells a loss."""
+    """The reply of a line of a case; None if it is a loss."""
     body = row.get("body", {})
     pair = (body["_primary_term"], body["_seq_no"]) if "_seq_no" in body else None
     if "result" in body:
@@ -270,19 +273,20 @@ def events_of(text):
             yield Ending(row["n"], reply_of(row))
 
 
-def judged_case(name, reading):
-    """Whether the history of a case has an order, and the evidence that the naive bodies tell."""
-    calls = known_calls(list(events_of(case_text(name))))
-    return has_order(list(calls.values()), reading), naive_evidence(calls, reading)
+def check_case(history, reading, line):
+    """The exact search and the naive bodies agree with the answer to a case."""
+    calls = known_calls(list(events_of(history)))
+    found = has_order(list(calls.values()), reading), naive_evidence(calls, reading)
+    if found != (kind_of(line) == "yes", evidence_of(line)):
+        raise AssertionError(f"{line}, and whether there is an order, and the evidence that is found: {found}")
 
 
-def case_trials():
-    """The cases that have the option, each judged as its answer is."""
-    for case in sorted(CASES.glob("*.args")):
-        words, line = case.read_text().split(), case_text(case.stem, "stdout")
-        if "--rule-out" in words:
-            reading = "maybe" if "maybe" in words else "plain"
-            yield Trial(case.stem, judged_case, (case.stem, reading), (kind_of(line) == "yes", evidence_of(line)))
+def case_rows():
+    """The cases that have the option."""
+    for name, texts in all_cases().items():
+        arguments = texts["args"].decode().split()
+        if "--rule-out" in arguments:
+            yield name, texts["history"].decode(), "maybe" if "maybe" in arguments else "plain", texts["stdout"].decode()
 
 
 # What came of them.
@@ -301,40 +305,44 @@ def print_table(reading, rows):
         print(f"{fault:32}" + "".join(f"{counts[fault, kind]:12}" for kind in KINDS))
 
 
-def wrong_of_recordings(reading, told):
-    """What is wrong with the answers to recordings, whose table is printed; those with their seeds are told."""
-    print_table(reading, [(row_of(seed), kind) for seed, kind in told])
-    count = sum(kind == "ruled-out" for _, kind in told)
-    return [f"{reading}: only {count} recordings are ruled out"] if count < RULED_OUT else []
+class RuledOut(ProgramTest):
+    """Drawn recordings and small histories, in each reading of a conflict."""
 
+    def judge_seeds(self, name, judge, count, reading):
+        """Judges so many seeds; returns the seeds, each with what is returned of it, but for those that are judged
+        wrongly."""
+        rows = [(f"{name} {seed}, {reading}", self.program, seed, reading) for seed in range(count)]
+        returned = self.run_subtests(judge, rows, ProcessPoolExecutor, chunksize=4)
+        return [(seed, it) for seed, it in enumerate(returned) if it]
 
-def wrong_of_small(reading, told):
-    """What is wrong with how many small histories have no order, and with how many of these get no."""
-    kinds = [kind for _, (kind, is_explained) in told if not is_explained]
-    counts = ", ".join(f"{kinds.count(kind)} {kind}" for kind in KINDS[1:])
-    print(f"{reading}: {len(kinds)} of {SMALL} small histories have no order: {counts}, which may be {MOST_NO[reading]} in a hundred")
-    missed = sum(kind == "no" and is_explained for _, (kind, is_explained) in told)
-    print(f"{reading}: {SMALL - len(kinds)} have an order, of which {missed} get no")
-    wrong = [f"{reading}: only {len(kinds)} small histories have no order"] if len(kinds) < UNORDERED else []
-    if kinds.count("no") * 100 > MOST_NO[reading] * len(kinds):
-        wrong.append(f"{reading}: {kinds.count('no')} of {len(kinds)} small histories without an order get no")
-    return wrong
+    def test_cases(self):
+        """The cases that have the option are answered as the naive bodies say."""
+        self.run_subtests(check_case, case_rows(), ProcessPoolExecutor, chunksize=4)
 
-
-def main():
-    program = built_program(sys.argv[1:])
-    drawn = [("recording", RECORDINGS, judged, wrong_of_recordings), ("small history", SMALL, judged_exactly, wrong_of_small)]
-    with ProcessPoolExecutor() as pool:
-        answers, wrong = try_all(list(case_trials()), pool, chunksize=4)
-        passed, counted = len(answers) - len(wrong), []
+    def test_recordings(self):
+        """Recordings with a fault are answered rightly. Enough of them are ruled out."""
         for reading in READINGS:
-            for name, seeds, ask, wrong_of in drawn:
-                trials = [Trial(f"{name} {seed}, {reading}", ask, (program, seed, reading)) for seed in range(seeds)]
-                told, others = try_all(trials, pool, chunksize=4)
-                passed, wrong = passed + len(trials) - len(others), wrong + others
-                counted += wrong_of(reading, [(seed, it) for seed, it in enumerate(told) if it])
-    return tell(passed, wrong + counted)
+            kinds = self.judge_seeds("recording", judged, RECORDINGS, reading)
+            print_table(reading, [(row_of(seed), kind) for seed, kind in kinds])
+            with self.subTest(f"how many are ruled out, {reading}"):
+                self.assertGreaterEqual(sum(kind == "ruled-out" for _, kind in kinds), RULED_OUT)
+
+    def test_small_histories(self):
+        """Small histories are answered as the exact search says. Enough of them have no order, and few of these get
+        no."""
+        for reading in READINGS:
+            returned = [it for _, it in self.judge_seeds("small history", judged_exactly, SMALL, reading)]
+            kinds = [kind for kind, is_explained in returned if not is_explained]
+            counts = ", ".join(f"{kinds.count(kind)} {kind}" for kind in KINDS[1:])
+            most = f"which may be {MOST_NO[reading]} in a hundred"
+            print(f"{reading}: {len(kinds)} of {SMALL} small histories have no order: {counts}, {most}")
+            missed = sum(kind == "no" and is_explained for kind, is_explained in returned)
+            print(f"{reading}: {SMALL - len(kinds)} have an order, of which {missed} get no")
+            with self.subTest(f"how many have no order, {reading}"):
+                self.assertGreaterEqual(len(kinds), UNORDERED)
+            with self.subTest(f"how many of these get no, {reading}"):
+                self.assertLessEqual(kinds.count("no") * 100, MOST_NO[reading] * len(kinds))
 
 
 if __name__ == "__main__":
-    sys.exit(main())
+    sys.exit(run_tests())

@@ -1,4 +1,4 @@
-"""Runs of the program: on words, on texts in files, and on texts that come a few bytes at a time.
+"""Runs of the program: with arguments, on texts in files, and on texts that come a few bytes at a time.
 
 It is no test itself. A run ends with its status and what was written on standard output and on standard error.
 """
@@ -12,6 +12,7 @@ import socket
 import socketserver
 import subprocess
 import tempfile
+import unittest
 
 from program import TOP
 
@@ -19,13 +20,13 @@ from program import TOP
 SECONDS = 120
 
 
-def run_words(seed=1, clients=1, calls=1, docs=1, copies=1, fault="none"):
-    """The words of a run of a group."""
+def run_arguments(seed=1, clients=1, calls=1, docs=1, copies=1, fault="none"):
+    """The arguments of a run of a group."""
     return f"run --seed {seed} --clients {clients} --calls {calls} --docs {docs} --copies {copies} --fault {fault}"
 
 
-def search_words(seeds="1-1", until="refuted", clients=1, calls=1, docs=1, copies=1, fault="none"):
-    """The words of a search through seeds for a run of a group that is refuted."""
+def search_arguments(seeds="1-1", until="refuted", clients=1, calls=1, docs=1, copies=1, fault="none"):
+    """The arguments of a search through seeds for a run of a group that is refuted."""
     setting = f"--clients {clients} --calls {calls} --docs {docs} --copies {copies} --fault {fault}"
     return f"run --until {until} --seeds {seeds} {setting}"
 
@@ -35,19 +36,19 @@ def bytes_of(text):
     return text.encode() if isinstance(text, str) else text
 
 
-def run(program, words, given="", **how):
-    """Runs the program with this text on standard input; tells how it ends."""
-    done = subprocess.run([program, *words], input=bytes_of(given), capture_output=True, timeout=SECONDS, **how)
+def run(program, arguments, given="", **how):
+    """Runs the program with this text on standard input; returns how it ends."""
+    done = subprocess.run([program, *arguments], input=bytes_of(given), capture_output=True, timeout=SECONDS, **how)
     return done.returncode, done.stdout.decode(), done.stderr.decode()
 
 
-def run_on_files(program, command, texts, words=()):
-    """The same of a command on files with these texts, and with more words behind them."""
+def run_on_files(program, command, texts, options=()):
+    """The same of a command on files with these texts, and with options behind them."""
     with tempfile.TemporaryDirectory() as folder:
         files = [pathlib.Path(folder) / str(at) for at, _ in enumerate(texts)]
         for file, text in zip(files, texts):
             file.write_bytes(bytes_of(text))
-        return run(program, [command, *files, *words])
+        return run(program, [command, *files, *options])
 
 
 def said(end):
@@ -64,17 +65,17 @@ def asked(program, command, *texts, conflicts="plain"):
 
 
 def text_of_run(program, **how):
-    """The text that a run of a group writes; how it is run is as for the words of a run."""
-    status, text = said(run(program, run_words(**how).split()))
+    """The text that a run of a group writes; how it is run is as for the arguments of a run."""
+    status, text = said(run(program, run_arguments(**how).split()))
     if status:
         raise OSError(f"a run ended with status {status}")
     return text
 
 
 @contextlib.contextmanager
-def started(words, **how):
-    """The words as they run, with both outputs at hand; they are ended at last, if they haven't by themselves."""
-    with subprocess.Popen(words, stdout=subprocess.PIPE, stderr=subprocess.PIPE, **how) as child:
+def started(command, **how):
+    """The command as it runs, with both outputs at hand; it is ended at last, if it hasn't by itself."""
+    with subprocess.Popen(command, stdout=subprocess.PIPE, stderr=subprocess.PIPE, **how) as child:
         try:
             yield child
         finally:
@@ -82,15 +83,16 @@ def started(words, **how):
 
 
 def ended(child, seconds=SECONDS):
-    """Waits for the end; tells how it ends."""
+    """Waits for the end; returns how it ends."""
     out, err = child.communicate(timeout=seconds)
     return child.returncode, out.decode(), err.decode()
 
 
-def fed(words, its, ours, text, size, is_ended, **how):
-    """How the words end that read the one end of a channel, where so many bytes of the text at a time are sent from the other end."""
+def fed(command, its, ours, text, size, is_ended, **how):
+    """How a command ends that reads the one end of a channel, if so many bytes of the text at a time are sent from the
+    other end."""
     given = bytes_of(text)
-    with ours, its, started(words, **how) as child:
+    with ours, its, started(command, **how) as child:
         its.close()
         with contextlib.suppress(BrokenPipeError, ConnectionResetError):  # (behind a line that is refused nothing is read)
             for at in range(0, len(given), size):
@@ -101,18 +103,18 @@ def fed(words, its, ours, text, size, is_ended, **how):
 
 
 def run_by_parts(program, command, text, size, is_ended=True):
-    """How a command ends where each read of standard input gives so many bytes of the text, and no more: a socket keeps the bounds of
-    what is sent. Where the text is not ended, the answer has to come all the same."""
+    """How a command ends if each read of standard input gives so many bytes of the text, and no more: a socket keeps
+    the bounds of what is sent. If the text is not ended, the answer has to come all the same."""
     its, ours = socket.socketpair(socket.AF_UNIX, socket.SOCK_SEQPACKET)
     return fed([program, command], its, ours, text, size, is_ended, stdin=its)
 
 
-def run_on_parts(program, words, text, size):
-    """The same of a file that is named behind the words: a pipe, which can be opened by a name, and keeps the bounds of 4096 bytes or
-    fewer."""
+def run_on_parts(program, arguments, text, size):
+    """The same of a file that is named behind the arguments: a pipe, which can be opened by a name, and keeps the
+    bounds of 4096 bytes or fewer."""
     its, ours = os.pipe2(os.O_DIRECT | os.O_CLOEXEC)
-    words = [program, *words, f"/dev/fd/{its}"]
-    return fed(words, open(its, "rb", 0), open(ours, "wb", 0), text, size, True, stdin=subprocess.DEVNULL, pass_fds=[its])
+    command = [program, *arguments, f"/dev/fd/{its}"]
+    return fed(command, open(its, "rb", 0), open(ours, "wb", 0), text, size, True, stdin=subprocess.DEVNULL, pass_fds=[its])
 
 
 def free_ports(count):
@@ -126,12 +128,8 @@ def free_ports(count):
     return ports
 
 
-def has_compiler(undone):
-    """Whether there is a C compiler here, cc; where there is none, it is told what is not done."""
-    if shutil.which("cc"):
-        return True
-    print(f"there is no C compiler here, cc, so {undone}")
-    return False
+# Tests that need a C compiler, cc, are skipped if there is none.
+needs_compiler = unittest.skipUnless(shutil.which("cc"), "there is no C compiler here, cc")
 
 
 def library_in(folder, name):

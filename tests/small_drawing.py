@@ -1,4 +1,5 @@
-"""Small histories that are drawn: three to eight calls, of one to three documents on one shard or two, honest ones and changed ones.
+"""Small histories that are drawn: three to eight calls, of one to three documents on one shard or two, honest ones and
+changed ones.
 
 It is no test itself; tests/small_histories.py judges them.
 """
@@ -24,7 +25,7 @@ class Small(NamedTuple):
 
 
 def own_shard(doc):
-    """The shard of a document, where the second one is on a shard of its own."""
+    """The shard of a document, if the second one is on a shard of its own."""
     return doc % 2
 
 
@@ -41,7 +42,7 @@ def recorded(draws, seed):
 
 
 def pair_in(event):
-    """The pair that an event shows or asks for; None where there is none."""
+    """The pair that an event shows or asks for; None if there is none."""
     if isinstance(event, Call):
         return event.op.condition
     return event.reply and event.reply.pair
@@ -55,8 +56,8 @@ def with_pair(event, pair):
 
 
 def drawn_pairs(draws, count):
-    """So many pairs in their order, close together or with room between: from the least one on, up to the greatest one, or about the
-    end of a term."""
+    """So many pairs in their order, close together or with room between: from the least one on, up to the greatest one,
+    or about the end of a term."""
     offsets = [0]
     for _ in range(count - 1):
         offsets.append(offsets[-1] + draws.one_of(STEPS))
@@ -106,11 +107,11 @@ def other_reply(draws, op, events):
 
 def change_reply(draws, events):
     """Changes one reply."""
-    operations = {it.no: it.op for it in events if isinstance(it, Call)}
+    operations = {it.number: it.op for it in events if isinstance(it, Call)}
     replies = [at for at, it in enumerate(events) if isinstance(it, Ending) and it.reply]
     if replies:
         at = draws.one_of(replies)
-        events[at] = events[at]._replace(reply=other_reply(draws, operations[events[at].no], events))
+        events[at] = events[at]._replace(reply=other_reply(draws, operations[events[at].number], events))
 
 
 def change_pair(draws, events):
@@ -122,9 +123,9 @@ def change_pair(draws, events):
 
 
 def change_places(draws, events):
-    """Has an event change places with the next one, where that isn't of the same call."""
+    """Has an event change places with the next one, if that isn't of the same call."""
     at = draws.below(len(events) - 1)
-    if events[at].no != events[at + 1].no:
+    if events[at].number != events[at + 1].number:
         events[at : at + 2] = events[at + 1], events[at]
 
 

@@ -3,18 +3,18 @@
 
     python3 tests/small_histories.py [PROGRAM]
 
-PROGRAM is the built casbench; where it is not named, the one that ./casbench would run. The histories are those of
+PROGRAM is the built casbench; if it isn't named, the one that ./casbench would run. The histories are those of
 tests/small_drawing.py, each in both readings of a conflict. What has to hold of every one of them is:
 
-- `yes` is answered only where there is an order.
-- `refuted` is answered only where there is none, with --rule-out and without it.
+- `yes` is answered only if there is an order.
+- `refuted` is answered only if there is none, with --rule-out and without it.
 - With --rule-out the line is the same, or it is `refuted kind=ruled-out` in the place of `no`.
 - What README says in SENTENCES.
-- `explain` begins with the line of `check`; it says that this is proved, or that there is no order, only where there is none; and the
-  reason that it names is that of the line.
+- `explain` begins with the line of `check`; it says that this is proved, or that there is no order, only if there is
+  none; and the reason that it names is that of the line.
 
-Some fixed histories show what is not promised: that a `no` is proved where a write may have been performed that no reply tells of, and
-that every history without an order is refuted.
+Some fixed histories show what is not promised: that a `no` is proved if a write may have been performed that no reply
+shows, and that every history without an order is refuted.
 """
 
 import sys
@@ -24,14 +24,14 @@ from typing import NamedTuple
 
 from drawing import lines
 from evidence import known_calls
-from exact import has_order, is_told, one_shard
-from program import TOP, built_program
+from exact import has_order, has_known_outcome, one_shard
+from program import TOP
+from program_test import ProgramTest, run_tests
 from ruled_out import answer, events_of, kind_of, without_option
 from running import asked, run, said
 from small_drawing import small_history
 from texts import MOST_OF_PAIR, READINGS, condition, conflict, created, delete, found, get, index, lost, no, places_of, refuted, status_of
 from texts import verified, witness_of
-from trials import Trial, Wrong, tell, try_all
 
 # How many histories are drawn. In each reading, how many of them have to be of each kind at least.
 DRAWN = 20_000
@@ -46,23 +46,23 @@ LEAST = {
     "unsettled, no order, refuted": 500,
 }
 
-# What README says, word for word. The first one is looked at in each settled history that gets `no`; of the second one the first half in
-# each that has an order, and the second half by the fixed histories.
+# What README says, word for word. The first one is checked in each settled history that gets `no`; of the second one
+# the first half in each that has an order, and the second half by the fixed histories.
 SENTENCES = (
     "Where every write has a reply (under `--conflicts maybe`, a reply other than a conflict), a `no` is proved: there is no order",
     "With `--rule-out` a `no` never becomes `refuted` if an order exists; not every history without an order is refuted",
 )
 
-# How the sentence begins that tells how sure a story is.
+# How the sentence begins that says how sure a story is.
 EVIDENT = "This is proved by evidence:"
-TOLD_RULED_OUT = "This is proved, since the document is ruled out:"
+LINE_RULED_OUT = "This is proved, since the document is ruled out:"
 RULED_OUT = "This is proved, though the line says no more than `no`:"
 ANSWERED = "This is proved: every write was answered,"
 DOCUMENT_ANSWERED = "This is proved: every write of this document was answered,"
 UNDECIDED = "This `no` is undecided, so it accuses nobody:"
-WEIGHTS = (EVIDENT, TOLD_RULED_OUT, RULED_OUT, ANSWERED, DOCUMENT_ANSWERED, UNDECIDED)
+WEIGHTS = (EVIDENT, LINE_RULED_OUT, RULED_OUT, ANSWERED, DOCUMENT_ANSWERED, UNDECIDED)
 
-# What a story says only where there is no order.
+# What a story says only if there is no order.
 PROVED = ("This is proved", "no order of the calls explains", "No order of the calls explains")
 
 
@@ -77,7 +77,7 @@ class History(NamedTuple):
 
 def is_settled(calls, reading):
     """Whether each write has a reply, under maybe one other than a conflict."""
-    return all(it.op.name == "get" or is_told(it, reading) for it in calls)
+    return all(it.op.name == "get" or has_known_outcome(it, reading) for it in calls)
 
 
 def history_of(events, shard_of, reading):
@@ -87,75 +87,75 @@ def history_of(events, shard_of, reading):
     return History(text, reading, is_settled(calls, reading), has_order(calls, reading, shard_of))
 
 
-def story(program, history, line, *words):
+def story_of(program, history, line, *options):
     """The story of the history, which begins with this line."""
-    status, told = said(run(program, ["explain", "--conflicts", history.reading, *words], history.text))
-    if not told.startswith(line) or status != status_of(line):
-        raise Wrong(f"{line}, and a story begins with {told[:100]} and has the status {status}")
-    return told
+    status, story = said(run(program, ["explain", "--conflicts", history.reading, *options], history.text))
+    if not story.startswith(line) or status != status_of(line):
+        raise AssertionError(f"{line}, and a story begins with {story[:100]} and has the status {status}")
+    return story
 
 
-def weight_of(told):
-    """How the sentence of a story begins that tells how sure it is; None where there is none."""
-    begun = [it for it in WEIGHTS if f"\n{it}" in told]
+def weight_of(story):
+    """How the sentence of a story begins that says how sure it is; None if there is none."""
+    begun = [it for it in WEIGHTS if f"\n{it}" in story]
     if len(begun) > 1:
-        raise Wrong(f"a story says {begun}")
+        raise AssertionError(f"a story says {begun}")
     return begun[0] if begun else None
 
 
 def weights_that_fit(line, ruled_out, is_settled):
-    """How that sentence may begin, where a check answers these lines, the second one with --rule-out."""
+    """How that sentence may begin, if a check answers these lines, the second one with --rule-out."""
     kind = kind_of(line)
     if kind == "yes":
         return {None}
     if kind != "no":
-        return {TOLD_RULED_OUT} if kind == "ruled-out" else {EVIDENT}
-    # (a story tells why a document is ruled out, also where the line doesn't)
+        return {LINE_RULED_OUT} if kind == "ruled-out" else {EVIDENT}
+    # (a story says why a document is ruled out, also if the line doesn't)
     by_itself = {ANSWERED} if is_settled else {DOCUMENT_ANSWERED, UNDECIDED}
     return by_itself | {RULED_OUT} if kind_of(ruled_out) == "ruled-out" else by_itself
 
 
-def look_at_line(history, line):
-    """Looks whether the line may be answered."""
+def check_line(history, line):
+    """The line may be the answer to the history."""
     kind = kind_of(line)
     if kind == "yes" and not history.is_explained:
-        raise Wrong(f"{line}, and there is no order")
+        raise AssertionError(f"{line}, and there is no order")
     if kind not in ("yes", "no") and history.is_explained:
-        raise Wrong(f"{line}, and there is an order")
+        raise AssertionError(f"{line}, and there is an order")
     if kind == "no" and history.is_settled and history.is_explained:
-        raise Wrong(f"{line}, each write has a reply that tells what became of it, and there is an order")
+        raise AssertionError(f"{line}, each write has a reply that shows what became of it, and there is an order")
 
 
-def look_at_story(history, line, ruled_out, told):
-    """Looks whether the story may be told of the history that gets the line, and with --rule-out the other one."""
-    if history.is_explained and any(it in told for it in PROVED):
-        raise Wrong(f"there is an order, and a story says: {told[:600]}")
-    if weight_of(told) not in weights_that_fit(line, ruled_out, history.is_settled):
-        raise Wrong(f"{line}, and a story says: {told[:600]}")
+def check_story(history, line, ruled_out, story):
+    """The story may be that of the history that gets the line, and with --rule-out the other one."""
+    if history.is_explained and any(it in story for it in PROVED):
+        raise AssertionError(f"there is an order, and a story says: {story[:600]}")
+    if weight_of(story) not in weights_that_fit(line, ruled_out, history.is_settled):
+        raise AssertionError(f"{line}, and a story says: {story[:600]}")
 
 
 def judged(program, history):
-    """Judges a history; tells the lines of `check` and of `check --rule-out`."""
-    line, ruled_out = (answer(program, "check", history.text, history.reading, *words) for words in ([], ["--rule-out"]))
+    """Judges a history; returns the lines of `check` and of `check --rule-out`."""
+    line, ruled_out = (answer(program, "check", history.text, history.reading, *options) for options in ([], ["--rule-out"]))
     if without_option(ruled_out) != line or kind_of(line) == "ruled-out":
-        raise Wrong(f"{line}, and with --rule-out {ruled_out}")
+        raise AssertionError(f"{line}, and with --rule-out {ruled_out}")
     for it in (line, ruled_out):
-        look_at_line(history, it)
-    look_at_story(history, line, ruled_out, story(program, history, line))
+        check_line(history, it)
+    check_story(history, line, ruled_out, story_of(program, history, line))
     if ruled_out != line:
-        look_at_story(history, ruled_out, ruled_out, story(program, history, ruled_out, "--rule-out"))
+        check_story(history, ruled_out, ruled_out, story_of(program, history, ruled_out, "--rule-out"))
     return line, ruled_out
 
 
 def judged_small(program, seed):
-    """Judges a small history in both readings; tells of each its kind."""
+    """Judges a small history in both readings; returns its kind in each."""
     small = small_history(seed)
-    return [kind_told(program, history_of(*small, reading)) for reading in READINGS]
+    return [kind_in_words(program, history_of(*small, reading)) for reading in READINGS]
 
 
-def kind_told(program, history):
-    """Judges a history; tells its kind in words: whether it is settled, whether it has an order, and its answer without --rule-out,
-    then with it where that is another one."""
+def kind_in_words(program, history):
+    """Judges a history; returns its kind in words: whether it is settled, whether it has an order, and its answer
+    without --rule-out, then with it if that is another one."""
     words = ["settled" if history.is_settled else "unsettled", "an order" if history.is_explained else "no order"]
     for line in dict.fromkeys(judged(program, history)):
         words.append(("then " if line.startswith("refuted kind=ruled-out ") else "") + line.partition(" ")[0])
@@ -176,10 +176,11 @@ NEEDED_TWICE = index(0) + created(0, 1, 0) + delete(1) + lost(1) + index(2, k=2)
 # A write without a reply, whose number a get found at the version of another write.
 OTHER_NUMBER = index(0) + created(0, 1, 0) + index(1, k=7) + lost(1) + get(2) + found(2, 1, 0, k=7)
 
-# Name, text, reading, the lines of `check` and of `check --rule-out`, whether each write is settled, and whether there is an order.
+# Name, text, reading, the lines of `check` and of `check --rule-out`, whether each write is settled, and whether there
+# is an order.
 FIXED = [
     ("a hidden write", HIDDEN, "maybe", no(3, 1), no(3, 1), False, True),
-    ("the same where nothing is hidden", HIDDEN, "plain", no(3, 1), refuted("ruled-out", 1, 3, 1), True, False),
+    ("the same if nothing is hidden", HIDDEN, "plain", no(3, 1), refuted("ruled-out", 1, 3, 1), True, False),
 ]
 FIXED += [("a delete that is needed twice", NEEDED_TWICE, it, no(7, 3), no(7, 3), False, False) for it in READINGS]
 FIXED += [("a number of another version", OTHER_NUMBER, it, no(5, 2), no(5, 2), False, False) for it in READINGS]
@@ -188,50 +189,39 @@ FIXED += [("a number of another version", OTHER_NUMBER, it, no(5, 2), no(5, 2), 
 HIDDEN_ORDER = witness_of("d", places_of(f"0 1={MOST_OF_PAIR}/1 2"))
 
 
-def judged_fixed(program, text, reading):
-    """Judges a fixed history; tells both lines, whether it is settled, and whether it has an order."""
-    events = list(events_of(text))
-    history = history_of(events, one_shard, reading)._replace(text=text)
-    return (*judged(program, history), history.is_settled, history.is_explained)
+class SmallHistories(ProgramTest):
+    """Small histories, fixed and drawn."""
 
+    def check_fixed(self, text, reading, *wanted):
+        history = history_of(list(events_of(text)), one_shard, reading)._replace(text=text)
+        self.assertEqual((*judged(self.program, history), history.is_settled, history.is_explained), wanted)
 
-def verify_maybe(program, text, order):
-    """What is said of an order of the history, where a conflict may hide a write."""
-    return asked(program, "verify", text, order, conflicts="maybe")
+    def test_fixed(self):
+        """The fixed histories get their lines, are settled or not, and have an order or not."""
+        self.run_subtests(self.check_fixed, [(f"{name}, {reading}", text, reading, *wanted) for name, text, reading, *wanted in FIXED])
 
+    def test_order_of_hidden_write(self):
+        """The order of a history is verified, if a conflict may hide a write."""
+        self.assertEqual(asked(self.program, "verify", HIDDEN, HIDDEN_ORDER, conflicts="maybe"), (0, verified(3)))
 
-def is_in_readme(sentence):
-    """Whether README has the sentence, wherever its lines end and whatever of it is bold."""
-    readme = (TOP / "README.md").read_text(encoding="utf-8").replace("**", "")
-    return sentence in " ".join(readme.split())
+    def test_sentences(self):
+        """README has the sentences, wherever its lines end and whatever of it is bold."""
+        readme = (TOP / "README.md").read_text(encoding="utf-8").replace("**", "")
+        for sentence in SENTENCES:
+            with self.subTest(sentence):
+                self.assertIn(sentence, " ".join(readme.split()))
 
-
-def fixed_trials(program):
-    """The fixed histories, each with what has to be told of it."""
-    for name, text, reading, *wanted in FIXED:
-        yield Trial(f"{name}, {reading}", judged_fixed, (program, text, reading), tuple(wanted))
-    for sentence in SENTENCES:
-        yield Trial(sentence, is_in_readme, (sentence,))
-    yield Trial("an order of a hidden write", verify_maybe, (program, HIDDEN, HIDDEN_ORDER), (0, verified(3)))
-
-
-def counted(told):
-    """Tells how many histories are of each kind in each reading, and of which there are too few."""
-    for reading, kinds in zip(READINGS, zip(*filter(None, told))):
-        counts = Counter(kinds)
-        print(f"{reading}: " + "; ".join(f"{counts[it]} {it}" for it in sorted(counts)))
-        yield from (f"{reading}: {counts[it]} {it}, which are fewer than {least}" for it, least in LEAST.items() if counts[it] < least)
-
-
-def main():
-    program = built_program(sys.argv[1:])
-    fixed = list(fixed_trials(program))
-    drawn = [Trial(f"small history {seed}", judged_small, (program, seed)) for seed in range(DRAWN)]
-    with ProcessPoolExecutor() as pool:
-        told, wrong = try_all(fixed + drawn, pool, chunksize=20)
-    passed = len(told) - len(wrong)
-    return tell(passed, wrong + list(counted(told[len(fixed) :])))
+    def test_drawn(self):
+        """Drawn histories, enough of which are of each kind in each reading."""
+        rows = [(f"small history {seed}", self.program, seed) for seed in range(DRAWN)]
+        returned = self.run_subtests(judged_small, rows, ProcessPoolExecutor, chunksize=20)
+        for reading, kinds in zip(READINGS, zip(*filter(None, returned))):
+            counts = Counter(kinds)
+            print(f"{reading}: " + "; ".join(f"{counts[it]} {it}" for it in sorted(counts)))
+            for kind, least in LEAST.items():
+                with self.subTest(f"how many are {kind}, {reading}"):
+                    self.assertGreaterEqual(counts[kind], least)
 
 
 if __name__ == "__main__":
-    sys.exit(main())
+    sys.exit(run_tests())

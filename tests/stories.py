@@ -1,12 +1,13 @@
 #!/usr/bin/env python3
-"""Has the built program tell stories, with a page and without, and looks at what they say.
+"""Has the built program write stories, with a page and without, and checks what they say.
 
     python3 tests/stories.py [PROGRAM]
 
-PROGRAM is the built casbench; where it is not named, the one that ./casbench would run. The history of each text case is
-told: the story begins with the line of a check and ends with its status, and is the same where a page is written too. The
-texts below are told too: one with an id that is markup, two that are too long to be told whole, and some that were written by
-hand for the reasons that a story gives. What is wanted of those follows from the rules of the register, and not from the program.
+PROGRAM is the built casbench; if it isn't named, the one that ./casbench would run. The history of each text case gets
+a story: it begins with the line of a check and ends with its status, and is the same if a page is written too. The
+texts below get one too: a text with an id that is markup, two that are too long for a whole story, and some that were
+written by hand for the reasons that a story gives. What is wanted of those follows from the rules of the register, and
+not from the program.
 """
 
 import datetime
@@ -14,11 +15,11 @@ import pathlib
 import sys
 import tempfile
 
-from program import CASES, built_program
-from running import run, said
+from case_files import all_cases
+from program_test import ProgramTest, run_tests
+from running import bytes_of, run, said
 from texts import MOST_OF_PAIR, READINGS, condition, conflict, create, created, delete, deleted, found, get, index, lost, missing, no
 from texts import no_writer, refuted, updated
-from trials import Trial, Wrong, try_and_tell
 
 # A get of what nobody wrote, of a document with markup for its id, after blank lines.
 MARKUP = "\n\n" + get(0, doc=r"<script>alert(\"1\")</script>&") + "\n" + found(0, 1, 0, k=2)
@@ -56,7 +57,7 @@ TIMED = (
 )
 
 # Name, text, how the story begins, what it has, and how often the page has what.
-TOLD = [
+TEXTS = [
     (
         "lines that tell when they were written",
         TIMED,
@@ -103,8 +104,8 @@ TOLD = [
 ]
 
 
-# An order may be there that was not found: one write without a reply is needed twice, for a version that a get shows and for a
-# conflict.
+# An order may be there that was not found: one write without a reply is needed twice, for a version that a get shows
+# and for a conflict.
 NEEDED_TWICE = (
     index(0) + created(0, 1, 0) + index(1, k=9) + lost(1) + get(2) + found(2, 1, 1, k=9)
     + index(3, condition(1, 1), k=2) + updated(3, 1, 2) + index(4, condition(1, 2), k=4) + conflict(4)
@@ -120,7 +121,7 @@ TWO_DOCUMENTS = (
 # The line of the write stands behind the reply to the get that shows it.
 LATE_LINE = get(1) + found(1, 1, 0, k=1) + index(0) + created(0, 1, 0)
 
-TOLD += [
+TEXTS += [
     (
         "a write that is needed twice",
         NEEDED_TWICE,
@@ -169,8 +170,8 @@ TOLD += [
 # The greatest pair.
 GREATEST = MOST_OF_PAIR, MOST_OF_PAIR
 
-# Documents that are ruled out, each by a call that has no place. Name, text, the reply at which the search fails and its call and the
-# call that has no place, what the story has, and what the page has how often.
+# Documents that are ruled out, each by a call that has no place. Name, text, the reply at which the search fails and
+# its call and the call that has no place, what the story has, and what the page has how often.
 RULED_OUT = [
     (
         "an index without a condition that met a conflict, and a lost write elsewhere",
@@ -423,69 +424,68 @@ RULED_OUT = [
 ]
 
 
-def story(program, history, *words):
-    """The story of a history and its page, where it is the same without a page and begins as a check answers."""
-    with tempfile.TemporaryDirectory() as folder:
-        page = pathlib.Path(folder) / "page"
-        with_page = said(run(program, ["explain", history, "--html", page, *words]))
-        text = page.read_text()
-    without_page = said(run(program, ["explain", history, *words]))
-    status, line = said(run(program, ["check", history, *words]))
-    if without_page != with_page or with_page[0] != status or not with_page[1].startswith(f"{line}\n"):
-        raise Wrong(f"{line}, {with_page}, and without a page {without_page}")
-    return with_page[1], text
+class Stories(ProgramTest):
+    """Stories, each with a page and without."""
 
+    def story_of(self, text, *options):
+        """The story of a history and its page. It is the same without a page, and begins with the answer of a check."""
+        with tempfile.TemporaryDirectory() as folder:
+            history, page = (pathlib.Path(folder) / name for name in ("history", "page"))
+            history.write_bytes(bytes_of(text))
+            with_page = said(run(self.program, ["explain", history, "--html", page, *options]))
+            page_text = page.read_text()
+            without_page = said(run(self.program, ["explain", history, *options]))
+            status, line = said(run(self.program, ["check", history, *options]))
+        self.assertEqual(without_page, with_page)
+        self.assertEqual(with_page[0], status)
+        self.assertEqual(with_page[1][: len(line) + 1], f"{line}\n")
+        return with_page[1], page_text
 
-def case_is_told(program, history, reading):
-    """Whether the story of a case's history begins as it should, and there is a page of it."""
-    _, page = story(program, history, "--conflicts", reading)
-    return page.startswith("<!doctype html>")
+    def check_counts(self, page, counts):
+        """Each text stands in the page as often as it may."""
+        for part, allowed in counts.items():
+            self.assertIn(page.count(part), allowed, part)
 
+    def check_case(self, history, reading):
+        _, page = self.story_of(history, "--conflicts", reading)
+        self.assertTrue(page.startswith("<!doctype html>"))
 
-def text_is_told(program, text, begins, parts, counts, *words):
-    """Whether the story of the text begins so and has these parts, and the page has what it should so often."""
-    with tempfile.TemporaryDirectory() as folder:
-        history = pathlib.Path(folder) / "history"
-        history.write_text(text)
-        told, page = story(program, history, *words)
-    return told.startswith(begins) and all(it in told for it in parts) and all(page.count(it) in often for it, often in counts.items())
+    def test_cases(self):
+        """The history of each text case has a story with its answer, and a page."""
+        histories = {name: texts["history"] for name, texts in all_cases().items() if "history" in texts}
+        rows = [(f"{name}, {reading}", history, reading) for name, history in histories.items() for reading in READINGS]
+        self.run_subtests(self.check_case, rows)
 
+    def check_text(self, text, begins, parts, counts, *options):
+        story, page = self.story_of(text, *options)
+        self.assertEqual(story[: len(begins)], begins)
+        for part in parts:
+            self.assertIn(part, story)
+        self.check_counts(page, counts)
 
-def reason_is_told(program, text, place, parts, counts):
-    """Whether the story of the text gives the reason why its document is ruled out: the same where the line says so, and where it
-    says no more than no."""
-    event, number, stop = place
-    first = "\n\nThe replies contradict one another: no order of the calls explains them.\nThis is proved, "
-    with tempfile.TemporaryDirectory() as folder:
-        history = pathlib.Path(folder) / "history"
-        history.write_text(text)
-        plain, page = story(program, history)
-        ruled_out, _ = story(program, history, "--rule-out")
-    begins = [no(event, number)[:-1] + first + "though", refuted("ruled-out", stop, event, number)[:-1] + first + "since"]
-    if not plain.startswith(begins[0]) or not ruled_out.startswith(begins[1]):
-        raise Wrong(f"{plain[:300]}, and with the option {ruled_out[:300]}")
-    reasons = [it[it.index("\nWhy no order can have these replies:\n") :] for it in (plain, ruled_out)]
-    parts = [*parts, f"\nSo no order has a place for call {stop} and its reply. This is proved", "\nThe calls that matter, "]
-    for it in parts:
-        if it not in plain:
-            raise Wrong(f"no {it!r} in {plain}")
-    return reasons[0] == reasons[1] and all(page.count(it) in often for it, often in counts.items())
+    def test_texts(self):
+        """A story begins as it should and has its parts, and so has its page."""
+        self.run_subtests(self.check_text, TEXTS)
 
+    def check_reason(self, text, place, parts, counts):
+        event, number, stop = place
+        first = "\n\nThe replies contradict one another: no order of the calls explains them.\nThis is proved, "
+        plain, page = self.story_of(text)
+        ruled_out, _ = self.story_of(text, "--rule-out")
+        for story, line, more in ((plain, no(event, number), "though"), (ruled_out, refuted("ruled-out", stop, event, number), "since")):
+            begins = line[:-1] + first + more
+            self.assertEqual(story[: len(begins)], begins)
+        for part in [*parts, f"\nSo no order has a place for call {stop} and its reply. This is proved", "\nThe calls that matter, "]:
+            self.assertIn(part, plain)
+        reasons = [it[it.index("\nWhy no order can have these replies:\n") :] for it in (plain, ruled_out)]
+        self.assertEqual(*reasons)
+        self.check_counts(page, counts)
 
-def trials(program):
-    """All trials: a name, what is asked, and of what."""
-    for history in sorted(CASES.glob("*.history")):
-        for reading in READINGS:
-            yield Trial(f"{history.stem}, {reading}", case_is_told, (program, history, reading))
-    for name, *row in TOLD:
-        yield Trial(name, text_is_told, (program, *row))
-    for name, *row in RULED_OUT:
-        yield Trial(name, reason_is_told, (program, *row))
-
-
-def main():
-    return try_and_tell(trials(built_program(sys.argv[1:])))
+    def test_reasons(self):
+        """A story gives the reason why its document is ruled out: the same with the option, whose line says so, and
+        without it."""
+        self.run_subtests(self.check_reason, RULED_OUT)
 
 
 if __name__ == "__main__":
-    sys.exit(main())
+    sys.exit(run_tests())

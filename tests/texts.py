@@ -5,8 +5,8 @@ It is no test itself; the tests write their texts with it, and what is wanted of
 
 import re
 
-# The most bytes of a line and of an id, the most lines of a text, the most events of a history, the most documents and places of a
-# witness, and how deep values may stand in one another.
+# The most bytes of a line and of an id, the most lines of a text, the most events of a history, the most documents and
+# places of a witness, and how deep values may stand in one another.
 LINE_BYTES, ID_BYTES, LINES, EVENTS, ITEMS, DEPTH = 65_536, 512, 4_194_304, 1_048_576, 2_097_152, 127
 
 # The greatest number of a call, the greatest of a pair, and the greatest record.
@@ -21,7 +21,7 @@ def nested(depth):
     return "[" * depth + "]" * depth
 
 
-# Calls. Where no document is named it is d; more members stand each after a comma.
+# Calls. If no document is named it is d; more members stand each after a comma.
 
 
 def call(n, op, more="", doc="d"):
@@ -50,7 +50,7 @@ def condition(term, seq):
     return f',"if_primary_term":{term},"if_seq_no":{seq}'
 
 
-# Endings of calls. Where a document is named its id stands in the body.
+# Endings of calls. If a document is named its id stands in the body.
 
 
 def lost(n):
@@ -85,7 +85,7 @@ def deleted(n, term, seq, doc=""):
 
 
 def not_found(n, term, seq, doc=""):
-    """The reply to a delete that was performed where the document was not there."""
+    """The reply to a delete that was performed though the document was not there."""
     return performed(n, 404, "not_found", term, seq, doc)
 
 
@@ -123,18 +123,19 @@ def pair_of(word):
 
 def places_of(words):
     """The places: `0 1=3/2` is the record 0, and the record 1 with the pair 3/2."""
-    return [(int(rec), pair_of(pair) if pair else None) for rec, _, pair in (it.partition("=") for it in words.split())]
+    parts = (it.partition("=") for it in words.split())
+    return [(int(record), pair_of(pair) if pair else None) for record, _, pair in parts]
 
 
 def witness_of(doc, places):
     """The lines of a document with these places."""
     rows = ['{"doc":"%s"}\n' % doc]
-    for rec, pair in places:
-        rows.append('{"rec":%d}\n' % rec if pair is None else '{"rec":%d,"seq":%d,"term":%d}\n' % (rec, pair[1], pair[0]))
+    for record, pair in places:
+        rows.append('{"rec":%d}\n' % record if pair is None else '{"rec":%d,"seq":%d,"term":%d}\n' % (record, pair[1], pair[0]))
     return "".join(rows)
 
 
-# Answers. Where no count of documents is named it is one.
+# Answers. If no count of documents is named it is one.
 
 
 def yes(calls, left_out=0, docs=1):
@@ -146,38 +147,38 @@ def verified(calls, left_out=0, docs=1):
 
 
 def no(event, number):
-    """The answer where no order is found; this reply, to the call with this number, is named."""
+    """The answer if no order is found; this reply, to the call with this number, is named."""
     return f"no event={event} call={number} before=shown\n"
 
 
 def refuted(kind, calls, event, number):
-    """The answer where these calls are evidence of the kind."""
+    """The answer if these calls are evidence of the kind."""
     return f"refuted kind={kind} calls={calls} event={event} call={number} before=shown\n"
 
 
 def no_writer(event, number):
-    """The answer where a get found what nobody wrote."""
+    """The answer if a get found what nobody wrote."""
     return refuted("no-writer", number, event, number)
 
 
 def pair_twice(event, first, second):
-    """The answer where a write was answered with the pair of another one."""
+    """The answer if a write was answered with the pair of another one."""
     return refuted("pair-twice", f"{first},{second}", event, second)
 
 
 def refused(line, cause, file=""):
-    """The answer where a line can't be read; of a verification the file is told too."""
+    """The answer if a line can't be read; of a verification the file is named too."""
     named = f"file={file} " if file else ""
     return f"refused {named}line={line} cause={cause}\n"
 
 
 def broken(fault, entry=0):
-    """The answer where a witness has a fault in this entry."""
+    """The answer if a witness has a fault in this entry."""
     return f"broken entry={entry} cause={fault}\n"
 
 
 def doc_missing(doc):
-    """The answer where a witness lacks this document."""
+    """The answer if a witness lacks this document."""
     return f"broken doc={doc} cause=doc-missing\n"
 
 
@@ -189,7 +190,7 @@ def refused_item(item):
     return f"refused item={item} cause=kind\n"
 
 
-# What is told on standard error.
+# The messages on standard error.
 READ_FAULT, WRITE_FAULT, SETTING_FAULT = "casbench: read fault\n", "casbench: write fault\n", "casbench: setting\n"
 
 # An answer without an order: the kind of evidence and its calls, if there is evidence, and the reply that is named.

@@ -1,26 +1,30 @@
 #!/usr/bin/env python3
-"""Compares the package's witness checker, which shares nothing with casbench, with `casbench verify`: the answers and the first faults.
+"""Compares the package's witness checker, which shares nothing with casbench, with `casbench verify`: the answers and
+the first faults.
 
     python3 tests/witness_checker.py [PROGRAM]
 
-PROGRAM is the built casbench; where it is not named, the one that ./casbench would run. Compared are all text cases, those of verify
-with their witnesses and all histories with the witness that the program writes of them, and 2,000 drawn witnesses: of histories of two to
-four documents, as the program writes them, and changed. Then the sentence that comes with each cause is looked at, and the command.
+PROGRAM is the built casbench; if it isn't named, the one that ./casbench would run. Compared are all text cases, those
+of verify with their witnesses and all histories with the witness that the program writes of them, and 2,000 drawn
+witnesses: of histories of two to four documents, as the program writes them, and changed. Then the sentence that comes
+with each cause is checked, and the command.
 """
 
 import json
+import pathlib
 import subprocess
 import sys
+import tempfile
 from collections import Counter
-from concurrent.futures import ThreadPoolExecutor
 
 from agree import drawn
+from case_files import all_cases, case_text
 from drawing import Draws
-from program import CASES, TOP, built_program, case_text
+from program import TOP
+from program_test import ProgramTest, run_tests
 from recordings import environment
 from running import asked
 from texts import READINGS, conflict, created, delete, found, get, index, lost, missing, places_of, updated, witness_of
-from trials import Trial, Wrong, tell, try_all
 
 from casbench_recording.witness import checked
 
@@ -31,32 +35,31 @@ WITNESSES, LEAST_VERIFIED, LEAST_BROKEN = 2_000, 700, 700
 CAUSES = "doc-stranger doc-twice doc-missing stranger twice pair-missing pair-given late illegal absent pair-twice".split()
 LEAST_OF_A_CAUSE = 5
 
+# The most lines of the checker that aren't blank.
+MOST_LINES = 150
+
 
 def compared(program, history, witness, reading):
-    """What both say of a witness: the word, and the cause if it is broken. They say the same but for the cause of a refusal."""
+    """What both say of a witness: the word, and the cause if it is broken. They say the same but for the cause of a
+    refusal."""
     history, witness = (it.encode() if isinstance(it, str) else it for it in (history, witness))
     status, line = asked(program, "verify", history, witness, conflicts=reading)
     wanted = line.partition(" cause=")[0] if status == 2 else line.rstrip("\n")
     own_status, own = checked(history, witness, reading)
     if (own_status, own.partition("\n")[0]) != (status, wanted):
-        raise Wrong(f"{own_status} {own}, and casbench says {status} {line}")
+        raise AssertionError(f"{own_status} {own}, and casbench says {status} {line}")
     return dict(it.split("=") for it in wanted.split()[1:])["cause"] if status == 1 else wanted.split()[0]
 
 
 # Cases
 
 
-def case_trials(program):
-    """The cases of verify with their witnesses; the other histories with what the program writes of them."""
-    for case in sorted(CASES.glob("*.args")):
-        words = case.read_text().split()
+def case_rows(program):
+    """The cases of verify: a name and what is compared."""
+    for name, texts in all_cases().items():
+        words = texts["args"].decode().split()
         if words[:1] == ["verify"]:
-            reading = "maybe" if "maybe" in words else "plain"
-            texts = case_text(case.stem), case_text(case.stem, "witness")
-            yield Trial(f"case {case.stem}", compared, (program, *texts, reading))
-    for history in sorted(CASES.glob("*.history")):
-        for reading in READINGS:
-            yield Trial(f"case {history.stem}, {reading}", compared_as_written, (program, history.read_bytes(), reading))
+            yield name, program, texts["history"], texts["witness"], "maybe" if "maybe" in words else "plain"
 
 
 def compared_as_written(program, history, reading):
@@ -109,7 +112,8 @@ def change_places(draws, places):
 
 
 def change_pair(draws, places):
-    """A place gives another pair, mostly the next one or the one before, or one although it has none, or none although it has one."""
+    """A place gives another pair, mostly the next one or the one before, or one although it has none, or none although
+    it has one."""
     given = [it for it, (_, pair) in enumerate(places) if pair]
     at = draws.one_of(given) if given and draws.below(4) else draws.below(len(places))
     record, pair = places[at]
@@ -133,7 +137,8 @@ def changed(draws, text):
 
 
 def hidden(draws, history, text):
-    """The history with a conflict in the place of a reply that shows a performed write, and the witness with the pair that it hides."""
+    """The history with a conflict in the place of a reply that shows a performed write, and the witness with the pair
+    that it hides."""
     rows, witness = history.decode().splitlines(keepends=True), Witness(text)
     events = [json.loads(it) for it in rows]
     shown = [at for at, it in enumerate(events) if it["e"] == "reply" and "result" in it["body"]]
@@ -146,7 +151,7 @@ def hidden(draws, history, text):
     rows[at] = conflict(number)
     for doc, places in witness.entries:
         if doc == id:
-            places[:] = [(rec, (body["_primary_term"], body["_seq_no"]) if rec == record else pair) for rec, pair in places]
+            places[:] = [(it, (body["_primary_term"], body["_seq_no"]) if it == record else pair) for it, pair in places]
     return "".join(rows).encode(), witness.text()
 
 
@@ -179,7 +184,7 @@ def answered_as_made(history):
 ONE = [index(3), created(3, 1, 4)]
 UNDER = ',"if_primary_term":1,"if_seq_no":4'
 
-# A history, the places of its document d, and the sentence that is told of them.
+# A history, the places of its document d, and the sentence that describes the first fault.
 SENTENCES = [
     ([*ONE, get(5)], "0 1", "A get without a reply has no place, and this place is that of call 5 (get: no reply)."),
     (ONE, "0 7", 'The document "d" has no record with this number.'),
@@ -240,52 +245,68 @@ WHOLE = [
 
 
 def sentence_of(history, witness):
-    """The second line that is told of a witness."""
+    """The second line of the checker's answer to a witness."""
     return checked("".join(history).encode(), witness.encode(), "plain")[1].partition("\n")[2]
 
 
-def commanded(words, *texts):
-    """How the command ends on texts that it reads from pipes."""
+def command(words):
+    """How the command ends."""
     words = [sys.executable, "-m", "casbench_recording.witness", *words]
     ran = subprocess.run(words, capture_output=True, text=True, env=environment(), cwd=TOP)
     return ran.returncode, ran.stdout, ran.stderr
 
 
-def lines_of_checker():
-    """How many lines the checker has that aren't blank, and whether it imports nothing of the package."""
-    text = (TOP / "recording" / "casbench_recording" / "witness_checker.py").read_text(encoding="utf-8")
-    imported = [it.split()[1] for it in text.splitlines() if it.startswith(("import ", "from "))]
-    return sum(1 for it in text.splitlines() if it.strip()) <= 150, imported
+class Comparing(ProgramTest):
+    """The answers of both checkers."""
+
+    def test_cases_of_verify(self):
+        """The cases of verify, with their witnesses."""
+        self.run_subtests(compared, case_rows(self.program))
+
+    def test_other_cases(self):
+        """The histories of all cases, with what the program writes of them."""
+        histories = {name: texts["history"] for name, texts in all_cases().items() if "history" in texts}
+        rows = [(f"{name}, {it}", self.program, history, it) for name, history in histories.items() for it in READINGS]
+        self.run_subtests(compared_as_written, rows)
+
+    def test_drawn_witnesses(self):
+        """Drawn witnesses, enough of which are verified, and broken by each cause."""
+        answers = self.run_subtests(drawn_witness, [(f"seed {it}", self.program, it) for it in range(WITNESSES)])
+        counts = Counter(answers)
+        print(", ".join(f"{count} {word}" for word, count in sorted(counts.items(), key=str)))
+        for cause in CAUSES:
+            self.assertGreaterEqual(counts[cause], LEAST_OF_A_CAUSE, cause)
+        self.assertGreaterEqual(counts["verified"], LEAST_VERIFIED)
+        self.assertGreaterEqual(sum(counts[it] for it in CAUSES), LEAST_BROKEN)
 
 
-def other_trials():
-    """The sentences, the command, and how long the checker is."""
-    for history, places, wanted in SENTENCES:
-        yield Trial(f"sentence of {places}", sentence_of, (history, witness_of("d", places_of(places))), wanted)
-    for history, witness, wanted in WHOLE:
-        yield Trial(f"sentence of {witness}", sentence_of, (history, witness), wanted)
-    case = "tests/cases/verify-good-order"
-    yield Trial(
-        "the command", commanded, (["check", f"{case}.history", f"{case}.witness"],), (0, "verified docs=1 calls=4 left_out=0\n", "")
-    )
-    told = "witness: [Errno 2] No such file or directory: 'tests/none'\n"
-    yield Trial("a missing file", commanded, (["check", "tests/none", f"{case}.witness"],), (4, "", told))
-    yield Trial("the checker", lines_of_checker, (), (True, ["json", "contextlib", "dataclasses", "typing"]))
+class Explaining(ProgramTest):
+    """The sentence that comes with a cause, the command, and how long the checker is."""
 
+    def test_sentences(self):
+        for history, witness, wanted in [*((history, witness_of("d", places_of(it)), wanted) for history, it, wanted in SENTENCES), *WHOLE]:
+            with self.subTest(witness):
+                self.assertEqual(sentence_of(history, witness), wanted)
 
-def main():
-    program = built_program(sys.argv[1:])
-    trials = [Trial(f"drawn {it}", drawn_witness, (program, it)) for it in range(WITNESSES)]
-    with ThreadPoolExecutor() as pool:
-        answers, wrong = try_all([*trials, *case_trials(program), *other_trials()], pool)
-    counts = Counter(answers[: len(trials)])
-    print(", ".join(f"{count} {word}" for word, count in sorted(counts.items(), key=str)))
-    passed = len(answers) - len(wrong)
-    wrong += [f"{counts[it]} drawn witnesses are broken by {it}" for it in CAUSES if counts[it] < LEAST_OF_A_CAUSE]
-    if counts["verified"] < LEAST_VERIFIED or sum(counts[it] for it in CAUSES) < LEAST_BROKEN:
-        wrong.append("so few drawn witnesses are verified, or broken")
-    return tell(passed, wrong)
+    def test_command(self):
+        with tempfile.TemporaryDirectory() as folder:
+            history, witness = (pathlib.Path(folder) / it for it in ("history", "witness"))
+            history.write_text(case_text("verify-good-order"))
+            witness.write_text(case_text("verify-good-order", "witness"))
+            self.assertEqual(command(["check", history, witness]), (0, "verified docs=1 calls=4 left_out=0\n", ""))
+
+    def test_missing_file(self):
+        with tempfile.NamedTemporaryFile() as witness:
+            why = "witness: [Errno 2] No such file or directory: 'tests/none'\n"
+            self.assertEqual(command(["check", "tests/none", witness.name]), (4, "", why))
+
+    def test_length_of_checker(self):
+        """The checker has few lines, and imports nothing of the package."""
+        text = (TOP / "recording" / "casbench_recording" / "witness_checker.py").read_text(encoding="utf-8")
+        imported = [it.split()[1] for it in text.splitlines() if it.startswith(("import ", "from "))]
+        self.assertLessEqual(sum(1 for it in text.splitlines() if it.strip()), MOST_LINES)
+        self.assertEqual(imported, ["json", "contextlib", "dataclasses", "typing"])
 
 
 if __name__ == "__main__":
-    sys.exit(main())
+    sys.exit(run_tests())

@@ -3,11 +3,11 @@
 
     python3 tests/witnesses.py [PROGRAM]
 
-PROGRAM is the built casbench; where it is not named, the one that ./casbench would run. Places are tried against the calls of one
-document, plainly and where a conflict may hide a pair: where they are valid the counts are told, else the first fault. A text that is
-taken stands beside small histories, whose answers show what was read. Texts are read whole, and seven bytes at a time. Lines that are
-refused are told with their first cause, before any document and after one. What is written of a history is compared byte for byte,
-and read back.
+PROGRAM is the built casbench; if it isn't named, the one that ./casbench would run. Places are verified against the
+calls of one document, in both readings of a conflict: the answer has the counts if they are valid, else the first
+fault. A text that is accepted stands beside small histories, whose answers show what was read. Texts are read whole,
+and seven bytes at a time. A line that is refused is reported with its first cause, before any document and after one.
+The witness of a history is compared byte for byte, and read back.
 """
 
 import json
@@ -15,18 +15,18 @@ import pathlib
 import sys
 import tempfile
 
-from program import built_program, case_text
+from case_files import case_text
+from program_test import ProgramTest, run_tests
 from running import asked, run_on_files, run_on_parts
 from texts import ID_BYTES, ITEMS, LINE_BYTES, LINES, MOST_OF_PAIR, MOST_RECORD, READINGS
 from texts import answer_of, broken, condition, conflict, create, created, delete, deleted, doc_missing, found, get, index, lost
 from texts import missing, not_found, places_of, refused, updated, verified, witness_of
-from trials import Trial, try_and_tell
 
 # The condition that the document is at 1/0.
 FIRST = condition(1, 0)
 
-# An index, an index under a condition, and two gets that find the second and the first; all but the first are open at one time.
-# In the other history the last get is called when the first one was answered.
+# An index, an index under a condition, and two gets that find the second and the first; all but the first are open at
+# one time. In the other history the last get is called when the first one was answered.
 TWO_WRITES = [index(0), created(0, 1, 0), index(1, FIRST, k=2), get(2)]
 OVERLAPPING = [*TWO_WRITES, get(3), found(2, 1, 1, k=2), found(3, 1, 0), updated(1, 1, 1)]
 NOT_OVERLAPPING = [*TWO_WRITES, found(2, 1, 1, k=2), get(3), found(3, 1, 0), updated(1, 1, 1)]
@@ -42,13 +42,13 @@ UNANSWERED = [create(0, k=1), delete(1), create(2, k=2), get(3)]
 # The get 1 and the delete are not answered.
 MIXED = [index(0), created(0, 1, 0), get(1), delete(2), get(3), found(3, 1, 0), get(4), missing(4)]
 
-# A history, and places that are tried against it; what is told of them plainly, and where that is something else, what is told where
-# a conflict may hide a pair. The places 0 1=3/2 are the record 0, and the record 1 with the pair 3/2.
+# A history, and places that are verified against it; the answer if a conflict hides nothing, and, if it differs, the
+# answer if a conflict may hide a pair. The places 0 1=3/2 are the record 0, and the record 1 with the pair 3/2.
 PLACES = [
     (OVERLAPPING, "0 3 1 2", "valid"),
     (OVERLAPPING, "0 2 1 3", "illegal place=1"),
     (OVERLAPPING, "0 3 1", "absent rec=2"),
-    # The least of the absent records is told.
+    # The least of the absent records is named.
     (OVERLAPPING, "0", "absent rec=1"),
     (OVERLAPPING, "", "absent rec=0"),
     (NOT_OVERLAPPING, "0 3 1 2", "late place=3"),
@@ -88,7 +88,8 @@ PLACES = [
     ([create(0), created(0, 1, 0), delete(1), not_found(1, 1, 1), create(2), created(2, 1, 2)], "0 1 2", "illegal place=1"),
     ([create(0), created(0, 1, 0), delete(1), deleted(1, 1, 1), create(2), created(2, 1, 1)], "0 1 2", "illegal place=2"),
     ([create(0), created(0, 1, 0), create(1), conflict(1), delete(2), deleted(2, 1, 1)], "0 1 2", "valid"),
-    # No create is answered so: it is of unknown outcome, and as it is not answered it needs a pair; but it can't take one there.
+    # No create is answered so: it is of unknown outcome, and as it is not answered it needs a pair; but it can't take
+    # one there.
     ([create(0), created(0, 1, 0), create(1), updated(1, 1, 1), delete(2), deleted(2, 1, 1)], "0 1 2", "pair-missing place=1"),
     ([create(0), created(0, 1, 0), create(1), updated(1, 1, 1), delete(2), deleted(2, 1, 2)], "0 1=1/1 2", "illegal place=1"),
     # Calls without a reply may be left out; a write among them that is not is performed with the pair given.
@@ -99,7 +100,7 @@ PLACES = [
     (UNANSWERED, "0=1/1 1=1/0", "illegal place=1"),
     (UNANSWERED, "0=1/0 2=1/1", "illegal place=1"),
     (UNANSWERED, "0=1/0 3", "stranger place=1"),
-    # Two or more faults hold in most of these places, and the first is told.
+    # Two or more faults hold in most of these places, and the first is reported.
     (MIXED, "0 3 2=1/1 4", "valid"),
     (MIXED, "0 5", "stranger place=1"),
     (MIXED, f"{MOST_RECORD}=1/0", "stranger place=0"),
@@ -121,7 +122,7 @@ PLACES = [
 
 
 def not_read(line, cause):
-    """The answer where a line of the witness can't be read."""
+    """The answer if a line of the witness can't be read."""
     return refused(line, cause, "witness")
 
 
@@ -130,8 +131,8 @@ def document(doc, places=""):
     return witness_of(doc, places_of(places))
 
 
-# What is shown of a pair: a write of the number 2 is lost, and a get after it finds 2 at a pair, which has to be the pair that a
-# witness gives to the write.
+# What is shown of a pair: a write of the number 2 is lost, and a get after it finds 2 at a pair, which has to be the
+# pair that a witness gives to the write.
 
 
 def lost_then_found(first, term, seq, doc="d"):
@@ -146,7 +147,8 @@ def two_documents(pair_of_a, pair_of_b):
 
 
 def three_documents(*endings):
-    """Gets of three documents: a is called once, b eight times, and c once, each call numbered on; and these lines after them."""
+    """Gets of three documents: a is called once, b eight times, and c once, each call numbered on; and these lines
+    after them."""
     return [get(0, doc="a"), *(get(n, doc="b") for n in range(1, 9)), get(9, doc="c"), *endings]
 
 
@@ -159,7 +161,7 @@ PAIR_AGAIN = '{"doc":"d"}\n{"rec":0,"seq":5,"term":0,"seq":6,"term":7}\n{"rec":1
 RECORD_AGAIN = '{"doc":"d"}\n{"rec":null,"rec":-1,"rec":4}'
 FIVE_GETS = [get(n) for n in range(5)]
 
-# A witness text, a history, and what is told.
+# A witness text, a history, and the answer.
 TEXTS = [
     # No document.
     ("", [], verified(0, docs=0)),
@@ -185,7 +187,7 @@ TEXTS = [
     # One document twice; neither is known to the other history.
     (TWICE_A, case_text("documents-interleaved"), broken("doc-twice", entry=1)),
     (TWICE_A, [get(0)], broken("doc-stranger")),
-    # Three documents, the second of which has one place; each fault tells which entry a document is.
+    # Three documents, the second of which has one place; each fault names the entry of its document.
     (AMONG_BLANK_LINES, three_documents(missing(8)), verified(10, left_out=9, docs=3)),
     (AMONG_BLANK_LINES, three_documents(missing(7)), broken("stranger place=0", entry=1)),
     (AMONG_BLANK_LINES, three_documents(missing(8), missing(7)), broken("absent rec=6", entry=1)),
@@ -255,7 +257,7 @@ def among_documents(byte, length):
 
 ONE_GET = [get(0), missing(0)]
 
-# Texts at their limits, and past them: a history, a text, and what is told.
+# Texts at their limits, and past them: a history, a text, and the answer.
 LIMITS = [
     ([get(0)], among_documents(b" ", LINE_BYTES), broken("doc-twice", entry=1)),
     ([get(0)], among_documents(b" ", LINE_BYTES + 1), not_read(2, "long")),
@@ -264,13 +266,13 @@ LIMITS = [
     ([get(0)], among_documents(b"\xff", LINE_BYTES + 1), not_read(2, "long")),
     ([], b"\n" * LINES, verified(0, docs=0)),
     ([], b"\n" * LINES + b"x", not_read(LINES + 1, "lines")),
-    # A text of as many documents and places as there may be is taken, and its second place names a record again.
+    # A text of as many documents and places as there may be is accepted, and its second place names a record again.
     (ONE_GET, b'{"doc":"d"}\n' + b'{"rec":0}\n' * (ITEMS - 1), broken("twice place=1")),
     (ONE_GET, b'{"doc":"d"}\n' + b'{"rec":0}\n' * ITEMS, not_read(ITEMS + 1, "full")),
 ]
 
-# Ids of letters that JSON escapes, and of letters of more than one byte; the longest of letters of one to four bytes, and of those
-# that take the most bytes in a text.
+# Ids of letters that JSON escapes, and of letters of more than one byte; the longest of letters of one to four bytes,
+# and of those that take the most bytes in a text.
 IDS = ['"', "\\", "\n", "\r\t ", "\b\f", "\0\x1f\x7f", "/", "\u00e9", "\u2028", "\U0001f600", '{"doc":"d"}', "x"]
 LONGEST = [letter * (ID_BYTES // len(letter.encode())) for letter in ("x", "\u00e9", "\U0001f600", '"', "\x01")]
 
@@ -280,7 +282,7 @@ TOO_LONG = ["x" * (ID_BYTES + 1), "\u00e9" * (ID_BYTES // 2 + 1)]
 # A get of e on the second shard, after the write that it finds.
 SHOWN = [index(3, ',"shard":1', "e"), created(3, 1, 0), get(4, ',"shard":1', "e"), found(4, 1, 0)]
 
-# A history, the text that is written of it, and what is told of this text: of no document, of one, and of two.
+# A history, the text that is written of it, and the answer to this text: of no document, of one, and of two.
 WRITTEN = [
     ([], "", verified(0, docs=0)),
     (LOST_WRITE, '{"doc":"d"}\n{"rec":0}\n{"rec":1,"seq":2,"term":3}\n{"rec":2}\n', verified(3)),
@@ -293,86 +295,92 @@ WRITTEN = [
 ]
 
 
-def verify(program, history, witness, conflicts="plain"):
-    """How a verification of the witness text ends; a history may be a list of its lines."""
-    return run_on_files(program, "verify", ["".join(history), witness], ["--conflicts", conflicts])
-
-
-def verify_by_parts(program, history, witness):
-    """The same where each read of the witness text gives a few bytes, and no more."""
-    with tempfile.TemporaryDirectory() as folder:
-        file = pathlib.Path(folder) / "history"
-        file.write_text("".join(history))
-        return run_on_parts(program, ["verify", file], witness, AT_HAND)
-
-
-def write_and_verify(program, history):
-    """The witness text that is written of the history, with its status, and how its verification ends."""
-    status, text = asked(program, "witness", "".join(history))
-    return status, text, verify(program, history, text)
-
-
-def told_of_places(history, places, told):
-    """The line that tells this of places: the counts where they are valid, else the fault."""
-    if told != "valid":
-        return broken(told)
+def answer_to_places(history, places, fault):
+    """The answer to these places: the counts if they are valid, else the fault."""
+    if fault != "valid":
+        return answer_of(broken(fault))
     calls = sum('"e":"call"' in line for line in history)
-    return verified(calls, left_out=calls - len(places.split()))
+    return answer_of(verified(calls, left_out=calls - len(places.split())))
 
 
-def place_trials(program):
-    """The places, in both readings of a conflict."""
-    for history, places, *told in PLACES:
-        for reading, it in zip(READINGS, (told[0], told[-1])):
-            wanted = answer_of(told_of_places(history, places, it))
-            yield Trial(f"{reading}, {places!r} of {history}", verify, (program, history, document("d", places), reading), wanted)
+class Witnesses(ProgramTest):
+    """Verifications of witness texts, and the texts that are written."""
 
+    def verify(self, history, witness, conflicts="plain"):
+        """How a verification of the witness text ends; a history may be a list of its lines."""
+        return run_on_files(self.program, "verify", ["".join(history), witness], ["--conflicts", conflicts])
 
-def text_trials(program):
-    """The texts, read whole and a few bytes at a time."""
-    for text, history, line in TEXTS:
-        for ask in (verify, verify_by_parts):
-            yield Trial(f"{ask.__name__} {text!r}, {history}", ask, (program, history, text), answer_of(line))
+    def verify_by_parts(self, history, witness):
+        """The same if each read of the witness text gives a few bytes, and no more."""
+        with tempfile.TemporaryDirectory() as folder:
+            file = pathlib.Path(folder) / "history"
+            file.write_text("".join(history))
+            return run_on_parts(self.program, ["verify", file], witness, AT_HAND)
 
+    def check_answer(self, history, witness, line):
+        self.assertEqual(self.verify(history, witness), answer_of(line))
 
-def line_trials(program):
-    """The lines that are refused, before any document and after one."""
-    for first, later, lines in REFUSED:
-        for line in lines:
-            yield Trial(f"line {line}", verify, (program, "", line), answer_of(not_read(1, first)))
-            after = b'{"doc":"d"}\n' + line + b"\n"
-            yield Trial(f"a later line {line}", verify, (program, "", after), answer_of(not_read(2, later)))
+    def check_written(self, history, text, line):
+        """This text is the witness of the history, and a verification of it ends so."""
+        self.assertEqual(asked(self.program, "witness", "".join(history)), (0, text))
+        self.check_answer(history, text, line)
 
+    def check_places(self, history, places, reading, fault):
+        ended = self.verify(history, document("d", places), reading)
+        self.assertEqual(ended, answer_to_places(history, places, fault))
 
-def id_trials(program):
-    """The ids, spelled as they are and with escapes: what is written of a document and read back, and what is read of a text."""
-    for name in IDS + LONGEST:
-        line = f'{{"doc":{json.dumps(name, ensure_ascii=False)}}}\n'
-        for spelled in dict.fromkeys([json.dumps(name), json.dumps(name, ensure_ascii=False)]):
-            history = get(0, doc=spelled[1:-1])
-            wanted = answer_of(verified(1, left_out=1))
-            yield Trial(f"id {spelled[:80]!a} written", write_and_verify, (program, history), (0, line, wanted))
-            yield Trial(f"id {spelled[:80]!a} read", verify, (program, history, f'{{"doc":{spelled}}}'), wanted)
-            yield Trial(f"not id {spelled[:80]!a}", verify, (program, get(0), f'{{"doc":{spelled}}}'), answer_of(broken("doc-stranger")))
-    for name in TOO_LONG:
-        yield Trial(f"id {name[:80]!a}", verify, (program, "", f'{{"doc":"{name}"}}'), answer_of(not_read(1, "id")))
+    def test_places(self):
+        """The places, in both readings of a conflict."""
+        rows = [
+            (f"{reading}, {places!r} of {history}", history, places, reading, fault)
+            for history, places, *faults in PLACES
+            for reading, fault in zip(READINGS, (faults[0], faults[-1]))
+        ]
+        self.run_subtests(self.check_places, rows)
 
+    def check_text(self, verify, text, history, line):
+        self.assertEqual(verify(history, text), answer_of(line))
 
-def trials(program):
-    """All trials: a name, what is asked, of what, and the answer."""
-    for history, text, line in LIMITS:
-        yield Trial(f"limits {text[:40]}, {len(text)}", verify, (program, history, text), answer_of(line))
-    yield from place_trials(program)
-    yield from text_trials(program)
-    yield from line_trials(program)
-    yield from id_trials(program)
-    for history, text, line in WRITTEN:
-        yield Trial(f"written of {history}", write_and_verify, (program, history), (0, text, answer_of(line)))
+    def test_texts(self):
+        """The texts, read whole and a few bytes at a time."""
+        rows = [
+            (f"{verify.__name__} {text!r}, {history}", verify, text, history, line)
+            for text, history, line in TEXTS
+            for verify in (self.verify, self.verify_by_parts)
+        ]
+        self.run_subtests(self.check_text, rows)
 
+    def test_refused_lines(self):
+        """The lines that are refused, before any document and after one."""
+        rows = []
+        for first, later, lines in REFUSED:
+            for line in lines:
+                rows.append((f"line {line}", "", line, not_read(1, first)))
+                rows.append((f"a later line {line}", "", b'{"doc":"d"}\n' + line + b"\n", not_read(2, later)))
+        self.run_subtests(self.check_answer, rows)
 
-def main():
-    return try_and_tell(trials(built_program(sys.argv[1:])))
+    def test_ids(self):
+        """The ids, spelled as they are and with escapes: what is written of a document and read back, and what is read
+        of a text."""
+        written, read, line = [], [], verified(1, left_out=1)
+        for name in IDS + LONGEST:
+            plain = json.dumps(name, ensure_ascii=False)
+            for spelled in dict.fromkeys([json.dumps(name), plain]):
+                history, witness = get(0, doc=spelled[1:-1]), f'{{"doc":{spelled}}}'
+                written.append((f"id {spelled[:80]!a} written", history, f'{{"doc":{plain}}}\n', line))
+                read.append((f"id {spelled[:80]!a} read", history, witness, line))
+                read.append((f"not id {spelled[:80]!a}", get(0), witness, broken("doc-stranger")))
+        read += [(f"id {name[:80]!a}", "", f'{{"doc":"{name}"}}', not_read(1, "id")) for name in TOO_LONG]
+        self.run_subtests(self.check_written, written)
+        self.run_subtests(self.check_answer, read)
+
+    def test_limits(self):
+        rows = [(f"{text[:40]}, {len(text)} bytes", history, text, line) for history, text, line in LIMITS]
+        self.run_subtests(self.check_answer, rows)
+
+    def test_written(self):
+        self.run_subtests(self.check_written, [(f"written of {row[0]}", *row) for row in WRITTEN])
 
 
 if __name__ == "__main__":
-    sys.exit(main())
+    sys.exit(run_tests())

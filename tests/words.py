@@ -1,10 +1,10 @@
 #!/usr/bin/env python3
-"""Runs the built program with words of all kinds: taken ones, refused ones, and such as name files that fail.
+"""Runs the built program with arguments of all kinds: accepted ones, refused ones, and such as name files that fail.
 
     python3 tests/words.py [PROGRAM]
 
-PROGRAM is the built casbench; where it is not named, the one that ./casbench would run. Each row is run in a new folder that
-has the files below; where a row names no standard input, that is empty.
+PROGRAM is the built casbench; if it isn't named, the one that ./casbench would run. Each row is run in a new folder
+that has the files below; if a row names no standard input, that is empty.
 """
 
 import errno
@@ -20,10 +20,11 @@ import tempfile
 import termios
 import time
 
-from program import CASES, TOP, built_program, case_text
-from running import ended, run, run_words, search_words, started
+from case_files import case_text
+from program import TOP
+from program_test import ProgramTest, run_tests
+from running import ended, run, run_arguments, search_arguments, started
 from texts import READ_FAULT, SETTING_FAULT, WRITE_FAULT, no, refuted, status_of, verified, yes
-from trials import Trial, try_and_tell
 
 EXAMPLES = TOP / "examples"
 
@@ -33,8 +34,8 @@ FILES = {
     "other": b"",
     "verify": b"",
     "story": (EXAMPLES / "stale-get.ndjson").read_bytes(),
-    "hidden": (CASES / "hidden-conflict.history").read_bytes(),
-    **dict.fromkeys(["check", "help", "-", "a b", "--help"], (CASES / "index-then-get.history").read_bytes()),
+    "hidden": case_text("hidden-conflict").encode(),
+    **dict.fromkeys(["check", "help", "-", "a b", "--help"], case_text("index-then-get").encode()),
 }
 
 ANSWER, NOTHING, VERIFIED_NOTHING = yes(2), yes(0, docs=0), verified(0, docs=0)
@@ -42,12 +43,12 @@ STORY_OF_NOTHING = case_text("empty-text-explained", "stdout")
 
 
 def absent(name, fault):
-    """What is told of a file that isn't there."""
+    """The message about a file that isn't there."""
     return f"casbench: {name}: no such file\n{fault}"
 
 
-# Words, and the status, standard output and standard error that they get.
-TAKEN = [
+# Arguments, and the status, standard output and standard error that they get.
+ACCEPTED = [
     ("check check", 0, ANSWER, ""),
     ("check help", 0, ANSWER, ""),
     ("check -", 0, ANSWER, ""),
@@ -92,17 +93,17 @@ TAKEN = [
     ("explain empty --html empty", 4, "", f"casbench: empty: the history would be overwritten\n{WRITE_FAULT}"),
     ("explain empty --html absent/page", 4, "", absent("absent/page", WRITE_FAULT)),
     ("explain absent --html page", 4, "", absent("absent", READ_FAULT)),
-    # runs: these words are taken, but nine clients are too many
+    # runs: these arguments are accepted, but nine clients are too many
     *(
-        (run_words(seed=2**64 - 1, clients=9, calls=200, docs=3, copies=5, fault=fault), 64, "", SETTING_FAULT)
+        (run_arguments(seed=2**64 - 1, clients=9, calls=200, docs=3, copies=5, fault=fault), 64, "", SETTING_FAULT)
         for fault in ("none", "dirty", "early", "same-term", "stale", "blind")
     ),
     *(
-        (f"{run_words(clients=9)} --in-turns --disturb={name}", 64, "", SETTING_FAULT)
+        (f"{run_arguments(clients=9)} --in-turns --disturb={name}", 64, "", SETTING_FAULT)
         for name in ("none", "cuts", "promotions", "storm")
     ),
     *(
-        (f"{search_words(seeds=seeds, clients=9)}{more}", 64, "", SETTING_FAULT)
+        (f"{search_arguments(seeds=seeds, clients=9)}{more}", 64, "", SETTING_FAULT)
         for seeds in ("0-0", "1-2", "+7-8", "0-18446744073709551615")
         for more in ("", " --in-turns --disturb storm")
     ),
@@ -123,19 +124,19 @@ SEEDS = "the value of --seeds is two numbers below 2^64, the least first, as 1-1
 
 
 def missing(*names):
-    """How it is told that these are missing."""
+    """The message that these are missing."""
     return "the following required arguments were not provided:\n" + "\n".join(f"  {name}" for name in names)
 
 
 def wrong(value, name):
-    """How it is told that the value is none."""
+    """The message that the value isn't one of this argument."""
     return f"invalid value '{value}' for '{name}': "
 
 
 # The commands that have --rule-out.
 RULING_OUT = ("check", "witness", "explain")
 
-# Words that are refused, and what is said of them behind `error: `, from its start.
+# Arguments that are refused, and how the message begins behind `error: `.
 REFUSED = [
     ("h.ndjson", COMMAND.format("h.ndjson")),
     ("Check", COMMAND.format("Check")),
@@ -175,7 +176,7 @@ REFUSED = [
     ("check --rule-out a b", UNKNOWN.format("b")),
     ("verify h w --rule-out", UNKNOWN.format("--rule-out")),
     ("bulk b r --rule-out", UNKNOWN.format("--rule-out")),
-    (run_words() + " --rule-out", UNKNOWN.format("--rule-out")),
+    (run_arguments() + " --rule-out", UNKNOWN.format("--rule-out")),
     ("--rule-out", UNKNOWN.format("--rule-out")),
     # bulks
     ("bulk", missing("<BODY>", "<REPLY>")),
@@ -194,24 +195,24 @@ REFUSED = [
     (RUN.format("1", "1") + " --fault cut", FAULT),
     (RUN.format("1", "1"), missing("--fault <F>")),
     ("run --clients 1 --calls 1 --docs 1 --copies 1 --fault none", SEED),
-    (run_words() + " --until refuted", SEED),
-    (run_words() + " --seeds 1-2", SEED),
-    (run_words() + " --until refuted --seeds 1-2", SEED),
+    (run_arguments() + " --until refuted", SEED),
+    (run_arguments() + " --seeds 1-2", SEED),
+    (run_arguments() + " --until refuted --seeds 1-2", SEED),
     ("run --clients 1 --calls 1 --docs 1 --copies 1 --fault none --seeds 1-2", SEED),
-    *((search_words(until=name), UNTIL) for name in ("no", "Refuted", "''")),
-    *((search_words(seeds=seeds), SEEDS) for seeds in ("2-1", "1", "1-", "1-2-3", "a-b", "1..2", "1-18446744073709551616", "''")),
-    (search_words(fault="cut"), FAULT),
-    (search_words() + " --disturb Storm", DISTURBANCE),
-    (search_words() + " --until refuted", TWICE.format("--until <ANSWER>")),
-    (search_words() + " --seeds 1-2", TWICE.format("--seeds <A-B>")),
+    *((search_arguments(until=name), UNTIL) for name in ("no", "Refuted", "''")),
+    *((search_arguments(seeds=seeds), SEEDS) for seeds in ("2-1", "1", "1-", "1-2-3", "a-b", "1..2", "1-18446744073709551616", "''")),
+    (search_arguments(fault="cut"), FAULT),
+    (search_arguments() + " --disturb Storm", DISTURBANCE),
+    (search_arguments() + " --until refuted", TWICE.format("--until <ANSWER>")),
+    (search_arguments() + " --seeds 1-2", TWICE.format("--seeds <A-B>")),
     ("check --until refuted", UNKNOWN.format("--until")),
-    (run_words() + " --disturb Storm", DISTURBANCE),
-    (run_words() + " --disturb=", DISTURBANCE),
-    (run_words(fault="cut") + " --disturb cut", FAULT),
-    (run_words() + " --disturb cuts --disturb cuts", TWICE.format("--disturb <NAME>")),
-    (run_words() + " --disturb", NO_VALUE.format("--disturb <NAME>")),
-    (run_words() + " --in-turns --in-turns", TWICE.format("--in-turns")),
-    (run_words() + " --in-turns=1", A_VALUE.format("1", "--in-turns")),
+    (run_arguments() + " --disturb Storm", DISTURBANCE),
+    (run_arguments() + " --disturb=", DISTURBANCE),
+    (run_arguments(fault="cut") + " --disturb cut", FAULT),
+    (run_arguments() + " --disturb cuts --disturb cuts", TWICE.format("--disturb <NAME>")),
+    (run_arguments() + " --disturb", NO_VALUE.format("--disturb <NAME>")),
+    (run_arguments() + " --in-turns --in-turns", TWICE.format("--in-turns")),
+    (run_arguments() + " --in-turns=1", A_VALUE.format("1", "--in-turns")),
     ("check --in-turns", UNKNOWN.format("--in-turns")),
     ("check --disturb cuts", UNKNOWN.format("--disturb")),
 ]
@@ -223,12 +224,12 @@ EXAMPLE = {
     "bulk": "\n  casbench bulk bulk.body bulk.reply --first 100 >> history.ndjson\n",
 }
 
-# Words that ask for help, and what it has: an example, and an option.
+# Arguments that ask for help, and what it has: an example, and an option.
 HELP = [(words, example) for words in ("help", "--help", "-h") for example in EXAMPLE.values()]
 HELP += [(words.format(name), example) for words in ("help {}", "{} --help", "{} -h") for name, example in EXAMPLE.items()]
 HELP += [(words.format(name), "\n      --rule-out ") for words in ("help {}", "{} --help", "{} -h") for name in RULING_OUT]
 
-# Words that ask for a story with a page, the page's name, how the story begins, and the page where it is known.
+# Arguments that ask for a story with a page, the page's name, how the story begins, and the page if it is known.
 STORIES = [
     ("explain story --html page", "page", "refuted kind=stale-get ", EXAMPLES / "stale-get.html"),
     ("explain --html=- --workers 3 --conflicts=maybe story", "-", "refuted kind=stale-get ", EXAMPLES / "stale-get.html"),
@@ -241,8 +242,8 @@ STORIES = [
 # The documents and calls of a run, as the answer to it has them.
 MADE = "docs=3 calls=200"
 
-# Each fault of a group, how the answer to a run with it begins, and whether the term rises in it: a promotion keeps it where
-# the fault is same-term.
+# Each fault of a group, how the answer to a run with it begins, and whether the term rises in it: a promotion keeps it
+# if the fault is same-term.
 FAULTS = [
     ("none", f"yes {MADE} ", True),
     ("dirty", f"yes {MADE} ", True),
@@ -253,50 +254,12 @@ FAULTS = [
 ]
 
 
-def ran(program, words, folder, given=""):
-    """Runs the program with the words in the folder; tells how it ends."""
-    return run(program, shlex.split(words) if isinstance(words, str) else words, given, cwd=folder)
-
-
 def filled(folder):
     """The folder, with the files in it."""
     for name, text in FILES.items():
         (folder / name).write_bytes(text)
     (folder / "broken").mkdir()
     return folder
-
-
-def are_taken(program, folder, words, *wanted):
-    """Whether the words get what is wanted, and no file was made or changed."""
-    got = ran(program, words, folder)
-    kept = {it.name: it.read_bytes() for it in folder.iterdir() if it.is_file()}
-    return got == wanted and kept == FILES
-
-
-def are_refused(program, folder, words, wanted):
-    status, told, why = ran(program, words, folder)
-    return (status, told) == (64, "") and why.startswith(f"error: {wanted}")
-
-
-def are_helped(program, folder, words, example):
-    status, told, why = ran(program, words, folder)
-    return (status, why) == (0, "") and example in told
-
-
-def is_told(program, folder, words, page, wanted, known):
-    """Whether the story begins as is wanted, and the page is the known one."""
-    status, told, why = ran(program, words, folder)
-    text = (folder / page).read_bytes()
-    is_page = text == known.read_bytes() if known else text.startswith(b"<!doctype html>") and wanted.strip().encode() in text
-    return (status, why) == (status_of(wanted), "") and told.startswith(wanted) and is_page
-
-
-def is_of_fault(program, folder, fault, answer, rises):
-    """Whether a run with the fault shows it."""
-    status, history, why = ran(program, run_words(calls=200, docs=3, copies=5, fault=fault), folder)
-    terms = set(re.findall(r'"_primary_term":(\d+)', history))
-    told = ran(program, "check", folder, history)[1]
-    return (status, why) == (0, "") and told.startswith(answer) and (len(terms) > 1) == rises
 
 
 class Pipe:
@@ -309,7 +272,7 @@ class Pipe:
     def open(self):
         """Opens it to be written, once the program has opened it."""
 
-        def tried():
+        def is_open():
             try:
                 self.end = os.open(self.path, os.O_WRONLY | os.O_NONBLOCK)
             except OSError as fault:
@@ -317,7 +280,7 @@ class Pipe:
                     raise
             return self.end is not None
 
-        return comes(tried)
+        return comes(is_open)
 
     def unread(self):
         """How many bytes in it the program has not read."""
@@ -325,7 +288,7 @@ class Pipe:
 
 
 def comes(is_there):
-    """Waits until it is there; tells whether it came within ten seconds."""
+    """Waits until it is there; returns whether it came within ten seconds."""
     until = time.monotonic() + 10
     while time.monotonic() < until:
         if is_there():
@@ -334,67 +297,107 @@ def comes(is_there):
     return False
 
 
-def are_read_in_turn(program, folder, command, first_text, second_text, wanted):
-    """Whether the first file is opened before the second, both before one is read, and the first is read to its end first."""
-    first, second = Pipe(folder / "first"), Pipe(folder / "second")
-    with started([program, command, first.path, second.path], stdin=subprocess.DEVNULL) as child:
-        # (a program that opened the second first would wait at it, and never come to the first)
-        if not first.open() or not second.open():
-            return False
-        os.write(second.end, second_text)
-        os.write(first.end, first_text)
-        if not comes(lambda: first.unread() == 0) or second.unread() != len(second_text):
-            return False
-        os.close(first.end)
-        if not comes(lambda: second.unread() == 0):
-            return False
-        os.close(second.end)
-        return ended(child) == (0, wanted.decode(), "")
+def in_turn(command, case, *sections):
+    """A row of files that are read in turn: the texts of a case."""
+    return command, *(case_text(case, it).encode() for it in sections)
 
 
-def is_page_made_last(program, folder):
-    """Whether no page is there before the history was read to its end, and one afterwards."""
-    history, page = Pipe(folder / "history"), folder / "page"
-    with started([program, "explain", history.path, "--html", page], stdin=subprocess.DEVNULL) as child:
-        if not history.open():
-            return False
-        was_there = page.exists()
-        os.close(history.end)
-        return (was_there, *ended(child), page.exists()) == (False, 0, STORY_OF_NOTHING, "", True)
+TURNS = [in_turn("verify", "verify-good-order", "history", "witness", "stdout"), in_turn("bulk", "bulk", "body", "reply", "stdout")]
 
+class Words(ProgramTest):
+    """Rows of arguments, each in a folder of its own."""
 
-def in_turn(command, first, second, stdout):
-    """A row of files that are read in turn: those of cases."""
-    return command, *((CASES / name).read_bytes() for name in (first, second, stdout))
+    def ran(self, arguments, folder, given=""):
+        """How the program ends on the arguments in the folder."""
+        return run(self.program, shlex.split(arguments) if isinstance(arguments, str) else arguments, given, cwd=folder)
 
+    def in_folder(self, check, *row):
+        with tempfile.TemporaryDirectory() as folder:
+            check(filled(pathlib.Path(folder)), *row)
 
-TURNS = [
-    in_turn("verify", "verify-good-order.history", "verify-good-order.witness", "verify-good-order.stdout"),
-    in_turn("bulk", "bulk.body", "bulk.reply", "bulk.stdout"),
-]
+    def run_rows(self, check, rows):
+        """Runs a subtest for each row, in a new folder that has the files."""
+        self.run_subtests(self.in_folder, [(str(row[0]), check, *row) for row in rows])
 
-# How a row is judged, and the rows.
-TABLES = [
-    (are_taken, TAKEN),
-    (are_refused, REFUSED),
-    (are_helped, HELP),
-    (is_told, STORIES),
-    (is_of_fault, FAULTS),
-    (are_read_in_turn, TURNS),
-    (is_page_made_last, [()]),
-]
+    def check_accepted(self, folder, arguments, *wanted):
+        self.assertEqual(self.ran(arguments, folder), wanted)
+        kept = {it.name: it.read_bytes() for it in folder.iterdir() if it.is_file()}
+        self.assertEqual(kept, FILES)
 
+    def test_accepted(self):
+        """The arguments get what is wanted, and no file is made or changed."""
+        self.run_rows(self.check_accepted, ACCEPTED)
 
-def in_folder(program, judge, row):
-    """Judges a row in a new folder."""
-    with tempfile.TemporaryDirectory() as folder:
-        return judge(program, filled(pathlib.Path(folder)), *row)
+    def check_refused(self, folder, arguments, wanted):
+        status, out, why = self.ran(arguments, folder)
+        self.assertEqual((status, out, why[: len(f"error: {wanted}")]), (64, "", f"error: {wanted}"))
 
+    def test_refused(self):
+        self.run_rows(self.check_refused, REFUSED)
 
-def main():
-    program = built_program(sys.argv[1:])
-    return try_and_tell([Trial(f"{judge.__name__}: {row[:1]}", in_folder, (program, judge, row)) for judge, rows in TABLES for row in rows])
+    def check_help(self, folder, arguments, example):
+        status, out, why = self.ran(arguments, folder)
+        self.assertEqual((status, why), (0, ""))
+        self.assertIn(example, out)
+
+    def test_help(self):
+        self.run_rows(self.check_help, HELP)
+
+    def check_story(self, folder, arguments, page, wanted, known):
+        status, out, why = self.ran(arguments, folder)
+        self.assertEqual((status, why, out[: len(wanted)]), (status_of(wanted), "", wanted))
+        text = (folder / page).read_bytes()
+        if known:
+            self.assertTrue(text == known.read_bytes(), f"the page is not {known}")
+        else:
+            self.assertTrue(text.startswith(b"<!doctype html>"))
+            self.assertIn(wanted.strip().encode(), text)
+
+    def test_stories(self):
+        """The story begins as is wanted, and the page is the known one."""
+        self.run_rows(self.check_story, STORIES)
+
+    def check_fault(self, folder, fault, answer, rises):
+        status, history, why = self.ran(run_arguments(calls=200, docs=3, copies=5, fault=fault), folder)
+        self.assertEqual((status, why), (0, ""))
+        terms = set(re.findall(r'"_primary_term":(\d+)', history))
+        self.assertEqual(len(terms) > 1, rises)
+        self.assertEqual(self.ran("check", folder, history)[1][: len(answer)], answer)
+
+    def test_faults(self):
+        """A run with a fault shows it."""
+        self.run_rows(self.check_fault, FAULTS)
+
+    def check_turn(self, folder, command, first_text, second_text, wanted):
+        first, second = Pipe(folder / "first"), Pipe(folder / "second")
+        with started([self.program, command, first.path, second.path], stdin=subprocess.DEVNULL) as child:
+            # (a program that opened the second first would wait at it, and never come to the first)
+            self.assertTrue(first.open() and second.open())
+            os.write(second.end, second_text)
+            os.write(first.end, first_text)
+            self.assertTrue(comes(lambda: first.unread() == 0))
+            self.assertEqual(second.unread(), len(second_text))
+            os.close(first.end)
+            self.assertTrue(comes(lambda: second.unread() == 0))
+            os.close(second.end)
+            self.assertEqual(ended(child), (0, wanted.decode(), ""))
+
+    def test_files_in_turn(self):
+        """The first file is opened before the second, both before one is read, and the first is read to its end
+        first."""
+        self.run_rows(self.check_turn, TURNS)
+
+    def test_page_is_made_last(self):
+        """No page is there before the history was read to its end, and one afterwards."""
+        with tempfile.TemporaryDirectory() as folder:
+            history, page = Pipe(pathlib.Path(folder) / "history"), pathlib.Path(folder) / "page"
+            with started([self.program, "explain", history.path, "--html", page], stdin=subprocess.DEVNULL) as child:
+                self.assertTrue(history.open())
+                self.assertFalse(page.exists())
+                os.close(history.end)
+                self.assertEqual(ended(child), (0, STORY_OF_NOTHING, ""))
+            self.assertTrue(page.exists())
 
 
 if __name__ == "__main__":
-    sys.exit(main())
+    sys.exit(run_tests())

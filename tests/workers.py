@@ -3,26 +3,25 @@
 
     python3 tests/workers.py [PROGRAM]
 
-PROGRAM is the built casbench; where it is not named, the one that ./casbench would run. Each worker has a thread of its own,
-the first of them the one that the program has anyway; where no number of workers is named there is one worker. It asks for a
-C compiler, cc, and says so where there is none.
+PROGRAM is the built casbench; if it isn't named, the one that ./casbench would run. Each worker has a thread of its
+own, the first of them the one that the program has anyway; if no number of workers is named there is one worker. It
+needs a C compiler, cc, and is skipped if there is none.
 """
 
 import os
 import sys
 import tempfile
 
-from program import built_program
-from running import has_compiler, library_in, run, said
+from program_test import ProgramTest, run_tests
+from running import needs_compiler, library_in, run, said
 from texts import created, index, yes
-from trials import Trial, Wrong, try_and_tell
 
 # How many documents there are, more than workers, and a call and a reply of each.
 DOCUMENTS = 20
 HISTORY = "".join(index(n, doc=f"d{n}") + created(n, 1, n, f"d{n}") for n in range(DOCUMENTS))
 ANSWER = yes(DOCUMENTS, docs=DOCUMENTS)
 
-# Words, and how many workers they ask for.
+# Arguments, and how many workers they ask for.
 WORKERS = [
     ("", 1),
     ("check", 1),
@@ -35,25 +34,23 @@ WORKERS = [
 ]
 
 
-def begun(program, words, library):
-    """How many threads the program begins on the words, where its answer is right."""
-    with tempfile.NamedTemporaryFile() as told:
-        where = {**os.environ, "LD_PRELOAD": str(library), "TOLD": told.name}
-        status, answer = said(run(program, words.split(), HISTORY, env=where))
-        if status != 0 or not answer.startswith(ANSWER):
-            raise Wrong(f"{status}, {answer}")
-        return os.path.getsize(told.name)
+@needs_compiler
+class Workers(ProgramTest):
+    """The threads that the program begins."""
 
+    def check_threads(self, library, arguments, workers):
+        with tempfile.NamedTemporaryFile() as counted:
+            settings = {**os.environ, "LD_PRELOAD": str(library), "TOLD": counted.name}
+            status, answer = said(run(self.program, arguments.split(), HISTORY, env=settings))
+            self.assertEqual((status, answer[: len(ANSWER)]), (0, ANSWER))
+            self.assertEqual(os.path.getsize(counted.name), workers - 1)
 
-def main():
-    if not has_compiler("no threads were counted"):
-        print("0 passed, 0 failed")
-        return 0
-    program = built_program(sys.argv[1:])
-    with tempfile.TemporaryDirectory() as folder:
-        library = library_in(folder, "count_threads")
-        return try_and_tell([Trial(words or "no words", begun, (program, words, library), workers - 1) for words, workers in WORKERS])
+    def test_threads(self):
+        with tempfile.TemporaryDirectory() as folder:
+            library = library_in(folder, "count_threads")
+            rows = [(arguments or "no arguments", library, arguments, workers) for arguments, workers in WORKERS]
+            self.run_subtests(self.check_threads, rows)
 
 
 if __name__ == "__main__":
-    sys.exit(main())
+    sys.exit(run_tests())
