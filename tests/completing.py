@@ -308,7 +308,11 @@ OTHER_ROWS = [
     Row(("weigh", "--note", "x", "--silent", "-"), ("-n", "--note", "--unit"), QUIET),
     Row(("weigh", "--note", ""), (), (FILES, "a", "b")),
     Row(("weigh", "-o", ""), (FILES,)),
-    Row(("weigh", "--log", "=", ""), ("always", "never", "rarely")),
+    Row(("weigh", "--log", "="), ("always", "never", "rarely")),
+    Row(("weigh", "--log", "=", "r"), ("rarely",), ("never",)),
+    Row(("weigh", "--log", ""), (FILES,), ("always",)),
+    Row(("weigh", "--log", "-"), ("--unit",), ("--log",)),
+    Row(("weigh", "--log", "--unit", ""), ("kg",), ("always", FILES)),
     Row(("weigh", "a", "b", "c", ""), (FILES,)),
 ]
 
@@ -322,6 +326,8 @@ class Change(NamedTuple):
 
 
 NOT_UNDERSTOOD = [
+    Change("--version", "other 2", "other, release 2", ": no name and number, such as casbench 0.1.0"),
+    Change("help weigh", "-u, --unit", "-', --unit", ", line 10: no option such as -o, --option <VALUE>: -', --unit <UNIT>"),
     Change("--help", "Usage: ", "Use: ", ": it doesn't begin with what the command does and a line `Usage: ..`"),
     Change("--help", "Commands:", "Deeds:", ": it has no section `Commands:`"),
     Change("--help", "  weigh ", "  weigh, w ", ", line 8: no name of a command: weigh, w"),
