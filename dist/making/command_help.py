@@ -290,14 +290,14 @@ def compare_with_usage(place: str, found: CommandHelp) -> None:
 
 def said(program: str, *arguments: str) -> str:
     """What the program writes to standard output, with status 0."""
-    words = " ".join(("casbench", *arguments))
+    command = " ".join(("casbench", *arguments))
     try:
         how = {"stdin": subprocess.DEVNULL, "capture_output": True, "text": True, "timeout": SECONDS}
         ran = subprocess.run([program, *arguments], check=False, **how)
     except (OSError, subprocess.TimeoutExpired, UnicodeDecodeError) as fault:
-        raise HelpError(f"{words}: {fault}") from fault
+        raise HelpError(f"{command}: {fault}") from fault
     if ran.returncode or not ran.stdout:
-        raise HelpError(f"{words}: status {ran.returncode}, {ran.stderr.strip() or 'and no help'}")
+        raise HelpError(f"{command}: status {ran.returncode}, {ran.stderr.strip() or 'and no help'}")
     return ran.stdout
 
 
