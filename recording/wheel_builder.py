@@ -38,8 +38,8 @@ def contents() -> Dict[str, bytes]:
     """What the wheel has, but for its list of it."""
     files = sorted(it for it in (HERE / PACKAGE).iterdir() if it.suffix == ".py" or it.name == "py.typed")
     found = {f"{PACKAGE}/{it.name}": it.read_bytes() for it in files}
-    told = {"METADATA": METADATA, "WHEEL": WHEEL, "entry_points.txt": entry_points(files)}
-    return {**found, **{f"{FOLDER}/{name}": text.encode() for name, text in told.items()}}
+    metadata = {"METADATA": METADATA, "WHEEL": WHEEL, "entry_points.txt": entry_points(files)}
+    return {**found, **{f"{FOLDER}/{name}": text.encode() for name, text in metadata.items()}}
 
 
 def row_of(name: str, content: bytes) -> str:

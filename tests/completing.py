@@ -46,10 +46,10 @@ TOOLS = {
 FILES = "(files)"
 
 
-def ran(*words, **how):
+def ran(*command, **how):
     """How a command ends."""
     how = {"stdin": subprocess.DEVNULL, "capture_output": True, "text": True, "timeout": SECONDS, **how}
-    return subprocess.run([str(it) for it in words], check=False, **how)
+    return subprocess.run([str(it) for it in command], check=False, **how)
 
 
 def made(folder, program=PROGRAM):
@@ -212,21 +212,22 @@ class Made(FolderTest):
         for command in program_help(str(PROGRAM)).commands:
             for option in (it for it in command.options if it.values):
                 name = option.names[-1]
-                words = needed.get(command.name, [])
-                if name in words:
-                    words = words[: words.index(name)] + words[words.index(name) + 2 :]
+                arguments = needed.get(command.name, [])
+                if name in arguments:
+                    at = arguments.index(name)
+                    arguments = arguments[:at] + arguments[at + 2 :]
                 if name == "--until":
-                    words = [*words[2:], "--seeds", "1-1"]
+                    arguments = [*arguments[2:], "--seeds", "1-1"]
                 with self.subTest(command=command.name, option=name):
-                    refused = ran(PROGRAM, command.name, *words, name, "?").stderr
+                    refused = ran(PROGRAM, command.name, *arguments, name, "?").stderr
                     found = re.search(rf"the value of {name} is (.+)|\[possible values: (.+)\]", refused)
                     self.assertEqual(re.split(", | or ", found[1] or found[2]), list(option.values), refused)
                     count += 1
         self.assertGreaterEqual(count, 7)
 
     def test_it_is_asked_wrong(self):
-        for words in (["--to"], ["a", "b"], ["--from", "x"]):
-            self.assertEqual(ran(sys.executable, DIST / "make-share", *words).returncode, 2)
+        for arguments in (["--to"], ["a", "b"], ["--from", "x"]):
+            self.assertEqual(ran(sys.executable, DIST / "make-share", *arguments).returncode, 2)
         self.assertIn("usage: make-share ", ran(sys.executable, DIST / "make-share", "--help").stdout)
 
 
@@ -308,20 +309,26 @@ OTHER_ROWS = [
     Row(("weigh", "--note", "x", "--silent", "-"), ("-n", "--note", "--unit"), QUIET),
     Row(("weigh", "--note", ""), (), (FILES, "a", "b")),
     Row(("weigh", "-o", ""), (FILES,)),
-    Row(("weigh", "--log", "=", ""), ("always", "never", "rarely")),
+    Row(("weigh", "--log", "="), ("always", "never", "rarely")),
+    Row(("weigh", "--log", "=", "r"), ("rarely",), ("never",)),
+    Row(("weigh", "--log", ""), (FILES,), ("always",)),
+    Row(("weigh", "--log", "-"), ("--unit",), ("--log",)),
+    Row(("weigh", "--log", "--unit", ""), ("kg",), ("always", FILES)),
     Row(("weigh", "a", "b", "c", ""), (FILES,)),
 ]
 
 class Change(NamedTuple):
     """A change to a help of the other program, after which it isn't understood, and what is said behind its name."""
 
-    words: str
+    command: str
     old: str
     new: str
     wanted: str
 
 
 NOT_UNDERSTOOD = [
+    Change("--version", "other 2", "other, release 2", ": no name and number, such as casbench 0.1.0"),
+    Change("help weigh", "-u, -", "-', -", ", line 10: no option such as -o, --option <VALUE>: -', --unit <UNIT>"),
     Change("--help", "Usage: ", "Use: ", ": it doesn't begin with what the command does and a line `Usage: ..`"),
     Change("--help", "Commands:", "Deeds:", ": it has no section `Commands:`"),
     Change("--help", "  weigh ", "  weigh, w ", ", line 8: no name of a command: weigh, w"),
@@ -342,8 +349,8 @@ class Other(FolderTest):
         """A program that writes these texts."""
         folder = pathlib.Path(self.folder) / "program"
         folder.mkdir(exist_ok=True)
-        for words, text in texts.items():
-            (folder / words).write_text(text)
+        for command, text in texts.items():
+            (folder / command).write_text(text)
         program = folder / "run"
         program.write_text('#!/bin/sh\nexec cat "${0%/*}/$*"\n')
         program.chmod(0o755)
@@ -369,10 +376,10 @@ class Other(FolderTest):
         share = pathlib.Path(self.folder) / "share"
         for it in NOT_UNDERSTOOD:
             with self.subTest(change=it):
-                self.assertIn(it.old, OTHER[it.words])
-                end = made(share, self.program_of({**OTHER, it.words: OTHER[it.words].replace(it.old, it.new, 1)}))
+                self.assertIn(it.old, OTHER[it.command])
+                end = made(share, self.program_of({**OTHER, it.command: OTHER[it.command].replace(it.old, it.new, 1)}))
                 self.assertEqual((end.returncode, share.exists()), (1, False))
-                self.assertTrue(end.stderr.startswith(f"make-share: casbench {it.words}{it.wanted}"), end.stderr)
+                self.assertTrue(end.stderr.startswith(f"make-share: casbench {it.command}{it.wanted}"), end.stderr)
 
     def test_a_program_that_does_not_answer(self):
         share = pathlib.Path(self.folder) / "share"

@@ -43,10 +43,10 @@ class End(NamedTuple):
     err: str
 
 
-def ended(words, **how):
+def ended(command, **how):
     """How a command ends."""
     how = {"stdin": subprocess.DEVNULL, "capture_output": True, "text": True, "timeout": SECONDS, **how}
-    ran = subprocess.run([str(it) for it in words], check=False, **how)
+    ran = subprocess.run([str(it) for it in command], check=False, **how)
     return End(ran.returncode, ran.stdout, ran.stderr)
 
 
@@ -64,7 +64,7 @@ class Install(FolderTest):
         self.top = pathlib.Path(self.folder)
         self.prefix = self.top / "a prefix" / "of \\ two"
 
-    def install(self, *words, dist=DIST, tools=(), **more):
+    def install(self, *arguments, dist=DIST, tools=(), **more):
         """How the script ends; `tools` are scripts that stand in for commands, by their names."""
         path = os.environ["PATH"]
         for name, text in dict(tools).items():
@@ -74,7 +74,7 @@ class Install(FolderTest):
             tool.chmod(0o755)
             path = f"{self.top / 'tools'}:{os.environ['PATH']}"
         kept = {key: it for key, it in os.environ.items() if key != "DESTDIR"}
-        return ended([dist / "install", *words], cwd=self.top, env={**kept, "PATH": path, **more})
+        return ended([dist / "install", *arguments], cwd=self.top, env={**kept, "PATH": path, **more})
 
     def assert_installed(self, prefix):
         """Holds that all is there, with the rights that it needs."""
@@ -85,17 +85,17 @@ class Install(FolderTest):
         self.assertEqual(list(prefix.rglob("*.new-*")), [])
 
     def test_it_is_installed_and_removed(self):
-        words = ["--prefix", self.prefix]
-        self.assertEqual(self.install(*words), (0, f"installed casbench in {self.prefix}\n", ""))
+        arguments = ["--prefix", self.prefix]
+        self.assertEqual(self.install(*arguments), (0, f"installed casbench in {self.prefix}\n", ""))
         self.assert_installed(self.prefix)
         checked = ended([self.prefix / "bin" / "casbench", "check", TOP / "examples" / "right.ndjson"], cwd=self.top)
         self.assertEqual(checked, (0, "yes docs=1 calls=5 left_out=0\n", ""))
         # (again, as by a newer checkout)
         self.assertEqual(self.install(f"--prefix={self.prefix}/").status, 0)
         self.assert_installed(self.prefix)
-        self.assertEqual(self.install("--remove", *words), (0, f"removed casbench from {self.prefix}\n", ""))
+        self.assertEqual(self.install("--remove", *arguments), (0, f"removed casbench from {self.prefix}\n", ""))
         self.assertEqual(contents(self.top), {})
-        again = self.install(*words, "--remove")
+        again = self.install(*arguments, "--remove")
         self.assertEqual((again.status, again.out), (1, ""))
         self.assertIn("nothing is installed in", again.err)
 
@@ -160,9 +160,9 @@ class Install(FolderTest):
 
     def test_wrong_arguments(self):
         no_directory = (["--prefix"], ["--prefix="], ["--prefix", "--remove"], ["--prefix", "a\nb"])
-        for words in (*no_directory, ["--prefix", "a", "--prefix", "b"], ["/usr"], ["--remove", "x"], ["-r"]):
-            with self.subTest(words=words):
-                end = self.install(*words)
+        for arguments in (*no_directory, ["--prefix", "a", "--prefix", "b"], ["/usr"], ["--remove", "x"], ["-r"]):
+            with self.subTest(arguments=arguments):
+                end = self.install(*arguments)
                 self.assertEqual((end.status, end.out), (2, ""))
                 self.assertRegex(end.err, r"^dist/install: .+\n\nUsage: dist/install ")
         for word in ("--help", "-h"):
@@ -179,9 +179,9 @@ class Install(FolderTest):
             (["--prefix", self.top / "file"], {}, f"{self.top}/file is no directory"),
             (["--prefix", "x"], {"tools": elsewhere}, "the program is for Linux on x86-64, and this is Darwin arm64"),
         ]
-        for words, how, wanted in rows:
+        for arguments, how, wanted in rows:
             with self.subTest(wanted=wanted):
-                end = self.install(*words, **how)
+                end = self.install(*arguments, **how)
                 self.assertEqual((end.status, end.out, end.err), (1, "", f"dist/install: {wanted}\n"))
                 self.assertFalse((self.top / "x").exists())
 
@@ -210,8 +210,8 @@ class Install(FolderTest):
         closed.mkdir(mode=0o755)
         rights = {"user": NOBODY, "group": NOBODY, "extra_groups": []}
         advice = "isn't writable: name another --prefix, or be root\n"
-        for words, wanted in ((["--prefix", closed], f"{closed} {advice}"), ([], advice)):
-            end = ended([dist / "install", *words], cwd="/", **rights)
+        for arguments, wanted in ((["--prefix", closed], f"{closed} {advice}"), ([], advice)):
+            end = ended([dist / "install", *arguments], cwd="/", **rights)
             self.assertEqual((end.status, end.out, contents(closed)), (1, "", {}))
             self.assertIn(wanted, end.err)
         self.install("--prefix", closed)
@@ -281,15 +281,16 @@ class Commands(unittest.TestCase):
         folder = tempfile.TemporaryDirectory(prefix="casbench-installed-")
         cls.addClassCleanup(folder.cleanup)
         cls.installed = pathlib.Path(folder.name)
-        words = ["-m", "pip", "install", "--quiet", "--no-index", "--no-build-isolation", "--disable-pip-version-check"]
-        end = ended([sys.executable, *words, "--target", folder.name, PACKAGE], env=environment())
+        options = ["--quiet", "--no-index", "--no-build-isolation", "--disable-pip-version-check"]
+        install = [sys.executable, "-m", "pip", "install", *options, "--target", folder.name, PACKAGE]
+        end = ended(install, env=environment())
         if end.status:
             raise AssertionError(end.err)
 
-    def run_of(self, *words):
+    def run_of(self, command, *arguments):
         """How a command ends, which may be one that is installed."""
         folder = self.installed / "bin"
-        return ended([folder / words[0], *words[1:]], cwd=folder, env=environment(PYTHONPATH=str(self.installed)))
+        return ended([folder / command, *arguments], cwd=folder, env=environment(PYTHONPATH=str(self.installed)))
 
     def test_each_command_starts(self):
         sources = sorted((PACKAGE / "casbench_recording").glob("*.py"))
@@ -301,13 +302,13 @@ class Commands(unittest.TestCase):
             self.assert_starts([name], name)
             self.assert_starts([sys.executable, "-m", f"casbench_recording.{module}"], f"{module}.py")
 
-    def assert_starts(self, words, name):
+    def assert_starts(self, command, name):
         """Holds that a command shows its usage by this name, and refuses an argument that it doesn't have."""
         with self.subTest(command=name):
-            end = self.run_of(*words, "--help")
+            end = self.run_of(*command, "--help")
             self.assertEqual((end.status, end.err), (0, ""))
             self.assertTrue(end.out.startswith(f"usage: {name} "), end.out)
-            end = self.run_of(*words, "--no-such-option")
+            end = self.run_of(*command, "--no-such-option")
             self.assertEqual((end.status, end.out), (2, ""))
             self.assertIn(f"\n{name}: error: ", end.err)
 

@@ -19,7 +19,7 @@ VALUES = """\
 }
 
 # Sets `kind`, what the value of a command's option is: a name, which stands in `names`, a file or another text; or
-# nothing, if it has none.
+# nothing, if it has none. `is_attached` is set if the value may only come behind an equals sign.
 _PROGRAM_describe_value() {
     case "$1 $2" in
 """
@@ -35,7 +35,15 @@ _PROGRAM_take() {
     elif [[ $1 == *[\<\>]* ]]; then
         is_target=yes
     elif [[ $option ]]; then
-        [[ $1 == = ]] || option=
+        if [[ $1 == = ]]; then
+            is_attached=
+            return
+        fi
+        option=
+        if [[ $is_attached ]]; then
+            is_attached=
+            _PROGRAM_take "$1"
+        fi
     elif [[ $is_ended ]]; then
         files=$((files + 1))
     elif [[ $1 == -- ]]; then
@@ -66,13 +74,14 @@ _PROGRAM_options_left() {
 
 _PROGRAM() {
     local IFS=$' \t\n' current=${COMP_WORDS[COMP_CWORD]} given=' ' files=0 most_files=0 at
-    local command= option= options= arguments= kind= names= is_ended= is_target=
+    local command= option= options= arguments= kind= names= is_attached= is_ended= is_target=
     COMPREPLY=()
     for ((at = 1; at < COMP_CWORD; at++)); do
         _PROGRAM_take "${COMP_WORDS[at]}"
     done
     _PROGRAM_describe "$command"
     kind=
+    [[ $is_attached && $current != = ]] && option=
     if [[ $is_target ]]; then
         kind=file
     elif [[ $option ]]; then
@@ -96,24 +105,18 @@ _PROGRAM() {
 complete -F _PROGRAM PROGRAM
 """
 
-MANY = 999
-"""How many files an argument takes that may be repeated."""
-
-
 def words_of(command: CommandHelp, names: Sequence[str]) -> str:
     """What is set of a command: its options, how many files it takes, or the names that it takes."""
     groups = ([f"+{name}" if it.is_repeated else name for name in it.names] for it in command.options)
     options = " ".join(",".join(it) for it in groups)
-    takes_names = not command.name or any(it.is_command for it in command.arguments)
-    files = MANY if any(it.is_repeated for it in command.arguments) else len(command.arguments)
-    return f"options='{options}' " + (f"arguments='{' '.join(names)}'" if takes_names else f"most_files={files}")
+    arguments = f"arguments='{' '.join(names)}'" if command.takes_command else f"most_files={command.most_files}"
+    return f"options='{options}' {arguments}"
 
 
 def kind_of(option: Option) -> str:
     """What is set of an option's value."""
-    if option.values:
-        return f"kind=name names='{' '.join(option.values)}'"
-    return "kind=file" if option.is_file else "kind=text"
+    kind = f"name names='{' '.join(option.values)}'" if option.values else "file" if option.is_file else "text"
+    return f"kind={kind}" + (" is_attached=yes" if option.is_optional else "")
 
 
 def value_lines(command: CommandHelp) -> Iterator[str]:

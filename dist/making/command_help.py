@@ -17,13 +17,16 @@ NAME = re.compile(r"[A-Za-z0-9][A-Za-z0-9._+-]*")
 """A command, or a named value. Others would have to be quoted in each shell."""
 
 OPTION = re.compile(
-    r"(?P<names>-[^-\s,]|--[\w-]+|-[^-\s,], --[\w-]+)"
-    r"(?P<value>(?:\[=<[^<>]+>\]|=<[^<>]+>|(?: <[^<>]+>| \[<?[^<>\]]+>?\])+)?)(?P<more>(?:\.\.\.)?)"
+    r"(?P<names>-[A-Za-z0-9]|--[\w-]+|-[A-Za-z0-9], --[\w-]+)"
+    r"(?P<value>(?:\[=<[^<>]+>\]|=<[^<>]+>| <[^<>]+>)?)(?P<more>(?:\.\.\.)?)"
 )
 ARGUMENT = re.compile(r"(?P<shown>\[(?P<may>[^\]<>]+)\]|<(?P<must>[^<>]+)>)(?P<more>(?:\.\.\.)?)")
 
 FILES = ("FILE", "PATH", "OUT", "DIR", "DIRECTORY", "FOLDER")
 """Values of options that are files, whatever the text says."""
+
+MANY = 999
+"""How many files there may be as an argument that comes again and again."""
 
 
 class HelpError(Exception):
@@ -48,18 +51,19 @@ class Entry(NamedTuple):
 
 class Option(NamedTuple):
     """An option: its names, the name of its value or nothing, its text, the values that it has names for, whether its
-    value is a file, and whether it may come several times."""
+    value is a file, whether it may come without the value, and whether it may come again."""
 
     names: Tuple[str, ...]
     value: str
     text: str
     values: Tuple[str, ...]
     is_file: bool
+    is_optional: bool
     is_repeated: bool
 
 
 class Argument(NamedTuple):
-    """An argument that is no option: its name, how the help shows it, its text, and whether there may be several."""
+    """An argument that is no option: its name, how the help shows it, its text, and whether it may come again."""
 
     name: str
     shown: str
@@ -90,6 +94,16 @@ class CommandHelp:
     arguments: Tuple[Argument, ...]
     options: Tuple[Option, ...]
     passages: Tuple[Passage, ...]
+
+    @property
+    def takes_command(self) -> bool:
+        """Whether its argument is the name of a command."""
+        return not self.name or any(it.is_command for it in self.arguments)
+
+    @property
+    def most_files(self) -> int:
+        """How many files its arguments may be."""
+        return MANY if any(it.is_repeated for it in self.arguments) else len(self.arguments)
 
     def passage(self, pattern: str) -> Optional[Passage]:
         """The first passage whose heading fits the pattern."""
@@ -174,8 +188,9 @@ def option_of(entry: Entry) -> Option:
     values = values_of(value, entry.text) if value else ()
     for it in (it for it in values if not NAME.fullmatch(it)):
         raise HelpError(f"{entry.place}: a value that would have to be quoted in a shell: {it}")
-    names_file = value in FILES or bool(re.search(r"\b(file|directory|folder)\b", text))
-    return Option(names, value, text, values, bool(value) and not values and names_file, bool(found["more"]))
+    is_file = bool(value) and (value in FILES or bool(re.search(r"\b(file|directory|folder)\b", text)))
+    is_optional = found["value"].startswith("[")
+    return Option(names, value, text, values, is_file and not values, is_optional, bool(found["more"]))
 
 
 def argument_of(entry: Entry) -> Argument:
@@ -275,20 +290,22 @@ def compare_with_usage(place: str, found: CommandHelp) -> None:
 
 def said(program: str, *arguments: str) -> str:
     """What the program writes to standard output, with status 0."""
-    words = " ".join(("casbench", *arguments))
+    command = " ".join(("casbench", *arguments))
     try:
         how = {"stdin": subprocess.DEVNULL, "capture_output": True, "text": True, "timeout": SECONDS}
         ran = subprocess.run([program, *arguments], check=False, **how)
     except (OSError, subprocess.TimeoutExpired, UnicodeDecodeError) as fault:
-        raise HelpError(f"{words}: {fault}") from fault
+        raise HelpError(f"{command}: {fault}") from fault
     if ran.returncode or not ran.stdout:
-        raise HelpError(f"{words}: status {ran.returncode}, {ran.stderr.strip() or 'and no help'}")
+        raise HelpError(f"{command}: status {ran.returncode}, {ran.stderr.strip() or 'and no help'}")
     return ran.stdout
 
 
 def program_help(program: str) -> ProgramHelp:
     """Asks the program for its help, and for that of each command."""
-    name, _, version = said(program, "--version").strip().partition(" ")
+    version = re.fullmatch(r"(\S+) (\S+)\n", said(program, "--version"))
+    if not version or not NAME.fullmatch(version[1]):
+        raise HelpError("casbench --version: no name and number, such as casbench 0.1.0")
     itself = command_help("casbench --help", "", said(program, "--help"))
     if not itself.commands:
         raise HelpError("casbench --help: it has no section `Commands:`")
@@ -296,4 +313,4 @@ def program_help(program: str) -> ProgramHelp:
     for it in commands:
         if it.commands:
             raise HelpError(f"casbench help {it.name}: it has commands of its own, for which no completion is made")
-    return ProgramHelp(name, version, itself, commands)
+    return ProgramHelp(version[1], version[2], itself, commands)

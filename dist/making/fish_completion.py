@@ -52,10 +52,6 @@ end
 complete -c PROGRAM -f
 """
 
-MANY = 999
-"""How many files an argument takes that may be repeated."""
-
-
 def quoted(text: str) -> str:
     """A text in single quotes."""
     return "'" + text.replace("\\", "\\\\").replace("'", "\\'") + "'"
@@ -69,22 +65,21 @@ def option_line(name: str, command: CommandHelp, option: Option) -> str:
     names = " ".join(f"-l {it[2:]}" if it.startswith("--") else f"-s {it[1:]}" for it in option.names)
     value = ""
     if option.values:
-        value = f" -x -a {quoted(' '.join(option.values))}"
-    elif option.value:
+        value = f" {'-f' if option.is_optional else '-x'} -a {quoted(' '.join(option.values))}"
+    elif option.value and not option.is_optional:
         value = " -r -F" if option.is_file else " -x"
     return f"complete -c {name} -n {quoted(condition)} {names}{value} -d {quoted(option.text)}\n"
 
 
 def argument_lines(program: ProgramHelp, command: CommandHelp) -> Iterator[str]:
     """The lines of the arguments of a command: names of commands, or files."""
-    most = MANY if any(it.is_repeated for it in command.arguments) else len(command.arguments)
-    valued = [name for it in command.options if it.value for name in it.names]
-    if any(it.is_command for it in command.arguments):
+    valued = [name for it in command.options if it.value and not it.is_optional for name in it.names]
+    if command.name and command.takes_command:
         condition = f"__{program.name}_wants {command.name} 1"
         names = " ".join(it.name for it in program.commands)
         yield f"complete -c {program.name} -n {quoted(condition)} -a {quoted(names)}\n"
-    elif most:
-        condition = " ".join((f"__{program.name}_wants", command.name, str(most), *valued))
+    elif command.name and command.most_files:
+        condition = " ".join((f"__{program.name}_wants", command.name, str(command.most_files), *valued))
         yield f"complete -c {program.name} -n {quoted(condition)} -F\n"
 
 

@@ -61,12 +61,14 @@ def action_of(option: Option) -> str:
 
 def option_specification(option: Option) -> str:
     """The specification of an option. One that asks for help or the version excludes all else."""
-    value = f":{marked(option.value)}:{action_of(option)}" if option.value else ""
+    before_value = "::" if option.is_optional else ":"
+    value = f"{before_value}{marked(option.value)}:{action_of(option)}" if option.value else ""
     is_last = {"--help", "--version"} & set(option.names)
     prefix = "(- *)" if is_last else "*" if option.is_repeated else ""
     if len(option.names) > 1 and not prefix:
         prefix = f"({' '.join(option.names)})"
-    names = [f"{it}=" if value and it.startswith("--") else it for it in option.names]
+    sign = "=-" if option.is_optional else "="
+    names = [f"{it}{sign}" if value and it.startswith("--") else it for it in option.names]
     shown = f"{{{','.join(names)}}}" if len(names) > 1 else names[0]
     before = quoted(prefix) if prefix else ""
     return f"{before}{shown}{quoted(f'[{marked(option.text)}]{value}')}"

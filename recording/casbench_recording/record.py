@@ -301,7 +301,7 @@ def urls_of(text: str) -> List[Url]:
 
 
 def words_of(arguments: Optional[Sequence[str]]) -> argparse.Namespace:
-    """Reads the words of the command; without any those of the process."""
+    """Reads the arguments of the command; without any, those of the process."""
     parser = argparse.ArgumentParser(description="Records clients of an OpenSearch cluster as a history for casbench.")
     add = parser.add_argument
     add("urls", type=urls_of, metavar="URL[,URL..]", help="the cluster's address, as https://host:9200, or those of several nodes")

@@ -214,7 +214,7 @@ def program_at_hand() -> str:
 
 
 def words_of(arguments: Optional[Sequence[str]]) -> argparse.Namespace:
-    """Reads the words of the command; without any those of the process."""
+    """Reads the arguments of the command; without any, those of the process."""
     parser = argparse.ArgumentParser(description="Cuts a history down to few calls that get the same answer from casbench, and prints it.")
     add = parser.add_argument
     add("file", help="the history")

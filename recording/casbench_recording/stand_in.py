@@ -301,7 +301,7 @@ def wanted_header(environment: Mapping[str, str]) -> Optional[bytes]:
 
 
 def words_of(arguments: Optional[Sequence[str]]) -> argparse.Namespace:
-    """Reads the words of the command; without any those of the process."""
+    """Reads the arguments of the command; without any, those of the process."""
     faults = "; ".join(f"{name}: {meaning}" for name, meaning in FAULTS.items())
     parser = argparse.ArgumentParser(description="Stands in for an OpenSearch cluster.", epilog=f"Faults: {faults}.")
     add = parser.add_argument

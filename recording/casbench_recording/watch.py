@@ -223,7 +223,7 @@ def run_command(command: Sequence[str]) -> None:
 
 
 def setting_of(arguments: Optional[Sequence[str]]) -> argparse.Namespace:
-    """Reads the arguments; without any those of the process. What follows `--` is the command."""
+    """Reads the arguments; without any, those of the process. What follows `--` is the command."""
     own, command = list(sys.argv[1:] if arguments is None else arguments), []
     if "--" in own:
         at = own.index("--")
