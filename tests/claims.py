@@ -164,7 +164,8 @@ def functions_of(module, text):
             clauses = re.findall(rf"^{match[1]}    (ensures|requires)(?: (\w+))? \{{", header, re.MULTILINE)
             ensures = tuple(name for kind, name in clauses if kind == "ensures")
             owes = any(kind == "requires" for kind, _ in clauses)
-            functions.append(Function(module, owner if match[1] else "", match[3], bool(match[2]), ensures, owes, header))
+            owner_of_own = owner if match[1] else ""
+            functions.append(Function(module, owner_of_own, match[3], bool(match[2]), ensures, owes, header))
     return functions
 
 
@@ -262,7 +263,8 @@ class Sources:
         files = [it for it in CRATES.glob("*/specs/*.antt") if it.name not in LISTS]
         self.specs = {str(it.relative_to(CRATES)): Definitions(it) for it in sorted(files)}
         self.definitions = {name for it in self.specs.values() for name in it.names}
-        self.values = {value for crate in self.crates.values() for values in crate.types.values() for value in values} | {"None"}
+        types = [it for crate in self.crates.values() for it in crate.types.values()]
+        self.values = {value for values in types for value in values} | {"None"}
 
     def fields_cited(self, functions):
         """The fields of the records that the contracts of functions cite."""
@@ -426,7 +428,8 @@ class Proved:
         for functions in self.calls_told(row, crate).values():
             for key, it in functions.items():
                 self.stands[crate.name, key] += 1
-                is_so = it.module == "laws" and all(name in it.contract for name in quoted(row.cells[1])) and quoted(row.cells[1])
+                names = quoted(row.cells[1])
+                is_so = it.module == "laws" and names and all(name in it.contract for name in names)
                 self.hold(is_so and it.ensures == ("",), row.line, f"{key} is no law {row.cells[1]}")
                 self.told.add((crate.name, key, ""))
 
@@ -434,9 +437,11 @@ class Proved:
         """Holds what cells name: the refusals, and in brackets clauses of a call of the row, of a record that its
         contract cites, or of the function before them. A function may stand there alone."""
         functions = crate.functions
-        alone = {clause for it in own for clause in it.ensures} | {it.key for it in functions} | self.sources.fields_cited(own)
+        alone = {clause for it in own for clause in it.ensures} | {it.key for it in functions}
+        alone |= self.sources.fields_cited(own)
         for before, names in in_brackets(" ".join(cells)):
-            there = {clause for it in functions if it.key in quoted(before) for clause in it.ensures} if before else alone
+            its = [it for it in functions if it.key in quoted(before)]
+            there = {clause for it in its for clause in it.ensures} if before else alone
             for name in (it for it in names if re.match(r"[a-z]|\w+::", it)):
                 self.hold(name in there, row.line, f"in brackets: {before or row.cells[0]} has no clause {name}")
         types = {name for crate in self.crates.values() for name in crate.types}
@@ -549,7 +554,8 @@ class Citations:
         crate = self.crates.get(path.split("::")[0])
         if crate is None:
             return path in self.functions or any(it.found(path) for it in self.crates.values())
-        own = {it.key for it in crate.functions} | {*crate.calls, *crate.types, *crate.traits, *crate.modules, *crate.exported}
+        own = {it.key for it in crate.functions}
+        own |= {*crate.calls, *crate.types, *crate.traits, *crate.modules, *crate.exported}
         return path.partition("::")[2] in own
 
     def is_behind(self, path, name):
