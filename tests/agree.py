@@ -74,7 +74,8 @@ class Group:
         doc = self.draw.below(self.docs)
         condition = None if self.draw.below(2) == 0 else self.shown[doc]
         name = self.draw.one_of(["get", "get", "get", "delete", "create", "index", "index", "index"])
-        op = Op(name, self.calls if name in ("index", "create") else None, condition if name in ("index", "delete") else None)
+        k = self.calls if name in ("index", "create") else None
+        op = Op(name, k, condition if name in ("index", "delete") else None)
         self.events.append(Call(self.calls, doc, op))
         self.calls += 1
         return self.events[-1], None

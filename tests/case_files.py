@@ -3,8 +3,8 @@ r"""The text cases: tests/cases/NAME.case, a file for each.
 It is no test itself. A case file has sections. A section begins with a line `--- SECTION`; its text is all lines behind
 that, up to the next such line or to the end of the file, byte for byte. The sections are
 
-    --- args      the arguments of the program, one on each line; history, witness, body and reply, but as the first argument,
-                  stand for files with the texts of these sections
+    --- args      the arguments of the program, one on each line; history, witness, body and reply, but as the first
+                  argument, stand for files with the texts of these sections
     --- history   a text that the program reads; it is standard input if no argument stands for a file
     --- witness   a text that the program reads, and so are the next two
     --- body

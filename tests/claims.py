@@ -1,19 +1,19 @@
 #!/usr/bin/env python3
-"""Holds the documents to the sources: what they name is there, and what is there they tell.
+"""Holds the documents to the sources: what they name is there, and what is there they name.
 
     python3 tests/claims.py [PROGRAM]
 
 No program is run; one may be named, as for the other tests. What is held:
 
-- docs/MODEL.md has a heading `### CRATE/specs/FILE.antt` for each file of definitions. The tables below it tell the
+- docs/MODEL.md has a heading `### CRATE/specs/FILE.antt` for each file of definitions. The tables below it name the
   definitions of that file, each of them and no others; names in brackets are parts of a definition. Types are there,
   with their values.
-- docs/PROVED.md has a section for each crate. Each public call stands there in one row, which tells each of its clauses
-  and no others, and that something is owed where the call has a `requires`, and only there. Each law stands in a row
+- docs/PROVED.md has a section for each crate. Each public call stands there in one row, which names each of its clauses
+  and no others, and that something is owed if the call has a `requires`, and only there. Each law stands in a row
   with its definition. Clauses in brackets are those of a call of their row, refusals are values of some type, and what
   stands in brackets in a promise is a definition.
 - docs/ARCHITECTURE.md has a row for each crate in "The rooms", with the libraries that crates.txt gives it; the table
-  of the gate tells how many edits must fail.
+  of the gate says how many edits must fail.
 - Files, links, modules of lemmas, `CRATE::NAME` and `Type::name` that a document names are there, and clauses behind
   these.
 
@@ -43,8 +43,8 @@ DOCUMENTS = [
 LISTS = {"Lib.antt", "aids.antt"}
 
 # Traits whose functions need no row: those of copies, what is shown of a value, and what makes one fault of another.
-UNTOLD_TRAITS = {"Clone", "Copy", "Debug", "From"}
-# The traits that documents tell by an operator, or by a word.
+OMITTED_TRAITS = {"Clone", "Copy", "Debug", "From"}
+# The traits that documents name by an operator, or by a word.
 SPELLED_TRAITS = {"==": "PartialEq", "hash": "Hash", "reader": "Read"}
 
 # Words that are files: such as begin with a folder of the checkout, and such as end so.
@@ -70,7 +70,7 @@ def quoted(text):
 
 
 def in_brackets(text):
-    """What stands in brackets where it is names and nothing else, parted at `; `: what stands before `: `, and the
+    """What stands in brackets if it is names and nothing else, parted at `; `: what stands before `: `, and the
     names."""
     for group in re.findall(r"\(([^()]*`[^()]*)\)", text):
         for piece in group.split("; "):
@@ -130,7 +130,7 @@ class Function(NamedTuple):
 
 
 def owner_of(line):
-    """`Type`, `Type as Trait` or `Trait` where the line begins an impl or a trait, `tests` where it begins a module."""
+    """`Type`, `Type as Trait` or `Trait` if the line begins an impl or a trait, `tests` if it begins a module."""
     while re.search(r"<[^<>]*>", line):
         line = re.sub(r"<[^<>]*>", "", line)
     match = re.match(r"impl (?:(\S+) for )?(\S+) \{|(?:pub(?:\(\w+\))? )?trait (\w+)", line)
@@ -164,7 +164,8 @@ def functions_of(module, text):
             clauses = re.findall(rf"^{match[1]}    (ensures|requires)(?: (\w+))? \{{", header, re.MULTILINE)
             ensures = tuple(name for kind, name in clauses if kind == "ensures")
             owes = any(kind == "requires" for kind, _ in clauses)
-            functions.append(Function(module, owner if match[1] else "", match[3], bool(match[2]), ensures, owes, header))
+            owner_of_own = owner if match[1] else ""
+            functions.append(Function(module, owner_of_own, match[3], bool(match[2]), ensures, owes, header))
     return functions
 
 
@@ -203,11 +204,11 @@ class Crate:
             self.impls[owner_of(line)] = Function(module, owner_of(line), "", False, given, False, body)
 
     def public_name(self, it):
-        """How documents name the function, where a caller has it; else nothing."""
+        """How documents name the function, if a caller has it; else nothing."""
         if it.owner:
             kind = it.owner.split(" as ")[0]
-            is_told = it.is_public or it.owner in self.traits or " as " in it.owner
-            return it.key if is_told and (kind in self.exported or kind.startswith("&")) else ""
+            is_named = it.is_public or it.owner in self.traits or " as " in it.owner
+            return it.key if is_named and (kind in self.exported or kind.startswith("&")) else ""
         if it.is_public and self.exported.get(it.name) == it.module:
             return it.name
         return f"{self.open[it.module]}::{it.name}" if it.is_public and it.module in self.open else ""
@@ -228,7 +229,7 @@ class Crate:
     def needed(self):
         """The public calls that need a row: not the laws, nor what is given to a trait that has a row of its own."""
         for key, it in self.calls.items():
-            if it.module != "laws" and it.owner.partition(" as ")[2] not in UNTOLD_TRAITS | self.traits:
+            if it.module != "laws" and it.owner.partition(" as ")[2] not in OMITTED_TRAITS | self.traits:
                 yield key, it
 
 
@@ -257,12 +258,13 @@ class Sources:
         self.uses = {name: libraries.split() for name, libraries in listed}
         folders = sorted(it.parent.name for it in CRATES.glob("*/src"))
         self.crates = {name: Crate(CRATES / name) for name in dict.fromkeys([*self.uses, *folders])}
-        # Those that documents tell: a crate of tests has nothing but tests.
-        self.told = {name: it for name, it in self.crates.items() if not name.endswith("_tests")}
+        # Those that documents describe: a crate of tests has nothing but tests.
+        self.described = {name: it for name, it in self.crates.items() if not name.endswith("_tests")}
         files = [it for it in CRATES.glob("*/specs/*.antt") if it.name not in LISTS]
         self.specs = {str(it.relative_to(CRATES)): Definitions(it) for it in sorted(files)}
         self.definitions = {name for it in self.specs.values() for name in it.names}
-        self.values = {value for crate in self.crates.values() for values in crate.types.values() for value in values} | {"None"}
+        types = [it for crate in self.crates.values() for it in crate.types.values()]
+        self.values = {value for values in types for value in values} | {"None"}
 
     def fields_cited(self, functions):
         """The fields of the records that the contracts of functions cite."""
@@ -281,19 +283,19 @@ class Model:
     def __init__(self, sources, claims):
         self.sources, self.claims = sources, claims
 
-    def hold(self, is_so, line, told):
-        self.claims.hold(is_so, self.page, line, told)
+    def hold(self, is_so, line, fault):
+        self.claims.hold(is_so, self.page, line, fault)
 
     def hold_types(self, row):
-        """Holds a row of types. Where values of one type are told, all of them are."""
+        """Holds a row of types. If values of one type are named, all of them are."""
         match = re.search(r"\(crate (\w+)\)", row.cells[0]) or re.match(r"### (\w+)/", row.heading)
         types = self.sources.crates[match[1]].types if match and match[1] in self.sources.crates else {}
         names = [it.split()[0] for it in quoted(row.cells[0])]
-        told = {it for text in quoted(row.cells[1]) for it in re.findall(r"^\w+", text)}
+        named = {it for text in quoted(row.cells[1]) for it in re.findall(r"^\w+", text)}
         for name in names:
             self.hold(name in types, row.line, f"the type {name} is not declared in {match[1] if match else 'a crate'}")
-        for value in sorted(types.get(names[0], ())) if len(names) == 1 and told & types.get(names[0], set()) else []:
-            self.hold(value in told, row.line, f"the value {value} of {names[0]} is not told")
+        for value in sorted(types.get(names[0], ())) if len(names) == 1 and named & types.get(names[0], set()) else []:
+            self.hold(value in named, row.line, f"the value {value} of {names[0]} is not named")
 
     def hold_names(self, row, file):
         """Holds a row about a file: its names, those in brackets, the laws that it cites. Gives its names."""
@@ -310,21 +312,21 @@ class Model:
         return names
 
     def hold_all(self):
-        """Holds the headings, their tables, and that each definition is told."""
+        """Holds the headings, their tables, and that each definition is named."""
         specs = self.sources.specs
         headings = {line[4:]: number for number, line in headings_of(self.page) if line.startswith("### ")}
-        told = {name: set() for name in headings}
+        named = {name: set() for name in headings}
         for name, number in headings.items():
             self.hold(name in specs, number, f"there is no file crates/{name}")
         for row in rows_of(self.page, self.claims):
             if row.head[0] == "type":
                 self.hold_types(row)
             elif row.head[0] == "name" and row.heading[4:] in specs:
-                told[row.heading[4:]].update(self.hold_names(row, row.heading[4:]))
+                named[row.heading[4:]].update(self.hold_names(row, row.heading[4:]))
         for name in specs:
             self.hold(name in headings, 1, f"the file crates/{name} has no heading")
             for definition in sorted(specs[name].names) if name in headings else []:
-                self.hold(definition in told[name], headings[name], f"the definition {definition} of {name} has no row")
+                self.hold(definition in named[name], headings[name], f"the definition {definition} of {name} has no row")
         for number, line in lines_of(self.page):
             for name, crate in re.findall(r"`(\w+)` \(crate (\w+)\)", line) if not line.startswith("|") else []:
                 there = crate in self.sources.crates and name in self.sources.crates[crate].types
@@ -339,7 +341,7 @@ NAMES = r"`\w+`(?:(?:, | and )`\w+`)*"
 
 
 def names_of_part(part, has):
-    """The names that a cell stands for. In a list the first name says of which type the next ones are, where it has
+    """The names that a cell stands for. In a list the first name says of which type the next ones are, if it has
     them."""
     match = re.fullmatch(r"the trait `(\w+)`(?:: (.+))?", part)
     if match:
@@ -369,14 +371,14 @@ class Proved:
         self.headings = headings_of(self.page)
         # The rows of the sections of crates, each with its crate.
         named = ((re.match(r"## (\w+):", it.heading), it) for it in rows_of(self.page, claims))
-        self.rows = [(sources.told[match[1]], it) for match, it in named if match and match[1] in sources.told]
-        # In how many rows the calls stand, and which clauses are told, by the name of the crate and the call.
-        self.stands, self.told = Counter(), set()
+        self.rows = [(sources.described[match[1]], it) for match, it in named if match and match[1] in sources.described]
+        # In how many rows the calls stand, and which clauses are named, by the name of the crate and the call.
+        self.stands, self.named = Counter(), set()
 
-    def hold(self, is_so, line, told):
-        self.claims.hold(is_so, self.page, line, told)
+    def hold(self, is_so, line, fault):
+        self.claims.hold(is_so, self.page, line, fault)
 
-    def calls_told(self, row, crate):
+    def calls_named(self, row, crate):
         """For each name of a row's first cell the functions that it stands for."""
         named = names_of_part(row.cells[0], crate.found)
         if not named:
@@ -392,8 +394,8 @@ class Proved:
         name = f"{owner}::{other}" if owner and other[0].islower() else other
         return [it.ensures for crate in self.crates.values() for it in crate.found(name).values()]
 
-    def clauses_told(self, cell, key, it):
-        """The clauses that a promise tells of a function, and whether it has them. Names with a colon behind them begin
+    def clauses_named(self, cell, key, it):
+        """The clauses that a promise names of a function, and whether it has them. Names with a colon behind them begin
         what is said of these clauses; words without a name are those of a clause without one."""
         promise = re.sub(r"^Owed: .*?\. ", "", cell)
         if promise.startswith("promises nothing"):
@@ -406,37 +408,40 @@ class Proved:
 
     def hold_promise(self, row, crate):
         """Holds what a row promises of its calls, and what in brackets it says that with."""
-        named = self.calls_told(row, crate)
+        named = self.calls_named(row, crate)
         for key in {key for name, functions in named.items() for key in (name, *functions)}:
             self.stands[crate.name, key] += 1
         for key, it in ((key, it) for functions in named.values() for key, it in functions.items()):
-            names, is_so = self.clauses_told(row.cells[1], key, it)
+            names, is_so = self.clauses_named(row.cells[1], key, it)
             has = ", ".join(clause or "one without a name" for clause in it.ensures) or "none"
-            self.hold(is_so, row.line, f"{key} hasn't the clauses that are told, {', '.join(names) or 'none'}; it has {has}")
-            self.told |= {(crate.name, key, clause) for clause in names}
+            self.hold(is_so, row.line, f"{key} hasn't the clauses that are named, {', '.join(names) or 'none'}; it has {has}")
+            self.named |= {(crate.name, key, clause) for clause in names}
             is_owed = bool(re.search(r"\b[Oo]we[ds]\b", " ".join(row.cells)))
             owed = "something is owed" if it.owes else "nothing is owed"
-            self.hold(is_owed == it.owes, row.line, f"{key} is told wrong: {owed} by its caller")
+            self.hold(is_owed == it.owes, row.line, f"{key} is described wrongly: {owed} by its caller")
         for name in (name for _, names in in_brackets(row.cells[1]) for name in names):
             self.hold(name in self.sources.definitions, row.line, f"in brackets: there is no definition {name}")
         return [it for functions in named.values() for it in functions.values()]
 
     def hold_law(self, row, crate):
         """Holds a row of a law: its definition is the contract."""
-        for functions in self.calls_told(row, crate).values():
+        for functions in self.calls_named(row, crate).values():
             for key, it in functions.items():
                 self.stands[crate.name, key] += 1
-                is_so = it.module == "laws" and all(name in it.contract for name in quoted(row.cells[1])) and quoted(row.cells[1])
+                names = quoted(row.cells[1])
+                is_so = it.module == "laws" and names and all(name in it.contract for name in names)
                 self.hold(is_so and it.ensures == ("",), row.line, f"{key} is no law {row.cells[1]}")
-                self.told.add((crate.name, key, ""))
+                self.named.add((crate.name, key, ""))
 
     def hold_refusals(self, row, cells, crate, own):
         """Holds what cells name: the refusals, and in brackets clauses of a call of the row, of a record that its
         contract cites, or of the function before them. A function may stand there alone."""
         functions = crate.functions
-        alone = {clause for it in own for clause in it.ensures} | {it.key for it in functions} | self.sources.fields_cited(own)
+        alone = {clause for it in own for clause in it.ensures} | {it.key for it in functions}
+        alone |= self.sources.fields_cited(own)
         for before, names in in_brackets(" ".join(cells)):
-            there = {clause for it in functions if it.key in quoted(before) for clause in it.ensures} if before else alone
+            its = [it for it in functions if it.key in quoted(before)]
+            there = {clause for it in its for clause in it.ensures} if before else alone
             for name in (it for it in names if re.match(r"[a-z]|\w+::", it)):
                 self.hold(name in there, row.line, f"in brackets: {before or row.cells[0]} has no clause {name}")
         types = {name for crate in self.crates.values() for name in crate.types}
@@ -459,19 +464,19 @@ class Proved:
         so does each function of a program that stands there."""
         sections = {line[3:].split(":")[0]: number for number, line in self.headings if re.match(r"## \w+:", line)}
         for name, number in sections.items():
-            self.hold(name in self.sources.told, number, f"there is no crate {name}")
+            self.hold(name in self.sources.described, number, f"there is no crate {name}")
         self.hold_rows()
-        for name, crate in self.sources.told.items():
+        for name, crate in self.sources.described.items():
             self.hold(name in sections, 1, f"the crate {name} has no section")
             line = sections.get(name, 1)
             laws = [(key, it) for key, it in crate.calls.items() if it.module == "laws"]
             for key, it in (*crate.needed(), *laws):
-                rows = sum(self.stands[name, told] for told in {key, it.owner})
+                rows = sum(self.stands[name, own] for own in {key, it.owner})
                 self.hold(rows == 1, line, f"the call {key} of {name} stands in {rows or 'no'} rows")
             own = {key for other, key in self.stands if other == name}
             calls = crate.calls if crate.is_library else {it.key: it for it in crate.functions if it.key in own}
             for key, clause in ((key, clause) for key, it in calls.items() for clause in it.ensures):
-                is_so = (name, key, clause) in self.told
+                is_so = (name, key, clause) in self.named
                 self.hold(is_so, line, f"{key} of {name}: its clause {clause or 'without a name'} has no row")
 
     def hold_headline(self):
@@ -479,7 +484,7 @@ class Proved:
         for number, line in lines_of(self.page):
             match = re.match(rf"- (`\w+`(?: and `\w+`)*), ({NAMES}):", line)
             for name, clause in ((name, it) for name in quoted(match[1]) for it in quoted(match[2])) if match else ():
-                functions = [it for crate in self.sources.told.values() for it in crate.found(name).values()]
+                functions = [it for crate in self.sources.described.values() for it in crate.found(name).values()]
                 self.hold(any(clause in it.ensures for it in functions), number, f"{name} has no clause {clause}")
 
 
@@ -494,9 +499,9 @@ def hold_rooms(page, rows, sources, claims):
         claims.hold(name in sources.uses, page, row.line, f"crates.txt has no crate {name}")
         wanted = [it if it in sources.crates else f"`{it}`" for it in sources.uses.get(name, [])]
         is_so = sorted(filter(None, cell.split(", "))) == sorted(wanted)
-        told = f"{name} stands on {cell or 'nothing'}, by crates.txt on {', '.join(wanted) or 'nothing'}"
-        claims.hold(is_so, page, row.line, told)
-    for name in sources.told:
+        fault = f"{name} stands on {cell or 'nothing'}, by crates.txt on {', '.join(wanted) or 'nothing'}"
+        claims.hold(is_so, page, row.line, fault)
+    for name in sources.described:
         is_so = name in {row.cells[0] for row in rows}
         claims.hold(is_so, page, rows[0].line if rows else 1, f"the crate {name} has no row in the rooms")
 
@@ -507,8 +512,8 @@ def hold_gate(page, rows, sources, claims):
         for name in (row.cells[0], *re.findall(r"\w+_tests", " ".join(row.cells))):
             claims.hold(name in sources.crates, page, row.line, f"there is no crate {name}")
         edits = len(list((CRATES / row.cells[0]).glob("must-fail/*.edit")))
-        told = row.cells[row.head.index("edits")]
-        claims.hold(told == (str(edits) if edits else ""), page, row.line, f"{row.cells[0]} has {edits or 'no'} edits")
+        cell = row.cells[row.head.index("edits")]
+        claims.hold(cell == (str(edits) if edits else ""), page, row.line, f"{row.cells[0]} has {edits or 'no'} edits")
 
 
 # ---- what is cited
@@ -549,7 +554,8 @@ class Citations:
         crate = self.crates.get(path.split("::")[0])
         if crate is None:
             return path in self.functions or any(it.found(path) for it in self.crates.values())
-        own = {it.key for it in crate.functions} | {*crate.calls, *crate.types, *crate.traits, *crate.modules, *crate.exported}
+        own = {it.key for it in crate.functions}
+        own |= {*crate.calls, *crate.types, *crate.traits, *crate.modules, *crate.exported}
         return path.partition("::")[2] in own
 
     def is_behind(self, path, name):

@@ -82,7 +82,8 @@ LATE = [
     ("a hidden write", STARTED + HIDDEN + get(3) + found(3, 1, 1, k=2), "maybe"),
     ("one that a get overlaps", STARTED + get(1) + HIDDEN + found(1, 1, 0) + get(3) + found(3, 1, 1, k=2), "maybe"),
 ]
-EQUAL = index(1, k=5) + lost(1) + index(2, condition(1, 0), k=5) + lost(2) + get(3) + found(3, 1, 1, k=5) + get(4) + found(4, 1, 2, k=5)
+EQUAL = index(1, k=5) + lost(1) + index(2, condition(1, 0), k=5) + lost(2)
+EQUAL += get(3) + found(3, 1, 1, k=5) + get(4) + found(4, 1, 2, k=5)
 LATE += [("equal values", STARTED + EQUAL, it) for it in READINGS]
 
 
@@ -165,9 +166,10 @@ class Parts(ProgramTest):
         (unordered, shown), (unordered_cut, shown_cut) = shown_in(histories), shown_in(are_cut)
         ordered = len(histories) - unordered
         print(f"{name}: {ordered} with an order; {unordered} without, of which {shown} show it in a part")
-        print(f"{name}: {len(are_cut)} in several parts; {unordered_cut} of them without an order, of which {shown_cut} show it in a part")
-        counts = [("in several parts", len(are_cut), CUT), ("with an order", ordered, ORDERED), ("without one", unordered, UNORDERED)]
-        for kind, count, percent in counts:
+        of_cut = f"{unordered_cut} of them without an order, of which {shown_cut} show it in a part"
+        print(f"{name}: {len(are_cut)} in several parts; {of_cut}")
+        counts = [("in several parts", len(are_cut), CUT), ("with an order", ordered, ORDERED)]
+        for kind, count, percent in [*counts, ("without one", unordered, UNORDERED)]:
             with self.subTest(f"how many are {kind}, {name}"):
                 self.assertGreaterEqual(count * 100, percent * len(histories))
         if cut is Cut.AT_REST:

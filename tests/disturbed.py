@@ -93,7 +93,8 @@ def drawn(seed):
     """Drawn arguments of a run in turns, and whether its group is honest."""
     draw = random.Random(seed)
     fault = draw.choice(FAULTS + ["none"] * len(FAULTS))
-    setting = {"seed": draw.getrandbits(64), "clients": draw.randint(1, 8), "calls": draw.randint(1, 200), "docs": draw.randint(1, 8)}
+    setting = {"seed": draw.getrandbits(64), "clients": draw.randint(1, 8), "calls": draw.randint(1, 200)}
+    setting |= {"docs": draw.randint(1, 8)}
     return in_turns(draw.choice(DISTURBANCES), copies=draw.randint(1, 5), fault=fault, **setting), fault == "none"
 
 
@@ -136,10 +137,10 @@ class Disturbed(ProgramTest):
             self.run_subtests(self.check_counts, [(", ".join(it), pool, *it, wanted.get(it)) for it in kinds])
 
     def check_search(self, fault, disturbance, first, last):
-        options = ["--disturb", disturbance]
-        status, text, why = run(self.program, search_arguments(seeds=f"{first}-{last}", fault=fault, **SETTING).split() + options)
-        count = (last - first + 1) // 100
-        hundreds = [f"casbench: {many}00 seeds tried, the last is {first + 100 * many - 1}" for many in range(1, 1 + count)]
+        search = search_arguments(seeds=f"{first}-{last}", fault=fault, **SETTING)
+        status, text, why = run(self.program, [*search.split(), "--disturb", disturbance])
+        lasts = range(first + 99, last + 1, 100)
+        hundreds = [f"casbench: {many}00 seeds tried, the last is {it}" for many, it in enumerate(lasts, 1)]
         wanted = first_caught(self.program, fault, disturbance, first, last)
         if wanted is None:
             self.assertEqual((status, text), (1, ""))
@@ -153,7 +154,8 @@ class Disturbed(ProgramTest):
 
     def test_searches(self):
         """A search through the seeds finds the first of them that is caught, and reports and writes what it should."""
-        self.run_subtests(self.check_search, [(f"{fault}, {it}, {first}-{last}", fault, it, first, last) for fault, it, first, last in SEARCHES])
+        rows = [(f"{fault}, {it}, {first}-{last}", fault, it, first, last) for fault, it, first, last in SEARCHES]
+        self.run_subtests(self.check_search, rows)
 
 
 def main():

@@ -107,7 +107,8 @@ class Documents(ProgramTest):
         with tempfile.TemporaryDirectory() as folder:
             made = pathlib.Path(folder) / page.name
             run(self.program, ["explain", page.with_suffix(".ndjson"), "--html", made])
-            self.assertTrue(made.exists() and made.read_bytes() == page.read_bytes(), "it isn't the page of its history")
+            is_right = made.exists() and made.read_bytes() == page.read_bytes()
+        self.assertTrue(is_right, "it isn't the page of its history")
 
     def test_pages(self):
         """The page of each example is that of its history."""

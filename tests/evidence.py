@@ -121,14 +121,16 @@ def found_document(call):
 def is_pair_twice(one, two):
     """Two different writes of one shard were performed with the same pair."""
     pair = pair_taken(one.reply)
-    return one.number != two.number and shard_of(one.doc) == shard_of(two.doc) and pair is not None and pair == pair_taken(two.reply)
+    is_one_shard = one.number != two.number and shard_of(one.doc) == shard_of(two.doc)
+    return is_one_shard and pair is not None and pair == pair_taken(two.reply)
 
 
 def may_take(call, pair, reading):
     """What was heard of a write allows that it took the pair."""
     if call.reply is None:
         return True
-    return call.reply.kind == "indexed" and call.reply.pair == pair or call.reply.kind == "conflict" and reading == "maybe"
+    is_taken = call.reply.kind == "indexed" and call.reply.pair == pair
+    return is_taken or call.reply.kind == "conflict" and reading == "maybe"
 
 
 def is_without_writer(get, calls, reading):
@@ -144,7 +146,8 @@ def is_without_writer(get, calls, reading):
 def is_stale_get(get, write):
     """A write of the get's document was answered before the get was called, which found a lesser pair."""
     pair = pair_taken(write.reply)
-    return found_document(get) and pair is not None and write.doc == get.doc and write.replied < get.called and get.reply.pair < pair
+    is_before = pair is not None and write.doc == get.doc and write.replied < get.called
+    return found_document(get) and is_before and get.reply.pair < pair
 
 
 def is_stale_swap(one, two):
@@ -181,7 +184,9 @@ def first_evidence(calls, reading):
 def pair_twice(one, two, _):
     """The pair of a write is given to another one of its shard too."""
     pair = pair_taken(one.reply)
-    if pair is None or pair_taken(two.reply) is None or shard_of(one.doc) != shard_of(two.doc) or one.number == two.number:
+    if pair is None or pair_taken(two.reply) is None:
+        return None
+    if shard_of(one.doc) != shard_of(two.doc) or one.number == two.number:
         return None
     return two.replied, Ending(two.number, two.reply._replace(pair=pair)), ("pair-twice", (one.number, two.number))
 
@@ -195,7 +200,9 @@ def no_writer(get, *_):
 
 def refused_writer(write, get, _):
     """A get finds the number of a write that was answered with a conflict."""
-    if not found_document(get) or write.reply != CONFLICT or write.op.k is None or write.doc != get.doc or get.replied < write.called:
+    if not found_document(get) or write.reply != CONFLICT or write.op.k is None:
+        return None
+    if write.doc != get.doc or get.replied < write.called:
         return None
     return get.replied, Ending(get.number, get.reply._replace(more=write.op.k)), ("no-writer", (get.number,))
 
@@ -228,7 +235,8 @@ def stale_swap(earlier, one, two):
         return None
     if two.op.name not in ("index", "delete"):
         return None
-    return two.called, Call(two.number, two.doc, two.op._replace(condition=old)), ("stale-swap", (one.number, two.number))
+    other = Call(two.number, two.doc, two.op._replace(condition=old))
+    return two.called, other, ("stale-swap", (one.number, two.number))
 
 
 def forgotten(get, *_):
@@ -260,7 +268,8 @@ def reports(events, evidence, line):
     offence = OFFENCE.fullmatch(line)
     if offence is None:
         calls = known_calls(events).values()
-        return evidence is None and line.startswith(yes(len(calls), left_out="", docs=len({it.doc for it in calls})).rstrip())
+        wanted = yes(len(calls), left_out="", docs=len({it.doc for it in calls})).rstrip()
+        return evidence is None and line.startswith(wanted)
     kind, numbers = evidence or (None, None)
     is_right = offence["kind"] == kind and offence["calls"] == (numbers and ",".join(map(str, numbers)))
     return is_right and is_reply(events, int(offence["event"]), int(offence["call"]))

@@ -140,7 +140,8 @@ class Search:
 
     def stepped(self, after, number, then, last):
         doc = self.calls[number].doc
-        return After(after.left - {number}, changed(after.states, doc, then), changed(after.last, doc, last), after.given)
+        states, last = changed(after.states, doc, then), changed(after.last, doc, last)
+        return After(after.left - {number}, states, last, after.given)
 
 
 def has_order(calls, reading, shard_of=one_shard):

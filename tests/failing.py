@@ -31,7 +31,8 @@ from typing import NamedTuple, Optional
 
 from program_test import ProgramTest, run_tests
 from running import library_in, needs_compiler, run_arguments
-from texts import READ_FAULT, WRITE_FAULT, broken, found, get, lost, missing, no_writer, places_of, refused, verified, witness_of, yes
+from texts import READ_FAULT, WRITE_FAULT, broken, found, get, lost, missing, no_writer, places_of, refused, verified
+from texts import witness_of, yes
 
 # How many bytes a call moves at most: a few, more, and as many as it can.
 SIZES = [*range(1, 10), 20, 40, 100, 1_000, 2**20]
@@ -188,7 +189,8 @@ def wanted(row, plain, failing):
     if number > counts[at]:
         return plain._replace(calls=before + "n" * counts[at] + after)
     out = plain.out[: (number - 1) * size] if name == OUT else b""
-    return Ended(4, out, WRITE_FAULT if name in (OUT, PAGE) else READ_FAULT, None, before + "n" * (number - 1) + "!", ())
+    why = WRITE_FAULT if name in (OUT, PAGE) else READ_FAULT
+    return Ended(4, out, why, None, before + "n" * (number - 1) + "!", ())
 
 
 def numbers(count):

@@ -3,8 +3,10 @@
 them.
 
     python3 tests/honest.py [PROGRAM]
-    python3 tests/honest.py --seed 7 [--docs 4] [--shards 1] [--clients 8] [--calls 800] [--loss 0.05] [--maybe 0.01]    writes one
-    python3 tests/honest.py --long 200 [--sizes 20000,50000,200000] [--workers 2] [PROGRAM]    judges so many long ones
+    python3 tests/honest.py --seed 7 [--docs 4] [--shards 1] [--clients 8] [--calls 800] [--loss 0.05] [--maybe 0.01]
+    python3 tests/honest.py --long 200 [--sizes 20000,50000,200000] [--workers 2] [PROGRAM]
+
+The second one writes a recording, and the third one judges so many long ones.
 
 PROGRAM is the built casbench; if it isn't named, the one that ./casbench would run. Each recording is of an index that
 kept its promise, so each should get `yes`. If calls were lost the search may miss an order, and so a few may get `no`
@@ -91,7 +93,8 @@ class Call:
     """A call of a client. What is lost may take effect before its ending, after it, or never."""
 
     def __init__(self, number, doc, shard, kind, value, condition):
-        self.number, self.doc, self.shard, self.kind, self.value, self.condition = number, doc, shard, kind, value, condition
+        self.number, self.doc, self.shard = number, doc, shard
+        self.kind, self.value, self.condition = kind, value, condition
         self.reply, self.is_lost, self.is_late, self.has_effect = None, False, False, True
 
     def line(self):
@@ -197,7 +200,8 @@ def short_settings(seed, kind):
 def long_settings(seed, calls):
     """The settings of a long recording."""
     draw = random.Random(f"settings {seed} long")
-    return {"docs": draw.choice([1, 4, 16, 64]), "clients": draw.choice([8, 32]), "calls": calls, "loss": draw.choice([0.01, 0.05])}
+    settings = {"docs": draw.choice([1, 4, 16, 64]), "clients": draw.choice([8, 32])}
+    return settings | {"calls": calls, "loss": draw.choice([0.01, 0.05])}
 
 
 def judged_with(program, settings, reading, seed):
@@ -259,7 +263,8 @@ def judge_long(arguments):
     """Judges long recordings of many settings."""
     parser = argparse.ArgumentParser()
     parser.add_argument("--long", type=int)
-    parser.add_argument("--sizes", type=lambda sizes: [int(it) for it in sizes.split(",")], default=[20_000, 50_000, 200_000])
+    sizes = {"type": lambda sizes: [int(it) for it in sizes.split(",")], "default": [20_000, 50_000, 200_000]}
+    parser.add_argument("--sizes", **sizes)
     parser.add_argument("--workers", type=int, default=2)
     parser.add_argument("program", nargs="*")
     given = parser.parse_args(arguments)
@@ -270,7 +275,8 @@ def judge_long(arguments):
 def write_one(arguments):
     """Writes the recording that the arguments ask for."""
     parser = argparse.ArgumentParser()
-    settings = {"seed": 1, "docs": 4, "clients": 8, "calls": 800, "loss": 0.05, "creates": 0.0, "term": 0.0, "maybe": 0.0, "shards": 1}
+    settings = {"seed": 1, "docs": 4, "clients": 8, "calls": 800, "loss": 0.05, "shards": 1}
+    settings |= {"creates": 0.0, "term": 0.0, "maybe": 0.0}
     for name, default in settings.items():
         parser.add_argument(f"--{name}", type=type(default), default=default)
     sys.stdout.writelines(Recording(**vars(parser.parse_args(arguments))).lines())

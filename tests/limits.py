@@ -14,8 +14,8 @@ import tempfile
 from program_test import ProgramTest, run_tests
 from running import run, run_on_files, run_arguments
 from texts import DEPTH, EVENTS, ID_BYTES, LINE_BYTES, LINES, READ_FAULT, SETTING_FAULT, WRITE_FAULT
-from texts import answer_of, broken, condition, conflict, created, delete, found, get, index, lost, nested, refused, refuted, updated, verified
-from texts import witness_of, written_call, yes
+from texts import answer_of, broken, condition, conflict, created, delete, found, get, index, lost, nested, refused
+from texts import refuted, updated, verified, witness_of, written_call, yes
 
 # As many calls as a history may have.
 MOST_GETS = "".join(map(get, range(EVENTS)))
@@ -49,7 +49,8 @@ def answered_versions(count):
 def versions_after_open_writes(count):
     """The same, after as many writes that are never answered. Each of these may stand between any two of the others."""
     rows = [index(n) for n in range(count)]
-    return rows + [index(count + n, k=n) + (updated if n else created)(count + n, 1, 2 * n + 1) for n in range(count)], 2 * count
+    rows += [index(count + n, k=n) + (updated if n else created)(count + n, 1, 2 * n + 1) for n in range(count)]
+    return rows, 2 * count
 
 
 def shown_versions(count):
@@ -109,8 +110,8 @@ PLACES = [
     ("check", [OPEN_WRITE + created(0, 1, "@", "d")], NUMBERS, [EXPLAINED, LEFT_OUT, LEFT_OUT, LEFT_OUT]),
     # numbers of a witness
     ("verify", [OPEN_WRITE, DOCUMENT + '{"rec":@}\n'], NUMBERS, [WITNESS_RANGE] * 4),
-    ("verify", [OPEN_WRITE, DOCUMENT + '{"rec":0,"term":1,"seq":@}\n'], NUMBERS, [VERIFIED, WITNESS_RANGE, WITNESS_RANGE, WITNESS_RANGE]),
-    ("verify", [OPEN_WRITE, DOCUMENT + '{"rec":0,"seq":0,"term":@}\n'], NUMBERS, [VERIFIED, WITNESS_RANGE, WITNESS_RANGE, WITNESS_RANGE]),
+    ("verify", [OPEN_WRITE, DOCUMENT + '{"rec":0,"term":1,"seq":@}\n'], NUMBERS, [VERIFIED, *[WITNESS_RANGE] * 3]),
+    ("verify", [OPEN_WRITE, DOCUMENT + '{"rec":0,"seq":0,"term":@}\n'], NUMBERS, [VERIFIED, *[WITNESS_RANGE] * 3]),
     # numbers of a bulk request
     ("bulk", ['{"index":{"_id":"d","if_primary_term":1,"if_seq_no":@}}\n{"k":1}\n', UNKNOWN_ITEM], NUMBERS, [CONDITION, RANGE, RANGE, RANGE]),
     ("bulk", ['{"index":{"_id":"d"}}\n{"k":@}\n', UNKNOWN_ITEM], NUMBERS, [*map(item_lines, NUMBERS[:3]), refused(2, "source")]),

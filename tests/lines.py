@@ -29,8 +29,8 @@ from offences import CHANGES, Clients, changed
 from program_test import ProgramTest, run_tests
 from running import needs_compiler, run, run_by_parts, run_on_files, said
 from texts import LINE_BYTES, LINES, MOST_NUMBER, MOST_OF_PAIR, OFFENCE, REFUSED_COUNT
-from texts import answer_of, call, condition, created, delete, doc_missing, found, get, index, lost, missing, nested, no, no_writer
-from texts import not_found, refused, refused_item, status_of, updated, witness_of, written_call, yes
+from texts import answer_of, call, condition, created, delete, doc_missing, found, get, index, lost, missing, nested, no
+from texts import no_writer, not_found, refused, refused_item, status_of, updated, witness_of, written_call, yes
 
 # An index of "d" on shard 3 that was answered, a get of "d" that is open, and a get of "e" on shard 4 that is lost.
 THREE_CALLS = index(0, ',"shard":3') + created(0, 1, 0) + get(1, ',"shard":3') + get(2, ',"shard":4', "e") + lost(2)
@@ -39,7 +39,8 @@ THREE_CALLS = index(0, ',"shard":3') + created(0, 1, 0) + get(1, ',"shard":3') +
 ODD_NUMBERS = get(9) + get(4) + get(12, doc="e") + get(0) + get(11, doc="e") + missing(4) + lost(12) + missing(0)
 
 # Three documents on three shards, two of which are called again.
-THREE_DOCUMENTS = get(0, ',"shard":7', "b") + get(1, doc="a") + get(2, ',"shard":7', "b") + get(3, ',"shard":1023', "c") + get(4, doc="a")
+THREE_DOCUMENTS = get(0, ',"shard":7', "b") + get(1, doc="a") + get(2, ',"shard":7', "b")
+THREE_DOCUMENTS += get(3, ',"shard":1023', "c") + get(4, doc="a")
 
 INDEX_THEN_GET = case_text("index-then-get")
 
@@ -431,7 +432,9 @@ class Lines(ProgramTest):
         self.run_subtests(self.check_files, rows)
 
     def test_bulks(self):
-        rows = [(name, "bulk", (body, reply), wanted, "--first", str(first)) for name, first, body, reply, wanted in BULKS]
+        rows = []
+        for name, first, body, reply, wanted in BULKS:
+            rows.append((name, "bulk", (body, reply), wanted, "--first", str(first)))
         self.run_subtests(self.check_files, rows)
 
     def check_parts(self, command, text, count, wanted):
@@ -461,7 +464,8 @@ class Lines(ProgramTest):
         """Drawn lines are read alike by each way. Enough are accepted, and each cause refuses some."""
         draws = Draws(7)
         drawn = [drawn_line(draws) for _ in range(DRAWN_LINES)]
-        causes = Counter(self.run_subtests(read_alike, [(f"drawn line {it[:200]!r}", self.program, it) for it in drawn]))
+        rows = [(f"drawn line {it[:200]!r}", self.program, it) for it in drawn]
+        causes = Counter(self.run_subtests(read_alike, rows))
         with self.subTest("causes"):
             self.assertLessEqual(CAUSES, set(causes))
         with self.subTest("accepted lines"):

@@ -29,9 +29,9 @@ class Alarmed(Program):
     calls = ()
 
     def answer(self, text):
-        told = super().answer(text)
+        answer = super().answer(text)
         is_there = all(b'{"e":"call","n":%d,' % it in text for it in self.calls)
-        return f"no event=0 call={self.calls[-1]} before=shown\n" if is_there else told
+        return f"no event=0 call={self.calls[-1]} before=shown\n" if is_there else answer
 
 
 def drawn(calls):
@@ -57,8 +57,8 @@ def measure(program, text, witness, calls):
     shrinker.shrink()
     own, its = (seconds_of(it) - since for it, since in zip((resource.RUSAGE_SELF, resource.RUSAGE_CHILDREN), before))
     left = shrinker.recorded.text_of(shrinker.kept)
-    told = asked.verified(left, shrinker.recorded.witness_of(shrinker.kept)).split()[0]
-    counts = f"{shrinker.before} calls, {len(shrinker.kept)} of them left ({told}), after {asked.runs} runs of the program"
+    word = asked.verified(left, shrinker.recorded.witness_of(shrinker.kept)).split()[0]
+    counts = f"{shrinker.before} calls, {len(shrinker.kept)} of them left ({word}), after {asked.runs} runs of the program"
     print(f"{len(calls)} calls needed, the first {calls[-1] - calls[0]} before the last: {counts}, {own + its:.1f} s, {its:.1f} of these the program's")
 
 

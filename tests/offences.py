@@ -269,7 +269,9 @@ class Offences(ProgramTest):
     def test_drawn(self):
         """The event that is named is right. Of each kind of change enough recordings have no order, and of all."""
         kinds = {f"{change.__name__}, {docs} documents": (change, docs) for change in CHANGES for docs in (1, 4)}
-        rows = [(f"{kind}, seed {it}", self.program, *settings, it) for kind, settings in kinds.items() for it in range(SEEDS)]
+        rows = []
+        for kind, settings in kinds.items():
+            rows += [(f"{kind}, seed {seed}", self.program, *settings, seed) for seed in range(SEEDS)]
         returned = self.run_subtests(judged, rows, ProcessPoolExecutor, chunksize=4, not_counted=(ORDER,))
         for at, kind in enumerate(kinds):
             count = SEEDS - returned[at * SEEDS : (at + 1) * SEEDS].count(ORDER)
@@ -288,7 +290,8 @@ class Offences(ProgramTest):
         with ProcessPoolExecutor() as pool:
             times = [it for it in pool.map(times_longer, *zip(*changes)) if it is not None]
         right = sum(it < MOST_TIMES for it in times)
-        print(f"{len(times)} of {len(changes)} long recordings have no order; {right} are checked within {MOST_TIMES} times the time")
+        checked = f"{right} are checked within {MOST_TIMES} times the time"
+        print(f"{len(times)} of {len(changes)} long recordings have no order; {checked}")
         self.assertGreaterEqual(len(times) * 4, len(changes) * 3)
         self.assertGreaterEqual(right * 10, len(times) * 9)
 

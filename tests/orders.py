@@ -211,7 +211,8 @@ class Rules:
 
     def writer(self, k):
         """The first lost index, of the number if there is one; under maybe else a refused one of the number."""
-        able = [it for it in self.outside() if it.op.name in WRITES and it.op.k == k or it.op.name == "index" and k is None]
+        outside = self.outside()
+        able = [it for it in outside if it.op.name in WRITES and it.op.k == k or it.op.name == "index" and k is None]
         lost = [it for it in able if it.reply is None]
         refused = [it for it in able if it.reply == CONFLICT and self.is_maybe and k is not None]
         return next(iter(lost + refused), None)
@@ -376,7 +377,8 @@ class Rules:
         if not self.is_maybe:
             raise Stuck
         later = [at for at, it in enumerate(self.chain) if it.write.called > call.replied]
-        self.insert(self.stretch_of(call.op.condition) if call.op.condition else min(later, default=len(self.chain)), call)
+        condition = call.op.condition
+        self.insert(self.stretch_of(condition) if condition else min(later, default=len(self.chain)), call)
 
     # The pairs that are invented.
 
@@ -589,7 +591,7 @@ class Orders(ProgramTest):
 
     def test_places(self):
         """Places that are verified against the history of a case."""
-        self.run_subtests(self.check_places, [(f"{case}, {doc} {places}", case, doc, places, it) for case, doc, places, it in VERIFIED])
+        self.run_subtests(self.check_places, [(f"{row[0]}, {row[1]} {row[2]}", *row) for row in VERIFIED])
 
     def check_words(self, words, reading, wanted):
         self.assertEqual(checked(self.program, words, reading), (status_of(wanted), wanted))

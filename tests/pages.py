@@ -111,7 +111,13 @@ ITSELF = [
 
 # A history that can't be read.
 
-UNREAD = ["sub --html old.html", "absent --html old.html", "sub --html new.html", "absent --html link.html", "sub --html astray.html"]
+UNREAD = [
+    "sub --html old.html",
+    "absent --html old.html",
+    "sub --html new.html",
+    "absent --html link.html",
+    "sub --html astray.html",
+]
 
 
 # A page that can't be written.
@@ -133,7 +139,8 @@ class Failure(NamedTuple):
 
 def failing_write(name, number, error):
     """A write of the page fails, which goes out a hundred bytes at a time."""
-    return Failure(f"{name}, write {number}", {"FILE": "*", "NUMBER": str(number), "ERROR": str(error), "MOST": "100"}, None, error < 0)
+    calls = {"FILE": "*", "NUMBER": str(number), "ERROR": str(error), "MOST": "100"}
+    return Failure(f"{name}, write {number}", calls, None, error < 0)
 
 
 FAILURES = [
@@ -214,7 +221,8 @@ class Pages(ProgramTest):
         self.assertEqual((end.status, end.err[len(end.err) - len(why) :]), (status, why))
         # (the answer may have been written before)
         self.assertTrue(self.out.startswith(end.out), end.out)
-        after = {name: it for name, it in end.after.items() if name in end.before or name == page or not failure.is_killed}
+        counts = {page, *end.before} if failure.is_killed else {*end.after}
+        after = {name: it for name, it in end.after.items() if name in counts}
         changed = [name for name in {*end.before, *after} if end.before.get(name) != after.get(name)]
         self.assertEqual(changed, [])
 
@@ -259,8 +267,8 @@ class Pages(ProgramTest):
         end = self.ended(folder, f"h --html {link}")
         self.assertEqual(end[:3], (1, self.out, ""))
         target = LINKS[link]
-        before, after = ({name: it for name, it in its.items() if name not in (link, target)} for its in (end.before, end.after))
-        self.assertTrue(after == before)
+        others = [{name: it for name, it in its.items() if name not in (link, target)} for its in (end.before, end.after)]
+        self.assertTrue(others[0] == others[1])
         self.assertTrue(end.after.get(target) in (end.before.get(target), self.page))
         self.assertTrue((folder / link).read_text() == self.page)
 

@@ -39,7 +39,8 @@ class Placings:
     def ruled_out_at(self):
         """The number of the first call, in the order of the replies, that has no position; None if each has one."""
         for call in self.answered:
-            position = next((it for it in range(self.floors[call.number], self.gap(GREATEST + 1) + 1) if self.may_stand(call, it)), None)
+            positions = range(self.floors[call.number], self.gap(GREATEST + 1) + 1)
+            position = next((it for it in positions if self.may_stand(call, it)), None)
             if position is None:
                 return call.number
             self.lift(call, self.version(number_of(call.reply.pair)) if is_performed(call) else position)
@@ -60,7 +61,8 @@ class Placings:
         """The calls without a reply that may stand at the position, and above the known pair."""
         for call in self.wild:
             asked = number_of(call.op.condition) if call.op.condition else known
-            if call.op.name in kinds and call.called < event and self.floors[call.number] <= position and known <= asked:
+            is_in_time = call.called < event and self.floors[call.number] <= position
+            if call.op.name in kinds and is_in_time and known <= asked:
                 yield call, asked
 
     def may_change(self, kinds, event, position):
@@ -71,7 +73,8 @@ class Placings:
     def has_writer(self, event, number):
         """One may have taken the known pair, giving the number that was found with it, if one was."""
         at = self.known.index(number)
-        found = {it.reply.more for it in self.answered if it.reply.kind == "found" and number_of(it.reply.pair) == number}
+        gets = [it.reply for it in self.answered if it.reply.kind == "found"]
+        found = {it.more for it in gets if number_of(it.pair) == number}
         able = self.able(GIVES, event, self.gap(number), self.edges[at])
         return any(asked < number and found <= {it.op.k} for it, asked in able)
 

@@ -8,9 +8,9 @@ import subprocess
 TOP = pathlib.Path(__file__).resolve().parent.parent
 
 
-def built_program(words):
-    """The program that the words name; where there are none, the one that ./casbench would run."""
-    if words:
-        return os.path.realpath(words[0])
+def built_program(arguments):
+    """The program that the arguments name; if there are none, the one that ./casbench would run."""
+    if arguments:
+        return os.path.realpath(arguments[0])
     ran = subprocess.run([TOP / "casbench", "--program"], stdout=subprocess.PIPE, text=True, check=True)
     return ran.stdout.strip()

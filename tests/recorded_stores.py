@@ -151,7 +151,8 @@ def folder_of_nodes():
     """A folder, and what waits until the processes that work in it have these states. They are killed at last."""
     with reachable_folder("casbench-stopped-") as folder:
         try:
-            yield folder, lambda states: wait_until(lambda: states_in(folder) == states, f"the states never were {states}")
+            why = "the states never were {}"
+            yield folder, lambda states: wait_until(lambda: states_in(folder) == states, why.format(states))
         finally:
             for it in processes_of(folder):
                 with contextlib.suppress(ProcessLookupError):
@@ -332,7 +333,8 @@ class Recordings(ProgramTest):
     def test_stores(self):
         installed = [it for it, (programs, _) in PACKAGES.items() if are_installed(programs)]
         for store in sorted(PACKAGES.keys() - installed):
-            print(f"SKIPPED: {store} isn't installed here (Debian's package {PACKAGES[store][1]}), so nothing was recorded of it")
+            package = f"Debian's package {PACKAGES[store][1]}"
+            print(f"SKIPPED: {store} isn't installed here ({package}), so nothing was recorded of it")
         with reachable_folder("casbench-stores-test-") as folder:
             rows = [row for store in installed for row in self.rows(store, pathlib.Path(folder))]
             self.run_subtests(lambda check, *arguments: check(*arguments), rows, workers=AT_ONCE)

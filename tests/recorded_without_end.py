@@ -45,8 +45,9 @@ def faults():
 
 def load(store, proxy, calls, folder, options):
     """Makes the load, through the proxy."""
-    words = [proxy.url, "carts", os.path.join(folder, "itself.ndjson"), "--clients", str(CLIENTS), "--calls", str(calls // CLIENTS), *options]
-    ran = subprocess.run([sys.executable, "-m", "casbench_recording.record", *words], capture_output=True, text=True, env=environment())
+    command = [sys.executable, "-m", "casbench_recording.record", proxy.url, "carts", os.path.join(folder, "itself.ndjson")]
+    command += ["--clients", str(CLIENTS), "--calls", str(calls // CLIENTS), *options]
+    ran = subprocess.run(command, capture_output=True, text=True, env=environment())
     if ran.returncode:
         raise AssertionError(ran.stderr)
 
@@ -56,8 +57,8 @@ def recorded(program, folder, fault, conflicts, calls, part):
     of_store, of_load = OPTIONS.get(fault, ((), ()))
     out = pathlib.Path(folder) / "parts"
     with Started("stand_in", "--port", "0", "--fault", fault, *of_store) as store:
-        words = ["--listen", "127.0.0.1:0", "--cluster", store.url, "--index", "carts", "--part", str(part), "--conflicts", conflicts, str(out)]
-        with Started("proxy", *words) as proxy:
+        arguments = ["--listen", "127.0.0.1:0", "--cluster", store.url, "--index", "carts", "--part", str(part)]
+        with Started("proxy", *arguments, "--conflicts", conflicts, str(out)) as proxy:
             load(store, proxy, calls, folder, of_load)
             printed = proxy.ended()
     judged_all = rf"judged: 8 documents, {calls} calls; not judged: 0 documents, 0 calls"
@@ -78,7 +79,8 @@ class Faults(ProgramTest):
         with tempfile.TemporaryDirectory(prefix="casbench-recorded-") as folder:
             answers = recorded(self.program, folder, fault, conflicts, self.calls, self.part)
         kinds = Counter(" ".join(it.split(" ")[: 2 if it.startswith("refuted") else 1]) for it in answers)
-        print(f"{fault}, {conflicts}: " + ", ".join(f"{count} {kind}" for kind, count in sorted(kinds.items())), flush=True)
+        counts = ", ".join(f"{count} {kind}" for kind, count in sorted(kinds.items()))
+        print(f"{fault}, {conflicts}: {counts}", flush=True)
         if wanted == "yes":
             self.assertEqual(set(kinds), {"yes"})
         else:

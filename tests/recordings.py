@@ -19,9 +19,9 @@ PACKAGE = TOP / "recording"
 sys.path.insert(0, str(PACKAGE))
 
 
-def judged(program, file, *words):
+def judged(program, file, *options):
     """What the program says of a history."""
-    ran = subprocess.run([program, "check", file, *words], stdout=subprocess.PIPE, text=True)
+    ran = subprocess.run([program, "check", file, *options], stdout=subprocess.PIPE, text=True)
     return ran.stdout.strip()
 
 
@@ -40,10 +40,10 @@ class Started:
     """A command of the package that listens, and runs until the block ends. The first line that it says is its
     address."""
 
-    def __init__(self, name, *words, start=(), stderr=subprocess.PIPE, **more):
-        words = [*(start or (sys.executable, "-m", f"casbench_recording.{name}")), *words]
+    def __init__(self, name, *arguments, start=(), stderr=subprocess.PIPE, **more):
+        command = [*(start or (sys.executable, "-m", f"casbench_recording.{name}")), *arguments]
         pipes = {"stdin": subprocess.DEVNULL, "stdout": subprocess.PIPE, "stderr": stderr}
-        self.process = subprocess.Popen(words, **pipes, text=True, env=environment(**more))
+        self.process = subprocess.Popen(command, **pipes, text=True, env=environment(**more))
         self.url = self.process.stderr.readline().strip() if self.process.stderr else ""
         self.port = int(self.url.rpartition(":")[2]) if self.url.startswith("http") else None
 
@@ -59,8 +59,8 @@ class Started:
     def ended(self, sent=signal.SIGTERM):
         """Ends it by a signal; what it says after its address, on both outputs."""
         self.process.send_signal(sent)
-        told = self.process.communicate(timeout=60)
-        return "".join(filter(None, told)).strip()
+        printed = self.process.communicate(timeout=60)
+        return "".join(filter(None, printed)).strip()
 
     def processor_time(self):
         """How many seconds of a processor it took so far."""
@@ -85,9 +85,9 @@ class FolderTest(ProgramTest):
         self.folder = folder.name
         self.file = os.path.join(folder.name, "carts.ndjson")
 
-    def check(self, *words):
+    def check(self, *options):
         """What the program says of the history."""
-        return judged(self.program, self.file, *words)
+        return judged(self.program, self.file, *options)
 
     def lines(self):
         """The lines of the history."""

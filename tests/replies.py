@@ -65,7 +65,7 @@ def made(term, seq, k=1):
 
 
 def created_shown(asked, term, seq):
-    # A get finds the pair, and none with another number. As an update the reply would be wrong where nothing was
+    # A get finds the pair, and none with another number. As an update the reply would be wrong if nothing was
     # written.
     return [
         ([asked, HERE, get(1), found(1, term, seq)], yes(2)),
@@ -84,7 +84,7 @@ def deleted_shown(asked, term, seq):
 
 
 def not_found_shown(asked, term, seq):
-    # The same where nothing was there.
+    # The same if nothing was there.
     return [
         ([asked, HERE, index(1), created(1, term, seq + 1)], yes(2)),
         ([asked, HERE, index(1), created(1, term, seq)], pair_twice(3, 0, 1)),
@@ -102,7 +102,7 @@ def found_shown(asked, term, seq):
 
 
 def missing_shown(asked):
-    # It is right where nothing was written, and wrong after a write.
+    # It is right if nothing was written, and wrong after a write.
     return [([asked, HERE], yes(1)), ([*made(1, 0), asked, HERE], no(3, 0))]
 
 
@@ -158,7 +158,7 @@ TAKEN = [
     (
         '{"e":"call","n":2,"id":"d","op":"index","k":3,"if_primary_term":1,"if_seq_no":0}',
         [
-            # Its condition is 1/0: there is no conflict where the document is at that pair, and one where it is at
+            # Its condition is 1/0: there is no conflict if the document is at that pair, and one if it is at
             # another.
             ([index(0), created(0, 1, 0), HERE, conflict(2)], no(3, 2)),
             ([index(0), created(0, 1, 1), HERE, conflict(2)], yes(2)),
@@ -182,7 +182,7 @@ TAKEN = [
     (
         '{"e":"call","n":0,"id":"d","op":"get","k":null,"if_seq_no":"x"}',
         [
-            # It is a get: these replies tell nothing of another operation, and it would be left out.
+            # It is a get: these replies show nothing of another operation, and it would be left out.
             ([HERE, missing(0)], yes(1)),
             ([index(1), created(1, 1, 0), HERE, found(0, 1, 0)], yes(2)),
             ([index(1), created(1, 1, 0), HERE, missing(0)], no(3, 0)),
@@ -194,7 +194,7 @@ TAKEN = [
             # It writes 1.
             ([HERE, created(0, 1, 0), get(1), found(1, 1, 0, k=1)], yes(2)),
             ([HERE, created(0, 1, 0), get(1), found(1, 1, 0, k=2)], no_writer(3, 1)),
-            # It is a create without a condition: there is a conflict where the document is there, and no other one.
+            # It is a create without a condition: there is a conflict if the document is there, and no other one.
             ([index(1), created(1, 1, 0), HERE, conflict(0)], yes(2)),
             ([HERE, conflict(0)], no(1, 0)),
         ],
@@ -216,7 +216,7 @@ TAKEN = [
     (
         '{"e":"reply","n":0,"status":65535}',
         [
-            # It ends call 0, and tells nothing of it.
+            # It ends call 0, and shows nothing of it.
             ([index(0), HERE], yes(1, left_out=1)),
             ([index(0), HERE, get(1), found(1, 1, 0)], yes(2)),
             ([index(0), HERE, conflict(0)], refused(3, "ended")),
@@ -225,7 +225,7 @@ TAKEN = [
     (
         '{"e":"lost","n":18446744073709551615,"status":"x"}',
         [
-            # It ends the call with the greatest number, and tells nothing of it. As a reply it would be refused for its
+            # It ends the call with the greatest number, and shows nothing of it. As a reply it would be refused for its
             # status.
             ([index(MOST_NUMBER), HERE], yes(1, left_out=1)),
             ([index(MOST_NUMBER), HERE, conflict(MOST_NUMBER)], refused(3, "ended")),
@@ -235,14 +235,14 @@ TAKEN = [
     (
         FOUND_REPLY,
         [
-            # It is the reply to call 1, and a get of d found 1 at 1/0. If it told nothing the get would be left out.
+            # It is the reply to call 1, and a get of d found 1 at 1/0. If it showed nothing the get would be left out.
             ([index(0), created(0, 1, 0), get(1), HERE], yes(2)),
             ([index(0), created(0, 1, 1), get(1), HERE], no_writer(3, 1)),
             ([index(0), created(0, 2, 0), get(1), HERE], no_writer(3, 1)),
             ([index(0, k=2), created(0, 1, 0), get(1), HERE], no_writer(3, 1)),
             ([index(0), created(0, 1, 0), get(1, doc="e"), HERE], refused(4, "stranger")),
             ([index(0), created(0, 1, 0), get(2), HERE], refused(4, "no-call")),
-            # It has no result: of a write it tells nothing.
+            # It has no result: of a write it shows nothing.
             ([index(0), created(0, 1, 0), index(1), HERE], yes(2, left_out=1)),
         ],
     ),
@@ -256,7 +256,7 @@ TAKEN = [
     (
         '{"e":"reply","status":200,"n":1,"body":{"_id":"d","found":true},"n":2,"body":{"_source":{"k":1,"k":[]}}}',
         [
-            # It ends call 2, and not call 1, and tells nothing of it.
+            # It ends call 2, and not call 1, and shows nothing of it.
             ([get(1), get(2), HERE, missing(1)], yes(2, left_out=1)),
             ([get(1), get(2), HERE, missing(2)], refused(4, "ended")),
         ],
@@ -278,7 +278,7 @@ TAKEN = [
     (
         '{"e":"reply","status":200,"n":2,"body":{"_seq_no":0,"_primary_term":1,"found":true,"_source":{"k":1,"k":[]}}}',
         [
-            # The last k is no number, so nothing is told.
+            # The last k is no number, so nothing is shown.
             ([get(2), HERE], yes(1, left_out=1)),
         ],
     ),
@@ -312,7 +312,7 @@ NUMBERS = [
 
 
 def numbered(rest, wanted):
-    """The lines of a delete with a conflict that has no cause, whose answer tells the number of the call."""
+    """The lines of a delete with a conflict that has no cause, whose answer names the number of the call."""
     lines = [
         f'{{"e":"call","id":"d","op":"delete"{rest}}}\n',
         f'{{"e":"reply","status":409,"body":{{"error":{{"type":"version_conflict_engine_exception"}}}}{rest}}}\n',
@@ -401,7 +401,7 @@ def members(names, numbers):
 
 
 def condition_rows(seq, term, pair):
-    """The numbers as a condition: of a call, for which there may be a conflict where the document is at another pair,
+    """The numbers as a condition: of a call, for which there may be a conflict if the document is at another pair,
     and nowhere else; and of a bulk's action, whose call line has them."""
     rest = members(("if_seq_no", "if_primary_term"), (seq, term))
     action = f'{{"delete":{{"_id":"a"{rest}}}}}\n'
@@ -474,7 +474,7 @@ BULKS = [
     ('{"delete":{"_id":"a"}}\r\n\n\t {}', NO_ITEMS, refused(3, "action")),
 ]
 
-# The body of the case `bulk`: an index, a delete and an index. The lines of its calls, and those that tell nothing of
+# The body of the case `bulk`: an index, a delete and an index. The lines of its calls, and those that show nothing of
 # them.
 BODY = case_text("bulk", "body")
 CALLS = "".join(case_text("bulk", "stdout").splitlines(keepends=True)[:3])
@@ -488,7 +488,7 @@ BULK_REPLIES = [
     ('{"items":[{"index":{}},{"index":{}},{"index":{}}]}', refused_item(1)),
     ('{"items":[{"index":{}},{"delete":{}},{"index":{},"delete":{}}]}', refused_item(2)),
     ('{"items":[{"index":1},{"delete":{}},{"index":{}}]}', refused_item(0)),
-    # A stranger, whatever its status, is told after an item that is none; and statuses that are none tell nothing.
+    # A stranger, whatever its status, is reported after an item that is none; and statuses that are none show nothing.
     ('{"items":[{"index":{"_id":"x","status":"x"}},{"delete":{"_id":"b","status":65536}},{"index":{}}]}', refused_item(0)),
     ('{"items":[{"index":{"_id":"x","status":"x"}},{"delete":{"_id":"b","status":65536}},{"index":1}]}', refused_item(2)),
     ('{"items":[{"index":{"_id":"a","status":"x"}},{"delete":{"_id":"b","status":65536}},{"index":{}}]}', CALLS + LOST),
@@ -530,7 +530,7 @@ PARTS = [
         ("{}", refused(1, "shape")),
         ("{}\r\n\n\t x", refused(1, "shape")),
         ("{}\r\n\n\t x\n", refused(1, "shape")),
-        # The same with a first line that is taken: the third is told as the third, with a line feed and without, and
+        # The same with a first line that is accepted: the third is reported as the third, with a line feed and without, and
         # read whole.
         (ASKED + "\r\n\n\t x", refused(3, "json")),
         (ASKED + "\r\n\n\t x\n", refused(3, "json")),

@@ -116,7 +116,9 @@ def conflict_as_win(index, call):
         return None
     index.seq += 1
     pair = 1, index.seq - 1
-    return Reply("deleted", pair, True) if call.op.name == "delete" else Reply("indexed", pair, call.op.name == "create")
+    if call.op.name == "delete":
+        return Reply("deleted", pair, True)
+    return Reply("indexed", pair, call.op.name == "create")
 
 
 def wrong_pair(index, call):
@@ -247,14 +249,21 @@ def judged_exactly(program, seed, reading):
 
 # The cases.
 
+# The results of writes, each with the kind of its reply, and whether it created the document or it was there.
+RESULTS = {
+    "created": ("indexed", True),
+    "updated": ("indexed", False),
+    "deleted": ("deleted", True),
+    "not_found": ("deleted", False),
+}
+
 
 def reply_of(row):
     """The reply of a line of a case; None if it is a loss."""
     body = row.get("body", {})
     pair = (body["_primary_term"], body["_seq_no"]) if "_seq_no" in body else None
     if "result" in body:
-        kinds = {"created": ("indexed", True), "updated": ("indexed", False), "deleted": ("deleted", True), "not_found": ("deleted", False)}
-        kind, more = kinds[body["result"]]
+        kind, more = RESULTS[body["result"]]
         return Reply(kind, pair, more)
     if "found" in body:
         return Reply("found", pair, body["_source"]["k"]) if body["found"] else MISSING
@@ -286,7 +295,8 @@ def case_rows():
     for name, texts in all_cases().items():
         arguments = texts["args"].decode().split()
         if "--rule-out" in arguments:
-            yield name, texts["history"].decode(), "maybe" if "maybe" in arguments else "plain", texts["stdout"].decode()
+            reading = "maybe" if "maybe" in arguments else "plain"
+            yield name, texts["history"].decode(), reading, texts["stdout"].decode()
 
 
 # What came of them.

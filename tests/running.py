@@ -94,7 +94,8 @@ def fed(command, its, ours, text, size, is_ended, **how):
     given = bytes_of(text)
     with ours, its, started(command, **how) as child:
         its.close()
-        with contextlib.suppress(BrokenPipeError, ConnectionResetError):  # (behind a line that is refused nothing is read)
+        # (behind a line that is refused nothing is read)
+        with contextlib.suppress(BrokenPipeError, ConnectionResetError):
             for at in range(0, len(given), size):
                 os.write(ours.fileno(), given[at : at + size])
         if is_ended:
@@ -114,7 +115,8 @@ def run_on_parts(program, arguments, text, size):
     bounds of 4096 bytes or fewer."""
     its, ours = os.pipe2(os.O_DIRECT | os.O_CLOEXEC)
     command = [program, *arguments, f"/dev/fd/{its}"]
-    return fed(command, open(its, "rb", 0), open(ours, "wb", 0), text, size, True, stdin=subprocess.DEVNULL, pass_fds=[its])
+    how = {"stdin": subprocess.DEVNULL, "pass_fds": [its]}
+    return fed(command, open(its, "rb", 0), open(ours, "wb", 0), text, size, True, **how)
 
 
 def free_ports(count):

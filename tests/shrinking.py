@@ -10,6 +10,7 @@ any one call more is left out. None of it comes into the history, whatever name 
 is left has to be verified: honest recordings are cut down by a program that is made to answer them with no.
 """
 
+import itertools
 import json
 import os
 import pathlib
@@ -143,7 +144,8 @@ def false_alarm(program, seed):
         left = shrinker.recorded.text_of(shrinker.kept)
         if not set(calls) <= set(numbers_of(left.decode())):
             raise AssertionError(f"of {calls} not all are left: {left.decode()}")
-        line = asked.verified(left, shrinker.recorded.witness_of(shrinker.kept)) if own else Program(program).answer(left)
+        left_of_own = shrinker.recorded.witness_of(shrinker.kept) if own else None
+        line = asked.verified(left, left_of_own) if own else Program(program).answer(left)
         answers.append(line.split()[0])
     return tuple(answers)
 
@@ -153,10 +155,10 @@ def false_alarm(program, seed):
 OTHER, WROTE, MISSED = index(0, doc="a") + created(0, 1, 0), index(1) + created(1, 1, 1), get(2) + missing(2)
 
 
-def command(program, text, *options, **how):
+def command(program, text, *options, stdout=subprocess.PIPE):
     """How the command ends on this text."""
     words = [sys.executable, "-m", "casbench_recording.shrink", *options, "--program", program, "/dev/stdin"]
-    ran = subprocess.run(words, input=text, text=True, env=environment(), **{"stdout": subprocess.PIPE, "stderr": subprocess.PIPE, **how})
+    ran = subprocess.run(words, input=text, stdout=stdout, stderr=subprocess.PIPE, text=True, env=environment())
     return ran.returncode, ran.stdout, ran.stderr.partition(" after ")[0]
 
 
@@ -165,7 +167,7 @@ class Recordings(ProgramTest):
 
     def test_drawn(self):
         """What is left of a recording is as it should be. Recordings with each kind of answer are cut down."""
-        settings = [(seed, reading, options) for seed in range(RECORDINGS) for reading in READINGS for options in ((), ("--rule-out",))]
+        settings = itertools.product(range(RECORDINGS), READINGS, ((), ("--rule-out",)))
         kinds = set(self.run_subtests(shrunk, [(f"recording {it}", self.program, *it) for it in settings]))
         for kind in KINDS:
             with self.subTest(f"whether a recording with the answer {kind} was cut down"):
@@ -204,8 +206,8 @@ class Command(ProgramTest):
             witness.write_text("")
             ends = []
             for option in ("--witness", "--few-witness"):
-                words = [sys.executable, "-m", "casbench_recording.shrink", "--program", self.program, history, option, witness]
-                ran = subprocess.run(words, capture_output=True, text=True, env=environment())
+                words = [sys.executable, "-m", "casbench_recording.shrink", "--program", self.program, history]
+                ran = subprocess.run([*words, option, witness], capture_output=True, text=True, env=environment())
                 ends.append((ran.returncode, ran.stdout, ran.stderr.splitlines()[-1].partition(": ")[2]))
         is_not_valid = "the witness gets broken doc=0 cause=doc-missing"
         is_not_named = "error: --few-witness is a part of the witness that --witness names"
@@ -232,8 +234,8 @@ class Command(ProgramTest):
     def test_history_itself(self):
         """A history stays as it is, which the command is given by one name, and its output goes to by another. A shell
         opens the output so if the command ends with `>>history` or `1<>history`."""
-        ways = (os.O_WRONLY | os.O_APPEND, os.O_RDWR)
-        self.run_subtests(self.check_itself, [(it, it, way) for it in ("history", "./history", "link", "other") for way in ways])
+        names, ways = ("history", "./history", "link", "other"), (os.O_WRONLY | os.O_APPEND, os.O_RDWR)
+        self.run_subtests(self.check_itself, [(name, name, way) for name in names for way in ways])
 
     def test_full_disk(self):
         with open("/dev/full", "wb") as full:

@@ -30,8 +30,8 @@ from program_test import ProgramTest, run_tests
 from ruled_out import answer, events_of, kind_of, without_option
 from running import asked, run, said
 from small_drawing import small_history
-from texts import MOST_OF_PAIR, READINGS, condition, conflict, created, delete, found, get, index, lost, no, places_of, refuted, status_of
-from texts import verified, witness_of
+from texts import MOST_OF_PAIR, READINGS, condition, conflict, created, delete, found, get, index, lost, no, places_of
+from texts import refuted, status_of, verified, witness_of
 
 # How many histories are drawn. In each reading, how many of them have to be of each kind at least.
 DRAWN = 20_000
@@ -136,7 +136,7 @@ def check_story(history, line, ruled_out, story):
 
 def judged(program, history):
     """Judges a history; returns the lines of `check` and of `check --rule-out`."""
-    line, ruled_out = (answer(program, "check", history.text, history.reading, *options) for options in ([], ["--rule-out"]))
+    line, ruled_out = (answer(program, "check", history.text, history.reading, *its) for its in ([], ["--rule-out"]))
     if without_option(ruled_out) != line or kind_of(line) == "ruled-out":
         raise AssertionError(f"{line}, and with --rule-out {ruled_out}")
     for it in (line, ruled_out):
@@ -168,10 +168,12 @@ def kind_in_words(program, history):
 LAST = (MOST_OF_PAIR, 0)
 
 # Two conflicts on a version that stood: the first one may hide a write that was performed, and the second one met that.
-HIDDEN = index(0) + created(0, *LAST) + index(1, condition(*LAST), k=2) + conflict(1) + index(2, condition(*LAST), k=3) + conflict(2)
+HIDDEN = index(0) + created(0, *LAST) + index(1, condition(*LAST), k=2) + conflict(1)
+HIDDEN += index(2, condition(*LAST), k=3) + conflict(2)
 
 # A delete without a reply, which is needed twice.
-NEEDED_TWICE = index(0) + created(0, 1, 0) + delete(1) + lost(1) + index(2, k=2) + created(2, 1, 5) + index(3, k=3) + created(3, 1, 9)
+NEEDED_TWICE = index(0) + created(0, 1, 0) + delete(1) + lost(1)
+NEEDED_TWICE += index(2, k=2) + created(2, 1, 5) + index(3, k=3) + created(3, 1, 9)
 
 # A write without a reply, whose number a get found at the version of another write.
 OTHER_NUMBER = index(0) + created(0, 1, 0) + index(1, k=7) + lost(1) + get(2) + found(2, 1, 0, k=7)
@@ -198,7 +200,7 @@ class SmallHistories(ProgramTest):
 
     def test_fixed(self):
         """The fixed histories get their lines, are settled or not, and have an order or not."""
-        self.run_subtests(self.check_fixed, [(f"{name}, {reading}", text, reading, *wanted) for name, text, reading, *wanted in FIXED])
+        self.run_subtests(self.check_fixed, [(f"{row[0]}, {row[2]}", *row[1:]) for row in FIXED])
 
     def test_order_of_hidden_write(self):
         """The order of a history is verified, if a conflict may hide a write."""

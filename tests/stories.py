@@ -50,7 +50,7 @@ def at(time):
     return datetime.datetime.fromtimestamp(time / 1000, datetime.timezone.utc).strftime("%Y-%m-%dT%H:%M:%S.%f").rstrip("0") + "Z"
 
 
-# A get of an old version. Of some lines it is told when they were written; of others that is no time.
+# A get of an old version. Some lines say when they were written; what others say is no time.
 TIMED = (
     written(index(0, k=0), MADE) + created(0, 1, 0) + written(index(1), '"soon"') + written(updated(1, 1, 1), -1.5)
     + written(get(2), MADE + 2_000) + written(found(2, 1, 0, k=0), MADE + 86_400_007)
@@ -59,7 +59,7 @@ TIMED = (
 # Name, text, how the story begins, what it has, and how often the page has what.
 TEXTS = [
     (
-        "lines that tell when they were written",
+        "lines that say when they were written",
         TIMED,
         refuted("stale-get", "2,1", 5, 2),
         [
@@ -194,7 +194,7 @@ RULED_OUT = [
             "\n* line 3, call 1: ",
             "\n! line 9, call 4: ",
         ],
-        # The get is told and drawn below only, and so all are drawn twice; the last call comes after the reply.
+        # The get is described and drawn below only, and so all are drawn twice; the last call comes after the reply.
         {'<g class="bar evidence">': [2], '<g class="bar broken">': [2], '<tr class="evidence">': [1], "<svg": [2], "<details>": [1]},
     ),
     (

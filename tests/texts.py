@@ -131,7 +131,8 @@ def witness_of(doc, places):
     """The lines of a document with these places."""
     rows = ['{"doc":"%s"}\n' % doc]
     for record, pair in places:
-        rows.append('{"rec":%d}\n' % record if pair is None else '{"rec":%d,"seq":%d,"term":%d}\n' % (record, pair[1], pair[0]))
+        more = "" if pair is None else f',"seq":{pair[1]},"term":{pair[0]}'
+        rows.append(f'{{"rec":{record}{more}}}\n')
     return "".join(rows)
 
 
@@ -195,7 +196,8 @@ READ_FAULT, WRITE_FAULT, SETTING_FAULT = "casbench: read fault\n", "casbench: wr
 
 # An answer without an order: the kind of evidence and its calls, if there is evidence, and the reply that is named.
 OFFENCE = re.compile(
-    r"(?:no|refuted kind=(?P<kind>\S+) calls=(?P<calls>\d+(?:,\d+)?)) event=(?P<event>\d+) call=(?P<call>\d+) before=(?P<before>shown|unshown)\n"
+    r"(?:no|refuted kind=(?P<kind>\S+) calls=(?P<calls>\d+(?:,\d+)?)) "
+    r"event=(?P<event>\d+) call=(?P<call>\d+) before=(?P<before>shown|unshown)\n"
 )
 
 

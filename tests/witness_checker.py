@@ -151,7 +151,8 @@ def hidden(draws, history, text):
     rows[at] = conflict(number)
     for doc, places in witness.entries:
         if doc == id:
-            places[:] = [(it, (body["_primary_term"], body["_seq_no"]) if it == record else pair) for it, pair in places]
+            shown = body["_primary_term"], body["_seq_no"]
+            places[:] = [(it, shown if it == record else pair) for it, pair in places]
     return "".join(rows).encode(), witness.text()
 
 
@@ -176,7 +177,8 @@ def answered_as_made(history):
     for it in events:
         if it["e"] == "call":
             calls.setdefault(it["id"], []).append(it["n"])
-    return "".join(witness_of(id, [(at, None) for at, it in enumerate(its) if it in answered]) for id, its in calls.items())
+    places = {id: [(at, None) for at, it in enumerate(its) if it in answered] for id, its in calls.items()}
+    return "".join(witness_of(*it) for it in places.items())
 
 
 # Sentences
@@ -284,7 +286,8 @@ class Explaining(ProgramTest):
     """The sentence that comes with a cause, the command, and how long the checker is."""
 
     def test_sentences(self):
-        for history, witness, wanted in [*((history, witness_of("d", places_of(it)), wanted) for history, it, wanted in SENTENCES), *WHOLE]:
+        rows = [(history, witness_of("d", places_of(places)), wanted) for history, places, wanted in SENTENCES]
+        for history, witness, wanted in rows + WHOLE:
             with self.subTest(witness):
                 self.assertEqual(sentence_of(history, witness), wanted)
 

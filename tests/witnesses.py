@@ -19,8 +19,8 @@ from case_files import case_text
 from program_test import ProgramTest, run_tests
 from running import asked, run_on_files, run_on_parts
 from texts import ID_BYTES, ITEMS, LINE_BYTES, LINES, MOST_OF_PAIR, MOST_RECORD, READINGS
-from texts import answer_of, broken, condition, conflict, create, created, delete, deleted, doc_missing, found, get, index, lost
-from texts import missing, not_found, places_of, refused, updated, verified, witness_of
+from texts import answer_of, broken, condition, conflict, create, created, delete, deleted, doc_missing, found, get, index
+from texts import lost, missing, not_found, places_of, refused, updated, verified, witness_of
 
 # The condition that the document is at 1/0.
 FIRST = condition(1, 0)
