@@ -11,9 +11,11 @@ half of them no call is lost, and there the event must not stand before the chan
 
 Of long recordings the reply is mostly guessed, so that it isn't looked for by some twenty searches more: in nine of ten
 the check takes less than six times the processor time of the check of the recording before the change. So it is if each
-document has an order by itself, and a number is missing for a lost delete.
+document has an order by itself, and a number is missing for a lost delete; and if several numbers are missing that lost
+calls took, then at most eight times.
 """
 
+import bisect
 import os
 import subprocess
 import sys
@@ -36,6 +38,10 @@ ORDER = "an order"
 # How many calls a long recording has, its seed, and how many times the processor time a check may take if the guess is
 # right.
 LONG_CALLS, LONG_SEED, MOST_TIMES = 60_000, 7, 6
+
+# How many numbers are taken out of a long recording of which several are missing, the seeds of these recordings, how
+# many of them must have no order, and how many times the processor time a check may take.
+MISSING_NUMBERS, SHORT_SEEDS, LEAST_SHORT, MOST_TIMES_SHORT = 5, range(1, 9, 2), 8, 8
 
 
 class Clients:
@@ -195,6 +201,21 @@ def is_explained(program, rows):
     return answer(program, rows).startswith("yes ")
 
 
+def check_offence(program, events, line):
+    """Checks that the line names the event with which the search first fails; returns its place."""
+    offence = OFFENCE.fullmatch(line)
+    if not offence:
+        raise AssertionError(f"{line} names no event")
+    event, text = int(offence["event"]), list(lines(events, lambda doc: 0))
+    if not is_reply(events, event, int(offence["call"])):
+        raise AssertionError(f"{line}: the event is no reply to the call")
+    if is_explained(program, text[: event + 1]):
+        raise AssertionError(f"{line}: the events up to it have an order")
+    if is_explained(program, text[:event]) != (offence["before"] == "shown"):
+        raise AssertionError(f"{line}: it is the other way round with the events before it")
+    return event
+
+
 def judged(program, change, docs, seed):
     """Judges a recording: returns the line, or `an order` if no reply of it can be changed, or an order is found."""
     events = Clients(seed, docs).recorded()
@@ -205,16 +226,7 @@ def judged(program, change, docs, seed):
     line = answer(program, text)
     if line.startswith("yes "):
         return ORDER
-    offence = OFFENCE.fullmatch(line)
-    if not offence:
-        raise AssertionError(f"{line} names no event")
-    event = int(offence["event"])
-    if not is_reply(events, event, int(offence["call"])):
-        raise AssertionError(f"{line}: the event is no reply to the call")
-    if is_explained(program, text[: event + 1]):
-        raise AssertionError(f"{line}: the events up to it have an order")
-    if is_explained(program, text[:event]) != (offence["before"] == "shown"):
-        raise AssertionError(f"{line}: it is the other way round with the events before it")
+    event = check_offence(program, events, line)
     if seed % 2 == 0 and event < place:
         raise AssertionError(f"{line}: the changed reply is later, at {place}")
     return line
@@ -263,6 +275,40 @@ def check_scarce(program, docs):
         raise AssertionError(f"it takes {after:.2f} s, and the honest recording {before:.2f}")
 
 
+def shifted(pair, gone):
+    """The pair, its number being less by as many as are gone below it."""
+    return pair and (pair[0], pair[1] - bisect.bisect_left(gone, pair[1]))
+
+
+def without_numbers(events, draws):
+    """The events, some numbers being taken out that no reply and no condition shows: lost writes took them."""
+    shown = {it.op.condition[1] for it in events if isinstance(it, Call) and it.op.condition}
+    shown |= {it.reply.pair[1] for it in events if isinstance(it, Ending) and it.reply and it.reply.pair}
+    hidden = [it for it in range(max(shown)) if it not in shown]
+    gone = sorted({hidden[draws.below(len(hidden))] for _ in range(MISSING_NUMBERS)})
+    for it in events:
+        if isinstance(it, Call):
+            yield it._replace(op=it.op._replace(condition=shifted(it.op.condition, gone)))
+        else:
+            yield it._replace(reply=it.reply and it.reply._replace(pair=shifted(it.reply.pair, gone)))
+
+
+def check_short(program, docs, seed):
+    """Checks the answer to a long recording of which some numbers are missing, and the time that it takes."""
+    clients = Clients(seed, docs)
+    clients.calls = LONG_CALLS
+    events = clients.recorded()
+    before, _ = seconds_of(program, events)
+    events = list(without_numbers(events, Draws(seed)))
+    after, line = seconds_of(program, events)
+    if line.startswith("yes "):
+        return ORDER
+    check_offence(program, events, line)
+    if after >= before * MOST_TIMES_SHORT:
+        raise AssertionError(f"it takes {after:.2f} s, and the honest recording {before:.2f}")
+    return line
+
+
 class Offences(ProgramTest):
     """Recordings with one changed reply."""
 
@@ -299,6 +345,13 @@ class Offences(ProgramTest):
         """A number that is missing for a lost delete is reported in time, if each document has an order by itself."""
         rows = [(f"{docs} documents", self.program, docs) for docs in (1, 2)]
         self.run_subtests(check_scarce, rows, ProcessPoolExecutor)
+
+    def test_missing_numbers(self):
+        """If several numbers are missing, the right reply is named in time."""
+        rows = [(f"{docs} documents, seed {it}", self.program, docs, it) for docs in (2, 4, 8) for it in SHORT_SEEDS]
+        returned = self.run_subtests(check_short, rows, ProcessPoolExecutor, not_counted=(ORDER,))
+        with self.subTest("how many have no order"):
+            self.assertGreaterEqual(len(rows) - returned.count(ORDER), LEAST_SHORT)
 
 
 if __name__ == "__main__":
