@@ -186,7 +186,7 @@ asked_of_command name rows =
     else (if bytes_eq name (codes "run") then run_of rows
     else (if bytes_eq name (codes "explain") then explain_of rows else None)))))
 
--- no command asks for a check of standard input by one worker
+-- without a command, a check of standard input by one worker is asked for
 abbrev pub asked_of : Option (Text × List Row) → Option Asked
 asked_of None = Some (ToCheck None Plain 1 Off)
 asked_of (Some command) = asked_of_command command.0 command.1

@@ -115,7 +115,8 @@ pub fn run<R: Files + Eprint, T: Threads + Wait + Sync, I: Read + Drop, W: Write
         → words.entry ≡ Words.Check None conflicts workers ruling
         → IfOk result (IsAnswered ruling conflicts (I.remaining input) (W.contents writer.old)
         (W.contents writer.new)) }
-    // The witness of the input is written, with conflicts read as the arguments say.
+    // The witness of the input is written, or the line of a check that is not yes, with conflicts read as the
+    // arguments say.
     ensures witnessed { (conflicts : Reading) (ruling : Ruling) → words.entry ≡ Words.Witness None conflicts ruling
         → IfOk result (λ status. HasAnswer (WitnessesInput ruling conflicts (I.remaining input) status)
         (W.contents writer.old) (W.contents writer.new)) }
