@@ -181,8 +181,7 @@ pub fn witnesses_again(
     Ok(others)
 }
 
-/// Returns the witnesses. Those with a pair that was invented between two pairs of one term are searched
-/// again.
+/// Returns the witnesses. Those that have one of these gaps are searched again.
 pub fn with_gaps_again(
     alloc: Global,
     history: &Front<'_>,

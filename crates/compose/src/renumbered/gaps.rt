@@ -6,7 +6,8 @@ use std::alloc::Global;
 use version_pair::{NoMemory, Pair};
 use witness::DocWitness;
 
-/// Places with invented pairs between two other pairs of one term.
+/// Places with invented pairs between two other pairs of one term, or before the first other pair, if that is
+/// of term 1.
 #[derive(Drop)]
 pub struct Gap {
     pub shard: u32,
@@ -108,8 +109,8 @@ impl Gaps {
         Ok(())
     }
 
-    // Closes what was invented before a pair: it is a gap if the pair before it is of the same term;
-    // otherwise its pairs stay as they are.
+    // Closes what was invented before a pair: it is a gap if the pair before it is of the same term, which
+    // counts as 1 before the first pair; otherwise its pairs stay as they are.
     fn close(
         &mut self,
         alloc: Global,
