@@ -6,6 +6,7 @@ use Rattle.check_pool.specs.declared.pool_fault.PoolFault.TheVariants.{NoWorkers
 
 -- if the fault names a job (one without a message, one of which two messages came, or one that an answer is
 -- not about), it is one of the jobs
+-- Source: profile.
 abbrev pub NamesJob : List DocJob → PoolFault → Type 0
 NamesJob jobs NoWorkers = Unit {0}
 NamesJob jobs TooMany = Unit {0}
