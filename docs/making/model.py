@@ -91,6 +91,7 @@ class Page:
             is_known = self.place_of(match[0], file) or any(match[0] == it.name for own in file.definitions for it in own.fields)
             return f"`{match[0]}`" if is_known else match[0]
 
+        text = re.sub(r"\bdocs/(\w+\.md)\b", r"[\1](\1)", text)
         pieces = re.split(r"(`[^`]*`)", text)
         pieces[::2] = [re.sub(r"\b(?:[A-Z][a-z]+){2,}\b|\b[a-z]+(?:_[a-z]+)+\b", bare, it) for it in pieces[::2]]
         return re.sub(r"`([^`]+)`", quoted, "".join(pieces))

@@ -131,7 +131,7 @@ def named_by_type(kind):
     if head == "Option" and rest:
         return named_by_type(rest[0])
     if head == "List" and rest:
-        return "bytes" if rest == ["ℕ"] else named_by_type(rest[0]) + "s"
+        return {"ℕ": "bytes", "(List ℕ)": "lines"}.get(rest[0], f"{named_by_type(rest[0])}s")
     if "×" in rest or not re.fullmatch(r"[A-Z]\w*", head):
         return {"ℕ": "n", "Bool": "b"}.get(head, "x")
     return SHORT_NAMES.get(head, re.sub(r"(?<!^)(?=[A-Z])", "_", head).lower())
@@ -148,7 +148,8 @@ def arguments_of(signature, equations, small):
         own = [it for it in given if re.fullmatch(r"[a-zA-Z][\w']*", it) and it not in small and (it[0].islower() or it in "PQ")]
         own = own or [it for it in given if it in ("P", "Acts")]
         name = own[0] if own else named_by_type(kinds[place] if place < len(kinds) else "")
-        names.append("other" if not own and name in names else name)
+        rests = [it for pattern in given for it in re.findall(r"^\(\S+ ∷ (\w+)\)$", pattern)]
+        names.append((rests or ["other"])[0] if not own and name in names else name)
     return tuple(names)
 
 
@@ -202,26 +203,19 @@ class Reader:
         else:
             self.imports.update({here: (f"{crate}/specs/{module.replace('.', '/')}.antt", there) for here, there in names_in(names or "")})
 
-    def body(self, indent):
-        """The lines that belong to the definition that was begun, at this indent."""
-        place = self.place
-        while place < len(self.lines) and (not self.lines[place].strip() or self.lines[place].startswith(indent + " ")):
-            place += 1
-        return self.lines[self.place : place]
-
     def take_fields(self, indent, is_data):
-        """Takes the fields of a record, or the constructors of data."""
+        """Takes the fields of a record, or the constructors of data: the lines up to a blank one, further in."""
         fields, comment = [], []
         own = re.compile(rf"{indent}  (?:pub )?(\S+) :" if is_data else rf"{indent}  pub (\w+) :")
-        for line in self.body(indent):
+        while self.place < len(self.lines) and self.lines[self.place].startswith(f"{indent}  "):
+            line = self.lines[self.place]
             match = own.match(line)
             if line.strip().startswith("--"):
                 comment.append(line.strip()[2:].strip())
             elif match:
                 fields.append(Field(match[1], " ".join(comment)))
                 comment = []
-            elif not line.strip():
-                break
+            self.place += 1
         return tuple(fields)
 
     def take_definition(self, line, comment):

@@ -48,14 +48,15 @@ pub record IsTakenUpTo (number : ℕ) (text rest : List ℕ) : Type 0 where
   pub line : List ℕ
   -- what the last read brought after them
   pub brought : List ℕ
+  -- the text is these three and the rest
   pub split : text ≡ before ++ (line ++ (brought ++ rest))
   -- the lines before are whole
   pub whole : AreWholeLines before
-  -- and are one fewer than the number
+  -- the lines before are one fewer than the number
   pub count : length (lines_of before) + 1 ≡ number
   -- the first bytes are of one line, or that line with its line feed
   pub of_line : AreOfOneLine line
-  -- and are at most 65,537
+  -- the first bytes are at most 65,537
   pub short : length line ≤ most_held
   -- the lines before and the first bytes have at most 4,194,304 times 65,537 bytes
   pub few : length before + length line ≤ most_lines * most_held

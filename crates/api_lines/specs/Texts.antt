@@ -82,9 +82,9 @@ state_of (Err told) = Err told
 pub record IsReadTo {S : Type 0} (takes : S → Data → Result S TextCause) (start : S) (text : List ℕ) (r : SoFar S) : Type 0 where
   -- the text is of whole lines
   pub whole : AreWholeLines text
-  -- of that many
+  -- it has as many lines as `r` counts
   pub count : length (lines_of text) ≡ r.lines
-  -- they are read to the state
+  -- they are read to the state of `r`
   pub read : read_lines takes 1 start (lines_of text) ≡ Ok r.state
 
 -- A text can be read line by line. The result of the next line after the lines before it is that of reading
@@ -101,7 +101,7 @@ pub record ReadsLineByLine {S : Type 0} (takes : S → Data → Result S TextCau
   -- the text with the line, ended by a line feed, is read as `next_line` says
   pub ended : (text line : List ℕ) (r : SoFar S) → IsReadTo takes start text r → HasNoLineFeed line
       → read_lines takes 1 start (lines_of (text ++ (line ++ 10 ∷ []))) ≡ state_of (next_line takes r line)
-  -- so is the text with a line that is not empty, ended by the end of the text
+  -- the text with a line that is not empty, ended by the end of the text, is read in the same way
   pub last : (text line : List ℕ) (r : SoFar S) → IsReadTo takes start text r → HasNoLineFeed line → 0 < length line
       → read_lines takes 1 start (lines_of (text ++ line)) ≡ state_of (next_line takes r line)
   -- if the line is refused, the text is refused in this way, whatever follows

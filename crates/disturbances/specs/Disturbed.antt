@@ -98,7 +98,7 @@ pub record SubmitsTicket (old : DisturbedState) (id : List ℕ) (op : Op) (ticke
 pub record TellsProgress (old : DisturbedState) (ticket : Ticket) (progress : Progress) (new : DisturbedState) : Type 0 where
   -- it does what the poll of its number does
   pub polls : PollsDisturbed old.schedule old.polls old.core old.random ticket.0 (Ok progress) new.core new.random
-  -- and is counted, modulo 2^64
+  -- it is counted, modulo 2^64
   pub counted : new.polls ≡ (old.polls + 1) % 2 ^ 64
   -- the schedule stays as it was
   pub schedule_stays : new.schedule ≡ old.schedule

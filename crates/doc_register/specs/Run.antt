@@ -57,7 +57,7 @@ pub record Step (s : State) (e : Entry) (t : State) : Type 0 where
   pub others : (d : List ℕ) → d ≢ e.doc → t.document d ≡ s.document d
   -- a pair that the entry takes was not used in its shard
   pub unused : IfSome (taken e) (λ q. ¬ Contains s.used q)
-  -- and it is used from then on
+  -- a pair that the entry takes is used from then on
   pub used : t.used ≡ option_to_list (taken e) ++ s.used
 
 -- the entries are steps one after another, from s to t

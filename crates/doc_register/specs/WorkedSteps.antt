@@ -75,11 +75,11 @@ pub record WorkedSteps : Type 0 where
   pub get_hides_pair : IsIllegal (Here one_zero 1) Get (Found one_zero 1) (Some one_one)
   -- an index creates a document that was never written
   pub index_creates : DocStep Never (Index 1 None) (Indexed one_zero true) None (Here one_zero 1)
-  -- and its reply says so
+  -- its reply says that it created the document
   pub index_creates_unsaid : IsIllegal Never (Index 1 None) (Indexed one_zero false) None
   -- an index takes no lower pair than that of the last change
   pub index_takes_low_pair : IsIllegal (Here one_one 1) (Index 2 None) (Indexed one_zero false) None
-  -- nor the same pair, even if the document is deleted
+  -- an index does not take the pair of the last change again, even if the document is deleted
   pub index_takes_same_pair : IsIllegal (Gone one_one) (Index 2 None) (Indexed one_one true) None
   -- a greater term with a smaller sequence number is a greater pair
   pub term_before_sequence_number : DocStep (Here one_one 1) (Index 2 None) (Indexed two_zero false) None (Here two_zero 2)
@@ -87,7 +87,7 @@ pub record WorkedSteps : Type 0 where
   pub delete_of_document : DocStep (Here one_zero 1) (Delete None) (Deleted one_one true) None (Gone one_one)
   -- a delete of a missing document is performed, and finds nothing
   pub delete_of_missing : DocStep Never (Delete None) (Deleted one_zero false) None (Gone one_zero)
-  -- and its reply does not say that it found the document
+  -- its reply does not say that it found the document
   pub delete_of_missing_found : IsIllegal (Gone one_zero) (Delete None) (Deleted one_one true) None
   -- an index without a condition has no conflict
   pub conflict_without_condition : IsIllegal (Here one_zero 1) (Index 2 None) Conflict None
@@ -109,21 +109,21 @@ pub record WorkedSteps : Type 0 where
   pub hidden_pair_though_not_met : IsIllegal Never (Index 2 (Some one_zero)) Conflict (Some one_one)
   -- a hidden pair is not lower than that of the last change
   pub hidden_pair_is_low : IsIllegal (Here one_one 1) (Index 2 (Some one_one)) Conflict (Some one_zero)
-  -- nor the same
+  -- a hidden pair is not that of the last change
   pub hidden_pair_is_same : IsIllegal (Here one_one 1) (Index 2 (Some one_one)) Conflict (Some one_one)
   -- a delete whose condition is met is performed
   pub delete_under_condition_met : DocStep (Here one_zero 1) (Delete (Some one_zero)) (Deleted one_one true) None (Gone one_one)
-  -- and has no conflict
+  -- a delete whose condition is met has no conflict
   pub delete_conflict_though_met : IsIllegal (Here one_zero 1) (Delete (Some one_zero)) Conflict None
   -- a create of a deleted document is performed
   pub create_of_absent : DocStep (Gone one_zero) (Create 2) (Indexed one_one true) None (Here one_one 2)
   -- a create does not replace a document
   pub create_over_document : IsIllegal (Here one_zero 1) (Create 2) (Indexed one_one false) None
-  -- it is refused if the document exists
+  -- a create is refused if the document exists
   pub create_refused : DocStep (Here one_zero 1) (Create 2) Conflict None (Here one_zero 1)
-  -- it is not refused if the document was never written
+  -- a create is not refused if the document was never written
   pub create_refused_on_never_written : IsIllegal Never (Create 2) Conflict None
-  -- nor if the document is deleted
+  -- a create is not refused if the document is deleted
   pub create_refused_on_deleted : IsIllegal (Gone one_zero) (Create 2) Conflict None
   -- a get of the version before a write, the write, and a get of the version after it
   pub overlapping_gets : IsLegalRun (

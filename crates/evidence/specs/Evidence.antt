@@ -90,7 +90,7 @@ pub record IsPairTwice (events : List Event) (a b : ℕ) : Type 0 where
   pub other : List ℕ
   -- the first was performed with the pair
   pub one : IsPerformed events a doc pair
-  -- so was the second
+  -- the second was performed with the same pair
   pub two : IsPerformed events b other pair
   -- both are of one shard
   pub same_shard : one.shard ≡ two.shard
@@ -141,7 +141,7 @@ pub record IsStaleSwap (events : List Event) (a b : ℕ) : Type 0 where
   pub two : IsPerformed events b doc later
   -- the second has the condition
   pub asks : condition_of two.op ≡ Some condition
-  -- which is below the pair of the first
+  -- the condition is below the pair of the first
   pub below : IsBelow condition pair
   -- the first comes before the second: it precedes it, or its pair is below that of the second
   pub first : Precedes events a b ⊎ IsBelow pair later

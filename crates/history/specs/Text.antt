@@ -49,9 +49,11 @@ pub record SpellsCall (v : Data) (n h : ℕ) (d : List ℕ) (op : Op) : Type 0 w
   pub number : HasNumber (codes "n") n v
   -- `id` is the text d
   pub id : HasText (codes "id") d v
-  -- which has 1 to 512 bytes
+  -- the id has 1 to 512 bytes
   pub id_length : IsIdLength (length d)
+  -- the operation is spelled
   pub operation : SpellsOp v op
+  -- the shard is spelled
   pub shard : SpellsShard v h
 
 -- A reply line for the call numbered n, which is in the history: its operation and its status. The body names
@@ -62,6 +64,7 @@ pub record SpellsReply (events : List Event) (v : Data) (n : ℕ) (op : Op) (sta
   pub kind : HasText (codes "e") (codes "reply") v
   -- `n` is the number of the call
   pub number : HasNumber (codes "n") n v
+  -- `status` is the status
   pub has_status : HasNumber (codes "status") status v
   -- the status is 0 to 65,535
   pub status_fits : status < 2 ^ 16
@@ -107,7 +110,7 @@ AreLinesOf events (line ∷ lines) (e ∷ es) = IsLineOf events line e × AreLin
 pub record IsHistoryText (bytes : List ℕ) (events : List Event) : Type 0 where
   -- the events are a history
   pub history : IsHistory events
-  -- of at most 1,048,576 events
+  -- there are at most 1,048,576 events
   pub events_fit : length events ≤ most_events
   -- the text has at most 4,194,304 lines, blank ones too
   pub lines_fit : length (lines_of bytes) ≤ most_lines

@@ -125,13 +125,13 @@ pub record IsClock (state : State (Unit {0}) ClockView) : Type 0 where
   pub of_pens : All IsOfPen others
   -- there are as many as seats were split off
   pub as_many : length others ≡ split_off
-  -- which are at most 8
+  -- at most 8 seats were split off
   pub few : split_off ≤ most_pens
   -- as many views are spent as seats were joined
   pub spent : how_many is_spent others ≡ joined
   -- the views together hold each number below the word, once
   pub dense : IsPermutation (flat_map numbers_in state.views) (numbers_below word)
-  -- the word is at most the greatest number of events and the number of seats that draw no more
+  -- the word is at most the greatest number of events plus the number of seats that draw no more
   pub bounded : word ≤ most_events + how_many is_over others
 
 -- ---- what contracts see of a clock recorder and of its pens

@@ -83,7 +83,7 @@ pub record Records (old : PenState) (reason : Option RecFault) (recorded : ℕ �
   pub stays : OnErr answer (new.list ≡ old.list)
   -- the number is above all in the list
   pub above : IfOk answer (λ n. All (λ entry. entry.0 < n) old.list)
-  -- and below the greatest number of events
+  -- the number is below the greatest number of events
   pub below : IfOk answer (λ n. n < most_events)
   -- it is the number of no call in the list
   pub unused : IfOk answer (λ n. IsUnused n old.list)

@@ -54,5 +54,5 @@ IsHonestUnlessFaulty w = w.fault ≡ fault.None → IsHonest w
 -- them
 -- Source: profile.
 pub record HonestGroups : Type 0 where
-  -- so it is for each list of steps
+  -- the number of copies and the steps may be any
   pub always : (count : ℕ) (steps : List Step) (n : GroupState) → 0 < count → IsRun (start fault.None count) steps n → IsHonest n

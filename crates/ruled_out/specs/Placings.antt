@@ -206,6 +206,6 @@ pub record AreInOrder (records : List Rec) : Type 0 where
   -- no call and no reply have the same position
   pub apart : (i j : ℕ) (r s : Rec) (y : ℕ) (reply : Reply) → slice_get records i ≡ Some r → slice_get records j ≡ Some s
       → r.heard ≡ Some (y, reply) → s.call_at ≢ y
-  -- nor have two replies
+  -- no two replies have the same position
   pub once : (i j : ℕ) (r s : Rec) (y : ℕ) (a b : Reply) → slice_get records i ≡ Some r → slice_get records j ≡ Some s
       → r.heard ≡ Some (y, a) → s.heard ≡ Some (y, b) → i ≡ j

@@ -26,7 +26,7 @@ pub record IsFresh (conflicts : Conflicts) (records : List Rec) (places : List P
   pub reached : IsReached conflicts records places i p
   -- it names r
   pub names : IsPlaceOf records p r
-  -- which is no unanswered get
+  -- the record is no unanswered get
   pub known : ¬ IsUnansweredGet r
   -- no place before it names the same
   pub fresh : ¬ IsNamed (take i places) p.rec

@@ -47,9 +47,9 @@ pub record IsPlacedBy (records : List Rec) (p : Place) (q : Placed) : Type 0 whe
   pub named : Rec
   -- the place names it
   pub names : IsPlaceOf records p named
-  -- it has the number of the call
+  -- the call has the number of that record
   pub number : q.no ≡ named.no
-  -- and its operation
+  -- the call has its operation
   pub operation : q.entry.op ≡ named.op
   -- the record and the place say this of the call's entry
   pub tells : TellsOf named.heard p.pair q.entry

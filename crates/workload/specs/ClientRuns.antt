@@ -79,7 +79,7 @@ module _ (issued : Ticket → List ℕ → Op → Type 0) (gave : Ticket → Pro
     pub ticket : Ticket
     -- the target issued the ticket for them
     pub was_issued : issued ticket d op
-    -- and gave the reply to it
+    -- the target gave the reply to it
     pub was_given : gave ticket (Done r)
 
   -- for a ticket that it issued for that document and operation the target gave that the call waits, or that
@@ -89,7 +89,8 @@ module _ (issued : Ticket → List ℕ → Op → Type 0) (gave : Ticket → Pro
     pub ticket : Ticket
     -- the target issued the ticket for them
     pub was_issued : issued ticket d op
-    -- and gave one of the two; if calls aren't polled at all, nothing is required of what it gave
+    -- the target gave one of the two to it; if calls aren't polled at all, nothing is required of what it
+    -- gave
     pub was_given : 0 < polls → gave ticket Waiting ⊎ gave ticket Unknown
 
   -- the event is the ending of the call numbered n, of that document and operation: a reply that was answered

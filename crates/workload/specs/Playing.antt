@@ -113,9 +113,9 @@ module _ {S : Type 0} (takes : S → List ℕ → Op → Ticket → S → Type 0
     pub of_document : call.doc ≡ turn.doc
     -- it is recorded, on shard 0, after the events before
     pub recorded : after ≡ before ++ Call 0 (length before) (doc_name turn.doc) (asked_at clients old turn) ∷ []
-    -- then it is submitted to the target
+    -- it is submitted to the target
     pub submitted : takes w (doc_name turn.doc) (asked_at clients old turn) call.ticket w'
-    -- and it is the client's open call, with all its polls
+    -- it is the client's open call, with all its polls
     pub opened : new ≡ record old { begun = old.begun + 1; open_call = Some (record { call = call; polls_left = polls }) }
 
   -- A visit to a client with this open call and this next turn, if it has them: the open call is polled, or
