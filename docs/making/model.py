@@ -83,9 +83,9 @@ class Page:
         """The text with its names in backticks, those of other files as links to them."""
 
         def quoted(match):
-            word, at_rest = re.match(r"([^\s`]+)(.*)", match[1]).groups()
-            place = self.place_of(word, file)
-            return f"[`{word}{at_rest}`](#{anchor_of(place)})" if place and place != file.path else match[0]
+            word = match[1].partition(" ")[0]
+            place = self.place_of(word, file) if word else ""
+            return f"[`{match[1]}`](#{anchor_of(place)})" if place and place != file.path else match[0]
 
         def bare(match):
             is_known = self.place_of(match[0], file) or any(match[0] == it.name for own in file.definitions for it in own.fields)
