@@ -37,7 +37,7 @@ class Page:
     """The page: what it names, and where."""
 
     def __init__(self):
-        self.files = sources.spec_files()
+        self.files, self.laws = sources.spec_files(), sources.laws()
         self.order = [path for _, _, paths in SECTIONS for path in paths]
         self.check_order()
         self.owners = {}
@@ -120,7 +120,8 @@ class Page:
         """The lines of a definition: its name and its arguments, its comment and its source, and its fields."""
         name = f"- `{' '.join((it.name, *it.arguments))}`"
         first, others = (it.blocks[0], it.blocks[1:]) if it.blocks and not it.blocks[0].startswith(("- ", "|")) else ("", it.blocks)
-        source = f"*Source: {it.source}.*" if it.source else ""
+        law = self.laws.get((file.crate, it.name), "")
+        source = " ".join((f"A law: the contract of `{law}`.",) * bool(law) + (f"*Source: {it.source}.*",) * bool(it.source))
         told = f"{name}: {self.linked(ended(first), file)}" if first else name
         is_short = not others
         lines = wrapped(f"{told} {self.linked(source, file)}".strip() if is_short else told, "", "  ")

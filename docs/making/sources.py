@@ -278,6 +278,19 @@ def spec_files():
     return {path: Reader(path, text, small).read() for path, text in texts.items()}
 
 
+# ---- laws
+
+
+def laws():
+    """The laws: for a crate and a definition, the call whose contract the definition is."""
+    found = {}
+    for file in sorted(CRATES.glob("*/src/laws.rt")):
+        crate = file.parent.parent.name
+        for call, name in re.findall(r"^pub fn (\w+)\(\)\n    ensures \{ (\w+) \}$", file.read_text(encoding="utf-8"), re.MULTILINE):
+            found[crate, name] = f"{crate}::laws::{call}"
+    return found
+
+
 # ---- types of the code
 
 

@@ -1,4 +1,4 @@
--- Which jobs a fault of the pool names.
+-- Which jobs a fault of the pool names. A fault of the pool says why jobs have no answers.
 use Rattle.std.specs.Prelude.{◌<◌, List, length}
 use Rattle.check_pool.specs.declared.doc_job.DocJob.{DocJob}
 use Rattle.check_pool.specs.declared.pool_fault.PoolFault.{PoolFault}

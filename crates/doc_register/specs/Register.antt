@@ -1,4 +1,6 @@
--- One document as a register of versions: what it shows, when a write is performed, and its step.
+-- One document as a register of versions: what it shows, when a write is performed, and its step. The
+-- operations and replies are those of OpenSearch: get, index, delete, and index with `op_type=create`. That a
+-- document is one number is this project's profile, and so are its states.
 use Rattle.std.specs.Prelude.{◌≡◌, ℕ, Bool, true, false, not, Option, Some, None}
 use Rattle.version_pair.specs.declared.pair.Pair.{Pair}
 use Rattle.version_pair.specs.PairOrder.{IsBelow}

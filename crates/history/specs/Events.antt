@@ -1,4 +1,6 @@
--- Histories: which lists of events are histories, and what they say of calls and documents.
+-- Histories: which lists of events are histories, and what they say of calls and documents. Calls and replies
+-- are the invocations and responses of Herlihy and Wing, section 2. That an outcome is lost is this project's
+-- profile: it says that no reply will come, and nothing else.
 use Rattle.std.specs.Prelude.{◌≡◌, ℕ, suc, ◌<◌, ◌==◌, Bool, true, false, List, [], ◌∷◌, Option, Some, None, option_map, option_and_then, if◌then◌else◌, fold, take, filter_map, slice_get}
 use Rattle.std.specs.Cmp.Lexicographic.{pointwise}
 use Rattle.doc_register.specs.declared.op.Op.{Op}
