@@ -17,6 +17,18 @@ SMALL_CONSTRUCTORS = {"zero", "true", "false", "tt", "null", "no_members", "no_i
 # Names for arguments of some types, for those that no equation names.
 SHORT_NAMES = {"Bool": "b", "ClockView": "view", "DocState": "state", "FieldValue": "field", "Result": "answer"}
 
+# Names for arguments that are pairs of these types.
+PAIR_NAMES = {
+    "List ℕ × DocState": "entry",
+    "List ℕ × Op": "item",
+    "List ℕ × ℕ": "document",
+    "Pair × ℕ": "link",
+    "ℕ × Answer": "heard",
+    "ℕ × Event": "entry",
+    "ℕ × HeldWrite": "write",
+    "ℕ × Reply": "heard",
+}
+
 # The line of a comment that names the source of a definition.
 SOURCE = re.compile(r"Source: (.*)")
 
@@ -128,12 +140,15 @@ def named_by_type(kind):
     while kind.startswith("(") and kind.endswith(")") and len(parted(kind)) == 1:
         kind = kind[1:-1]
     head, *rest = parted(kind) or [""]
+    if "×" in rest:
+        return PAIR_NAMES.get(kind, "x")
     if head == "Option" and rest:
         return named_by_type(rest[0])
     if head == "List" and rest:
-        return {"ℕ": "bytes", "(List ℕ)": "lines"}.get(rest[0], f"{named_by_type(rest[0])}s")
-    if "×" in rest or not re.fullmatch(r"[A-Z]\w*", head):
-        return {"ℕ": "n", "Bool": "b"}.get(head, "x")
+        one = named_by_type(rest[0])
+        return {"ℕ": "bytes", "(List ℕ)": "lines"}.get(rest[0], f"{one[:-1]}ies" if one.endswith("y") else f"{one}s")
+    if not re.fullmatch(r"[A-Z]\w*", head):
+        return {"ℕ": "n"}.get(head, "x")
     return SHORT_NAMES.get(head, re.sub(r"(?<!^)(?=[A-Z])", "_", head).lower())
 
 
@@ -147,6 +162,7 @@ def arguments_of(signature, equations, small):
         given = [it[place] for it in patterns if place < len(it)]
         own = [it for it in given if re.fullmatch(r"[a-zA-Z][\w']*", it) and it not in small and (it[0].islower() or it in "PQ")]
         own = own or [it for it in given if it in ("P", "Acts")]
+        own = own or [it for pattern in given for it in re.findall(r"^\(Some ([a-z]\w*)\)$", pattern) if it not in small]
         name = own[0] if own else named_by_type(kinds[place] if place < len(kinds) else "")
         rests = [it for pattern in given for it in re.findall(r"^\(\S+ ∷ (\w+)\)$", pattern)]
         names.append((rests or ["other"])[0] if not own and name in names else name)
@@ -304,16 +320,18 @@ def documented(lines, place):
     return taken
 
 
-def value_of(line):
-    """How a value of an enum, or a field of a struct, is named: with the fields that a value has."""
-    match = re.match(r"    ([A-Z]\w*)(?: \{ (.*?) \}| \{$|\((.*)\))?", line)
+def value_of(lines, place):
+    """How a value of an enum, or a field of a struct, is named at its line: with the fields that a value has."""
+    match = re.match(r"    ([A-Z]\w*)(?:( \{)(?: (.*?) \},)?$|\((.*)\))?", lines[place])
     if match and match[2]:
-        return f"{match[1]} {{{', '.join(it.split(':')[0].strip() for it in parted(match[2], ','))}}}"
-    if match and match[3]:
-        return f"{match[1]}({match[3]})"
+        end = next(at for at in range(place, len(lines)) if lines[at].rstrip().endswith("},"))
+        fields = parted(match[3], ",") if match[3] else [it for it in lines[place + 1 : end] if "//" not in it]
+        return f"{match[1]} {{{', '.join(it.split(':')[0].strip() for it in fields)}}}"
+    if match and match[4]:
+        return f"{match[1]}({match[4]})"
     if match:
         return match[1]
-    match = re.match(r"    (?:pub(?:\(\w+\))? )?(\w+): ", line)
+    match = re.match(r"    (?:pub(?:\(\w+\))? )?(\w+): ", lines[place])
     return match[1] if match else ""
 
 
@@ -328,7 +346,7 @@ def type_of(crate, module, name):
             for at in range(place + 1, len(lines)) if match[1].endswith("{") else ():
                 if lines[at].startswith("}"):
                     break
-                own = value_of(lines[at])
+                own = value_of(lines, at)
                 if own:
                     fields.append(Field(own, " ".join(documented(lines, at))))
             return Type(crate, name, blocks_of(documented(lines, place)), tuple(fields))

@@ -47,7 +47,7 @@ pub record IsTakenAt (events : List Event) (entries : List DocPlaces) (i j h : �
   pub called : Rec
   -- the entry is at i
   pub entered : slice_get entries i ≡ Some entry
-  -- the place is at j of it
+  -- the place is at j of this entry
   pub placed : slice_get entry.places j ≡ Some place
   -- the place names the call
   pub names : IsPlaceOf (records_of events entry.doc) place called

@@ -65,7 +65,7 @@ pub record HasOrder (conflicts : Conflicts) (events : List Event) (docs calls le
 pub record HasNoOrderFound (conflicts : Conflicts) (events : List Event) : Type 0 where
   -- no entries without a given pair cover the history
   pub uncovered : HasNoUnpairedCover conflicts events
-  -- so it is not legal in response order
+  -- it is not legal in response order
   pub not_right : ¬ IsPlainlyRight events
-  -- and if it is complete (settled), no order explains it
+  -- if it is complete (settled), no order explains it
   pub settled : IsSettled conflicts events → ¬ IsLinearizable conflicts events

@@ -26,7 +26,7 @@ pub record IsTakenTwice (events : List Event) (entries : List DocPlaces) (h : �
   pub other_place : ℕ
   -- the pair is taken at a place
   pub one : IsTakenAt events entries entry place h q
-  -- and at another one
+  -- it is taken at another place
   pub other : IsTakenAt events entries other_entry other_place h q
   -- the two places are not the same
   pub apart : (entry ≡ other_entry) × (place ≡ other_place) → ⊥

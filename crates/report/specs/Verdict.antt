@@ -151,7 +151,7 @@ pub record IsBroken (conflicts : Conflicts) (history witness : List ℕ) (fault 
   pub reads : witness_text witness ≡ Ok entries
   -- this is the first fault of the entries
   pub first : IsFirstVerifyFault conflicts events entries fault
-  -- so they are no cover
+  -- the entries are no cover
   pub no_cover : ¬ AreCover conflicts events entries
 
 -- the one input is a text of no history: the line is a `refused_file_line` of the first of its lines that is
