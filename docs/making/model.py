@@ -174,7 +174,7 @@ class Page:
 
 def ended(text):
     """The text, ended by a full stop."""
-    return text if not text or text.endswith((".", ":", "?")) else f"{text}."
+    return text if not text or text.endswith((".", ":", "?", ".)")) else f"{text}."
 
 
 def page():

@@ -15,7 +15,15 @@ LISTS = {"Lib.antt", "aids.antt"}
 SMALL_CONSTRUCTORS = {"zero", "true", "false", "tt", "null", "no_members", "no_items"}
 
 # Names for arguments of some types, for those that no equation names.
-SHORT_NAMES = {"Bool": "b", "ClockView": "view", "DocState": "state", "FieldValue": "field", "Result": "answer"}
+SHORT_NAMES = {
+    "Bool": "b",
+    "ClockView": "view",
+    "DocPlaces": "document",
+    "DocState": "state",
+    "FieldValue": "field",
+    "Placed": "call",
+    "Result": "answer",
+}
 
 # Names for arguments that are pairs of these types.
 PAIR_NAMES = {
@@ -153,26 +161,30 @@ def named_by_type(kind):
 
 
 def arguments_of(signature, equations, small):
-    """The names of the arguments of a definition with these equations: the first name that one of them gives it."""
+    """The names of the arguments of a definition with these equations, but for proofs: the name that its type gives, or
+    else the first one that an equation gives."""
     kinds = [it for it in parted(signature, "→") if not it.startswith("{")]
-    kinds = [named for it in kinds[:-1] for named in (binders(it) or [it])]
+    kinds = [(name, it) for it in kinds[:-1] for name in (binders(it) or [""])]
     patterns = [parted(it) for it in equations]
     names = []
     for place in range(max(map(len, patterns), default=0)):
+        bound, kind = kinds[place] if place < len(kinds) else ("", "")
         given = [it[place] for it in patterns if place < len(it)]
-        own = [it for it in given if re.fullmatch(r"[a-zA-Z][\w']*", it) and it not in small and (it[0].islower() or it in "PQ")]
-        own = own or [it for it in given if it in ("P", "Acts")]
-        own = own or [it for pattern in given for it in re.findall(r"^\(Some ([a-z]\w*)\)$", pattern) if it not in small]
-        name = own[0] if own else named_by_type(kinds[place] if place < len(kinds) else "")
+        own = [it for it in given if re.fullmatch(r"[a-z][\w']*|P|Acts", it) and it not in small]
+        own += [it for pattern in given for it in re.findall(r"^\(Some ([a-z]\w*)\)$", pattern) if it not in small]
         rests = [it for pattern in given for it in re.findall(r"^\(\S+ ∷ (\w+)\)$", pattern)]
-        names.append((rests or ["other"])[0] if not own and name in names else name)
-    return tuple(names)
+        if not re.search(r" (≡|≤|<) ", kind):
+            names.append((bound or (own or [""])[0], named_by_type(kind), (rests or ["other"])[0]))
+    owned, chosen = {own for own, _, _ in names}, []
+    for own, by_type, other in names:
+        chosen.append(own or (other if by_type in owned or by_type in chosen else by_type))
+    return tuple(chosen)
 
 
 def binders(text):
-    """The names that brackets as (a b : T) bind; nothing of other text."""
-    match = re.match(r"\(([\w' ]+) : ", text)
-    return match[1].split() if match else []
+    """The names that brackets as (a b : T) (c : U) bind; nothing of other text."""
+    matches = [re.match(r"\(([\w' ]+) : ", it) for it in parted(text)]
+    return [name for it in matches for name in it[1].split()] if all(matches) else []
 
 
 def record_arguments(head):
@@ -245,10 +257,19 @@ class Reader:
         if kind:
             arguments = record_arguments(rest)
         else:
-            equations = self.equations(indent, name)
-            arguments = arguments_of(rest.strip().removeprefix(":"), equations, self.small)
+            signature = " ".join([rest.strip().removeprefix(":"), *self.more_signature(indent)])
+            arguments = arguments_of(signature, self.equations(indent, name), self.small)
         self.parts.append(Definition(name, arguments, *commented(comment), fields))
         return True
+
+    def more_signature(self, indent):
+        """The lines on which a signature goes on."""
+        lines = []
+        for line in self.lines[self.place :]:
+            if not re.match(rf"{indent}    ", line):
+                break
+            lines.append(line.strip())
+        return lines
 
     def equations(self, indent, name):
         """The left sides of the equations of a name, without the name."""

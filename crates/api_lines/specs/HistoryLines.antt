@@ -99,7 +99,8 @@ status_told number = whole_told number >>= below_limit (2 ^ 16)
 
 -- ---- lines
 
--- a call: checked first are all kinds, then the id, then the halves of the condition, then the ranges
+-- what a call line says: checked first are all kinds, then the id, then the halves of the condition, then the
+-- ranges
 -- Source: profile.
 abbrev pub call_told : LineValues → Result LineSaid TextCause
 call_told line = do
@@ -113,7 +114,7 @@ call_told line = do
   h ← shard_told shard
   Ok (Call n h id op)
 
--- a reply, whose body is read when its call is known
+-- what a reply line says: the number of its call and its status; its body is read when the call is known
 -- Source: profile.
 abbrev pub reply_told : LineValues → Result LineSaid TextCause
 reply_told line = do
@@ -123,7 +124,7 @@ reply_told line = do
   s ← status_told status
   Ok (Reply n s)
 
--- an end without a reply
+-- what a lost line says: the number of its call, which ends without a reply
 -- Source: profile.
 abbrev pub lost_told : LineValues → Result LineSaid TextCause
 lost_told line = do

@@ -33,7 +33,7 @@ pub record IsOrderOf (events : List Event) (entries : List DocPlaces) (order : L
   -- the calls of each entry's document are in it as the entry's places say
   pub placed : (i : ℕ) (e : DocPlaces) → slice_get entries i ≡ Some e
       → ArePlacedBy (records_of events e.doc) e.places (part_of_order e.doc order)
-  -- it has no other calls
+  -- it has calls of entered documents alone
   pub entered : (i : ℕ) (p : Placed) → slice_get order i ≡ Some p → IsEntered entries p.entry.doc
   -- it has as many calls as there are places
   pub count : length order ≡ places_in entries

@@ -56,8 +56,8 @@ refused = entry_of_d (Index 3 (Some one_zero)) Conflict None
 abbrev pub created_unsaid : Pair → Entry
 created_unsaid q = record { shard = 0; doc = 101 ∷ []; op = Create 1; reply = Conflict; hidden = Some q }
 
--- The worked cases, all of which hold: steps and replies that are illegal of gets, of writes without and with
--- a condition, and of creates; and eight whole runs.
+-- The worked cases: legal and illegal steps of gets, of writes without and with a condition, and of creates;
+-- and eight whole runs.
 pub record WorkedSteps : Type 0 where
   -- a get shows the document, with its pair and its number
   pub get_shows_document : DocStep (Here one_zero 1) Get (Found one_zero 1) None (Here one_zero 1)
@@ -101,7 +101,7 @@ pub record WorkedSteps : Type 0 where
   pub conflict_on_missing : DocStep Never (Index 2 (Some one_zero)) Conflict None Never
   -- an index whose condition is met has no conflict
   pub conflict_though_met : IsIllegal (Here one_zero 1) (Index 2 (Some one_zero)) Conflict None
-  -- unless its reply hides the pair with which it was performed
+  -- a write whose condition is met may have a conflict as its reply that hides its pair
   pub conflict_with_hidden_pair : DocStep (Here one_zero 1) (Index 2 (Some one_zero)) Conflict (Some one_one) (Here one_one 2)
   -- a reply that shows its pair hides none
   pub hidden_pair_of_answered_write : IsIllegal Never (Index 1 None) (Indexed one_zero true) (Some one_zero)

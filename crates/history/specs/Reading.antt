@@ -24,7 +24,7 @@ use Rattle.history.specs.Refusal.{first_event, refusal_of}
 
 -- ---- the event of a line
 
--- what is heard of a call, by a status and a body; of no other event anything is heard
+-- what is heard of a call, by a status and a body; of any other event the outcome is Unknown
 abbrev pub heard_of_call : Event → ℕ → BodyValues → Heard
 heard_of_call (Call h n d op) status body = heard op d status body
 heard_of_call (Reply n r) status body = heard.Unknown

@@ -46,7 +46,7 @@ group_at_start setting disturbance = disturbed_from setting.fault setting.copies
 -- What the target issued tickets for, and what it gave when they were polled.
 module _ (issued : Ticket → List ℕ → Op → Type 0) (gave : Ticket → Progress → Type 0) where
   -- The events are those of a run, whatever its manner: the recording of pens, one for each client of the
-  -- plan, and the list of each pen is the run of its client, who polls a call at most 1,000 times.
+  -- plan, and the list of each pen is the run of its client, which polls a call at most 1,000 times.
   -- Source: profile.
   abbrev pub IsRunOf : List (List Turn) → List Event → Type 0
   IsRunOf clients events = AreOfClients issued gave run_polls clients events

@@ -241,7 +241,7 @@ CopiesTo w t x c y a n =
     (λ flight. DoesWhere (y.is_in_sync && not y.is_cut && not (is_primary_cut w)) (with_copy w c (copy_with y t (write_of x flight.0))) w a n)
 
 -- the write of the ticket is answered with Indexed or Deleted, with the flag of the moment at which it was
--- performed, if it is in flight, the primary is not cut, and each copy in sync holds it
+-- performed, if it is in flight, the primary is not cut, and the write may be acknowledged (`is_held`)
 -- Source: profile.
 abbrev pub Acknowledges : GroupState → ℕ → Request → Answer → GroupState → Type 0
 Acknowledges w t x a n =

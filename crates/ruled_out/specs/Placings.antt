@@ -29,7 +29,7 @@ pub record MayTake (records : List Rec) (floor : ℕ → ℕ) (event i : ℕ) (w
   pub unanswered : w.heard ≡ None
   -- it was made by then
   pub called : w.call_at < event
-  -- its floor does not prevent it
+  -- the position of the pair is not below its floor
   pub above : floor i ≤ gap_of records p
   -- if it has a condition, that is below the pair, with no known pair between
   pub condition : (c : Pair) → condition_of w.op ≡ Some c → IsBelow c p × IsNext records c p
@@ -158,7 +158,8 @@ pub record MayStand (records : List Rec) (floor : ℕ → ℕ) (i : ℕ) (c : Re
 
 -- ---- placings
 
--- if a call that was answered at the event is at n, each call that is made later has a floor that is no lower
+-- if the call c, which was answered at the event, is at n, each call that is made later has a floor that is
+-- not below the position of the document after c
 abbrev pub Lifts : List Rec → (ℕ → ℕ) → Rec → ℕ → ℕ → Type 0
 Lifts records floor c event n = (j : ℕ) (r : Rec) → slice_get records j ≡ Some r → event < r.call_at
     → position_after records (pair_of c.heard) n ≤ floor j
@@ -203,7 +204,7 @@ pub record AreInOrder (records : List Rec) : Type 0 where
   pub calls : (i j : ℕ) (r s : Rec) → slice_get records i ≡ Some r → slice_get records j ≡ Some s → i < j → r.call_at < s.call_at
   -- each reply comes after its call
   pub replies : (i : ℕ) (r : Rec) (y : ℕ) (reply : Reply) → slice_get records i ≡ Some r → r.heard ≡ Some (y, reply) → r.call_at < y
-  -- no call and no reply have the same position
+  -- no call has the position of a reply
   pub apart : (i j : ℕ) (r s : Rec) (y : ℕ) (reply : Reply) → slice_get records i ≡ Some r → slice_get records j ≡ Some s
       → r.heard ≡ Some (y, reply) → s.call_at ≢ y
   -- no two replies have the same position

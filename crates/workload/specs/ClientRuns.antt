@@ -125,7 +125,7 @@ module _ (issued : Ticket → List ℕ → Op → Type 0) (gave : Ticket → Pro
   -- earlier clients first, from 1.
   -- Source: profile.
   pub record IsClientRun (clients : List (List Turn)) (client : ℕ) (entries : List (ℕ × Event)) : Type 0 where
-    -- the turns of the client
+    -- the turns of the client in the plan
     pub turns : List Turn
     pub turns_are : slice_get clients client ≡ Some turns
     -- it takes its turns, knowing nothing before them
@@ -133,11 +133,12 @@ module _ (issued : Ticket → List ℕ → Op → Type 0) (gave : Ticket → Pro
     -- the numbers of its events rise
     pub rising : IsRising entries
 
-  -- Each pen's list is longer by the run of the client of its number; if it was rising, it still is.
+  -- The lists of the pens are longer by the runs of their clients.
   -- Source: profile.
   pub record AreLongerByRuns (clients : List (List Turn)) (old new : List PenState) : Type 0 where
+    -- there are as many pens as before
     pub count : length new ≡ length old
-    -- each pen's list is longer by the run of the client of its number; if it was rising, it still is
+    -- each pen's list is longer by the run of the client of its number; if its numbers rose, they still rise
     pub each : (client : ℕ) (before after : PenState) → slice_get old client ≡ Some before → slice_get new client ≡ Some after
         → (entries : List (ℕ × Event)) × (after.list ≡ before.list ++ entries) × IsClientRun clients client entries
         × (IsRising before.list → IsRising after.list)
@@ -145,7 +146,9 @@ module _ (issued : Ticket → List ℕ → Op → Type 0) (gave : Ticket → Pro
   -- The lists are, one for each client and in their order, the runs of the clients.
   -- Source: profile.
   pub record AreClientRuns (clients : List (List Turn)) (lists : List (List (ℕ × Event))) : Type 0 where
+    -- there are as many lists as clients
     pub count : length lists ≡ length clients
+    -- each list is the run of the client of its number
     pub each : (client : ℕ) (list : List (ℕ × Event)) → slice_get lists client ≡ Some list → IsClientRun clients client list
 
   -- The events are those of clients.
