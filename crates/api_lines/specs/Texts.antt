@@ -42,7 +42,7 @@ read_on number (Ok s) next = next s
 read_on number (Err cause) next = Err (record { line = number; cause = cause })
 
 -- The state after the lines, if the first of them has this number; or the first line that is refused, with
--- its first cause.
+-- its first cause. Both kinds of text are read so, each with its own `takes`.
 -- Source: profile.
 abbrev pub read_lines : {S : Type 0} → (S → Data → Result S TextCause) → ℕ → S → List (List ℕ) → Result S TextFault
 read_lines takes number s [] = Ok s

@@ -54,8 +54,8 @@ asked_by (words.Run setting manner) = ToRun setting manner
 asked_by (words.Search seeds setting disturbance) = ToSearch seeds.first seeds.last setting disturbance
 asked_by (words.Explain file conflicts workers ruling page) = ToExplain (option_map (λ f. f.now) file) conflicts workers ruling (option_map (λ t. t.now) page)
 
--- the reading of conflicts of this name, `plain` or `maybe`; the plain one if none is given; none of another
--- name
+-- the reading of conflicts of this name, `plain` or `maybe`; the plain one if no name is given; nothing of
+-- another name
 -- Source: profile.
 abbrev pub conflicts_named : Option Text → Option Conflicts
 conflicts_named None = Some Plain
@@ -80,8 +80,8 @@ abbrev pub ruling_given : Option Text → RulingOut
 ruling_given None = Off
 ruling_given (Some text) = if bytes_eq text (codes "true") then On else Off
 
--- the check that arguments ask for, by one worker if no number is given; none if the name of the reading is
--- unknown
+-- the check that arguments ask for, by one worker if no number is given; nothing if the name of the reading
+-- is unknown
 abbrev pub check_of : List Row → Option Asked
 check_of rows =
     option_and_then (λ conflicts. option_map (λ n. ToCheck (first_of (codes "history") rows) conflicts n (ruling_given (first_of (codes "rule-out") rows)))
@@ -93,20 +93,20 @@ explain_of rows =
     option_and_then (λ conflicts. option_map (λ n. ToExplain (first_of (codes "history") rows) conflicts n (ruling_given (first_of (codes "rule-out") rows)) (first_of (codes "html") rows))
     (number_or 1 (first_of (codes "workers") rows))) (conflicts_named (first_of (codes "conflicts") rows))
 
--- the witness that arguments ask for; none if the name of the reading is unknown
+-- the witness that arguments ask for; nothing if the name of the reading is unknown
 abbrev pub witness_of : List Row → Option Asked
 witness_of rows =
     option_map (λ conflicts. ToWitness (first_of (codes "history") rows) conflicts (ruling_given (first_of (codes "rule-out") rows))) (conflicts_named (first_of (codes "conflicts") rows))
 
--- the check of a witness that arguments ask for, if both files are named; none if the name of the reading is
--- unknown
+-- the check of a witness that arguments ask for, if both files are named; nothing if the name of the reading
+-- is unknown
 abbrev pub verify_of : List Row → Option Asked
 verify_of rows =
     option_and_then (λ history. option_and_then (λ witness. option_map (λ conflicts. ToVerify history witness conflicts) (conflicts_named (first_of (codes "conflicts") rows)))
     (first_of (codes "witness") rows)) (first_of (codes "history") rows)
 
 -- the lines of a bulk that arguments ask for, if both files are named; the calls are numbered from 0 if no
--- number is given
+-- number is given; nothing if the text that is given is no number
 abbrev pub bulk_of : List Row → Option Asked
 bulk_of rows =
     option_and_then (λ body. option_and_then (λ reply. option_map (λ n. ToWriteBulk body reply n) (number_or 0 (first_of (codes "first") rows))) (first_of (codes "reply") rows)) (first_of (codes "body") rows)
@@ -204,7 +204,7 @@ abbrev pub run_of : List Row → Option Asked
 run_of rows = runs_of (first_of (codes "seed") rows) (first_of (codes "until") rows) (first_of (codes "seeds") rows) rows
 
 -- what the command of this name asks for, given what its arguments have: `check`, `witness`, `verify`,
--- `bulk`, `run` or `explain`
+-- `bulk`, `run` or `explain`; nothing of another name
 -- Source: profile.
 abbrev pub asked_of_command : Text → List Row → Option Asked
 asked_of_command name rows =
@@ -248,7 +248,7 @@ first_rule = record (option_rule (codes "first")) { parser = Some (parser.Unsign
 abbrev pub workers_rule : Rule
 workers_rule = record (option_rule (codes "workers")) { parser = Some (parser.Unsigned 1 16) }
 
--- `--rule-out`
+-- `--rule-out`, without a value
 -- Source: profile.
 abbrev pub rule_out_rule : Rule
 rule_out_rule = record (new_rule (codes "rule-out")) { long = Some (codes "rule-out"); action = Some SetTrue }
@@ -258,17 +258,17 @@ rule_out_rule = record (new_rule (codes "rule-out")) { long = Some (codes "rule-
 abbrev pub small_rule : Text → Rule
 small_rule name = record (needed_rule name) { long = Some name; parser = Some (parser.Unsigned 0 4294967295) }
 
--- `--seed S`, S below 2^64
+-- `--seed S`, S below 2^64, which may be left out
 -- Source: profile.
 abbrev pub seed_rule : Rule
 seed_rule = record (option_rule (codes "seed")) { parser = Some (parser.Unsigned 0 18446744073709551615) }
 
--- `--fault F`, which is required
+-- `--fault F`, a text, which is required
 -- Source: profile.
 abbrev pub fault_rule : Rule
 fault_rule = record (needed_rule (codes "fault")) { long = Some (codes "fault") }
 
--- `--in-turns`
+-- `--in-turns`, without a value, which may be left out
 -- Source: profile.
 abbrev pub in_turns_rule : Rule
 in_turns_rule = record (new_rule (codes "in-turns")) { long = Some (codes "in-turns"); action = Some SetTrue }
@@ -279,12 +279,12 @@ in_turns_rule = record (new_rule (codes "in-turns")) { long = Some (codes "in-tu
 abbrev pub searched_line : Text → App
 searched_line name = with_rule (with_rule (with_rule (with_rule (new_app name) (file_rule (codes "history"))) (option_rule (codes "conflicts"))) workers_rule) rule_out_rule
 
--- the command `check`, which takes these
+-- the command `check`, which takes what a check takes
 -- Source: profile.
 abbrev pub check_line : App
 check_line = searched_line (codes "check")
 
--- the command `explain`, which takes these and `--html`
+-- the command `explain`, which takes what a check takes, and `--html`
 -- Source: profile.
 abbrev pub explain_line : App
 explain_line = with_rule (searched_line (codes "explain")) (option_rule (codes "html"))

@@ -9,11 +9,11 @@ use Rattle.check_pool.specs.declared.doc_job.DocJob.{DocJob}
 -- All that the search for a document promises of its answer.
 -- Source: profile.
 pub record IsSearchOf (doc : List ℕ) (records : List Rec) (conflicts : Conflicts) (answer : DocAnswer) : Type 0 where
-  -- it is about the document, its records and this reading of conflicts
+  -- it is about the document, its records and this reading of conflicts (`IsAbout`)
   pub about : IsAbout doc records conflicts answer
-  -- if response order is valid, it is the order found
+  -- if response order is valid, it is the order found (`FollowsReplies`)
   pub replies : FollowsReplies conflicts records answer
-  -- if any places without a given pair are valid, such places are found
+  -- if any places without a given pair are valid, such places are found (`FindsUnpaired`)
   pub complete : FindsUnpaired conflicts records answer
 
 -- the same for the id, the records and the reading of conflicts of a job

@@ -11,8 +11,9 @@ use Rattle.compose.specs.declared.checking.CheckFault.TheVariants as check_fault
 use Rattle.compose.specs.declared.checking.Verdict.{Verdict}
 use Rattle.compose.specs.declared.checking.Verdict.TheVariants.{Yes, No}
 
--- The verdict is on this history and this reading of conflicts: `Yes` with witnesses that cover it, so that
--- it is linearizable, `No` if no entries without a given pair cover it.
+-- The verdict is on this history and this reading of conflicts: `Yes` with witnesses that cover it
+-- (`AreWitnesses`), so that it is linearizable, `No` if no entries without a given pair cover it
+-- (`HasNoOrderFound`).
 -- Source: Herlihy and Wing, section 2 (linearizable); profile (the rest).
 abbrev pub IsVerdictOn : Conflicts → List Event → Verdict → Type 0
 IsVerdictOn conflicts events (Yes p) =

@@ -17,5 +17,5 @@ pub record IsOffence (conflicts : Conflicts) (events : List Event) (o : Offence)
   pub wrong : ¬ IsPlainlyRight (prefix events (o.event + 1))
   -- if it says that the events before it have an order, they are linearizable
   pub shown : o.before_shown ≡ true → IsLinearizable conflicts (prefix events o.event)
-  -- if it says that they have none, no order was found for them
+  -- if it says that they have none, no order was found for them (`HasNoOrderFound`)
   pub unshown : o.before_shown ≡ false → HasNoOrderFound conflicts (prefix events o.event)

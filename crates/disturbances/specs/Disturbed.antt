@@ -42,7 +42,8 @@ steps_of incident primary copies = if nat_lt copies 2 then [] else steps_among i
 abbrev pub IsDisturbed : GroupState → Incident → GroupState → Type 0
 IsDisturbed w incident n = IsRun w (steps_of incident w.primary (length w.copies)) n
 
--- The poll of that number: first the incident that the schedule has before it, followed by the poll.
+-- The poll of that number: first the incident that the schedule has before it, followed by the poll
+-- (`Polls`).
 -- Source: profile.
 abbrev pub PollsDisturbed : List Incident → ℕ → GroupState → Lcg → ℕ → Result Progress TargetFault → GroupState → Lcg → Type 0
 PollsDisturbed schedule number w random t told n random' =
@@ -74,8 +75,8 @@ pub record DisturbedState : Type 0 where
 abbrev pub with_schedule : CountedState → List Incident → DisturbedState
 with_schedule counted schedule = record { core = counted.core; random = counted.random; polls = counted.polls; schedule = schedule }
 
--- a group at the start that does this wrong, with that many copies and the generator of the seed, before any
--- poll
+-- a group at the start that does this wrong, with that many copies (`start`) and the generator of the seed,
+-- before any poll
 -- Source: profile.
 abbrev pub counted_from : Fault → ℕ → ℕ → CountedState
 counted_from fault copies seed = record { core = start fault copies; random = generator_of seed; polls = 0 }
@@ -88,7 +89,7 @@ disturbed_from fault copies seed disturbance count = with_schedule (counted_from
 -- A submission that returns a ticket.
 -- Source: profile.
 pub record SubmitsTicket (old : DisturbedState) (id : List ℕ) (op : Op) (ticket : Ticket) (new : DisturbedState) : Type 0 where
-  -- the group takes the step Submit
+  -- the group takes the step Submit (`Submits`)
   pub submits : Submits old.core id op (Ok ticket) new.core
   -- the rest stays as it was
   pub rest_stays : new ≡ record old { core = new.core }
@@ -96,7 +97,7 @@ pub record SubmitsTicket (old : DisturbedState) (id : List ℕ) (op : Op) (ticke
 -- A poll that reports on a ticket.
 -- Source: profile.
 pub record TellsProgress (old : DisturbedState) (ticket : Ticket) (progress : Progress) (new : DisturbedState) : Type 0 where
-  -- it does what the poll of its number does
+  -- it does what the poll of its number does (`PollsDisturbed`)
   pub polls : PollsDisturbed old.schedule old.polls old.core old.random ticket.0 (Ok progress) new.core new.random
   -- it is counted, modulo 2^64
   pub counted : new.polls ≡ (old.polls + 1) % 2 ^ 64

@@ -30,7 +30,8 @@ pub record Unordered : Type 0 where
 abbrev pub AreSettled : Conflicts → List Rec → Type 0
 AreSettled conflicts records = (k : ℕ) (r : Rec) → slice_get records k ≡ Some r → IsSettled conflicts r
 
--- complete records for which no places without a given pair are valid have no valid places at all
+-- complete records for which no places without a given pair are valid (`HasNoOrder`) have no valid places at
+-- all
 -- Source: profile.
 abbrev pub SettledHaveNone : Type 0
 SettledHaveNone = (conflicts : Conflicts) (records : List Rec) → AreSettled conflicts records → HasNoOrder conflicts records

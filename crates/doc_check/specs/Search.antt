@@ -10,7 +10,7 @@ use Rattle.doc_check.specs.declared.search.DocAnswer.{DocAnswer}
 use Rattle.doc_check.specs.declared.search.DocAnswer.TheVariants.{Found, NotFound}
 
 -- The answer is about the document, its records and this reading of conflicts: an order found is valid for
--- them; if none is found, no places without a given pair are.
+-- them (`AreValid`); if none is found, no places without a given pair are (`HasNoOrder`).
 -- Source: profile.
 abbrev pub IsAbout : List ℕ → List Rec → Conflicts → DocAnswer → Type 0
 IsAbout doc records conflicts (Found w) = (w.doc ≡ doc) × (w.records ≡ records) × (w.conflicts ≡ conflicts) × AreValid conflicts records w.places

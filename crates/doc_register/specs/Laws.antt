@@ -62,8 +62,8 @@ ChangesNothing e = (e.op ≡ Get) ⊎ ((e.reply ≡ Conflict) × (e.hidden ≡ N
 abbrev pub LeavingOut : Type 0
 LeavingOut = (es fs : List Entry) (e : Entry) → ChangesNothing e → IsLegalRun (es ++ e ∷ fs) → IsLegalRun (es ++ fs)
 
--- entries are a legal run if and only if each document's part of them is a run of it alone from Never, and no
--- pair of a shard is taken twice
+-- entries are a legal run if and only if each document's part of them (`part_of`) is a run of it alone from
+-- Never (`IsDocRun`), and no pair of a shard is taken twice (`PairsDistinct`)
 -- Source: after Herlihy and Wing, section 3.1, for sequential histories; profile (the pairs).
 abbrev pub Locality : Type 0
 Locality = (es : List Entry) → IsLegalRun es

@@ -78,8 +78,8 @@ IsLegalRun es = (t : State) × IsRun start es t
 abbrev pub part_of : List ℕ → List Entry → List Entry
 part_of d es = filter (λ e. pointwise ◌==◌ e.doc d) es
 
--- The entries are steps of one document, one after another, from s to t. Their ids don't matter, nor do the
--- pairs used elsewhere.
+-- The entries are steps of one document, one after another, from s to t. Their ids and shards don't matter,
+-- nor do the pairs used elsewhere.
 -- Source: Herlihy and Wing, section 2, the sequential specification of an object.
 abbrev pub IsDocRun : DocState → List Entry → DocState → Type 0
 IsDocRun s [] t = t ≡ s

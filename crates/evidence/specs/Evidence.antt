@@ -153,7 +153,7 @@ pub record IsRuledOutIn (conflicts : Conflicts) (events : List Event) (n : ℕ) 
   pub document : List ℕ × ℕ
   -- the document is one of the history
   pub listed : slice_get (documents_of events) doc ≡ Some document
-  -- its records as reported are ruled out at the call
+  -- its records as reported are ruled out at the call (`IsRuledOut`)
   pub ruled_out : IsRuledOut (told conflicts (records_of events document.0)) n
 
 -- the document of this number is ruled out at some call

@@ -34,7 +34,7 @@ abbrev pub IsTold : Conflicts → Option (ℕ × Reply) → Type 0
 IsTold conflicts None = ⊥
 IsTold conflicts (Some heard) = conflicts ≡ Maybe → heard.1 ≢ Conflict
 
--- the record is complete: the call is a get, or such a reply was heard
+-- the record is complete: the call is a get, or such a reply was heard (`IsTold`)
 -- Source: profile.
 abbrev pub IsSettled : Conflicts → Rec → Type 0
 IsSettled conflicts r = r.op ≢ Get → IsTold conflicts r.heard

@@ -37,7 +37,7 @@ PlainlyRightIsLinearizable = (conflicts : Conflicts) (events : List Event) → I
     → IsLinearizable conflicts events
 
 -- an order that explains a history still explains it, in the same reading of conflicts, without a pending
--- call that changes nothing
+-- call that changes nothing (`ChangesNothing`)
 -- Source: profile.
 abbrev pub UnansweredLeftOut : Type 0
 UnansweredLeftOut = (conflicts : Conflicts) (events : List Event) (front back : List Placed) (p : Placed)

@@ -9,7 +9,7 @@ use Rattle.history.specs.declared.fault.HistFault.{HistFault}
 use Rattle.history.specs.declared.fault.HistFault.TheVariants.{SecondCall, NoCall, Ended, Kind, Full, NoMemory, ShardMoved}
 use Rattle.history.specs.Events.{is_call, is_call_of, is_ending, place_of}
 
--- the greatest number of events that a `History` has, or that are read from a text
+-- the greatest number of events that a `History` has, or that are read from a text: 1,048,576
 -- Source: profile.
 abbrev pub most_events : ℕ
 most_events = 1048576

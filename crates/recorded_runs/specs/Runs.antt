@@ -36,7 +36,8 @@ abbrev pub plan_of : RunSetting → List (List Turn)
 plan_of setting = plan_drawn setting.seed setting.clients setting.calls setting.docs
 
 -- The group of the setting at its start: its copies, its fault, and the generator of its seed, with no poll
--- made; and the schedule that the seed draws for the disturbance: one incident for each call of all clients.
+-- made; and the schedule that the seed draws for the disturbance: one incident for each call of all clients
+-- (`disturbed_from`).
 -- Source: profile.
 abbrev pub group_at_start : RunSetting → Disturbance → DisturbedState
 group_at_start setting disturbance = disturbed_from setting.fault setting.copies setting.seed disturbance (setting.clients * setting.calls)
@@ -70,7 +71,7 @@ module _ (issued : Ticket → List ℕ → Op → Type 0) (gave : Ticket → Pro
 pub record IsRunInTurns (setting : RunSetting) (disturbance : Disturbance) (events : List Event) : Type 0 where
   -- the group after the run
   pub after : DisturbedState
-  -- the clients are played against the group from its start on
+  -- the clients are played against the group from its start on (`ArePlayed`)
   pub played : ArePlayed SubmitsTicket TellsProgress run_polls (plan_of setting) (group_at_start setting disturbance) after events
 
 -- the text is a text of that history

@@ -20,7 +20,7 @@ use Rattle.recorder.specs.Pens.{PenState, new_pen}
 
 -- ---- views
 
--- the greatest number of pens that a recorder can be started with
+-- the greatest number of pens that a recorder can be started with: 8
 -- Source: profile.
 abbrev pub most_pens : ℕ
 most_pens = 8

@@ -211,8 +211,8 @@ Performs w t x y a n =
     MatchBool (nat_lt greatest (next_seq y.writes)) (Refuses NotNow w a n)
     ((q : Pair) × (q.term ≡ w.term) × (q.seq ≡ next_seq y.writes) × Does (performed w t x y q) a n)
 
--- the primary y performs a write that may be performed in its state of the document, and answers any other
--- with Conflict
+-- the primary y performs a write that may be performed in its state of the document (`IsPerformed`), and
+-- answers any other with Conflict
 -- Source: profile; OpenSearch (conditions and sequence numbers).
 abbrev pub Writes : GroupState → ℕ → Request → ShardCopy → Answer → GroupState → Type 0
 Writes w t x y a n =

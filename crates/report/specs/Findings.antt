@@ -15,14 +15,14 @@ use Rattle.stream_io.specs.declared.status.Status.TheVariants.{Yes, No, Refuted}
 
 -- The line reports that no order was found, with the offence: the status is No, and the line the `no_line` of
 -- the offence. If there is evidence, the status is Refuted, and the line the `refuted_line` of both; the
--- evidence holds and may be reported.
+-- evidence holds (`Holds`) and may be reported (`IsReported`).
 abbrev pub SaysFailing : RulingOut → Conflicts → List Event → Status → List ℕ → Offence → Option Evidence → Type 0
 SaysFailing ruling conflicts events status line offence None = (status ≡ No) × (line ≡ no_line offence)
 SaysFailing ruling conflicts events status line offence (Some told) =
     (status ≡ Refuted) × (line ≡ refuted_line told offence) × Holds conflicts events told × IsReported ruling conflicts events told
 
 -- What was found is of this history and this reading of conflicts, and the line reports it: an order and
--- `yes`, or no order, with the evidence and the offence of the line.
+-- `yes`, or no order, with the evidence and the offence of the line (`SaysFailing`).
 -- Source: profile.
 abbrev pub IsFindingOf : RulingOut → Conflicts → List Event → Status → List ℕ → Finding → Type 0
 IsFindingOf ruling conflicts events status line (Explained proof) = (proof.events ≡ events) × (proof.conflicts ≡ conflicts) × (status ≡ Yes)

@@ -49,9 +49,9 @@ pub record IsUnexplained (conflicts : Conflicts) (input : List ℕ) (o : Offence
   pub events : List Event
   -- the whole input is a history text of the events
   pub is_text : IsHistoryText input events
-  -- no order was found for them
+  -- no order was found for them (`HasNoOrderFound`)
   pub none_found : HasNoOrderFound conflicts events
-  -- the offence is one of them
+  -- the offence is one of them (`IsOffence`)
   pub offence : IsOffence conflicts events o
 
 -- The input is unexplained; and if documents were checked for being ruled out, none is.
@@ -59,7 +59,7 @@ pub record IsUnexplained (conflicts : Conflicts) (input : List ℕ) (o : Offence
 pub record IsUndecided (ruling : RulingOut) (conflicts : Conflicts) (input : List ℕ) (o : Offence) : Type 0 where
   -- the input is unexplained, with the offence
   pub unexplained : IsUnexplained conflicts input o
-  -- if documents were checked for being ruled out, none of the history is
+  -- if documents were checked for being ruled out, none of the history is (`IsWithoutRuledOut`)
   pub none : ruling ≡ On → IsWithoutRuledOut conflicts unexplained.events
 
 -- The input is unexplained, and provably not linearizable: no order of the calls explains the history,
@@ -68,10 +68,10 @@ pub record IsUndecided (ruling : RulingOut) (conflicts : Conflicts) (input : Lis
 pub record IsRefutedBy (ruling : RulingOut) (conflicts : Conflicts) (input : List ℕ) (told : Evidence) (o : Offence) : Type 0 where
   -- the input is unexplained, with the offence, just as for a `no`
   pub unexplained : IsUnexplained conflicts input o
-  -- the evidence holds in the history that it is a text of
+  -- the evidence holds in the history that it is a text of (`Holds`)
   pub holds : Holds conflicts unexplained.events told
-  -- it may be reported: that a document is ruled out only if that was asked for, and by the least call at
-  -- which one is
+  -- it may be reported (`IsReported`): that a document is ruled out only if that was asked for, and by the
+  -- least call at which one is
   pub reported : IsReported ruling conflicts unexplained.events told
   -- the history is not linearizable
   pub no_order : ¬ IsLinearizable conflicts unexplained.events
@@ -107,7 +107,7 @@ pub record IsWitnessed (conflicts : Conflicts) (input text : List ℕ) : Type 0 
   pub entries : List DocPlaces
   -- what is written reads as the entries
   pub reads : witness_text text ≡ Ok entries
-  -- the entries cover the events
+  -- the entries cover the events (`AreCover`)
   pub cover : AreCover conflicts events entries
   -- some order explains the events
   pub explained : IsLinearizable conflicts events
@@ -134,9 +134,9 @@ pub record IsVerified (conflicts : Conflicts) (history witness : List ℕ) (docs
   pub reads : witness_text witness ≡ Ok entries
   -- the entries cover the events
   pub cover : AreCover conflicts events entries
-  -- the numbers are those of the events and the entries
+  -- the numbers are those of the events and the entries (`AreCounts`)
   pub counts : AreCounts events entries docs calls left_out
-  -- the events have an order with these numbers
+  -- the events have an order with these numbers (`HasOrder`)
   pub explained : HasOrder conflicts events docs calls left_out
 
 -- The one input is a text of a history, and the other reads as entries of which this is the first fault; so
@@ -192,7 +192,7 @@ LeavesUnread history old new = IfSome history (λ h. (told : TextFault) → hist
 
 -- ---- what the writer holds
 
--- the line is an answer to the bytes that the reader had, if they are known
+-- the line is an answer, with this status, to the bytes that the reader had, if they are known (`IsAnswer`)
 abbrev pub AnswersInput : RulingOut → Conflicts → Option (List ℕ) → Status → List ℕ → Type 0
 AnswersInput ruling conflicts input status line = IfSome input (λ bytes. IsAnswer ruling conflicts bytes status line)
 
@@ -205,8 +205,8 @@ WitnessesInput ruling conflicts input status text = IfSome input (λ bytes. IsWi
 abbrev pub VerifiesInputs : Conflicts → Option (List ℕ) → Option (List ℕ) → Status → List ℕ → Type 0
 VerifiesInputs conflicts history witness status line = IfSome history (λ h. IfSome witness (λ w. IsVerifyAnswer conflicts h w status line))
 
--- What `check_stream` promises. The writer holds the line after what it held, and the line is an answer to
--- the bytes that the reader had, if they are known.
+-- What `check_stream` promises. The writer holds the line after what it held, and the line is an answer, with
+-- this status, to the bytes that the reader had, if they are known (`AnswersInput`).
 -- Source: profile.
 abbrev pub IsAnswered : RulingOut → Conflicts → Option (List ℕ) → Option (List ℕ) → Option (List ℕ) → Status → Type 0
 IsAnswered ruling conflicts input old new status = HasAnswer (AnswersInput ruling conflicts input status) old new

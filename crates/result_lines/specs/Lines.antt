@@ -1,4 +1,4 @@
--- The lines that are written as answers.
+-- The lines that are written as answers. Numbers are in decimal, and each line ends with a line feed.
 use Rattle.std.specs.Prelude.{ℕ, Bool, true, false, List, [], ◌++◌, ◌==◌, codes, decimal, if◌then◌else◌}
 use Rattle.api_lines.specs.declared.text_fault.TextCause.{TextCause}
 use Rattle.api_lines.specs.declared.text_fault.TextCause.TheVariants.{Long, Lines, Json, Shape, Id, Range, Half, Stranger, SecondCall, NoCall, Ended, Full, ShardMoved}
@@ -12,7 +12,8 @@ use Rattle.compose.specs.declared.verify_fault.VerifyFault.{VerifyFault}
 use Rattle.compose.specs.declared.verify_fault.VerifyFault.TheVariants as fault
 use Rattle.compose.specs.declared.offence.Offence.{Offence}
 
--- the printed name of a cause
+-- the printed name of a cause: `long`, `lines`, `json`, `shape`, `id`, `range`, `half`, `stranger`,
+-- `second-call`, `no-call`, `ended`, `full` or `shard-moved`
 -- Source: profile.
 abbrev pub cause_name : TextCause → List ℕ
 cause_name Long = codes "long"
@@ -30,7 +31,7 @@ cause_name Full = codes "full"
 cause_name ShardMoved = codes "shard-moved"
 
 -- the line `yes docs=D calls=C left_out=L` of the numbers of documents, of calls, and of calls that are left
--- out, in decimal
+-- out
 -- Source: profile.
 abbrev pub yes_line : ℕ → ℕ → ℕ → List ℕ
 yes_line docs calls left_out =
@@ -78,7 +79,7 @@ abbrev pub refuted_line : Refuted → Offence → List ℕ
 refuted_line e o =
     codes "refuted kind=" ++ (kind_name e ++ (codes " calls=" ++ (named_calls e ++ (codes " event=" ++ (decimal o.event ++ (codes " call=" ++ (decimal o.call ++ (codes " before=" ++ (before_name o.before_shown ++ codes "\n")))))))))
 
--- the line `refused line=L cause=C` of the number of a line, in decimal, and the name of its cause
+-- the line `refused line=L cause=C` of the number of a line and the name of its cause
 -- Source: profile.
 abbrev pub refused_line : ℕ → TextCause → List ℕ
 refused_line line cause = codes "refused line=" ++ (decimal line ++ (codes " cause=" ++ (cause_name cause ++ codes "\n")))

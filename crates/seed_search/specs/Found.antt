@@ -23,11 +23,11 @@ module _ (issued : Ticket → List ℕ → Op → Type 0) (gave : Ticket → Pro
   -- The text is that of the run of the setting in turns, and the line answers it, with conflicts read plain
   -- and documents checked for being ruled out.
   pub record IsJudgedRun (setting : RunSetting) (text : List ℕ) (status : Status) (line : List ℕ) : Type 0 where
-    -- the lists of the run are runs of its clients
+    -- the lists of the run are runs of its clients (`IsRunText`)
     pub is_run : IsRunText issued gave setting text
-    -- the text is that of the run in turns, under the disturbance
+    -- the text is that of the run in turns, under the disturbance (`IsTextInTurns`)
     pub in_turns : IsTextInTurns setting disturbance text
-    -- the line answers it
+    -- the line answers it (`IsAnswer`)
     pub answer : IsAnswer On Plain text status line
 
   -- the run of the setting in turns gets `yes`: an order explains it

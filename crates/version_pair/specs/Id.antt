@@ -1,7 +1,7 @@
 -- Which texts are document ids.
 use Rattle.std.specs.Prelude.{ℕ, ◌<◌, ◌≤◌}
 
--- the greatest length of a document id, in bytes
+-- the greatest length of a document id, in bytes: 512
 -- Source: OpenSearch.
 abbrev pub longest_id : ℕ
 longest_id = 512

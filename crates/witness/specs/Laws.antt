@@ -35,8 +35,8 @@ pub record ExplainsDocument (conflicts : Conflicts) (events : List Event) (d : L
   -- it is a legal run
   pub legal : IsLegalRun (run_of order)
 
--- what a record and its place say of the call in the run: the reply that was heard, with the pair that it
--- hides; or, if none was heard, the pair that the call takes
+-- what a record and its place say of the call in the run: the reply that was heard, with the pair given to
+-- the place as the one that it hides; or, if none was heard, the pair that the call takes, and one is given
 abbrev pub TellsOf : Option (ℕ × Answer) → Option Pair → Entry → Type 0
 TellsOf None pair e = IsSome pair × (pair_taken e.reply e.hidden ≡ pair)
 TellsOf (Some (at, reply)) pair e = (e.reply ≡ reply) × (e.hidden ≡ pair)
@@ -51,7 +51,7 @@ pub record IsPlacedBy (records : List Rec) (p : Place) (q : Placed) : Type 0 whe
   pub number : q.no ≡ named.no
   -- the call has its operation
   pub operation : q.entry.op ≡ named.op
-  -- the record and the place say this of the call's entry
+  -- the record and the place say this of the call's entry (`TellsOf`)
   pub tells : TellsOf named.heard p.pair q.entry
 
 -- the places say so of the calls of the order, place by place, and there are as many of both
@@ -74,8 +74,8 @@ pub record PlacesAreOrders : Type 0 where
   pub explains : (conflicts : Conflicts) (events : List Event) (d : List ℕ) (places : List Place) → IsHistory events
       → AreValid conflicts (records_of events d) places
       → (order : List Placed) × ExplainsDocument conflicts events d order × ArePlacedBy (records_of events d) places order
-  -- for an order that explains the document, in which each pending call changes something, there are valid
-  -- places that say so of it
+  -- for an order that explains the document, in which each pending call changes something (`AllChange`),
+  -- there are valid places that say so of it
   pub valid : (conflicts : Conflicts) (events : List Event) (d : List ℕ) (order : List Placed) → IsHistory events
       → ExplainsDocument conflicts events d order → AllChange events order
       → (places : List Place) × AreValid conflicts (records_of events d) places

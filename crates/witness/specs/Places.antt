@@ -34,7 +34,7 @@ GivesAsMay conflicts (Some (at, Conflict)) pair = conflicts ≡ Plain → pair �
 
 -- The call of a place is a step of the document from s to t. An answered call steps with the reply that was
 -- heard, which hides a pair given to the place; an unanswered one with the reply of a performed write that
--- takes the pair given, and hides nothing. Without a reply and a pair it is no step.
+-- takes the pair given (`performed_reply`), and hides nothing. Without a reply and a pair it is no step.
 -- Source: Herlihy and Wing, section 2: a history is extended by responses.
 abbrev pub StepsAt : DocState → Op → Option (ℕ × Reply) → Option Pair → DocState → Type 0
 StepsAt s op (Some (at, reply)) pair t = DocStep s op reply pair t

@@ -43,7 +43,7 @@ pub record IsPlayedOut (clients : List (List Turn)) (player : Player) : Type 0 w
   pub is_at_end : turn_at clients player.client player.begun ≡ None
 
 -- The operation of this turn, the client's next one, by what it knows (`op_of`). The numbers that writes
--- write count all turns of the plan, those of earlier clients first, from 1.
+-- write count all turns of the plan, those of earlier clients first, from 1, as in a client run.
 -- Source: profile.
 abbrev pub asked_at : List (List Turn) → Player → Turn → Op
 asked_at clients player turn =
