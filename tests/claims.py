@@ -5,11 +5,11 @@
 
 No program is run; one may be named, as for the other tests. What is held:
 
-- docs/MODEL.md has a heading `### CRATE/specs/FILE.antt` for each file of definitions. The tables below it name the
-  definitions of that file, each of them and no others; names in brackets are parts of a definition. Types are there,
-  with their values.
-- docs/PROVED.md has a section for each crate. Each public call stands there in one row, which names each of its clauses
-  and no others, and that something is owed if the call has a `requires`, and only there. Each law stands in a row
+- The pages that are made from the sources are what `docs/make` makes. Each file of definitions and each public
+  definition has a comment; sources are of the known kinds, and names with a capital letter are there. Each law is the
+  contract of a call.
+- docs/PROVED.md has a section for each crate. Each public call stands there in one row, which tells each of its clauses
+  and no others, and that something is owed where the call has a `requires`, and only there. Each law stands in a row
   with its definition. Clauses in brackets are those of a call of their row, refusals are values of some type, and what
   stands in brackets in a promise is a definition.
 - docs/ARCHITECTURE.md has a row for each crate in "The rooms", with the libraries that crates.txt gives it; the table
@@ -22,12 +22,16 @@ Each name that is held counts one.
 
 import fnmatch
 import re
+import subprocess
 import sys
 from collections import Counter
 from typing import NamedTuple
 
 from program import TOP
 from program_test import ProgramTest, run_tests
+
+sys.path.insert(0, str(TOP / "docs"))
+from making import sources as making  # noqa: E402
 
 CRATES = TOP / "crates"
 STORES = [f"examples/stores/{it}README.md" for it in ("", "redis/", "postgresql/", "zookeeper/")]
@@ -275,62 +279,48 @@ class Sources:
 # ---- MODEL.md
 
 
-class Model:
-    """The page of definitions."""
+# A source that a definition may name, before a colon or a bracket: one of these, and what of it.
+KNOWN_SOURCE = r"(after )?(Herlihy and Wing, section (2|3\.1)|OpenSearch( and profile)?|HTML|profile)\b"
+# Names of other crates, which comments of definitions mention.
+NAMES_ELSEWHERE = {"Data"}
 
-    page = "docs/MODEL.md"
+
+class Model:
+    """The comments from which the page of definitions is made."""
 
     def __init__(self, sources, claims):
         self.sources, self.claims = sources, claims
+        self.files, self.laws = making.spec_files(), making.laws()
+        types = {name for crate in sources.crates.values() for name in crate.types}
+        self.known = sources.definitions | sources.values | types | NAMES_ELSEWHERE
 
-    def hold(self, is_so, line, fault):
-        self.claims.hold(is_so, self.page, line, fault)
+    def hold(self, is_so, file, name, told):
+        with self.claims.subTest(f"{file.path}: {name}"):
+            self.claims.assertTrue(is_so, told)
 
-    def hold_types(self, row):
-        """Holds a row of types. If values of one type are named, all of them are."""
-        match = re.search(r"\(crate (\w+)\)", row.cells[0]) or re.match(r"### (\w+)/", row.heading)
-        types = self.sources.crates[match[1]].types if match and match[1] in self.sources.crates else {}
-        names = [it.split()[0] for it in quoted(row.cells[0])]
-        named = {it for text in quoted(row.cells[1]) for it in re.findall(r"^\w+", text)}
-        for name in names:
-            self.hold(name in types, row.line, f"the type {name} is not declared in {match[1] if match else 'a crate'}")
-        for value in sorted(types.get(names[0], ())) if len(names) == 1 and named & types.get(names[0], set()) else []:
-            self.hold(value in named, row.line, f"the value {value} of {names[0]} is not named")
-
-    def hold_names(self, row, file):
-        """Holds a row about a file: its names, those in brackets, the laws that it cites. Gives its names."""
-        names, there = [it.split()[0] for it in quoted(row.cells[0])], self.sources.specs[file]
-        parts = self.sources.definitions | {field for name in names for field in there.fields.get(name, ())}
-        crate = self.sources.crates[file.split("/")[0]]
-        for name in names:
-            self.hold(name in there.names, row.line, f"{file} has no definition {name}")
-        for part in (it for _, some in in_brackets(row.cells[1]) for it in some if re.fullmatch(r"[a-z]\w*", it)):
-            self.hold(part in parts, row.line, f"in brackets: {row.cells[0]} has no part {part}")
-        for law in re.findall(r"`(laws::\w+)`", " ".join(row.cells)):
-            is_so = law in crate.calls and any(name in crate.calls[law].contract for name in names[:1])
-            self.hold(is_so, row.line, f"{crate.name} has no {law} whose contract is {row.cells[0]}")
-        return names
+    def hold_definition(self, file, it):
+        """Holds that a definition has a comment, that its sources are of the known kinds, and, if it is a law, that it
+        is the contract of a call."""
+        self.hold(it.blocks, file, it.name, "it has no comment")
+        for source in it.source.split("; ") if it.source else ():
+            self.hold(re.match(KNOWN_SOURCE, source), file, it.name, f"the source {source} is of no known kind")
+        if file.path.endswith("/Laws.antt") and not it.arguments:
+            self.hold((file.crate, it.name) in self.laws, file, it.name, "it is the contract of no law")
 
     def hold_all(self):
-        """Holds the headings, their tables, and that each definition is named."""
-        specs = self.sources.specs
-        headings = {line[4:]: number for number, line in headings_of(self.page) if line.startswith("### ")}
-        named = {name: set() for name in headings}
-        for name, number in headings.items():
-            self.hold(name in specs, number, f"there is no file crates/{name}")
-        for row in rows_of(self.page, self.claims):
-            if row.head[0] == "type":
-                self.hold_types(row)
-            elif row.head[0] == "name" and row.heading[4:] in specs:
-                named[row.heading[4:]].update(self.hold_names(row, row.heading[4:]))
-        for name in specs:
-            self.hold(name in headings, 1, f"the file crates/{name} has no heading")
-            for definition in sorted(specs[name].names) if name in headings else []:
-                self.hold(definition in named[name], headings[name], f"the definition {definition} of {name} has no row")
-        for number, line in lines_of(self.page):
-            for name, crate in re.findall(r"`(\w+)` \(crate (\w+)\)", line) if not line.startswith("|") else []:
-                there = crate in self.sources.crates and name in self.sources.crates[crate].types
-                self.hold(there, number, f"the type {name} is not declared in {crate}")
+        """Holds the comments, and that what they name with a capital letter is there."""
+        for file in self.files.values():
+            self.hold(file.blocks, file, "the file", "it has no comment")
+            for it in file.definitions:
+                self.hold_definition(file, it)
+            texts = [*file.blocks, *(block for it in file.parts for block in it.blocks)]
+            texts += [field.text for it in file.definitions for field in it.fields]
+            for name in (name for text in texts for name in re.findall(r"`([A-Z]\w+)[^`]*`", text)):
+                self.hold(name in self.known, file, name, "there is no such name")
+        for (crate, name), call in self.laws.items():
+            is_so = any(it.name == name for file in self.files.values() if file.crate == crate for it in file.definitions)
+            with self.claims.subTest(call):
+                self.claims.assertTrue(is_so, f"its contract {name} is no public definition of its crate")
 
 
 # ---- PROVED.md
@@ -593,6 +583,10 @@ class Claims(ProgramTest):
         """Holds a name at a line of a page."""
         with self.subTest(f"{page}:{line}"):
             self.assertTrue(is_so, fault)
+
+    def test_made_pages(self):
+        made = subprocess.run([TOP / "docs" / "make", "--check"], capture_output=True, text=True)
+        self.assertEqual((made.returncode, made.stdout, made.stderr), (0, "", ""), "docs/make has to be run")
 
     def test_model(self):
         Model(self.sources, self).hold_all()

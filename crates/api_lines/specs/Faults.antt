@@ -1,4 +1,5 @@
--- What is reported of a line that is refused.
+-- What is reported of a line that is refused. Being out of memory is reported too, but no definition says
+-- when.
 use Rattle.std.specs.Prelude.{◌≡◌, ℕ, Result, Ok, Err}
 use Rattle.api_lines.specs.declared.text_fault.LineFault.{LineFault}
 use Rattle.api_lines.specs.declared.text_fault.LineFault.TheVariants as line
@@ -7,7 +8,7 @@ use Rattle.api_lines.specs.declared.text_fault.ReadFault.TheVariants as text
 use Rattle.api_lines.specs.declared.text_fault.TextCause.{TextCause}
 use Rattle.api_lines.specs.declared.text_fault.TextFault.{TextFault}
 
--- the fault of a text whose line with this number is refused
+-- the fault of a text whose line with this number is refused: the line with its cause, or out of memory
 abbrev pub text_fault : ℕ → LineFault → ReadFault
 text_fault n (line.Told cause) = text.Text (record { line = n; cause = cause })
 text_fault n line.NoMemory = text.NoMemory

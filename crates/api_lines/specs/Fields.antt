@@ -10,18 +10,25 @@ use Rattle.api_lines.specs.declared.fields.LineFields.{LineFields}
 
 -- the fields of a reply's body that the reply table reads
 pub record BodyValues : Type 0 where
+  -- the field `_id`
   pub id : FieldValue
+  -- the field `result`
   pub outcome : FieldValue
+  -- the field `_seq_no`
   pub seq_no : FieldValue
+  -- the field `_primary_term`
   pub primary_term : FieldValue
   pub found : FieldValue
+  -- the field `k` of `_source`
   pub source_k : FieldValue
+  -- the field `type` of `error`
   pub error_type : FieldValue
 
 -- the field of a field
 abbrev pub inner_field : List ℕ → List ℕ → Data → FieldValue
 inner_field outer key v = field_value (option_and_then (get key) (get outer v))
 
+-- these fields of a body
 abbrev pub body_values : Data → BodyValues
 body_values body = record {
   id = field (codes "_id") body;
@@ -33,7 +40,7 @@ body_values body = record {
   error_type = inner_field (codes "error") (codes "type") body;
 }
 
--- the fields that any line of a history text names
+-- the fields that any line of a history text names, each under its own name
 pub record LineValues : Type 0 where
   pub e : FieldValue
   pub n : FieldValue
@@ -44,12 +51,15 @@ pub record LineValues : Type 0 where
   pub if_primary_term : FieldValue
   pub shard : FieldValue
   pub status : FieldValue
+  -- the fields of its body
   pub body : BodyValues
 
 -- the body of a reply line, null if it is absent
+-- Source: profile.
 abbrev pub body_of : Data → Data
 body_of v = unwrap_or (get (codes "body") v) null
 
+-- these fields of a line, and those of its body
 abbrev pub line_values : Data → LineValues
 line_values v = record {
   e = field (codes "e") v;
@@ -66,6 +76,7 @@ line_values v = record {
 
 -- ---- the code's fields as the definitions see them
 
+-- a field of the code as the value of a field
 abbrev pub value_of : Field → FieldValue
 value_of field.Absent = absent
 value_of (field.Whole n) = whole n
@@ -75,6 +86,7 @@ value_of field.True = truth true
 value_of field.False = truth false
 value_of field.Other = other
 
+-- the code's fields of a body as such values
 abbrev pub body_seen : BodyFields → BodyValues
 body_seen b = record {
   id = value_of b.id;
@@ -86,6 +98,7 @@ body_seen b = record {
   error_type = value_of b.error_type;
 }
 
+-- the code's fields of a line as such values
 abbrev pub line_seen : LineFields → LineValues
 line_seen l = record {
   e = value_of l.e;

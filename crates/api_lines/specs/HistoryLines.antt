@@ -1,4 +1,5 @@
--- What a line of a history text says by itself, or the first cause to refuse it.
+-- What a line of a history text says by itself, or the first cause to refuse it. Kinds are checked before
+-- values.
 use Rattle.std.specs.Prelude.{ℕ, ◌^◌, List, Option, Some, None, nat_lt, codes, Result, Ok, Err, if◌then◌else◌}
 use Rattle.std.specs.Str.{bytes_eq}
 use Rattle.doc_register.specs.declared.op.Op.{Op}
@@ -16,14 +17,16 @@ use Rattle.api_lines.specs.declared.number.Number.{Number}
 use Rattle.api_lines.specs.declared.text_fault.TextCause.{TextCause}
 use Rattle.api_lines.specs.declared.text_fault.TextCause.TheVariants.{Range, Shape}
 
--- the number of shards: their numbers are below it
+-- the number of shards, 1,024: their numbers are below it
+-- Source: OpenSearch.
 abbrev pub most_shards : ℕ
 most_shards = 1024
 
 -- ---- kinds
 
--- The numbers of an operation, of the kind that they must be. Those that the operation doesn't take aren't
--- read.
+-- The numbers of an index, each of the kind that it must be, otherwise Shape. Fields that the operation
+-- doesn't take aren't read.
+-- Source: profile.
 abbrev pub index_numbers : LineValues → Result OpNumbers TextCause
 index_numbers line = do
   k ← required_number line.k
@@ -31,18 +34,23 @@ index_numbers line = do
   term ← optional_number line.if_primary_term
   Ok (numbers.Index k seq term)
 
+-- the numbers of a delete, in the same way
+-- Source: profile.
 abbrev pub delete_numbers : LineValues → Result OpNumbers TextCause
 delete_numbers line = do
   seq ← optional_number line.if_seq_no
   term ← optional_number line.if_primary_term
   Ok (numbers.Delete seq term)
 
+-- the numbers of a create, in the same way
+-- Source: profile.
 abbrev pub create_numbers : LineValues → Result OpNumbers TextCause
 create_numbers line = do
   k ← required_number line.k
   Ok (numbers.Create k)
 
--- the numbers of the operation with this name
+-- the numbers of the operation with this name; an unknown name is Shape
+-- Source: profile.
 abbrev pub numbers_named : LineValues → List ℕ → Result OpNumbers TextCause
 numbers_named line name =
     if bytes_eq name (codes "get") then Ok numbers.Get
@@ -51,12 +59,16 @@ numbers_named line name =
     else (if bytes_eq name (codes "create") then create_numbers line
     else Err Shape)))
 
+-- the numbers of the operation that a line names
+-- Source: profile.
 abbrev pub op_numbers : LineValues → Result OpNumbers TextCause
 op_numbers line = required_text line.op >>= numbers_named line
 
 -- ---- values
 
--- the operation with these numbers: checked first is its condition, then the number that it writes
+-- the operation with these numbers: checked first are the halves and the ranges of its condition, then the
+-- range of the number that it writes
+-- Source: profile.
 abbrev pub op_told : OpNumbers → Result Op TextCause
 op_told numbers.Get = Ok Get
 op_told (numbers.Index k seq term) = do
@@ -70,20 +82,26 @@ op_told (numbers.Create k) = do
   n ← whole_told k
   Ok (Create n)
 
+-- the number, if it is below the limit; otherwise Range
 abbrev pub below_limit : ℕ → ℕ → Result ℕ TextCause
 below_limit limit n = if nat_lt n limit then Ok n else Err Range
 
--- the shard: 0 if it isn't named
+-- the shard: 0 if it isn't named, otherwise below 1,024
+-- Source: profile.
 abbrev pub shard_told : Option Number → Result ℕ TextCause
 shard_told None = Ok 0
 shard_told (Some number) = whole_told number >>= below_limit most_shards
 
+-- the status, below 65,536
+-- Source: profile.
 abbrev pub status_told : Number → Result ℕ TextCause
 status_told number = whole_told number >>= below_limit (2 ^ 16)
 
 -- ---- lines
 
--- a call: checked first are all kinds, then the id, then the halves of the condition, then the ranges
+-- what a call line says: checked first are all kinds, then the id, then the halves of the condition, then the
+-- ranges
+-- Source: profile.
 abbrev pub call_told : LineValues → Result LineSaid TextCause
 call_told line = do
   number ← required_number line.n
@@ -96,7 +114,8 @@ call_told line = do
   h ← shard_told shard
   Ok (Call n h id op)
 
--- a reply, whose body is read when its call is known
+-- what a reply line says: the number of its call and its status; its body is read when the call is known
+-- Source: profile.
 abbrev pub reply_told : LineValues → Result LineSaid TextCause
 reply_told line = do
   number ← required_number line.n
@@ -105,14 +124,16 @@ reply_told line = do
   s ← status_told status
   Ok (Reply n s)
 
--- an end without a reply
+-- what a lost line says: the number of its call, which ends without a reply
+-- Source: profile.
 abbrev pub lost_told : LineValues → Result LineSaid TextCause
 lost_told line = do
   number ← required_number line.n
   n ← whole_told number
   Ok (Lost n)
 
--- the line of this name
+-- the line of this name: "call", "reply" or "lost"; another name is Shape
+-- Source: profile.
 abbrev pub line_named : LineValues → List ℕ → Result LineSaid TextCause
 line_named line name =
     if bytes_eq name (codes "call") then call_told line
@@ -120,5 +141,7 @@ line_named line name =
     else (if bytes_eq name (codes "lost") then lost_told line
     else Err Shape))
 
+-- what a line says, by the text of its field `e`; or the first cause to refuse it
+-- Source: profile.
 abbrev pub line_told : LineValues → Result LineSaid TextCause
 line_told line = required_text line.e >>= line_named line

@@ -7,7 +7,8 @@ use Rattle.api_lines.specs.declared.number.Number.TheVariants.{Whole, NotWhole}
 use Rattle.api_lines.specs.declared.text_fault.TextCause.{TextCause}
 use Rattle.api_lines.specs.declared.text_fault.TextCause.TheVariants.{Shape}
 
--- a number that may be absent; another kind is refused
+-- the number of a field that may be absent; Shape if it is of another kind
+-- Source: profile.
 abbrev pub optional_number : FieldValue → Result (Option Number) TextCause
 optional_number absent = Ok None
 optional_number (whole n) = Ok (Some (Whole n))
@@ -16,7 +17,8 @@ optional_number (text t) = Err Shape
 optional_number (truth b) = Err Shape
 optional_number other = Err Shape
 
--- a number that must be present
+-- the number of a field that must be present; otherwise Shape
+-- Source: profile.
 abbrev pub required_number : FieldValue → Result Number TextCause
 required_number absent = Err Shape
 required_number (whole n) = Ok (Whole n)
@@ -25,7 +27,8 @@ required_number (text t) = Err Shape
 required_number (truth b) = Err Shape
 required_number other = Err Shape
 
--- a text that must be present
+-- the text of a field that must be present; otherwise Shape
+-- Source: profile.
 abbrev pub required_text : FieldValue → Result (List ℕ) TextCause
 required_text absent = Err Shape
 required_text (whole n) = Err Shape
@@ -52,6 +55,7 @@ is_other_text t (text found) = not (bytes_eq found t)
 is_other_text t (truth b) = false
 is_other_text t other = false
 
+-- the two truth values are the same
 abbrev pub same_truth : Bool → Bool → Bool
 same_truth true b = b
 same_truth false b = not b

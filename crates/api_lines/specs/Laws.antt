@@ -10,15 +10,20 @@ use Rattle.api_lines.specs.Written.{written_body, written_status}
 use Rattle.api_lines.specs.declared.reply_table.Heard.{Heard}
 use Rattle.api_lines.specs.declared.reply_table.Heard.TheVariants.{Reply as Replied}
 
--- the table gives at most one reply
+-- the reply table gives at most one reply for an operation, a status and a body
+-- Source: profile.
 abbrev pub TableTellsOne : Type 0
 TableTellsOne = (op : Op) (status : ℕ) (body : Data) (r s : Reply) → Tells op status body r → Tells op status body s → r ≡ s
 
--- what is heard by the fields of a body is what is heard, and nothing else is
+-- the two definitions of what is heard agree
+-- Source: profile.
 pub record FieldsAreHeard : Type 0 where
+  -- what is heard by the fields of a body (`heard`) is what is heard (`IsHeard`)
   pub heard_so : (d : List ℕ) (op : Op) (status : ℕ) (body : Data) → IsHeard d op status body (heard op d status (body_values body))
+  -- nothing else is heard
   pub alone : (d : List ℕ) (op : Op) (status : ℕ) (body : Data) (h g : Heard) → IsHeard d op status body h → IsHeard d op status body g → h ≡ g
 
 -- what is written of a reply about a document is heard as that reply, for each operation that the reply fits
+-- Source: profile.
 abbrev pub WrittenIsHeard : Type 0
 WrittenIsHeard = (d : List ℕ) (op : Op) (r : Reply) → fits op r ≡ true → IsHeard d op (written_status r) (written_body d r) (Replied r)

@@ -7,7 +7,7 @@ use Rattle.api_lines.specs.declared.number.Number.TheVariants.{Whole, NotWhole}
 use Rattle.api_lines.specs.declared.text_fault.TextCause.{TextCause}
 use Rattle.api_lines.specs.declared.text_fault.TextCause.TheVariants.{Half, Range}
 
--- the pair, if the three tests of its ranges are true
+-- the pair, if the three tests of its ranges are true; the pair keeps their truth
 abbrev pub tested_pair : (term seq : ℕ) (from_one fits seq_fits : Bool) → nat_le 1 term ≡ from_one → nat_lt term (2 ^ 63) ≡ fits
     → nat_lt seq (2 ^ 63) ≡ seq_fits → Option Pair
 tested_pair term seq true true true a b c =
@@ -20,17 +20,22 @@ tested_pair term seq false s t a b c = None
 unfoldable pub pair_of : ℕ → ℕ → Option Pair
 pair_of term seq = tested_pair term seq (nat_le 1 term) (nat_lt term (2 ^ 63)) (nat_lt seq (2 ^ 63)) refl refl refl
 
--- the whole number
+-- the whole number; Range if it is not whole
+-- Source: profile.
 abbrev pub whole_told : Number → Result ℕ TextCause
 whole_told (Whole n) = Ok n
 whole_told NotWhole = Err Range
 
--- the pair of two numbers that are both present; if there is none, a number is outside its range
+-- the pair of two numbers that are both present; Range if there is none, because a number is outside its
+-- range
+-- Source: profile.
 abbrev pub in_range : Option Pair → Result (Option Pair) TextCause
 in_range None = Err Range
 in_range (Some p) = Ok (Some p)
 
--- the pair of a sequence number and a term: none if both are absent
+-- the pair of a sequence number and a term: none if both are absent, Half if one is, and Range if one is not
+-- whole or outside its range
+-- Source: profile.
 abbrev pub pair_told : Option Number → Option Number → Result (Option Pair) TextCause
 pair_told None None = Ok None
 pair_told None (Some term) = Err Half

@@ -1,4 +1,6 @@
--- Which reply a status and a body are, for each operation.
+-- The reply table: which reply a status and a body are, for each operation. It is defined as a relation, and
+-- by the fields of the body as a function. That both agree is the law `FieldsAreHeard`. In one piece the
+-- table is in docs/FORMATS.md.
 use Rattle.std.specs.Prelude.{◌≡◌, ◌≢◌, ◌==◌, ◌&&◌, ℕ, List, true, false, Option, Some, None, option_map, codes, if◌then◌else◌}
 use Rattle.version_pair.specs.declared.pair.Pair.{Pair}
 use Rattle.doc_register.specs.declared.op.Op.{Op}
@@ -16,39 +18,46 @@ use Rattle.api_lines.specs.declared.reply_table.Heard.TheVariants.{Reply, Unknow
 
 -- ---- the table
 
--- the body names another document
+-- the body names another document: its `_id` is a text other than d
+-- Source: profile.
 abbrev pub IsStranger : List ℕ → Data → Type 0
 IsStranger d body = (name : List ℕ) × HasText (codes "_id") name body × (name ≢ d)
 
--- the body carries the pair
+-- the body carries the pair: `_primary_term` and `_seq_no` hold its two numbers
+-- Source: OpenSearch.
 pub record CarriesPair (body : Data) (p : Pair) : Type 0 where
   pub term : HasNumber (codes "_primary_term") p.term body
   pub seq : HasNumber (codes "_seq_no") p.seq body
 
--- a status, a result and a pair
+-- a performed write: the wanted status, this text as its `result`, and a pair
+-- Source: OpenSearch, index document, delete document.
 pub record TellsWrite (wanted : ℕ) (result_text : List ℕ) (status : ℕ) (body : Data) (p : Pair) : Type 0 where
   pub has_status : status ≡ wanted
   pub outcome : HasText (codes "result") result_text body
   pub pair : CarriesPair body p
 
--- a version conflict
+-- a version conflict: the status 409, and an `error` whose `type` is `version_conflict_engine_exception`
+-- Source: OpenSearch.
 pub record TellsConflict (status : ℕ) (body : Data) : Type 0 where
   pub has_status : status ≡ 409
   pub error : (e : Data) × (get (codes "error") body ≡ Some e) × HasText (codes "type") (codes "version_conflict_engine_exception") e
 
--- a document that exists
+-- a document that exists: the status 200, `found` is true, a pair, and a `_source` whose `k` is this number
+-- Source: OpenSearch, get document; profile (`k`).
 pub record TellsFound (status : ℕ) (body : Data) (p : Pair) (k : ℕ) : Type 0 where
   pub has_status : status ≡ 200
   pub found : HasBool (codes "found") true body
   pub pair : CarriesPair body p
   pub source : (s : Data) × (get (codes "_source") body ≡ Some s) × HasNumber (codes "k") k s
 
--- a document that is missing
+-- a document that is missing: the status 404, and `found` is false
+-- Source: OpenSearch, get document.
 pub record TellsMissing (status : ℕ) (body : Data) : Type 0 where
   pub has_status : status ≡ 404
   pub found : HasBool (codes "found") false body
 
 -- The reply table: for each operation the replies that it knows, each with its status and its body.
+-- Source: OpenSearch.
 abbrev pub Tells : Op → ℕ → Data → Answer → Type 0
 Tells Get status body (Indexed p created) = ⊥
 Tells Get status body (Deleted p found) = ⊥
@@ -74,12 +83,15 @@ Tells (Create j) status body (Found p k) = ⊥
 Tells (Create j) status body Missing = ⊥
 Tells (Create j) status body Conflict = TellsConflict status body
 
--- the reply is of unknown outcome: no row of the table knows it
+-- The reply is of unknown outcome: no row of the table knows it. The call may have taken effect at any point
+-- after it was made, or may never.
+-- Source: profile.
 abbrev pub IsUnknown : Op → ℕ → Data → Type 0
 IsUnknown op status body = (r : Answer) → ¬ Tells op status body r
 
 -- What is heard of a document's call by a status and a body. A body that names another document is a
 -- stranger's, whatever its status; otherwise the table decides.
+-- Source: profile.
 abbrev pub IsHeard : List ℕ → Op → ℕ → Data → Heard → Type 0
 IsHeard d op status body Stranger = IsStranger d body
 IsHeard d op status body (Reply r) = (¬ IsStranger d body) × Tells op status body r
@@ -87,6 +99,7 @@ IsHeard d op status body Unknown = (¬ IsStranger d body) × IsUnknown op status
 
 -- ---- the same by the fields of the body, as a function
 
+-- the pair of two fields, term and sequence number, if they hold whole numbers in range
 abbrev pub pair_of_fields : FieldValue → FieldValue → Option Pair
 pair_of_fields (whole t) (whole s) = pair_of t s
 pair_of_fields (whole t) absent = None
@@ -104,6 +117,7 @@ pair_of_fields other seq = None
 abbrev pub carried_pair : BodyValues → Option Pair
 carried_pair body = pair_of_fields body.primary_term body.seq_no
 
+-- Found, if there are a pair and a whole number
 abbrev pub found_with : Option Pair → FieldValue → Option Answer
 found_with None k = None
 found_with (Some p) absent = None
@@ -113,47 +127,57 @@ found_with (Some p) (text x) = None
 found_with (Some p) (truth b) = None
 found_with (Some p) other = None
 
--- the reply to a get
+-- the reply to a get, by its status and its body; none if no row of the table fits
+-- Source: profile.
 abbrev pub got : ℕ → BodyValues → Option Answer
 got status body =
     if (status == 200) && is_truth true body.found then found_with (carried_pair body) body.source_k
     else (if (status == 404) && is_truth false body.found then Some Missing else None)
 
--- a write that was refused
+-- a write that was refused: Conflict, by the status 409 and the type of the error
+-- Source: profile.
 abbrev pub conflicted : ℕ → BodyValues → Option Answer
 conflicted status body =
     if (status == 409) && is_text (codes "version_conflict_engine_exception") body.error_type then Some Conflict else None
 
--- the reply to an index
+-- the reply to an index; none if no row fits
+-- Source: profile.
 abbrev pub indexed : ℕ → BodyValues → Option Answer
 indexed status body =
     if (status == 201) && is_text (codes "created") body.outcome then option_map (λ p. Indexed p true) (carried_pair body)
     else (if (status == 200) && is_text (codes "updated") body.outcome then option_map (λ p. Indexed p false) (carried_pair body)
     else conflicted status body)
 
--- the reply to a delete
+-- the reply to a delete; none if no row fits
+-- Source: profile.
 abbrev pub deleted : ℕ → BodyValues → Option Answer
 deleted status body =
     if (status == 200) && is_text (codes "deleted") body.outcome then option_map (λ p. Deleted p true) (carried_pair body)
     else (if (status == 404) && is_text (codes "not_found") body.outcome then option_map (λ p. Deleted p false) (carried_pair body)
     else conflicted status body)
 
--- the reply to a create
+-- the reply to a create; none if no row fits
+-- Source: profile.
 abbrev pub created : ℕ → BodyValues → Option Answer
 created status body =
     if (status == 201) && is_text (codes "created") body.outcome then option_map (λ p. Indexed p true) (carried_pair body)
     else conflicted status body
 
+-- the reply to an operation; none if no row fits
 abbrev pub told_reply : Op → ℕ → BodyValues → Option Answer
 told_reply Get status body = got status body
 told_reply (Index k c) status body = indexed status body
 told_reply (Delete c) status body = deleted status body
 told_reply (Create k) status body = created status body
 
+-- the reply, or Unknown if there is none
+-- Source: profile.
 abbrev pub reply_or_unknown : Option Answer → Heard
 reply_or_unknown None = Unknown
 reply_or_unknown (Some r) = Reply r
 
--- what is heard of the document's call
+-- what is heard of the document's call: Stranger if the body names another document, otherwise the reply, or
+-- Unknown if the table gives none
+-- Source: profile.
 abbrev pub heard : Op → List ℕ → ℕ → BodyValues → Heard
 heard op d status body = if is_other_text d body.id then Stranger else reply_or_unknown (told_reply op status body)

@@ -6,16 +6,18 @@ use Rattle.api_lines.specs.declared.line_input.Part.{Part}
 use Rattle.api_lines.specs.declared.line_input.Part.TheVariants.{More, Last, End}
 use Rattle.api_lines.specs.declared.text_fault.TextFault.{TextFault}
 
--- the greatest number of bytes that are held of a line: one more than it may have
+-- the greatest number of bytes that are held of a line, 65,537: one more than it may have
+-- Source: profile.
 abbrev pub most_held : ℕ
 most_held = 65537
 
--- the greatest number of bytes that one read brings
+-- the greatest number of bytes that one read brings: 32,768
+-- Source: profile.
 abbrev pub most_brought : ℕ
 most_brought = 32768
 
--- What was taken of a line: some bytes of it; its last ones and the line feed; nothing, at the end of all
--- bytes.
+-- What one look at the bytes at hand adds to a line: some bytes of it; its last ones and the line feed, so
+-- that it has at most 65,536; nothing, at the end of all bytes.
 abbrev pub IsPart : Part → Option (List ℕ) → Option (List ℕ) → List ℕ → List ℕ → Type 0
 IsPart More old new before after =
     (bytes : List ℕ) × (after ≡ before ++ bytes) × HasNoLineFeed bytes × (0 < length bytes) × Consumes old new bytes
@@ -23,7 +25,8 @@ IsPart Last old new before after =
     (bytes : List ℕ) × (after ≡ before ++ bytes) × HasNoLineFeed bytes × (length after ≤ longest_line) × Consumes old new (bytes ++ 10 ∷ [])
 IsPart End old new before after = (after ≡ before) × IsAtEnd old × Keeps old new
 
--- A line was taken: with its line feed; the last one, without; or a prefix of one that is too long.
+-- A line was taken: with its line feed, and at most 65,536 bytes; the last one, without; or a prefix of one
+-- that is too long.
 abbrev pub EndsLine : Option (List ℕ) → Option (List ℕ) → List ℕ → Type 0
 EndsLine old new line =
     (Consumes old new (line ++ 10 ∷ []) × (length line ≤ longest_line))
@@ -37,22 +40,36 @@ AreOfOneLine bytes = HasNoLineFeed bytes ⊎ ((line : List ℕ) × (bytes ≡ li
 -- line its first bytes, at most 65,537 and its line feed among these; and after them what the last read
 -- brought, at most 32,768 bytes. The lines before are at most 4,194,304; if they are that many, nothing comes
 -- after them but what the last read brought.
+-- Source: profile.
 pub record IsTakenUpTo (number : ℕ) (text rest : List ℕ) : Type 0 where
+  -- the lines before the one with this number
   pub before : List ℕ
+  -- the first bytes of that line
   pub line : List ℕ
+  -- what the last read brought after them
   pub brought : List ℕ
+  -- the text is these three and the rest
   pub split : text ≡ before ++ (line ++ (brought ++ rest))
+  -- the lines before are whole
   pub whole : AreWholeLines before
+  -- the lines before are one fewer than the number
   pub count : length (lines_of before) + 1 ≡ number
+  -- the first bytes are of one line, or that line with its line feed
   pub of_line : AreOfOneLine line
+  -- the first bytes are at most 65,537
   pub short : length line ≤ most_held
+  -- the lines before and the first bytes have at most 4,194,304 times 65,537 bytes
   pub few : length before + length line ≤ most_lines * most_held
+  -- the number is at most 4,194,305
   pub few_lines : number ≤ most_lines + 1
+  -- if it is that, no byte of its line was taken as its first ones
   pub none_past : number ≡ most_lines + 1 → line ≡ []
+  -- what the last read brought is at most 32,768 bytes
   pub brought_at_once : length brought ≤ most_brought
 
 -- What was taken for a text that is read in this way, if its bytes are known: no line after the first that is
--- refused, and nothing after that one but what the last read brought.
+-- refused, and nothing after that one but what the last read brought. Of unknown bytes this says nothing.
+-- Source: profile.
 abbrev pub IsTakenFor : {S : Type 0} → (List ℕ → Result S TextFault) → Option (List ℕ) → Option (List ℕ) → Type 0
 IsTakenFor reads None new = Unit {0}
 IsTakenFor reads (Some text) None = ⊥

@@ -5,7 +5,9 @@ use Rattle.recorded_runs.specs.Runs.{IsRunFault}
 use Rattle.stream_io.specs.Faults.{IsStreamFault, IsWorkedFault}
 use Rattle.stream_io.specs.declared.stream_fault.StreamFault.{StreamFault}
 
--- a check, explained or not, has workers; a run reads nothing
+-- the fault is one that the stream of the command may return: `IsWorkedFault` of a check, explained or not,
+-- `IsRunFault` of a run or a search, `IsStreamFault` of any other
+-- Source: profile.
 abbrev pub MayFail : Words → StreamFault → Type 0
 MayFail (words.Check file conflicts workers ruling) fault = IsWorkedFault fault
 MayFail (words.Witness file conflicts ruling) fault = IsStreamFault fault

@@ -6,12 +6,14 @@ use Rattle.doc_check.specs.Search.{FindsUnpaired, FollowsReplies, IsAbout}
 use Rattle.doc_check.specs.declared.search.DocAnswer.{DocAnswer}
 use Rattle.check_pool.specs.declared.doc_job.DocJob.{DocJob}
 
--- all that the search for a document promises of its answer: it is about the document, its records and this
--- reading of conflicts; if response order is valid, it is the order found; if any places without a given pair
--- are valid, such places are found
+-- All that the search for a document promises of its answer.
+-- Source: profile.
 pub record IsSearchOf (doc : List ℕ) (records : List Rec) (conflicts : Conflicts) (answer : DocAnswer) : Type 0 where
+  -- it is about the document, its records and this reading of conflicts (`IsAbout`)
   pub about : IsAbout doc records conflicts answer
+  -- if response order is valid, it is the order found (`FollowsReplies`)
   pub replies : FollowsReplies conflicts records answer
+  -- if any places without a given pair are valid, such places are found (`FindsUnpaired`)
   pub complete : FindsUnpaired conflicts records answer
 
 -- the same for the id, the records and the reading of conflicts of a job
@@ -22,8 +24,11 @@ IsAnswerTo job answer = IsSearchOf job.id job.recs.items job.conflicts answer
 abbrev pub AreNumbered : List DocJob → Type 0
 AreNumbered jobs = (i : ℕ) (job : DocJob) → slice_get jobs i ≡ Some job → job.doc ≡ i
 
--- at each job's index is an answer to that job, and there are no more answers
+-- the answers are those to the jobs
+-- Source: profile.
 pub record AreAnswers (jobs : List DocJob) (answers : List DocAnswer) : Type 0 where
+  -- there are as many answers as jobs
   pub count : length answers ≡ length jobs
+  -- at each job's index is an answer to that job
   pub each : (i : ℕ) (job : DocJob) → slice_get jobs i ≡ Some job
       → (answer : DocAnswer) × (slice_get answers i ≡ Some answer) × IsAnswerTo job answer

@@ -18,11 +18,13 @@ pub record IsDocumentOf (events : List Event) (n doc : ℕ) : Type 0 where
   pub shard : ℕ
   pub op : Op
   pub document : List ℕ × ℕ
+  -- the call numbered n is of the document
   pub call : IsCallAt events called n shard document.0 op
+  -- the document has this number in the history
   pub listed : slice_get (documents_of events) doc ≡ Some document
 
--- the records of the document of this number are complete (settled), and no order of its calls explains their
--- replies
+-- the records of the document of this number are complete (settled), and no order of its answered calls
+-- explains their replies
 abbrev pub IsWithoutOrder : Conflicts → List Event → ℕ → Type 0
 IsWithoutOrder conflicts events doc = (document : List ℕ × ℕ) × (slice_get (documents_of events) doc ≡ Some document)
     × AreSettled conflicts (records_of events document.0) × HasNoOrder conflicts (records_of events document.0)
@@ -35,8 +37,10 @@ IsCallRuledOut conflicts events n = (doc : ℕ) × IsDocumentOf events n doc × 
 abbrev pub IsCallWithoutOrder : Conflicts → List Event → ℕ → Type 0
 IsCallWithoutOrder conflicts events n = (doc : ℕ) × IsDocumentOf events n doc × IsWithoutOrder conflicts events doc
 
--- What is said without evidence, if n is the number of the call at which the search first fails: the first of
--- these that holds.
+-- What is said without evidence, if n is the number of the call at which the search first fails, the first of
+-- these that holds: RuledOut if the call's document is ruled out; Answered if the history is complete
+-- (settled); DocumentAnswered if the document's records are, and it has no order; otherwise Undecided.
+-- Source: profile.
 abbrev pub SaysOfCall : Conflicts → List Event → ℕ → Certainty → Type 0
 SaysOfCall conflicts events n certainty.Evident = ⊥
 SaysOfCall conflicts events n certainty.ToldRuledOut = ⊥
@@ -47,7 +51,9 @@ SaysOfCall conflicts events n certainty.DocumentAnswered =
 SaysOfCall conflicts events n certainty.Undecided =
     (¬ IsCallRuledOut conflicts events n) × (¬ IsSettled conflicts events) × (¬ IsCallWithoutOrder conflicts events n)
 
--- what is said with this evidence, if there is any
+-- what is said: ToldRuledOut with the evidence that a document is ruled out, Evident with any other, and
+-- without evidence `SaysOfCall`
+-- Source: profile.
 abbrev pub Says : Conflicts → List Event → Option Refuted → ℕ → Certainty → Type 0
 Says conflicts events (Some (evidence.PairTwice a b)) n said = said ≡ certainty.Evident
 Says conflicts events (Some (evidence.NoWriter g)) n said = said ≡ certainty.Evident

@@ -11,18 +11,22 @@ use Rattle.compose.specs.declared.checking.CheckFault.TheVariants as check_fault
 use Rattle.compose.specs.declared.checking.Verdict.{Verdict}
 use Rattle.compose.specs.declared.checking.Verdict.TheVariants.{Yes, No}
 
--- The verdict is on this history and this reading of conflicts: `Yes` with witnesses that cover it, so that
--- it is linearizable, `No` if no entries without a given pair cover it.
+-- The verdict is on this history and this reading of conflicts: `Yes` with witnesses that cover it
+-- (`AreWitnesses`), so that it is linearizable, `No` if no entries without a given pair cover it
+-- (`HasNoOrderFound`).
+-- Source: Herlihy and Wing, section 2 (linearizable); profile (the rest).
 abbrev pub IsVerdictOn : Conflicts → List Event → Verdict → Type 0
 IsVerdictOn conflicts events (Yes p) =
     (p.events ≡ events) × (p.conflicts ≡ conflicts) × AreWitnesses conflicts events p.witnesses × IsLinearizable conflicts events
 IsVerdictOn conflicts events (No c) = (c.events ≡ events) × (c.conflicts ≡ conflicts) × HasNoOrderFound conflicts events
 
+-- the verdict is Yes
 abbrev pub IsYes : Verdict → Type 0
 IsYes (Yes p) = Unit {0}
 IsYes (No c) = ⊥
 
--- the fault hands the history back; being out of memory is reported as that, in a worker too
+-- The fault has the history that was handed in; being out of memory is reported as that, in a worker too, and
+-- not as a fault of the pool.
 abbrev pub HandsBack : List Event → CheckFault → Type 0
 HandsBack events (check_fault.Pool fault back) = (back ≡ events) × (fault ≢ pool_fault.NoMemory)
 HandsBack events (check_fault.NoMemory back) = back ≡ events

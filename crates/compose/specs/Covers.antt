@@ -1,4 +1,6 @@
--- Covers: the entries of a witness text that explain a history of any number of documents.
+-- Covers: the entries of a witness text that explain a history of any number of documents. An entry is a
+-- document with its places (`DocPlaces`). Entries are numbered from 0, and so are the documents of a history,
+-- in the order of their first calls.
 use Rattle.std.specs.Prelude.{◌≡◌, ℕ, List, Some, slice_get}
 use Rattle.version_pair.specs.declared.pair.Pair.{Pair}
 use Rattle.doc_register.specs.declared.state.Conflicts.{Conflicts}
@@ -23,10 +25,13 @@ IsKnown events e = (h : ℕ) × IsOfShard events e.doc h
 abbrev pub IsEntered : List DocPlaces → List ℕ → Type 0
 IsEntered entries d = (i : ℕ) × (e : DocPlaces) × (slice_get entries i ≡ Some e) × (e.doc ≡ d)
 
--- each entry is of a document of the history, no two of one document, and its places are valid
+-- The entries are fine.
 pub record AreFine (conflicts : Conflicts) (events : List Event) (entries : List DocPlaces) : Type 0 where
+  -- each is of a document of the history
   pub known : (i : ℕ) (e : DocPlaces) → slice_get entries i ≡ Some e → IsKnown events e
+  -- no two are of one document
   pub once : (i j : ℕ) (e f : DocPlaces) → slice_get entries i ≡ Some e → slice_get entries j ≡ Some f → e.doc ≡ f.doc → i ≡ j
+  -- the places of each are valid places of its document's records
   pub valid : (i : ℕ) (e : DocPlaces) → slice_get entries i ≡ Some e → AreValid conflicts (records_of events e.doc) e.places
 
 -- each document of the history is entered
@@ -40,24 +45,33 @@ pub record IsTakenAt (events : List Event) (entries : List DocPlaces) (i j h : �
   pub entry : DocPlaces
   pub place : Place
   pub called : Rec
+  -- the entry is at i
   pub entered : slice_get entries i ≡ Some entry
+  -- the place is at j of this entry
   pub placed : slice_get entry.places j ≡ Some place
+  -- the place names the call
   pub names : IsPlaceOf (records_of events entry.doc) place called
+  -- the document is of the shard
   pub shard : IsOfShard events entry.doc h
+  -- the call takes the pair
   pub takes : taken_by called.heard place.pair ≡ Some q
 
--- no pair of a shard is taken at two places
+-- no pair of a shard is taken at two places, of one entry or of two
+-- Source: OpenSearch: a sequence number is given once in a shard.
 abbrev pub ArePairsDistinct : List Event → List DocPlaces → Type 0
 ArePairsDistinct events entries = (i j k l h : ℕ) (q : Pair) → IsTakenAt events entries i j h q
     → IsTakenAt events entries k l h q → (i ≡ k) × (j ≡ l)
 
 -- ---- covers
 
--- The entries cover the history: each document is entered once, and no other is, the places of each are
--- valid, and no pair of a shard is taken at two places.
+-- The entries cover the history.
+-- Source: after Herlihy and Wing, section 3.1: an order of each object gives one of all; profile (the pairs).
 pub record AreCover (conflicts : Conflicts) (events : List Event) (entries : List DocPlaces) : Type 0 where
+  -- they are fine: each is of a document of its own, with valid places
   pub fine : AreFine conflicts events entries
+  -- each document of the history is entered
   pub complete : AreComplete events entries
+  -- no pair of a shard is taken at two places
   pub distinct : ArePairsDistinct events entries
 
 -- no place of an entry gives a pair

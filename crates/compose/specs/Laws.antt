@@ -28,15 +28,19 @@ abbrev pub places_in : List DocPlaces → ℕ
 places_in [] = 0
 places_in (e ∷ es) = length e.places + places_in es
 
--- The order has exactly the places of the entries: the calls of each entry's document are in it as the
--- entry's places say, and no other calls are in it.
+-- The order has exactly the places of the entries.
 pub record IsOrderOf (events : List Event) (entries : List DocPlaces) (order : List Placed) : Type 0 where
+  -- the calls of each entry's document are in it as the entry's places say
   pub placed : (i : ℕ) (e : DocPlaces) → slice_get entries i ≡ Some e
       → ArePlacedBy (records_of events e.doc) e.places (part_of_order e.doc order)
+  -- it has calls of entered documents alone
   pub entered : (i : ℕ) (p : Placed) → slice_get order i ≡ Some p → IsEntered entries p.entry.doc
+  -- it has as many calls as there are places
   pub count : length order ≡ places_in entries
 
 -- entries that cover a history make it linearizable, by an order of exactly their places
+-- Source: Herlihy and Wing, section 3.1, Theorem 1: a history is linearizable if each object's part is. Here
+-- the pairs of a shard join its documents.
 abbrev pub CoversExplain : Type 0
 CoversExplain = (conflicts : Conflicts) (events : List Event) (entries : List DocPlaces) → IsHistory events → AreCover conflicts events entries
     → (order : List Placed) × Explains conflicts events order × IsOrderOf events entries order
@@ -56,6 +60,7 @@ restricted events d order =
 
 -- An order that explains a history, restricted to each document without its unanswered calls that change
 -- nothing, gives valid places of the document; and all of them together are a cover.
+-- Source: Herlihy and Wing, section 3.1, Theorem 1, the other direction.
 abbrev pub OrdersAreCovers : Type 0
 OrdersAreCovers = (conflicts : Conflicts) (events : List Event) (order : List Placed) → IsHistory events → Explains conflicts events order
     → (entries : List DocPlaces) × AreCover conflicts events entries
@@ -64,16 +69,19 @@ OrdersAreCovers = (conflicts : Conflicts) (events : List Event) (order : List Pl
 -- ---- histories without a cover
 
 -- the history is complete (settled): each write has a reply, under Maybe one other than a conflict
+-- Source: profile.
 abbrev pub IsSettled : Conflicts → List Event → Type 0
 IsSettled conflicts events = (i n h : ℕ) (d : List ℕ) (op : Op) → IsCallAt events i n h d op → op ≢ Get
     → (k : ℕ) × (r : Answer) × IsReplyAt events k n r × (conflicts ≡ Maybe → r ≢ Conflict)
 
 -- a complete (settled) history that no entries without a given pair cover is not linearizable
+-- Source: profile.
 abbrev pub SettledHaveNoOrder : Type 0
 SettledHaveNoOrder = (conflicts : Conflicts) (events : List Event) → IsHistory events → IsSettled conflicts events → HasNoUnpairedCover conflicts events
     → ¬ IsLinearizable conflicts events
 
 -- a history that is legal in response order is covered by entries without a given pair
+-- Source: profile.
 abbrev pub PlainlyRightAreCovered : Type 0
 PlainlyRightAreCovered = (conflicts : Conflicts) (events : List Event) → IsHistory events → IsPlainlyRight events
     → (entries : List DocPlaces) × AreAllUnpaired entries × AreCover conflicts events entries
@@ -81,6 +89,7 @@ PlainlyRightAreCovered = (conflicts : Conflicts) (events : List Event) → IsHis
 -- ---- faults
 
 -- entries that have a first fault are no cover
+-- Source: profile.
 abbrev pub FaultyAreNoCover : Type 0
 FaultyAreNoCover = (conflicts : Conflicts) (events : List Event) (entries : List DocPlaces) (told : VerifyFault)
     → IsFirstVerifyFault conflicts events entries told → ¬ AreCover conflicts events entries

@@ -10,34 +10,42 @@ use Rattle.history.specs.Order.{IsLinearizable}
 
 -- ---- the part of a shard
 
--- the call numbered n, of a document of the shard h
+-- the event is the call numbered n, and it names the shard h
 abbrev pub is_call_on : ℕ → ℕ → Event → Bool
 is_call_on h n (Call g m d op) = (m == n) && (g == h)
 is_call_on h n (Reply m r) = false
 is_call_on h n (Lost m) = false
 
--- the event concerns the shard: it is a call of one of its documents, or the ending of such a call
+-- The event concerns the shard: it is a call that names it, or the ending of such a call. Whose ending it is,
+-- the whole list says.
 abbrev pub concerns : ℕ → List Event → Event → Bool
 concerns h events (Call g n d op) = g == h
 concerns h events (Reply n r) = list_any (is_call_on h n) events
 concerns h events (Lost n) = list_any (is_call_on h n) events
 
 -- the calls of the shard's documents and their endings, in their order
+-- Source: Herlihy and Wing, section 2, the subhistory of an object: the object is the shard.
 abbrev pub part_of_shard : ℕ → List Event → List Event
 part_of_shard h events = filter (concerns h events) events
 
 -- ---- the law
 
--- Each event concerns exactly one shard. The part of a shard is a history, and the part of a shard without a
--- call has no event.
+-- The events are split by shard.
+-- Source: Herlihy and Wing, section 2, the subhistory of an object: the object is the shard.
 pub record IsSplitByShard (events : List Event) : Type 0 where
+  -- each event concerns exactly one shard
   pub one : (i : ℕ) (e : Event) → slice_get events i ≡ Some e
       → (h : ℕ) × (concerns h events e ≡ true) × ((g : ℕ) → concerns g events e ≡ true → g ≡ h)
+  -- the part of a shard is a history
   pub history : (h : ℕ) → IsHistory (part_of_shard h events)
+  -- the part of a shard without a call has no event
   pub empty : (h : ℕ) → ((i n : ℕ) (d : List ℕ) (op : Op) → ¬ IsCallAt events i n h d op) → part_of_shard h events ≡ []
 
--- A history is split into the parts of its shards, and it is linearizable exactly if each of them is.
+-- Each history is split into the parts of its shards, and is linearizable if and only if each of them is.
+-- Source: Herlihy and Wing, section 3.1, Theorem 1, both directions, with shards as the objects.
 pub record LocalByShard : Type 0 where
+  -- each history is so split
   pub split : (events : List Event) → IsHistory events → IsSplitByShard events
+  -- it is linearizable if and only if the part of each shard is, in the same reading of conflicts
   pub linearizable : (conflicts : Conflicts) (events : List Event) → IsHistory events
       → IsLinearizable conflicts events ↔ ((h : ℕ) → IsLinearizable conflicts (part_of_shard h events))

@@ -11,18 +11,23 @@ use Rattle.compose.specs.Counts.{calls_of}
 use Rattle.compose.specs.Covers.{AreCover, HasNoUnpairedCover}
 use Rattle.compose.specs.Laws.{IsSettled, places_in}
 
--- The witnesses carry the records of their documents in the history, and their places cover it.
+-- The witnesses are those of the history.
+-- Source: profile.
 pub record AreWitnesses (conflicts : Conflicts) (events : List Event) (ws : List Witness) : Type 0 where
+  -- each carries the records of its document in the history, and the reading of conflicts
   pub own : (i : ℕ) (w : Witness) → slice_get ws i ≡ Some w → (w.records ≡ records_of events w.doc) × (w.conflicts ≡ conflicts)
+  -- as entries they cover the history
   pub cover : AreCover conflicts events (map witness_places ws)
 
--- a history with the witnesses of its documents, and how a conflict is read
+-- How contracts see a `Proof`: a history with the witnesses of its documents, and how a conflict is read. The
+-- type of the code keeps that the events are a history and that the witnesses cover it (`AreWitnesses`).
 pub record Proven : Type 0 where
   pub events : List Event
   pub witnesses : List Witness
   pub conflicts : Conflicts
 
--- a history for which no order was found, and how a conflict is read
+-- How contracts see a `Case`: a history for which no order was found, and how a conflict is read. The type of
+-- the code keeps that the events are a history that no entries without a given pair cover.
 pub record Unproven : Type 0 where
   pub events : List Event
   pub conflicts : Conflicts
@@ -33,23 +38,34 @@ left_out_of p = calls_of p.events - places_in (map witness_places p.witnesses)
 
 -- what is counted of a history and its entries: the documents, the calls, and those of the calls that are in
 -- no place of the entries
+-- Source: profile.
 pub record AreCounts (events : List Event) (entries : List DocPlaces) (docs calls left_out : ℕ) : Type 0 where
+  -- the history has that many documents
   pub documents : length (documents_of events) ≡ docs
+  -- it has that many calls
   pub all_calls : calls_of events ≡ calls
+  -- that many of them are in no place of the entries
   pub the_rest : places_in entries + left_out ≡ calls
 
--- What a `yes` rests on once the text is read: that many documents and calls, and an order that explains the
--- history; that many of its calls are not in the order.
+-- What a `yes` rests on once the text is read: an order that explains the history, and the numbers.
+-- Source: Herlihy and Wing, section 2 (`explains`); profile (the counts).
 pub record HasOrder (conflicts : Conflicts) (events : List Event) (docs calls left_out : ℕ) : Type 0 where
+  -- the history has that many documents
   pub documents : length (documents_of events) ≡ docs
+  -- it has that many calls
   pub all_calls : calls_of events ≡ calls
   pub order : List Placed
+  -- the order explains it in this reading of conflicts
   pub explains : Explains conflicts events order
+  -- that many calls are not in the order
   pub the_rest : length order + left_out ≡ calls
 
--- What a `no` rests on: no entries without a given pair cover the history. So it is not legal in response
--- order, and if it is complete (settled), no order explains it.
+-- What a `no` rests on.
+-- Source: profile.
 pub record HasNoOrderFound (conflicts : Conflicts) (events : List Event) : Type 0 where
+  -- no entries without a given pair cover the history
   pub uncovered : HasNoUnpairedCover conflicts events
+  -- it is not legal in response order
   pub not_right : ¬ IsPlainlyRight events
+  -- if it is complete (settled), no order explains it
   pub settled : IsSettled conflicts events → ¬ IsLinearizable conflicts events

@@ -13,7 +13,9 @@ use Rattle.compose.specs.declared.verify_fault.VerifyFault.TheVariants as fault
 
 -- the entry is at index i, and those before it are fine
 pub record IsAtEntry (conflicts : Conflicts) (events : List Event) (entries : List DocPlaces) (i : ℕ) (e : DocPlaces) : Type 0 where
+  -- the entry is at i
   pub here : slice_get entries i ≡ Some e
+  -- those before it are fine
   pub fine : AreFine conflicts events (take i entries)
 
 -- the pair of the shard is taken at two places
@@ -22,17 +24,22 @@ pub record IsTakenTwice (events : List Event) (entries : List DocPlaces) (h : �
   pub place : ℕ
   pub other_entry : ℕ
   pub other_place : ℕ
+  -- the pair is taken at a place
   pub one : IsTakenAt events entries entry place h q
+  -- it is taken at another place
   pub other : IsTakenAt events entries other_entry other_place h q
+  -- the two places are not the same
   pub apart : (entry ≡ other_entry) × (place ≡ other_place) → ⊥
 
 -- the first shard is below the second, or it is the same and the first pair is not above the second
 abbrev pub IsAtMost : ℕ → Pair → ℕ → Pair → Type 0
 IsAtMost h q g p = (h < g) ⊎ ((h ≡ g) × ((q ≡ p) ⊎ IsBelow q p))
 
--- The fault holds, and no fault that is reported before it. The order is: entry by entry, a document that the
--- history lacks, one that was entered before, places that are not valid; then the first document that is not
--- entered; then the least shard, and of it the least pair, that is taken at two places.
+-- The fault holds, and no fault that is reported before it. The order is: entry by entry DocStranger, a
+-- document that the history lacks, DocTwice, one that was entered before, and Broken, the first fault of its
+-- places (`IsFirstFault`); then DocMissing, the first document that is not entered; then PairTwice, the least
+-- shard, and of it the least pair, that is taken at two places. NoMemory never is.
+-- Source: profile.
 abbrev pub IsFirstVerifyFault : Conflicts → List Event → List DocPlaces → VerifyFault → Type 0
 IsFirstVerifyFault conflicts events entries (fault.DocStranger i) = (e : DocPlaces) × IsAtEntry conflicts events entries i e × (¬ IsKnown events e)
 IsFirstVerifyFault conflicts events entries (fault.DocTwice i) =

@@ -1,4 +1,6 @@
--- Records without an order of the answered calls alone.
+-- Records without an order of the answered calls alone. Places that give no pair complete no write of unknown
+-- outcome: they are an order of the answered calls alone. Records are complete (settled) if each write has a
+-- reply that says whether it was performed; then there are no other valid places.
 use Rattle.std.specs.Prelude.{◌≡◌, ℕ, List, None, Some, slice_get}
 use Rattle.doc_register.specs.declared.state.Conflicts.{Conflicts}
 use Rattle.history.specs.declared.record.Rec.{Rec}
@@ -10,11 +12,12 @@ use Rattle.witness.specs.Places.{AreValid}
 abbrev pub AreUnpaired : List Place → Type 0
 AreUnpaired places = (i : ℕ) (p : Place) → slice_get places i ≡ Some p → p.pair ≡ None
 
--- no places without a given pair are valid for the records
+-- in this reading of conflicts no places that give no pair are valid for the records
+-- Source: profile.
 abbrev pub HasNoOrder : Conflicts → List Rec → Type 0
 HasNoOrder conflicts records = (places : List Place) → AreUnpaired places → ¬ AreValid conflicts records places
 
--- a document whose records have no such order, in this reading of conflicts
+-- How contracts see a `NoOrder`: a document whose records have no such order, in this reading of conflicts.
 pub record Unordered : Type 0 where
   pub doc : List ℕ
   pub records : List Rec
@@ -22,11 +25,14 @@ pub record Unordered : Type 0 where
 
 -- ---- complete (settled) records
 
--- each write has a reply that says whether it was performed
+-- the records are complete: each write has a reply that says whether it was performed
+-- Source: profile.
 abbrev pub AreSettled : Conflicts → List Rec → Type 0
 AreSettled conflicts records = (k : ℕ) (r : Rec) → slice_get records k ≡ Some r → IsSettled conflicts r
 
--- settled records for which no places without a given pair are valid have no valid places at all
+-- complete records for which no places without a given pair are valid (`HasNoOrder`) have no valid places at
+-- all
+-- Source: profile.
 abbrev pub SettledHaveNone : Type 0
 SettledHaveNone = (conflicts : Conflicts) (records : List Rec) → AreSettled conflicts records → HasNoOrder conflicts records
     → (places : List Place) → ¬ AreValid conflicts records places

@@ -1,4 +1,6 @@
--- Histories: which lists of events are histories, and what they say of calls and documents.
+-- Histories: which lists of events are histories, and what they say of calls and documents. Calls and replies
+-- are the invocations and responses of Herlihy and Wing, section 2. That an outcome is lost is this project's
+-- profile: it says that no reply will come, and nothing else.
 use Rattle.std.specs.Prelude.{◌≡◌, ℕ, suc, ◌<◌, ◌==◌, Bool, true, false, List, [], ◌∷◌, Option, Some, None, option_map, option_and_then, if◌then◌else◌, fold, take, filter_map, slice_get}
 use Rattle.std.specs.Cmp.Lexicographic.{pointwise}
 use Rattle.doc_register.specs.declared.op.Op.{Op}
@@ -45,12 +47,14 @@ is_call_of d (Call h m e op) = is_same e d
 is_call_of d (Reply m r) = false
 is_call_of d (Lost m) = false
 
+-- the event is a call
 abbrev pub is_any_call : Event → Bool
 is_any_call (Call h m d op) = true
 is_any_call (Reply m r) = false
 is_any_call (Lost m) = false
 
--- a call's shard is one of the 1,024 that there can be
+-- A call's shard is one of the 1,024 that there can be, 0 to 1,023. Of a reply or a loss this says nothing.
+-- Source: profile.
 abbrev pub HasShard : Event → Type 0
 HasShard (Call h n d op) = h < most_shards
 HasShard (Reply n r) = Unit {0}
@@ -58,33 +62,48 @@ HasShard (Lost n) = Unit {0}
 
 -- ---- histories
 
--- Call numbers are distinct. An ending comes after the call of its number, and a call has at most one ending.
--- A reply fits its operation. All calls of a document name one shard, 0 to 1,023.
+-- The events are a history: call numbers are distinct; an ending comes after the call of its number, and a
+-- call has at most one ending; a reply fits its operation; all calls of a document name one shard, 0 to
+-- 1,023.
+-- Source: Herlihy and Wing, section 2, well-formed history; profile (`replies_fit`, `one_shard`, `shards`).
 pub record IsHistory (events : List Event) : Type 0 where
+  -- no two calls have one number
   pub called_once : (n i j : ℕ) → PassesAt (is_call n) events i → PassesAt (is_call n) events j → i ≡ j
+  -- a call has at most one ending, a reply or a loss
   pub ended_once : (n i j : ℕ) → PassesAt (is_ending n) events i → PassesAt (is_ending n) events j → i ≡ j
+  -- an ending comes after the call of its number
   pub ended_after_call : (n i : ℕ) → PassesAt (is_ending n) events i → (j : ℕ) × (j < i)
       × PassesAt (is_call n) events j
+  -- a reply fits the operation of its call
   pub replies_fit : (n i j h : ℕ) (d : List ℕ) (op : Op) (r : Answer) → IsReplyAt events i n r
       → IsCallAt events j n h d op → fits op r ≡ true
+  -- all calls of a document name one shard
   pub one_shard : (i j n m h g : ℕ) (d : List ℕ) (op o : Op) → IsCallAt events i n h d op → IsCallAt events j m g d o
       → h ≡ g
+  -- each call's shard is 0 to 1,023
   pub shards : (i n h : ℕ) (d : List ℕ) (op : Op) → IsCallAt events i n h d op → h < most_shards
 
--- the call numbered a precedes the call numbered b: a's reply comes before b's call
+-- The call numbered a precedes the call numbered b: a's reply comes before b's call. A lost outcome makes no
+-- call precede another.
+-- Source: Herlihy and Wing, section 2, the order of operations.
 pub record Precedes (events : List Event) (a b : ℕ) : Type 0 where
+  -- the position of a's reply
   pub answered : ℕ
+  -- the position of b's call
   pub called : ℕ
   pub before : answered < called
   pub reply : (r : Answer) × IsReplyAt events answered a r
   pub call : PassesAt (is_call b) events called
 
--- the call numbered n is pending: it has no reply
+-- The call numbered n is pending: it is there, and has no reply. A lost call is pending for ever.
+-- Source: Herlihy and Wing, section 2, pending invocation.
 pub record IsPending (events : List Event) (n : ℕ) : Type 0 where
+  -- the call is there
   pub called : (i : ℕ) × PassesAt (is_call n) events i
+  -- it has no reply
   pub unanswered : (i : ℕ) (r : Answer) → ¬ IsReplyAt events i n r
 
--- the first n events
+-- the first n events: a prefix of the history. A `Front` is such a list, seen in its history without a copy.
 abbrev pub prefix : List Event → ℕ → List Event
 prefix events n = take n events
 
@@ -95,6 +114,7 @@ abbrev pub with_document : List (List ℕ × ℕ) → List ℕ → ℕ → List 
 with_document [] d h = (d, h) ∷ []
 with_document (e ∷ es) d h = if is_same d e.0 then e ∷ es else e ∷ with_document es d h
 
+-- the documents after one more event: a call's document goes to the end unless it is there
 abbrev pub with_event : List (List ℕ × ℕ) → Event → List (List ℕ × ℕ)
 with_event ds (Call h n d op) = with_document ds d h
 with_event ds (Reply n r) = ds
@@ -106,7 +126,7 @@ documents_of events = fold with_event [] events
 
 -- ---- records
 
--- the position of the first event that passes the test
+-- the position of the first event that passes the test, if one does
 abbrev pub place_of : (Event → Bool) → List Event → Option ℕ
 place_of test [] = None
 place_of test (e ∷ es) = if test e then Some 0 else option_map suc (place_of test es)
@@ -122,7 +142,7 @@ heard_at i (Call h n d op) = None
 heard_at i (Reply n r) = Some (i, r)
 heard_at i (Lost n) = None
 
--- what was heard of the call numbered n: the position of its reply, and the reply
+-- what was heard of the call numbered n: the position of its reply, and the reply; nothing if it has none
 abbrev pub heard_of : List Event → ℕ → Option (ℕ × Answer)
 heard_of events n =
     option_and_then (λ i. option_and_then (heard_at i) (slice_get events i)) (place_of (is_ending n) events)
@@ -133,9 +153,11 @@ record_from events i (Call h n d op) = Some (record { no = n; op = op; call_at =
 record_from events i (Reply n r) = None
 record_from events i (Lost n) = None
 
+-- the call at a position as a record; nothing if another event is there
 abbrev pub record_at : List Event → ℕ → Option Rec
 record_at events i = option_and_then (record_from events i) (slice_get events i)
 
 -- the history restricted to the document d: its calls in order, each with what was heard of it
+-- Source: Herlihy and Wing, section 2, the subhistory of an object.
 abbrev pub records_of : List Event → List ℕ → List Rec
 records_of events d = filter_map (record_at events) (places_from 0 (is_call_of d) events)

@@ -8,6 +8,7 @@ use Rattle.history.specs.declared.fault.HistFault.TheVariants as event
 
 -- The cause of a refusal. A reply of a kind that its call can't have would be of another shape, but the reply
 -- table gives none; being out of memory is not a refusal.
+-- Source: profile.
 abbrev pub cause_of : HistFault → TextCause
 cause_of event.SecondCall = SecondCall
 cause_of event.NoCall = NoCall
@@ -17,7 +18,7 @@ cause_of event.Full = Full
 cause_of event.NoMemory = Full
 cause_of event.ShardMoved = ShardMoved
 
--- the fault of a line whose event is refused
+-- the same as a fault of the line, to which being out of memory belongs too
 abbrev pub line_fault : HistFault → LineFault
 line_fault event.SecondCall = line.Told SecondCall
 line_fault event.NoCall = line.Told NoCall

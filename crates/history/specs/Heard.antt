@@ -9,7 +9,8 @@ use Rattle.doc_register.specs.declared.state.Conflicts.{Conflicts}
 use Rattle.doc_register.specs.declared.state.Conflicts.TheVariants.{Maybe}
 use Rattle.history.specs.declared.record.Rec.{Rec}
 
--- the pair that a call takes: the one that its reply shows, or the one that is given to its place
+-- the pair that a call takes: the one that its reply shows, or, of a conflict or an unanswered call, the one
+-- that is given to its place (`pair_taken`)
 abbrev pub taken_by : Option (ℕ × Reply) → Option Pair → Option Pair
 taken_by None given = given
 taken_by (Some heard) given = pair_taken heard.1 given
@@ -19,20 +20,21 @@ abbrev pub pair_of : Option (ℕ × Reply) → Option Pair
 pair_of None = None
 pair_of (Some heard) = pair_taken heard.1 None
 
--- what was heard before an event
+-- what was heard, if its reply comes before the position of an event; otherwise nothing
 abbrev pub heard_before : ℕ → Option (ℕ × Reply) → Option (ℕ × Reply)
 heard_before event None = None
 heard_before event (Some heard) = if nat_lt heard.0 event then Some heard else None
 
--- the call as it was known before an event
+-- the call as it was known before an event: with what was heard before it
 abbrev pub known_before : ℕ → Rec → Rec
 known_before event r = record { no = r.no; op = r.op; call_at = r.call_at; heard = heard_before event r.heard }
 
--- a reply was heard, and it says whether the write was performed: under Maybe a conflict doesn't
+-- a reply was heard, and it says whether a write was performed: under Maybe a conflict does not
 abbrev pub IsTold : Conflicts → Option (ℕ × Reply) → Type 0
 IsTold conflicts None = ⊥
 IsTold conflicts (Some heard) = conflicts ≡ Maybe → heard.1 ≢ Conflict
 
--- the call is a get, or such a reply was heard
+-- the record is complete: the call is a get, or such a reply was heard (`IsTold`)
+-- Source: profile.
 abbrev pub IsSettled : Conflicts → Rec → Type 0
 IsSettled conflicts r = r.op ≢ Get → IsTold conflicts r.heard

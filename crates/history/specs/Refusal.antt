@@ -9,7 +9,8 @@ use Rattle.history.specs.declared.fault.HistFault.{HistFault}
 use Rattle.history.specs.declared.fault.HistFault.TheVariants.{SecondCall, NoCall, Ended, Kind, Full, NoMemory, ShardMoved}
 use Rattle.history.specs.Events.{is_call, is_call_of, is_ending, place_of}
 
--- the greatest number of events that a history is kept with, or that is read from a text
+-- the greatest number of events that a `History` has, or that are read from a text: 1,048,576
+-- Source: profile.
 abbrev pub most_events : ℕ
 most_events = 1048576
 
@@ -17,17 +18,20 @@ most_events = 1048576
 abbrev pub first_event : (Event → Bool) → List Event → Option Event
 first_event test events = option_and_then (slice_get events) (place_of test events)
 
+-- the shard that a call names
 abbrev pub shard_named : Event → Option ℕ
 shard_named (Call h n d op) = Some h
 shard_named (Reply n r) = None
 shard_named (Lost n) = None
 
+-- the operation of a call
 abbrev pub op_named : Event → Option Op
 op_named (Call h n d op) = Some op
 op_named (Reply n r) = None
 op_named (Lost n) = None
 
 -- the shard of the document: that of its first call
+-- Source: profile.
 abbrev pub shard_of : List Event → List ℕ → Option ℕ
 shard_of events d = option_and_then shard_named (first_event (is_call_of d) events)
 
@@ -39,15 +43,17 @@ op_of events n = option_and_then op_named (first_event (is_call n) events)
 abbrev pub is_moved : List Event → List ℕ → ℕ → Bool
 is_moved events d h = option_map_or (λ s. not (s == h)) (shard_of events d) false
 
--- the last reason to refuse an event: the history has its most events
+-- Full if the history has its most events; otherwise no reason
 abbrev pub when_full : List Event → Option HistFault
 when_full events = if nat_lt (length events) most_events then None else Some Full
 
--- the reasons to refuse an ending, if the operation of its call is known
+-- Ended if the call numbered n has an ending already; otherwise the later reason
 abbrev pub when_ended : List Event → ℕ → Option HistFault → Option HistFault
 when_ended events n later = if is_some (place_of (is_ending n) events) then Some Ended else later
 
--- the first reason to refuse an event, if there is one
+-- The reason why the event can't be put at the end of the events, the first that holds: of a call SecondCall,
+-- ShardMoved, Full; of a reply NoCall, Ended, Kind, Full; of a loss NoCall, Ended, Full. Nothing if it can.
+-- Source: profile.
 abbrev pub refusal_of : List Event → Event → Option HistFault
 refusal_of events (Call h n d op) =
     if is_some (place_of (is_call n) events) then Some SecondCall
@@ -58,7 +64,7 @@ refusal_of events (Reply n r) =
 refusal_of events (Lost n) =
     option_map_or (λ op. when_ended events n (when_full events)) (op_of events n) (Some NoCall)
 
--- the reason that an answer reports; being out of memory is none
+-- the reason that a fault reports; being out of memory is none
 abbrev pub reason_told : HistFault → Option HistFault
 reason_told SecondCall = Some SecondCall
 reason_told NoCall = Some NoCall
@@ -68,6 +74,7 @@ reason_told Full = Some Full
 reason_told NoMemory = None
 reason_told ShardMoved = Some ShardMoved
 
+-- the reason that an answer reports, if it is a refusal; being out of memory is none
 abbrev pub refusal_told : {X : Type 0} → Result X HistFault → Option HistFault
 refusal_told (Ok x) = None
 refusal_told (Err e) = reason_told e

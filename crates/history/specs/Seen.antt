@@ -13,11 +13,13 @@ pair_named (Reply n r) = pair_of_reply r
 pair_named (Lost n) = None
 
 -- the greatest numbers with those of one more pair, if there is one
+-- Source: profile.
 abbrev pub seen_with : Seen → Option Pair → Seen
 seen_with seen None = seen
 seen_with seen (Some p) = record { term = max seen.term p.term; seq = max seen.seq p.seq }
 
--- the greatest term and the greatest sequence number of all the pairs that the events name, 0 and 0 if they
--- name none
+-- The greatest term and the greatest sequence number of all the pairs that the events name, 0 and 0 if they
+-- name none.
+-- Source: profile.
 abbrev pub seen_in : List Event → Seen
 seen_in events = fold (λ seen e. seen_with seen (pair_named e)) (record { term = 0; seq = 0 }) events

@@ -4,6 +4,7 @@ use Rattle.page.specs.declared.markup.Markup.{Markup}
 use Rattle.page.specs.declared.markup.Markup.TheVariants as markup
 
 -- the bytes of a markup, as they are in a page
+-- Source: profile.
 abbrev pub markup_bytes : Markup → List ℕ
 markup_bytes markup.PageStart = codes "<!doctype html>\n<html lang=\"en\">\n<head>\n<meta charset=\"utf-8\">\n<meta name=\"viewport\" content=\"width=device-width, initial-scale=1\">\n<title>casbench explain</title>\n<style>\n"
 markup_bytes markup.Style = codes ":root { color-scheme: light dark; --ink: #1b1f24; --soft: #57606a; --edge: #d0d7de; --paper: #ffffff; --bar: #8fb4e8; --bad: #c2410c; --proof: #7c3aed; --lost: #8c959f; }\n@media (prefers-color-scheme: dark) { :root { --ink: #e6edf3; --soft: #9da7b3; --edge: #3d444d; --paper: #0d1117; --bar: #3d6fb4; --bad: #fb923c; --proof: #c4a1ff; --lost: #7d8590; } }\nbody { margin: 0; background: var(--paper); color: var(--ink); font: 16px/1.5 system-ui, sans-serif; }\nmain { max-width: 1200px; margin: 0 auto; padding: 24px 32px 48px; }\nh1 { font-size: 26px; line-height: 1.25; margin: 0 0 12px; overflow-wrap: anywhere; }\nh2 { font-size: 19px; margin: 28px 0 8px; break-after: avoid; }\np { margin: 8px 0; max-width: 90ch; overflow-wrap: anywhere; }\ncode, td.mono, svg text { font-family: ui-monospace, 'DejaVu Sans Mono', monospace; }\np.line { padding: 8px 12px; border: 1px solid var(--edge); border-radius: 6px; max-width: none; font-size: 14px; }\ntable { border-collapse: collapse; font-size: 14px; }\nth, td { text-align: left; vertical-align: top; padding: 4px 14px 4px 8px; border-bottom: 1px solid var(--edge); overflow-wrap: anywhere; }\nth { color: var(--soft); font-weight: 600; }\nth, td:first-child, td:nth-child(2), td:nth-child(3) { white-space: nowrap; }\ntr { break-inside: avoid; }\ntr.broken td { border-top: 2px solid var(--bad); border-bottom: 2px solid var(--bad); font-weight: 600; }\ntr.broken td:first-child { border-left: 6px solid var(--bad); }\ntr.evidence td:first-child { border-left: 6px double var(--proof); }\nul { margin: 8px 0; padding-left: 24px; }\nli { overflow-wrap: anywhere; }\ndetails { margin: 28px 0 0; border-top: 1px solid var(--edge); }\nsummary { cursor: pointer; font-size: 19px; font-weight: 600; padding: 12px 0; }\nfigure { margin: 12px 0; }\nfigcaption { color: var(--soft); font-size: 14px; }\nsvg { width: 100%; height: auto; display: block; }\nsvg text { font-size: 12px; fill: var(--ink); stroke: var(--paper); stroke-width: 3px; paint-order: stroke; }\n.axis text { fill: var(--soft); }\n.axis line { stroke: var(--edge); }\n.axis .here { stroke: var(--bad); stroke-width: 2; stroke-dasharray: 2 3; }\n.bar rect { fill: var(--bar); }\n.lost rect { fill: none; stroke: var(--lost); stroke-width: 2; stroke-dasharray: 6 4; }\n.evidence rect { stroke: var(--proof); stroke-width: 3; }\n.broken rect { fill: var(--bad); stroke: var(--bad); stroke-width: 3; }\n.bar path { fill: none; stroke-width: 3; stroke: var(--lost); }\n.evidence path { fill: var(--proof); stroke: none; }\n.broken path { stroke: var(--ink); }\n.version rect { fill: none; stroke: var(--edge); stroke-width: 1.5; }\n.version path { stroke: var(--soft); fill: none; stroke-width: 1.5; }\n@media print { body, table, figcaption, p.line { font-size: 11px; } h1 { font-size: 18px; } h2 { font-size: 14px; } th, td { padding: 2px 8px 2px 4px; } main { padding: 0; max-width: none; } }\n"

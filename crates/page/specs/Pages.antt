@@ -6,7 +6,9 @@ use Rattle.page.specs.Markups.{markup_bytes}
 
 -- ---- texts
 
--- a byte of a text as a page has it: an entity if it could be taken for markup
+-- a byte of a text as a page has it: the entity `&lt;`, `&gt;`, `&amp;` or `&quot;` for `<`, `>`, `&` or `"`,
+-- otherwise the byte itself
+-- Source: HTML, character references.
 abbrev pub escaped_byte : ℕ → List ℕ
 escaped_byte b =
     if b == 60 then codes "&lt;"
@@ -28,20 +30,25 @@ abbrev pub IsInert : List ℕ → Type 0
 IsInert [] = Unit {0}
 IsInert (b ∷ rest) = (b ≢ 60) × (b ≢ 62) × (b ≢ 34) × (b ≡ 38 → EndsEntity rest) × IsInert rest
 
+-- each text, escaped, is inert
 abbrev pub EscapedTextsAreInert : Type 0
 EscapedTextsAreInert = (text : List ℕ) → IsInert (escaped text)
 
 -- ---- pages
 
 -- markup is written unchanged, a number in decimal digits, and a text escaped
+-- Source: profile.
 abbrev pub piece_bytes : Piece → List ℕ
 piece_bytes (Fixed markup) = markup_bytes markup
 piece_bytes (Number n) = decimal n
 piece_bytes (Text text) = escaped (string_bytes text)
 
+-- the bytes of the pieces, one after the other
 abbrev pub page_bytes : List Piece → List ℕ
 page_bytes pieces = flat_map piece_bytes pieces
 
--- the bytes are those of pieces, one after the other: so texts come into a page only by the escaping
+-- The bytes are those of pieces, one after the other. So whatever of a history comes into a page is a number
+-- or an escaped text.
+-- Source: profile.
 abbrev pub IsPage : List ℕ → Type 0
 IsPage bytes = (pieces : List Piece) × (bytes ≡ page_bytes pieces)

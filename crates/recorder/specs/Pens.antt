@@ -10,10 +10,12 @@ use Rattle.history.specs.Refusal.{most_events, op_of}
 use Rattle.recorder.specs.declared.fault.RecFault.{RecFault}
 use Rattle.recorder.specs.declared.fault.RecFault.TheVariants.{NotMine, Ended, Kind, Full, NoMemory, Rewound}
 
--- What is known of a pen: its list, which has the events that were recorded through it in their order, each
--- with its number; and whether a recording through it reported that the recording is full.
+-- What is known of a pen.
+-- Source: profile.
 pub record PenState : Type 0 where
+  -- the events that were recorded through it, in their order, each with its number
   pub list : List (ℕ × Event)
+  -- whether a recording through it reported that the recording is full
   pub is_full : Bool
 
 -- a pen through which nothing was recorded yet
@@ -38,8 +40,9 @@ is_ended list n = list_any (is_ending n) (events_in list)
 abbrev pub IsUnused : ℕ → List (ℕ × Event) → Type 0
 IsUnused n list = (op_of (events_in list) n ≡ None) × (is_ended list n ≡ false)
 
--- the first reason of a pen's list to refuse an event: for an ending, that its call isn't in the list, that
--- it has an ending already, or that the reply doesn't fit its operation
+-- The first reason of a pen's list to refuse an event. For an ending: NotMine if its call isn't in the list,
+-- Ended if it has an ending already, Kind if the reply doesn't fit its operation. For a call there is none.
+-- Source: profile.
 abbrev pub refusal_of : List (ℕ × Event) → Event → Option RecFault
 refusal_of list (Call h n d op) = None
 refusal_of list (Reply n r) =
@@ -48,7 +51,7 @@ refusal_of list (Reply n r) =
 refusal_of list (Lost n) =
     option_map_or (λ op. if is_ended list n then Some Ended else None) (op_of (events_in list) n) (Some NotMine)
 
--- the reason by the pen's list that an answer reports
+-- the reason by the pen's list that an answer reports: NotMine, Ended or Kind
 abbrev pub told_by_list : Result ℕ RecFault → Option RecFault
 told_by_list (Ok n) = None
 told_by_list (Err NotMine) = Some NotMine
@@ -60,6 +63,7 @@ told_by_list (Err (Rewound n)) = None
 
 -- ---- what a recording reports
 
+-- the answer is that the recording is full
 abbrev pub tells_full : Result ℕ RecFault → Bool
 tells_full (Ok n) = false
 tells_full (Err NotMine) = false
@@ -71,20 +75,23 @@ tells_full (Err (Rewound n)) = false
 
 -- What a recording returns, and how it changes the pen. `recorded` is the event at each number; the reason is
 -- the one for which the pen's list refuses it, if it does.
+-- Source: profile.
 pub record Records (old : PenState) (reason : Option RecFault) (recorded : ℕ → Event) (answer : Result ℕ RecFault) (new : PenState) : Type 0 where
-  -- if a number is returned, the list grows by the number and its event; otherwise it stays as it was
+  -- if a number is returned, the list grows by the number and its event
   pub grows : IfOk answer (λ n. new.list ≡ old.list ++ (n, recorded n) ∷ [])
+  -- otherwise it stays as it was
   pub stays : OnErr answer (new.list ≡ old.list)
-  -- the number is above all in the list, and below the greatest number of events
+  -- the number is above all in the list
   pub above : IfOk answer (λ n. All (λ entry. entry.0 < n) old.list)
+  -- the number is below the greatest number of events
   pub below : IfOk answer (λ n. n < most_events)
   -- it is the number of no call in the list
   pub unused : IfOk answer (λ n. IsUnused n old.list)
   -- a reason by the list is reported if and only if the list has it
   pub by_list : told_by_list answer ≡ reason
-  -- after Full was returned for a pen, the pen is full, and Full is returned for it whenever its list refuses
-  -- nothing
+  -- if a pen is full, Full is returned for it whenever its list refuses nothing
   pub full : reason ≡ None → old.is_full ≡ true → answer ≡ Err Full
+  -- a pen is full once Full was returned for it
   pub full_from_then : new.is_full ≡ (old.is_full || tells_full answer)
-  -- that there are only n events is reported only if the pen's list has a number of at least n
+  -- Rewound with n is reported only if the pen's list has a number of at least n
   pub rewound : (n : ℕ) → answer ≡ Err (Rewound n) → Any (λ entry. n ≤ entry.0) old.list

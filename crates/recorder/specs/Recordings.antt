@@ -16,5 +16,6 @@ entries_of lists = flat_map (λ list. list) lists
 -- The events are the recording of the lists: the entries of all lists are, in some order, the events with
 -- their indices, counted from 0. So the numbers together are those below the number of events, each once, and
 -- the event at an index is the one with that number.
+-- Source: profile.
 abbrev pub IsRecordingOf : List (List (ℕ × Event)) → List Event → Type 0
 IsRecordingOf lists events = IsPermutation (entries_of lists) (enumerate_from 0 events)

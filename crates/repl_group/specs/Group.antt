@@ -23,34 +23,46 @@ use Rattle.repl_group.specs.Faults.{is_blind, is_dirty, is_early, is_same_term, 
 use Rattle.repl_group.specs.Operations.{is_get, unconditional}
 use Rattle.repl_group.specs.Requests.{answer_in, flight_of, is_busy, is_queued, with_flights_lost, with_stage}
 
--- A group: what it does wrong, its term, the number of its primary copy, the documents in the order in which
--- they were first named, each numbered by its index, the request of each ticket, and the copies.
+-- How contracts see a `Core`.
+-- Source: profile.
 pub record GroupState : Type 0 where
+  -- what the group does wrong
   pub fault : Fault
+  -- its term
   pub term : ℕ
+  -- the number of its primary copy
   pub primary : ℕ
+  -- the documents in the order in which they were first named, each numbered by its index
   pub docs : List (List ℕ)
+  -- the request of each ticket
   pub requests : List Request
+  -- the copies
   pub copies : List ShardCopy
 
 -- a group has 1 to 5 copies
+-- Source: profile.
 pub record IsCopyCount (count : ℕ) : Type 0 where
   pub some : 0 < count
   pub few : count ≤ 5
 
--- the greatest number of tickets that a group gives
+-- the greatest number of tickets that a group gives: 524,288
+-- Source: profile.
 abbrev pub most_tickets : ℕ
 most_tickets = 524288
 
--- the greatest term, and the greatest sequence number
+-- the greatest term, and the greatest sequence number: 2^63-1
+-- Source: profile.
 abbrev pub greatest : ℕ
 greatest = 0x7fff_ffff_ffff_ffff
 
 -- a copy that holds nothing, in sync and reached
+-- Source: profile.
 abbrev pub new_copy : ShardCopy
 new_copy = record { writes = []; is_cut = false; is_in_sync = true }
 
--- a group with that many copies, all in sync, of which the first is the primary, and nothing submitted
+-- a group with that many copies, all in sync and not cut, of which the first is the primary, with the term 1
+-- and nothing submitted
+-- Source: profile.
 abbrev pub start : Fault → ℕ → GroupState
 start fault count = record {
   fault = fault;
@@ -71,6 +83,7 @@ writes_at w c = option_map_or (λ y. y.writes) (slice_get w.copies c) []
 abbrev pub document_at : GroupState → ℕ → ℕ → DocState
 document_at w c d = document_in (writes_at w c) d
 
+-- the primary is cut off
 abbrev pub is_primary_cut : GroupState → Bool
 is_primary_cut w = option_map_or (λ y. y.is_cut) (slice_get w.copies w.primary) false
 
@@ -79,11 +92,13 @@ abbrev pub is_in_sync : GroupState → ℕ → Bool
 is_in_sync w c = option_map_or (λ y. y.is_in_sync) (slice_get w.copies c) false
 
 -- the ticket's write may be acknowledged: each copy in sync holds it; with the fault Early, the primary does
+-- Source: profile.
 abbrev pub is_held : GroupState → ℕ → Bool
 is_held w t =
     if is_early w.fault then holds (writes_at w w.primary) t else list_all (λ y. not y.is_in_sync || holds y.writes t) w.copies
 
 -- the operation as the primary reads it: with the fault Blind, without its condition
+-- Source: profile.
 abbrev pub op_read : GroupState → Request → Op
 op_read w x = if is_blind w.fault then unconditional x.op else x.op
 
@@ -109,7 +124,7 @@ write_of x q = record { doc = x.doc; op = x.op; pair = q }
 abbrev pub copy_with : ShardCopy → ℕ → HeldWrite → ShardCopy
 copy_with y t write = record y { writes = with_write y.writes t write }
 
--- the group with one more ticket
+-- the group with one more ticket, whose document gets a number if it has none
 abbrev pub submitted : GroupState → List ℕ → Op → GroupState
 submitted w id op = record w {
   docs = insert_key (λ d e. pointwise ◌==◌ d e) w.docs id;
@@ -123,8 +138,9 @@ performed w t x y q = record w {
   copies = slice_set w.copies w.primary (copy_with y t (write_of x q));
 }
 
--- the group after the copy y numbered c was reached again: it is not cut, and takes what the primary holds if
--- it can
+-- The group after the copy y numbered c was reached again: it is not cut any more, and if it isn't the
+-- primary and the primary is not cut, it takes what the primary holds and is in sync.
+-- Source: profile.
 abbrev pub healed : GroupState → ℕ → ShardCopy → GroupState
 healed w c y =
     with_copy w c (
@@ -134,11 +150,14 @@ healed w c y =
 
 -- a copy after another one that holds these writes became the primary: if it is in sync and not cut, it takes
 -- them; if it is in sync and cut, it is not in sync any more
+-- Source: profile.
 abbrev pub led_by : List (ℕ × HeldWrite) → ShardCopy → ShardCopy
 led_by writes z =
     if z.is_in_sync then (if z.is_cut then record z { is_in_sync = false } else record z { writes = writes }) else z
 
--- the group in which the copy y numbered c is the primary
+-- The group in which the copy y numbered c is the primary: the term is greater by one (with the fault
+-- SameTerm it stays as it was), what was in flight is lost, and the copies are led by the writes of y.
+-- Source: profile.
 abbrev pub promoted : GroupState → ℕ → ShardCopy → GroupState
 promoted w c y = record w {
   term = if is_same_term w.fault then w.term else w.term + 1;
@@ -170,57 +189,71 @@ abbrev pub OnCopy : (ShardCopy → Answer → GroupState → Type 0) → GroupSt
 OnCopy Acts w c a n = MatchOption (slice_get w.copies c) (Refuses NotNow w a n) (λ y. Acts y a n)
 
 -- the get x of the ticket is answered with what the copy numbered c shows
+-- Source: profile.
 abbrev pub Shows : GroupState → ℕ → Request → ℕ → Answer → GroupState → Type 0
 Shows w t x c a n = Does (answered w t x (shown (document_at w c x.doc))) a n
 
--- A get is served by the primary, which may not be cut, and waits for a write in flight on its document. With
--- the fault Dirty it does not wait. With the fault Stale any copy serves it, cut or not, and it does not
--- wait.
+-- A get is served by the primary, which may not be cut (otherwise NotNow), and waits for a write in flight on
+-- its document (Waits). With the fault Dirty it does not wait. With the fault Stale the copy whose number is
+-- the ticket's modulo the number of copies serves it, cut or not, and it does not wait.
+-- Source: profile.
 abbrev pub ServesGet : GroupState → ℕ → Request → Answer → GroupState → Type 0
 ServesGet w t x a n =
     MatchBool (is_stale w.fault) (Shows w t x (t % length w.copies) a n)
     (MatchBool (is_primary_cut w) (Refuses NotNow w a n)
     (MatchBool (is_busy w.requests x.doc && not (is_dirty w.fault)) (Refuses Waits w a n) (Shows w t x w.primary a n)))
 
--- the primary y performs the write x of the ticket with its next pair, if a sequence number is left
+-- the primary y performs the write x of the ticket with its term and its next sequence number, holds it, and
+-- it is in flight; NotNow if no sequence number is left
+-- Source: profile; OpenSearch (conditions and sequence numbers).
 abbrev pub Performs : GroupState → ℕ → Request → ShardCopy → Answer → GroupState → Type 0
 Performs w t x y a n =
     MatchBool (nat_lt greatest (next_seq y.writes)) (Refuses NotNow w a n)
     ((q : Pair) × (q.term ≡ w.term) × (q.seq ≡ next_seq y.writes) × Does (performed w t x y q) a n)
 
--- the primary y performs a write that may be performed in its state of the document, and answers any other
--- with Conflict
+-- the primary y performs a write that may be performed in its state of the document (`IsPerformed`), and
+-- answers any other with Conflict
+-- Source: profile; OpenSearch (conditions and sequence numbers).
 abbrev pub Writes : GroupState → ℕ → Request → ShardCopy → Answer → GroupState → Type 0
 Writes w t x y a n =
     (IsPerformed (document_in y.writes x.doc) (op_read w x) × Performs w t x y a n)
     ⊎ ((¬ IsPerformed (document_in y.writes x.doc) (op_read w x)) × Does (answered w t x Conflict) a n)
 
 -- a write is served by the primary, which may not be cut, and waits for a write in flight on its document
+-- Source: profile; OpenSearch (conditions and sequence numbers).
 abbrev pub ServesWrite : GroupState → ℕ → Request → Answer → GroupState → Type 0
 ServesWrite w t x a n =
     OnCopy (λ y a' n'. MatchBool y.is_cut (Refuses NotNow w a' n')
     (MatchBool (is_busy w.requests x.doc) (Refuses Waits w a' n') (Writes w t x y a' n'))) w w.primary a n
 
--- a queued operation is served
+-- a queued operation is served; NotNow if it isn't queued
+-- Source: profile.
 abbrev pub Serves : GroupState → ℕ → Request → Answer → GroupState → Type 0
 Serves w t x a n =
     MatchBool (is_queued x.stage) (MatchBool (is_get x.op) (ServesGet w t x a n) (ServesWrite w t x a n)) (Refuses NotNow w a n)
 
 -- the copy y numbered c takes the write of the ticket, if that is in flight, the copy is in sync, and neither
 -- it nor the primary is cut
+-- Source: profile.
 abbrev pub CopiesTo : GroupState → ℕ → Request → ℕ → ShardCopy → Answer → GroupState → Type 0
 CopiesTo w t x c y a n =
     MatchOption (flight_of x.stage) (Refuses NotNow w a n)
     (λ flight. DoesWhere (y.is_in_sync && not y.is_cut && not (is_primary_cut w)) (with_copy w c (copy_with y t (write_of x flight.0))) w a n)
 
 -- the write of the ticket is answered with Indexed or Deleted, with the flag of the moment at which it was
--- performed, if it is in flight, the primary is not cut, and each copy in sync holds it
+-- performed, if it is in flight, the primary is not cut, and the write may be acknowledged (`is_held`)
+-- Source: profile.
 abbrev pub Acknowledges : GroupState → ℕ → Request → Answer → GroupState → Type 0
 Acknowledges w t x a n =
     MatchOption (flight_of x.stage) (Refuses NotNow w a n)
     (λ flight. DoesWhere (not (is_primary_cut w) && is_held w t) (answered w t x (performed_reply flight.1 x.op flight.0)) w a n)
 
--- the answer to the step in w, and the group after it
+-- The table: in w the step is answered a, and the group is n after it. `Submit` returns the next ticket, or
+-- Full. `Serve`, `Copy` and `Ack` are as above. `Cut` is done if the copy isn't cut, and `Heal` of each copy.
+-- `Drop` is done of a copy that is in sync and cut and not the primary, if the primary isn't cut. `Promote`
+-- is done of a copy that is in sync, not cut and not the primary, if the term is below the greatest. Each
+-- step has exactly one answer.
+-- Source: profile.
 abbrev pub Gives : GroupState → Step → Answer → GroupState → Type 0
 Gives w (step.Submit id op) a n =
     MatchBool (nat_lt (length w.requests) most_tickets) ((a ≡ Ticket (length w.requests)) × (n ≡ submitted w id op)) (Refuses Full w a n)
@@ -234,8 +267,9 @@ Gives w (step.Drop c) a n =
 Gives w (step.Promote c) a n =
     OnCopy (λ y. DoesWhere (y.is_in_sync && not y.is_cut && not (c == w.primary) && nat_lt w.term greatest) (promoted w c y) w) w c a n
 
--- From w the group takes the step with this answer, and is n.
+-- From w the group takes the step with this answer, and is n: a fact of its own, in which the table is kept.
 pub record Takes (w : GroupState) (s : Step) (a : Answer) (n : GroupState) : Type 0 where
+  -- the table gives this answer and this group
   pub gives : Gives w s a n
 
 -- The table lets w take the step: a submission if a ticket is left, any other step if its answer is that it

@@ -27,23 +27,32 @@ pair_acknowledged (Answered r) = pair_taken r None
 pair_acknowledged (Lost q) = None
 
 -- no pair is given to two tickets
+-- Source: profile.
 abbrev pub GivesNoPairTwice : GroupState → Type 0
 GivesNoPairTwice w = (t u : ℕ) (x y : Request) (q : Pair) → slice_get w.requests t ≡ Some x → slice_get w.requests u ≡ Some y
     → pair_given x.stage ≡ Some q → pair_given y.stage ≡ Some q → t ≡ u
 
--- each copy in sync holds each write that is answered Indexed or Deleted, with the pair of that answer
+-- each copy in sync holds, under its ticket, each write that is answered Indexed or Deleted: its document,
+-- its operation, and the pair of that answer
+-- Source: profile.
 abbrev pub HoldsAcknowledged : GroupState → Type 0
 HoldsAcknowledged w = (t c : ℕ) (x : Request) (y : ShardCopy) (q : Pair) → slice_get w.requests t ≡ Some x → slice_get w.copies c ≡ Some y
     → pair_acknowledged x.stage ≡ Some q → y.is_in_sync ≡ true → lookup (◌==◌ t) y.writes ≡ Some (write_of x q)
 
+-- the group is honest
 pub record IsHonest (w : GroupState) : Type 0 where
+  -- no pair is given to two tickets
   pub pairs : GivesNoPairTwice w
+  -- each copy in sync holds each write that is answered Indexed or Deleted
   pub acknowledged : HoldsAcknowledged w
 
--- if the group does nothing wrong, no pair is given twice, and what is acknowledged is held
+-- if the group's fault is None, the group is honest
 abbrev pub IsHonestUnlessFaulty : GroupState → Type 0
 IsHonestUnlessFaulty w = w.fault ≡ fault.None → IsHonest w
 
--- whatever steps an honest group takes from its start, it is honest after them
+-- whatever steps a group with the fault None and at least one copy takes from its start, it is honest after
+-- them
+-- Source: profile.
 pub record HonestGroups : Type 0 where
+  -- the number of copies and the steps may be any
   pub always : (count : ℕ) (steps : List Step) (n : GroupState) → 0 < count → IsRun (start fault.None count) steps n → IsHonest n

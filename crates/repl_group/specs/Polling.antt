@@ -16,16 +16,21 @@ use Rattle.repl_group.specs.declared.step.Step.TheVariants as step
 use Rattle.repl_group.specs.Group.{GroupState, MayTake, Takes, most_tickets, result_of}
 use Rattle.repl_group.specs.Requests.{in_flight_from}
 
--- the generator of a group, by its seed
+-- the generator from whose words the steps of a group are drawn, by its seed: its stream is 55
+-- Source: profile.
 abbrev pub generator_of : ℕ → Lcg
 generator_of seed = started 64 multiplier_64 seed (increment_of 64 55)
 
 -- the ticket in flight at y modulo their number, in rising order; none if none is in flight
+-- Source: profile.
 abbrev pub flight_drawn : GroupState → ℕ → Option ℕ
 flight_drawn w y = slice_get (in_flight_from 0 w.requests) (y % length (in_flight_from 0 w.requests))
 
--- The step of a poll of the ticket t, by its kind, the copy c and the number y that were drawn. Copy and Ack
--- are no step if nothing is in flight.
+-- The step of a poll of the ticket t, by its kind, from 0 to 63, the copy c and the number y that were drawn.
+-- Below 24 it is `Serve` of t; below 48 `Copy` of the ticket in flight at y to c; below 60 `Ack` of the
+-- ticket in flight at y; 60 is `Cut` of c, 61 and 62 `Heal` of c; 63 is `Drop` of c if y is even, otherwise
+-- `Promote`. `Copy` and `Ack` are no step if nothing is in flight.
+-- Source: profile.
 abbrev pub step_of_kind : GroupState → ℕ → ℕ → ℕ → ℕ → Option Step
 step_of_kind w t kind c y =
     if nat_lt kind 24 then Some (step.Serve t)
@@ -37,10 +42,11 @@ step_of_kind w t kind c y =
 
 -- The step of a poll of the ticket t that draws the word: the word modulo 64 is the kind; the rest modulo the
 -- number of copies is the copy, and the rest divided by it the number y.
+-- Source: profile.
 abbrev pub step_drawn : GroupState → ℕ → ℕ → Option Step
 step_drawn w t word = step_of_kind w t (word % 64) (word / 64 % length w.copies) (word / 64 / length w.copies)
 
--- the report is not that the outcome will never be known
+-- the report is Waiting or Done: it is not that the outcome will never be known
 abbrev pub IsKnown : Progress → Type 0
 IsKnown progress.Waiting = Unit {0}
 IsKnown (progress.Done r) = Unit {0}
@@ -59,6 +65,7 @@ TellsAfter w s t told n =
 
 -- A poll of a ticket with a result reports it, and changes nothing. Any other poll draws one word, and takes
 -- the step that the word determines, if it determines one.
+-- Source: profile.
 abbrev pub Polls : GroupState → Lcg → ℕ → Result Progress TargetFault → GroupState → Lcg → Type 0
 Polls w random t told n random' =
     MatchOption (result_of w t)
@@ -66,6 +73,8 @@ Polls w random t told n random' =
     × MatchOption (step_drawn w t (pcg32 random).0) ((told ≡ Ok progress.Waiting) × (n ≡ w)) (λ s. TellsAfter w s t told n))
     (λ r. (told ≡ Ok (progress.Done r)) × (n ≡ w) × (random' ≡ random))
 
+-- a submission is refused: with Full, by the step Submit; or, if a ticket is left, with NoMemory, which
+-- changes nothing
 abbrev pub RefusesSubmission : GroupState → List ℕ → Op → TargetFault → GroupState → Type 0
 RefusesSubmission w id op refusal.Full n = Takes w (step.Submit id op) answer.Full n
 RefusesSubmission w id op refusal.NoMemory n = (n ≡ w) × (length w.requests < most_tickets)

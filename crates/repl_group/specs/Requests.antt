@@ -8,12 +8,14 @@ use Rattle.repl_group.specs.declared.request.Request.{Request}
 use Rattle.repl_group.specs.declared.request.Stage.{Stage}
 use Rattle.repl_group.specs.declared.request.Stage.TheVariants.{Queued, InFlight, Answered, Lost}
 
+-- the operation is queued
 abbrev pub is_queued : Stage → Bool
 is_queued Queued = true
 is_queued (InFlight q before) = false
 is_queued (Answered r) = false
 is_queued (Lost q) = false
 
+-- the write is in flight
 abbrev pub is_in_flight : Stage → Bool
 is_in_flight Queued = false
 is_in_flight (InFlight q before) = true
@@ -47,16 +49,20 @@ in_flight_from i (x ∷ xs) = if is_in_flight x.stage then i ∷ in_flight_from 
 abbrev pub with_stage : List Request → ℕ → Request → Stage → List Request
 with_stage requests t x s = slice_set requests t (record x { stage = s })
 
--- what is in flight is lost
+-- the stage after a promotion: what was in flight is lost
+-- Source: profile.
 abbrev pub lost_from : Stage → Stage
 lost_from Queued = Queued
 lost_from (InFlight q before) = Lost q
 lost_from (Answered r) = Answered r
 lost_from (Lost q) = Lost q
 
+-- the request after a promotion
+-- Source: profile.
 abbrev pub lost_request : Request → Request
 lost_request x = record x { stage = lost_from x.stage }
 
 -- the requests, none of which is in flight any more
+-- Source: profile.
 abbrev pub with_flights_lost : List Request → List Request
 with_flights_lost requests = map lost_request requests

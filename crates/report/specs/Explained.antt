@@ -5,8 +5,9 @@ use Rattle.evidence.specs.declared.ruling_out.RulingOut.{RulingOut}
 use Rattle.report.specs.Verdict.{AnswersInput}
 use Rattle.stream_io.specs.declared.status.Status.{Status}
 
--- The text begins with the line of a check, which is an answer to the bytes that the reader had; an
--- explanation follows.
+-- What `explain` writes. The text begins with the line of a check, which is an answer, with this status, to
+-- the bytes that the reader had (`AnswersInput`); an explanation follows, of which this says nothing.
+-- Source: profile.
 abbrev pub ExplainsInput : RulingOut → Conflicts → Option (List ℕ) → Status → List ℕ → Type 0
 ExplainsInput ruling conflicts input status text =
     (line story : List ℕ) × (text ≡ line ++ story) × AnswersInput ruling conflicts input status line

@@ -1,4 +1,5 @@
--- What is found of a history, beside the line that answers it.
+-- What is found of a history, beside the line that answers it: an order with a proof, or none with a case and
+-- with the evidence and the offence.
 use Rattle.std.specs.Prelude.{◌≡◌, ℕ, List, Option, Some, None, IfSome}
 use Rattle.doc_register.specs.declared.state.Conflicts.{Conflicts}
 use Rattle.history.specs.declared.event.Event.{Event}
@@ -12,22 +13,24 @@ use Rattle.result_lines.specs.Lines.{no_line, refuted_line}
 use Rattle.stream_io.specs.declared.status.Status.{Status}
 use Rattle.stream_io.specs.declared.status.Status.TheVariants.{Yes, No, Refuted}
 
--- The line reports that no order was found, with the offence. If there is evidence, the line has it, and it
--- holds and may be reported.
+-- The line reports that no order was found, with the offence: the status is No, and the line the `no_line` of
+-- the offence. If there is evidence, the status is Refuted, and the line the `refuted_line` of both; the
+-- evidence holds (`Holds`) and may be reported (`IsReported`).
 abbrev pub SaysFailing : RulingOut → Conflicts → List Event → Status → List ℕ → Offence → Option Evidence → Type 0
 SaysFailing ruling conflicts events status line offence None = (status ≡ No) × (line ≡ no_line offence)
 SaysFailing ruling conflicts events status line offence (Some told) =
     (status ≡ Refuted) × (line ≡ refuted_line told offence) × Holds conflicts events told × IsReported ruling conflicts events told
 
 -- What was found is of this history and this reading of conflicts, and the line reports it: an order and
--- `yes`, or no order, with the evidence and the offence of the line.
+-- `yes`, or no order, with the evidence and the offence of the line (`SaysFailing`).
+-- Source: profile.
 abbrev pub IsFindingOf : RulingOut → Conflicts → List Event → Status → List ℕ → Finding → Type 0
 IsFindingOf ruling conflicts events status line (Explained proof) = (proof.events ≡ events) × (proof.conflicts ≡ conflicts) × (status ≡ Yes)
 IsFindingOf ruling conflicts events status line (Unexplained case failing) =
     (case.events ≡ events) × (case.conflicts ≡ conflicts)
     × SaysFailing ruling case.conflicts case.events status line failing.offence failing.evidence
 
--- the evidence that was found, if any, holds
+-- the evidence that was found, if any, holds in the history of the case
 abbrev pub HasItsEvidence : Finding → Type 0
 HasItsEvidence (Explained proof) = Unit {0}
 HasItsEvidence (Unexplained case failing) = IfSome failing.evidence (Holds case.conflicts case.events)

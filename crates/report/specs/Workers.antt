@@ -6,7 +6,7 @@ use Rattle.history.specs.Text.{IsHistoryText}
 use Rattle.stream_io.specs.declared.stream_fault.StreamFault.{StreamFault}
 use Rattle.stream_io.specs.declared.stream_fault.StreamFault.TheVariants.{Read, Write, NoMemory, Worker, Recording, Setting}
 
--- the number of a document whose worker gave no answer is that of a document of the events
+-- if the fault is Worker with a number, the history has a document of that number
 abbrev pub HasDocument : List Event → StreamFault → Type 0
 HasDocument events Read = Unit {0}
 HasDocument events Write = Unit {0}
@@ -15,7 +15,8 @@ HasDocument events (Worker doc) = doc < length (documents_of events)
 HasDocument events Recording = Unit {0}
 HasDocument events Setting = Unit {0}
 
--- the bytes are then a text of a history with such a document
+-- if the fault is Worker with a number, the bytes are a text of a history that has a document of that number
+-- Source: profile.
 abbrev pub NamesDocument : List ℕ → StreamFault → Type 0
 NamesDocument bytes Read = Unit {0}
 NamesDocument bytes Write = Unit {0}
@@ -24,6 +25,6 @@ NamesDocument bytes (Worker doc) = (events : List Event) × IsHistoryText bytes 
 NamesDocument bytes Recording = Unit {0}
 NamesDocument bytes Setting = Unit {0}
 
--- and these are the bytes that a reader had
+-- the same for the bytes of a reader, if they are known
 abbrev pub NamesOwnDocument : Option (List ℕ) → StreamFault → Type 0
 NamesOwnDocument input fault = IfSome input (λ bytes. NamesDocument bytes fault)

@@ -1,4 +1,4 @@
--- The lines that are written as answers.
+-- The lines that are written as answers. Numbers are in decimal, and each line ends with a line feed.
 use Rattle.std.specs.Prelude.{ℕ, Bool, true, false, List, [], ◌++◌, ◌==◌, codes, decimal, if◌then◌else◌}
 use Rattle.api_lines.specs.declared.text_fault.TextCause.{TextCause}
 use Rattle.api_lines.specs.declared.text_fault.TextCause.TheVariants.{Long, Lines, Json, Shape, Id, Range, Half, Stranger, SecondCall, NoCall, Ended, Full, ShardMoved}
@@ -12,7 +12,9 @@ use Rattle.compose.specs.declared.verify_fault.VerifyFault.{VerifyFault}
 use Rattle.compose.specs.declared.verify_fault.VerifyFault.TheVariants as fault
 use Rattle.compose.specs.declared.offence.Offence.{Offence}
 
--- the printed name of a cause
+-- the printed name of a cause: `long`, `lines`, `json`, `shape`, `id`, `range`, `half`, `stranger`,
+-- `second-call`, `no-call`, `ended`, `full` or `shard-moved`
+-- Source: profile.
 abbrev pub cause_name : TextCause → List ℕ
 cause_name Long = codes "long"
 cause_name Lines = codes "lines"
@@ -28,20 +30,27 @@ cause_name Ended = codes "ended"
 cause_name Full = codes "full"
 cause_name ShardMoved = codes "shard-moved"
 
+-- the line `yes docs=D calls=C left_out=L` of the numbers of documents, of calls, and of calls that are left
+-- out
+-- Source: profile.
 abbrev pub yes_line : ℕ → ℕ → ℕ → List ℕ
 yes_line docs calls left_out =
     codes "yes docs=" ++ (decimal docs ++ (codes " calls=" ++ (decimal calls ++ (codes " left_out=" ++ (decimal left_out ++ codes "\n")))))
 
--- the word that says whether the events before the offence have an order
+-- the word `shown` or `unshown`: whether the events before the offence have an order
+-- Source: profile.
 abbrev pub before_name : Bool → List ℕ
 before_name true = codes "shown"
 before_name false = codes "unshown"
 
+-- the line `no event=E call=N before=B` of an offence
+-- Source: profile.
 abbrev pub no_line : Offence → List ℕ
 no_line o =
     codes "no event=" ++ (decimal o.event ++ (codes " call=" ++ (decimal o.call ++ (codes " before=" ++ (before_name o.before_shown ++ codes "\n")))))
 
--- the printed name of a kind of evidence
+-- the printed name of a kind of evidence: `pair-twice`, `no-writer`, `stale-get`, `stale-swap` or `ruled-out`
+-- Source: profile.
 abbrev pub kind_name : Refuted → List ℕ
 kind_name (evidence.PairTwice a b) = codes "pair-twice"
 kind_name (evidence.NoWriter g) = codes "no-writer"
@@ -50,10 +59,12 @@ kind_name (evidence.StaleSwap a b) = codes "stale-swap"
 kind_name (evidence.RuledOut n) = codes "ruled-out"
 
 -- the numbers of two calls, with a comma between
+-- Source: profile.
 abbrev pub both_numbers : ℕ → ℕ → List ℕ
 both_numbers a b = decimal a ++ (codes "," ++ decimal b)
 
 -- the numbers of the calls that evidence names, in its order
+-- Source: profile.
 abbrev pub named_calls : Refuted → List ℕ
 named_calls (evidence.PairTwice a b) = both_numbers a b
 named_calls (evidence.NoWriter g) = decimal g
@@ -61,33 +72,43 @@ named_calls (evidence.StaleGet g w) = both_numbers g w
 named_calls (evidence.StaleSwap a b) = both_numbers a b
 named_calls (evidence.RuledOut n) = decimal n
 
--- the evidence, followed by what the line of a `no` would report
+-- the line `refuted kind=K calls=A,B event=E call=N before=B` of evidence and an offence; calls has one
+-- number if the evidence is one call
+-- Source: profile.
 abbrev pub refuted_line : Refuted → Offence → List ℕ
 refuted_line e o =
     codes "refuted kind=" ++ (kind_name e ++ (codes " calls=" ++ (named_calls e ++ (codes " event=" ++ (decimal o.event ++ (codes " call=" ++ (decimal o.call ++ (codes " before=" ++ (before_name o.before_shown ++ codes "\n")))))))))
 
+-- the line `refused line=L cause=C` of the number of a line and the name of its cause
+-- Source: profile.
 abbrev pub refused_line : ℕ → TextCause → List ℕ
 refused_line line cause = codes "refused line=" ++ (decimal line ++ (codes " cause=" ++ (cause_name cause ++ codes "\n")))
 
+-- the line `verified docs=D calls=C left_out=L` of the numbers, as in `yes_line`
+-- Source: profile.
 abbrev pub verified_line : ℕ → ℕ → ℕ → List ℕ
 verified_line docs calls left_out =
     codes "verified docs=" ++ (decimal docs ++ (codes " calls=" ++ (decimal calls ++ (codes " left_out=" ++ (decimal left_out ++ codes "\n")))))
 
--- the refused line of one of two texts, the history's or the witness's
+-- the line `refused file=F line=L cause=C` of one of two texts, the history's or the witness's
+-- Source: profile.
 abbrev pub refused_file_line : List ℕ → ℕ → TextCause → List ℕ
 refused_file_line file line cause =
     codes "refused file=" ++ (file ++ (codes " line=" ++ (decimal line ++ (codes " cause=" ++ (cause_name cause ++ codes "\n")))))
 
--- the line of an entry with a fault at one of its places
+-- the line `broken entry=E cause=C place=I` of an entry with a fault at one of its places
 abbrev pub broken_place_line : ℕ → List ℕ → ℕ → List ℕ
 broken_place_line entry name i =
     codes "broken entry=" ++ (decimal entry ++ (codes " cause=" ++ (name ++ (codes " place=" ++ (decimal i ++ codes "\n")))))
 
--- the line of an entry with a fault of its own
+-- the line `broken entry=E cause=C` of an entry with a fault of its own
 abbrev pub broken_entry_line : ℕ → List ℕ → List ℕ
 broken_entry_line entry name = codes "broken entry=" ++ (decimal entry ++ (codes " cause=" ++ (name ++ codes "\n")))
 
--- the line of a fault of an entry's places; being out of memory has no line
+-- The line of a fault of an entry's places: that of its place, with the cause `stranger`, `twice`, `late`,
+-- `pair-missing`, `pair-given` or `illegal`; or `broken entry=E cause=absent rec=R`. Being out of memory has
+-- no line.
+-- Source: profile.
 abbrev pub broken_places_line : ℕ → Broken → List ℕ
 broken_places_line entry (StrangePlace i) = broken_place_line entry (codes "stranger") i
 broken_places_line entry (Twice i) = broken_place_line entry (codes "twice") i
@@ -99,11 +120,15 @@ broken_places_line entry (Absent k) =
     codes "broken entry=" ++ (decimal entry ++ (codes " cause=absent rec=" ++ (decimal k ++ codes "\n")))
 broken_places_line entry NoMemory = []
 
--- the shard of a pair, if it isn't 0, and the end of the line
+-- the end of a line that reports a pair: ` shard=H` if the shard isn't 0, and a line feed
+-- Source: profile.
 abbrev pub shard_end : ℕ → List ℕ
 shard_end h = if h == 0 then codes "\n" else codes " shard=" ++ (decimal h ++ codes "\n")
 
--- the line of a witness that doesn't cover its history; being out of memory has no line
+-- The line of a witness that doesn't cover its history: `broken doc=I cause=doc-missing`; that of an entry
+-- with the cause `doc-twice` or `doc-stranger`; that of a fault of its places; or `broken term=T seq=S
+-- cause=pair-twice` with the end of its shard. Being out of memory has no line.
+-- Source: profile.
 abbrev pub broken_line : VerifyFault → List ℕ
 broken_line (fault.DocMissing k) = codes "broken doc=" ++ (decimal k ++ codes " cause=doc-missing\n")
 broken_line (fault.DocTwice i) = broken_entry_line i (codes "doc-twice")
@@ -113,11 +138,13 @@ broken_line (fault.PairTwice shard pair) =
     codes "broken term=" ++ (decimal pair.term ++ (codes " seq=" ++ (decimal pair.seq ++ (codes " cause=pair-twice" ++ shard_end shard))))
 broken_line fault.NoMemory = []
 
--- the refused line of the body of a bulk request, or of its reply
+-- the line `refused line=L cause=C` of the body of a bulk request, or of its reply
 abbrev pub refused_bulk_line : ℕ → List ℕ → List ℕ
 refused_bulk_line line name = codes "refused line=" ++ (decimal line ++ (codes " cause=" ++ (name ++ codes "\n")))
 
--- the line of a bulk that is refused; being out of memory has no line
+-- The line of a bulk that is refused: that of a line, with the cause `syntax`, `action`, `source`, `half` or
+-- `range`; `refused cause=count`; or `refused item=I cause=kind`. Being out of memory has no line.
+-- Source: profile.
 abbrev pub bulk_fault_line : BulkFault → List ℕ
 bulk_fault_line (bulk.Syntax n) = refused_bulk_line n (codes "syntax")
 bulk_fault_line (bulk.Action n) = refused_bulk_line n (codes "action")

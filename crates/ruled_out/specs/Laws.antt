@@ -11,31 +11,42 @@ use Rattle.history.specs.Order.{Explains, IsLinearizable, IsOfCall, Placed, Resp
 use Rattle.ruled_out.specs.Told.{told}
 use Rattle.ruled_out.specs.Placings.{IsPlacing, IsRuledOut}
 
--- The order explains the document, whether it has calls of other documents or not: a call is in it at most
--- once, each answered call of the document with its reply; under plain conflicts no reply hides a pair; it
--- respects the history; and it is a legal run.
+-- The order explains the document, whether it has calls of other documents or not. An order that explains a
+-- history explains each of its documents in this sense.
+-- Source: Herlihy and Wing, section 2: histories, completions; profile (the rest).
 pub record ExplainsWithin (conflicts : Conflicts) (events : List Event) (d : List ℕ) (order : List Placed) : Type 0 where
+  -- each entry is of a call of the history
   pub calls : (i : ℕ) (p : Placed) → slice_get order i ≡ Some p → IsOfCall events p
+  -- no call is in the order twice
   pub once : (i j : ℕ) (p q : Placed) → slice_get order i ≡ Some p → slice_get order j ≡ Some q → p.no ≡ q.no → i ≡ j
+  -- each answered call of the document is in it, with its reply
   pub answered : (k j n h : ℕ) (op : Op) (r : Answer) → IsReplyAt events k n r → IsCallAt events j n h d op
       → (i : ℕ) × (p : Placed) × (slice_get order i ≡ Some p) × (p.no ≡ n) × (p.entry.reply ≡ r)
+  -- under plain conflicts no reply hides a pair
   pub plain : conflicts ≡ Plain → (i : ℕ) (p : Placed) → slice_get order i ≡ Some p → p.entry.hidden ≡ None
+  -- it respects the history
   pub respects : Respects events order
+  -- it is a legal run
   pub legal : IsLegalRun (run_of order)
 
--- if an order explains a document, the document is not ruled out
+-- if an order explains a document of a history (`ExplainsWithin`), the records of the document as reported
+-- are ruled out at no call
+-- Source: profile.
 abbrev pub OrderedAreNotRuledOut : Type 0
 OrderedAreNotRuledOut = (conflicts : Conflicts) (events : List Event) (d : List ℕ) (order : List Placed) (no : ℕ) → IsHistory events
     → ExplainsWithin conflicts events d order → ¬ IsRuledOut (told conflicts (records_of events d)) no
 
--- if an order explains a history, each of its documents has a placing of all its answered calls
+-- if an order explains a history, the records of each of its documents as reported have floors that are a
+-- placing up to each event
+-- Source: profile.
 abbrev pub ExplainedHavePlacings : Type 0
 ExplainedHavePlacings = (conflicts : Conflicts) (events : List Event) (order : List Placed) (d : List ℕ) → IsHistory events
     → Explains conflicts events order
     → (floor : ℕ → ℕ) × ((event : ℕ) → IsPlacing (told conflicts (records_of events d)) event floor)
 
--- if a document of a history is ruled out, no order explains the history, however its pending calls are
--- completed
+-- if the records of a document as reported are ruled out at some call, no order explains the history, however
+-- its pending calls are completed
+-- Source: Herlihy and Wing, section 2 (linearizable); profile (the rest).
 abbrev pub RuledOutHaveNoOrder : Type 0
 RuledOutHaveNoOrder = (conflicts : Conflicts) (events : List Event) (d : List ℕ) (no : ℕ) → IsHistory events
     → IsRuledOut (told conflicts (records_of events d)) no → ¬ IsLinearizable conflicts events

@@ -18,10 +18,12 @@ count_below [] p = 0
 count_below (v ∷ vs) p = cond (is_below v p) (suc (count_below vs p)) (count_below vs p)
 
 -- the position of a call that takes the pair; and of a document that has the pair, if it is unknown
+-- Source: profile.
 abbrev pub gap_of : List Rec → Pair → ℕ
 gap_of records p = suc (2 * count_below (known_pairs records) p)
 
 -- the position of a document that has the pair, which is known
+-- Source: profile.
 abbrev pub version_of : List Rec → Pair → ℕ
 version_of records p = suc (gap_of records p)
 
@@ -29,7 +31,8 @@ version_of records p = suc (gap_of records p)
 abbrev pub IsNext : List Rec → Pair → Pair → Type 0
 IsNext records p q = (v : Pair) → IsKnown records v → IsBelow p v → ¬ IsBelow v q
 
--- the position of the document after a call that was at n, and took this pair, if any
+-- the position of the document after a call that was at n: that of the pair which the call took, if it was
+-- performed, otherwise n
 abbrev pub position_after : List Rec → Option Pair → ℕ → ℕ
 position_after records None n = n
 position_after records (Some q) n = version_of records q

@@ -1,4 +1,4 @@
--- What the replies to a document's calls say of it.
+-- What the replies to a document's calls say of it. The records are those of one document.
 use Rattle.std.specs.Prelude.{◌≡◌, ◌++◌, ℕ, Bool, List, [], ◌∷◌, Option, None, Some, map, option_and_then, slice_get}
 use Rattle.std.specs.Option.{option_to_list}
 use Rattle.version_pair.specs.declared.pair.Pair.{Pair}
@@ -14,6 +14,7 @@ use Rattle.history.specs.Heard.{pair_of}
 
 -- what was heard, except that a conflict under Maybe says nothing, since the write may have been performed or
 -- not
+-- Source: profile.
 abbrev pub told_of : Conflicts → Option (ℕ × Reply) → Option (ℕ × Reply)
 told_of conflicts None = None
 told_of conflicts (Some (at, Indexed q created)) = Some (at, Indexed q created)
@@ -46,7 +47,8 @@ pair_shown heard = option_and_then (λ h. pair_of_reply h.1) heard
 abbrev pub condition_met : Rec → Option Pair
 condition_met r = option_and_then (λ q. condition_of r.op) (pair_of r.heard)
 
--- the pairs that replies show to be pairs of changes of the document, each as often as a reply shows it
+-- the pairs that replies show to be pairs of changes of the document, as a pair shown or as a condition that
+-- was met, each as often as a reply shows it
 abbrev pub known_pairs : List Rec → List Pair
 known_pairs [] = []
 known_pairs (r ∷ rs) = (option_to_list (pair_shown r.heard) ++ option_to_list (condition_met r)) ++ known_pairs rs
@@ -55,21 +57,25 @@ known_pairs (r ∷ rs) = (option_to_list (pair_shown r.heard) ++ option_to_list 
 abbrev pub IsKnown : List Rec → Pair → Type 0
 IsKnown records p = (i : ℕ) × (slice_get (known_pairs records) i ≡ Some p)
 
--- a reply says which call took the pair
+-- a reply says which call took the pair: a write that was performed with it
 abbrev pub IsToldOf : List Rec → Pair → Type 0
 IsToldOf records p = (r : Rec) × IsListed records r × (pair_of r.heard ≡ Some p)
 
 -- a reply says that the document was deleted with the pair
 pub record IsGone (records : List Rec) (p : Pair) : Type 0 where
   pub call : Rec
+  -- a call of the records
   pub listed : IsListed records call
   pub replied : ℕ
   pub found : Bool
+  -- its reply is Deleted with the pair
   pub heard : call.heard ≡ Some (replied, Deleted p found)
 
 -- a reply says that the document had the number with the pair
 pub record IsFoundWith (records : List Rec) (p : Pair) (k : ℕ) : Type 0 where
   pub call : Rec
+  -- a call of the records
   pub listed : IsListed records call
   pub replied : ℕ
+  -- its reply is Found with the pair and the number
   pub heard : call.heard ≡ Some (replied, Found p k)

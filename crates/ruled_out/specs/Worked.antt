@@ -13,14 +13,15 @@ use Rattle.ruled_out.specs.Placings.{IsRuledOut}
 abbrev pub answered : (n called replied : ℕ) → Op → Reply → Rec
 answered n called replied op reply = record { no = n; op = op; call_at = called; heard = Some (replied, reply) }
 
--- an index that created the document with the pair (1,0), and one that replaced it with (1,1), each answered
--- before the next call
+-- an index that created the document with the pair (1,0), answered before the next call
 abbrev pub created : Rec
 created = answered 0 0 1 (Index 1 None) (Indexed one_zero true)
 
+-- an index that replaced it with the pair (1,1), answered before the next call
 abbrev pub replaced : Rec
 replaced = answered 1 2 3 (Index 2 None) (Indexed one_one false)
 
+-- Four documents that are ruled out at their last call.
 pub record WorkedRulings : Type 0 where
   -- a write without a condition is answered with a conflict
   pub conflict_without_condition : IsRuledOut (answered 0 0 1 (Index 1 None) Conflict ∷ []) 0

@@ -20,28 +20,36 @@ with_seed setting seed = record setting { seed = seed }
 
 -- What the target issued tickets for, and what it gave when they were polled; and how the group is disturbed.
 module _ (issued : Ticket → List ℕ → Op → Type 0) (gave : Ticket → Progress → Type 0) (disturbance : Disturbance) where
-  -- The text is that of the run of the setting in turns, whose lists are runs of its clients. The line
-  -- answers it, with documents checked for being ruled out.
+  -- The text is that of the run of the setting in turns, and the line answers it, with conflicts read plain
+  -- and documents checked for being ruled out.
   pub record IsJudgedRun (setting : RunSetting) (text : List ℕ) (status : Status) (line : List ℕ) : Type 0 where
+    -- the lists of the run are runs of its clients (`IsRunText`)
     pub is_run : IsRunText issued gave setting text
+    -- the text is that of the run in turns, under the disturbance (`IsTextInTurns`)
     pub in_turns : IsTextInTurns setting disturbance text
+    -- the line answers it (`IsAnswer`)
     pub answer : IsAnswer On Plain text status line
 
-  -- an order explains the run of the setting in turns
+  -- the run of the setting in turns gets `yes`: an order explains it
   abbrev pub IsCleared : RunSetting → Type 0
   IsCleared setting = (text : List ℕ) × (line : List ℕ) × IsJudgedRun setting text Yes line
 
-  -- the same for each seed from the first on, below the end
+  -- the run with each seed from the first on, below the end, gets `yes`
   abbrev pub AreCleared : RunSetting → ℕ → ℕ → Type 0
   AreCleared setting first end = (seed : ℕ) → first ≤ seed → seed < end → IsCleared (with_seed setting seed)
 
-  -- The text is that of a run with this seed of the range, the line gives it an answer other than yes, and
-  -- orders explain the runs with the seeds before it.
+  -- A run that is found: it is the first of the range that does not get `yes`.
+  -- Source: profile.
   pub record IsFoundRun (setting : RunSetting) (first last seed : ℕ) (text : List ℕ) (status : Status) (line : List ℕ) : Type 0 where
+    -- its seed is not below the first
     pub from : first ≤ seed
+    -- its seed is not above the last
     pub to : seed ≤ last
+    -- the line answers the text of the run with this seed
     pub judged : IsJudgedRun (with_seed setting seed) text status line
+    -- the answer is not yes
     pub not_yes : status ≢ Yes
+    -- the runs with all seeds before it get `yes`
     pub before : AreCleared setting first seed
 
   -- the text is that of such a run, with some seed of the range
@@ -49,7 +57,8 @@ module _ (issued : Ticket → List ℕ → Op → Type 0) (gave : Ticket → Pro
   IsFoundText setting first last text = (seed : ℕ) × (status : Status) × (line : List ℕ) × IsFoundRun setting first last seed text status line
 
   -- Yes: the writer holds, after what it held, the text of a run that was found. No: it holds what it held,
-  -- and an order explains each run.
+  -- and the runs with all seeds get `yes`. There is no other status.
+  -- Source: profile.
   abbrev pub IsSearched : RunSetting → ℕ → ℕ → Option (List ℕ) → Option (List ℕ) → Status → Type 0
   IsSearched setting first last old new Yes = HasAnswer (IsFoundText setting first last) old new
   IsSearched setting first last old new No = Keeps old new × AreCleared setting first (last + 1)

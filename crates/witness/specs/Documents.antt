@@ -5,7 +5,7 @@ use Rattle.witness.specs.declared.place.Place.{Place}
 use Rattle.witness.specs.Text.{DocPlaces}
 use Rattle.witness.specs.Witness.{Witness}
 
--- a document's id with its places, as read
+-- a document's id with its places, as the definitions have them
 abbrev pub doc_places : List ℕ × Vec Place Global → DocPlaces
 doc_places d = record { doc = d.0; places = d.1.items }
 

@@ -9,20 +9,26 @@ use Rattle.witness.specs.declared.broken.Broken.TheVariants.{Stranger, Twice, Ab
 use Rattle.witness.specs.declared.place.Place.{Place}
 use Rattle.witness.specs.Places.{AreRight, GivesAsMay, IsHeardBefore, IsNamed, IsPlaceOf, IsPlaceRun, IsUnansweredGet, StepsAt}
 
--- the place names no record, or an unanswered get
+-- the place is a stranger: it names no record, or an unanswered get
 abbrev pub IsStranger : List Rec → Place → Type 0
 IsStranger records p = (r : Rec) → IsPlaceOf records p r → IsUnansweredGet r
 
 -- the place p has the index i, and all places before it are right
 pub record IsReached (conflicts : Conflicts) (records : List Rec) (places : List Place) (i : ℕ) (p : Place) : Type 0 where
+  -- p has the index i among the places
   pub here : slice_get places i ≡ Some p
+  -- all places before it are right
   pub right : AreRight conflicts records (take i places)
 
 -- the place is reached, and it names a record that may be named and that no earlier place names
 pub record IsFresh (conflicts : Conflicts) (records : List Rec) (places : List Place) (i : ℕ) (p : Place) (r : Rec) : Type 0 where
+  -- the place is reached
   pub reached : IsReached conflicts records places i p
+  -- it names r
   pub names : IsPlaceOf records p r
+  -- the record is no unanswered get
   pub known : ¬ IsUnansweredGet r
+  -- no place before it names the same
   pub fresh : ¬ IsNamed (take i places) p.rec
 
 -- the record's reply was heard before its own call, or before that of a place before i
@@ -32,8 +38,10 @@ IsLate records places i r =
     ⊎ ((j : ℕ) × (q : Place) × (s : Rec) × (slice_get (take i places) j ≡ Some q) × IsPlaceOf records q s
     × IsHeardBefore r.heard s.call_at)
 
--- The fault holds, and no fault that is reported before it: place by place stranger, twice, pair missing,
--- pair given, late, illegal; last the least answered record that is absent.
+-- The fault holds, and no fault that is reported before it: place by place Stranger, Twice, PairMissing,
+-- PairGiven, Late, Illegal, so all places before that of the fault are right; last Absent, if all places are
+-- right, of the least answered record that is not named. NoMemory never is.
+-- Source: profile.
 abbrev pub IsFirstFault : Conflicts → List Rec → List Place → Broken → Type 0
 IsFirstFault conflicts records places (Stranger i) = (p : Place) × IsReached conflicts records places i p × IsStranger records p
 IsFirstFault conflicts records places (Twice i) =

@@ -1,10 +1,11 @@
--- What contracts see of a document's witness.
+-- How contracts see a `DocWitness`.
 use Rattle.std.specs.Prelude.{ℕ, List}
 use Rattle.doc_register.specs.declared.state.Conflicts.{Conflicts}
 use Rattle.history.specs.declared.record.Rec.{Rec}
 use Rattle.witness.specs.declared.place.Place.{Place}
 
--- a document's id, its records, the order of them, and how a conflict is read
+-- A document's id, its records, the places of an order of them, and how a conflict is read. The type of the
+-- code keeps that the places are valid places of the records in that reading.
 pub record Witness : Type 0 where
   pub doc : List ℕ
   pub records : List Rec

@@ -5,21 +5,28 @@ use Rattle.workload.specs.declared.plan_fault.PlanFault.{PlanFault}
 use Rattle.workload.specs.declared.plan_fault.PlanFault.TheVariants.{Zero, TooMany, NoMemory}
 use Rattle.workload.specs.declared.turn.Turn.{Turn}
 
--- the greatest numbers of clients, of turns of all clients together, and of documents of a plan
+-- the greatest number of clients of a plan: 8
+-- Source: profile.
 abbrev pub most_clients : ℕ
 most_clients = 8
 
+-- the greatest number of turns of all clients of a plan together: 524,288
+-- Source: profile.
 abbrev pub most_turns : ℕ
 most_turns = 524288
 
+-- the greatest number of documents of a plan: 1,024
+-- Source: profile.
 abbrev pub most_docs : ℕ
 most_docs = 1024
 
 -- a client without turns
+-- Source: profile.
 abbrev pub is_idle : List Turn → Bool
 is_idle turns = length turns == 0
 
--- a turn with a document number above those that there may be
+-- a turn of a document number of 1,024 or more
+-- Source: profile.
 abbrev pub is_far : Turn → Bool
 is_far turn = nat_le most_docs turn.doc
 
@@ -28,15 +35,19 @@ abbrev pub turn_count : List (List Turn) → ℕ
 turn_count clients = sum_by length clients
 
 -- there is no client, or one without turns
+-- Source: profile.
 abbrev pub lacks_turns : List (List Turn) → Bool
 lacks_turns clients = length clients == 0 || list_any is_idle clients
 
--- there are more clients, turns or documents than there may be
+-- there are more than 8 clients, more than 524,288 turns, or a turn of a document number of 1,024 or more
+-- Source: profile.
 abbrev pub is_too_large : List (List Turn) → Bool
 is_too_large clients =
     nat_lt most_clients (length clients) || nat_lt most_turns (turn_count clients) || list_any (list_any is_far) clients
 
--- the first reason to refuse these turns, each list being those of a client
+-- the first reason to refuse these turns, each list being those of a client: Zero if they lack turns, TooMany
+-- if they are too large
+-- Source: profile.
 abbrev pub refusal_of : List (List Turn) → Option PlanFault
 refusal_of clients = if lacks_turns clients then Some Zero else (if is_too_large clients then Some TooMany else None)
 

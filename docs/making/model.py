@@ -1,0 +1,182 @@
+"""Makes MODEL.md from the files of definitions: their comments, and the types of the code that they speak of.
+
+The order of the sections and of the files in them is given here; the words are those of the comments.
+"""
+
+import re
+import textwrap
+
+from . import sources
+from .sections import SECTIONS
+from .sources import Definition
+
+HEADER = sources.TOP / "docs" / "making" / "header_model.md"
+COLUMNS = 110
+
+# Values of a type are left out if there are more of them than this.
+MOST_VALUES = 30
+
+
+class Fault(Exception):
+    """What is wrong with the sources of a page."""
+
+
+def anchor_of(path):
+    """The anchor of the heading of a file."""
+    return re.sub(r"[^\w\- ]", "", path.lower()).replace(" ", "-")
+
+
+def wrapped(text, begin="", indent=None):
+    """The text, wrapped, with this before its first line and as many spaces before the others."""
+    indent = " " * len(begin) if indent is None else indent
+    how = {"initial_indent": begin, "subsequent_indent": indent, "break_long_words": False, "break_on_hyphens": False}
+    return textwrap.wrap(text, COLUMNS, **how)
+
+
+class Page:
+    """The page: what it names, and where."""
+
+    def __init__(self):
+        self.files, self.laws = sources.spec_files(), sources.laws()
+        self.order = [path for _, _, paths in SECTIONS for path in paths]
+        self.check_order()
+        self.owners = {}
+        for path in self.order:
+            for it in self.files[path].definitions:
+                self.owners.setdefault(it.name, []).append(path)
+        self.types, self.type_places = self.placed_types()
+
+    def check_order(self):
+        """Each file of definitions stands in one section."""
+        missing, strange = sorted(set(self.files) - set(self.order)), sorted(set(self.order) - set(self.files))
+        if missing or strange or len(self.order) != len(set(self.order)):
+            raise Fault(f"docs/making/sections.py: missing {missing}, not there {strange}, or one stands twice")
+
+    def placed_types(self):
+        """The types of the code by the file under which they are shown, and these files by the types: the first file of
+        their crate that imports them, or else the first of all."""
+        places = {}
+        for path in self.order:
+            for key in self.files[path].types:
+                own = key[0] == path.split("/")[0]
+                if key not in places or (own and places[key].split("/")[0] != key[0]):
+                    places[key] = path
+        found = {key: sources.type_of(*key) for key in places}
+        shown = {path: [found[key] for key in places if places[key] == path and found[key]] for path in self.order}
+        return shown, {key: path for key, path in places.items() if found[key]}
+
+    # ---- names within a text
+
+    def place_of(self, name, file):
+        """The file whose definition, or whose type, a text in this file means by the name; nothing of other words."""
+        if any(it.name == name for it in file.definitions):
+            return file.path
+        if name in file.imports:
+            key = file.imports[name]
+            is_there = len(key) == 2 and key[0] in self.files and any(it.name == key[1] for it in self.files[key[0]].definitions)
+            return key[0] if is_there else self.type_places.get(key, "")
+        owners = self.owners.get(name, []) if re.search(r"[A-Z_]", name) else []
+        near = [it for it in owners if it.split("/")[0] == file.crate]
+        return (near or owners)[0] if len(near or owners) == 1 else ""
+
+    def linked(self, text, file):
+        """The text with its names in backticks, those of other files as links to them."""
+
+        def quoted(match):
+            word = match[1].partition(" ")[0]
+            place = self.place_of(word, file) if word else ""
+            return f"[`{match[1]}`](#{anchor_of(place)})" if place and place != file.path else match[0]
+
+        def bare(match):
+            is_known = self.place_of(match[0], file) or any(match[0] == it.name for own in file.definitions for it in own.fields)
+            return f"`{match[0]}`" if is_known else match[0]
+
+        text = re.sub(r"\bdocs/(\w+\.md)\b", r"[\1](\1)", text)
+        pieces = re.split(r"(`[^`]*`)", text)
+        pieces[::2] = [re.sub(r"\b(?:[A-Z][a-z]+){2,}\b|\b[a-z]+(?:_[a-z]+)+\b", bare, it) for it in pieces[::2]]
+        return re.sub(r"`([^`]+)`", quoted, "".join(pieces))
+
+    # ---- pieces of the page
+
+    def block_lines(self, block, file, indent=""):
+        """The lines of a block: of a table, of a point of a list, or of a paragraph."""
+        if block.startswith("|"):
+            return [indent + self.linked(row, file) for row in block.splitlines()]
+        if block.startswith("- "):
+            return wrapped(self.linked(block[2:], file), f"{indent}- ")
+        return wrapped(self.linked(block, file), indent)
+
+    def blocks_lines(self, blocks, file, indent=""):
+        """The lines of some blocks, with a blank one between two that aren't points of one list."""
+        lines, before = [], ""
+        for block in blocks:
+            if lines and not (block.startswith("- ") and before.startswith("- ")):
+                lines.append("")
+            lines += self.block_lines(block, file, indent)
+            before = block
+        return lines
+
+    def definition_lines(self, it, file):
+        """The lines of a definition: its name and its arguments, its comment and its source, and its fields."""
+        name = f"- `{' '.join((it.name, *it.arguments))}`"
+        first, others = (it.blocks[0], it.blocks[1:]) if it.blocks and not it.blocks[0].startswith(("- ", "|")) else ("", it.blocks)
+        law = self.laws.get((file.crate, it.name), "")
+        source = " ".join((f"A law: the contract of `{law}`.",) * bool(law) + (f"*Source: {it.source}.*",) * bool(it.source))
+        told = f"{name}: {self.linked(ended(first), file)}" if first else name
+        is_short = not others
+        lines = wrapped(f"{told} {self.linked(source, file)}".strip() if is_short else told, "", "  ")
+        if others:
+            lines += ["", *self.blocks_lines(others, file, "  ")]
+            lines += ["", *wrapped(self.linked(source, file), "  ")] if source else []
+            lines += [""] if it.fields else []
+        return lines + self.field_lines(it.fields, file)
+
+    def field_lines(self, fields, file):
+        """The lines of fields: first those that have a comment, then the names of the others."""
+        lines = []
+        for it in fields:
+            if it.text:
+                lines += wrapped(f"`{it.name}`: {self.linked(ended(it.text), file)}", "  - ")
+        silent = [f"`{it.name}`" for it in fields if not it.text]
+        return lines + (wrapped(f"{', '.join(silent)}", "  - ") if silent else [])
+
+    def type_lines(self, it, file):
+        """The lines of a type of the code, with its values."""
+        lines = wrapped(f"- the type `{it.name}` of the crate {it.crate}: {self.linked(ended(' '.join(it.blocks)), file)}", "", "  ")
+        return lines + (self.field_lines(it.fields, file) if len(it.fields) <= MOST_VALUES else [])
+
+    def file_lines(self, path):
+        """The lines of a file."""
+        file = self.files[path]
+        lines = [f"### {path}", "", *self.blocks_lines(file.blocks, file), ""]
+        for it in self.types[path]:
+            lines += self.type_lines(it, file)
+        lines += [""] if self.types[path] else []
+        for it in file.parts:
+            if isinstance(it, Definition):
+                lines += self.definition_lines(it, file)
+            elif it.is_title:
+                lines += ["", f"**{it.blocks[0][:1].upper()}{it.blocks[0][1:]}**", ""]
+            else:
+                lines += ["", *self.blocks_lines(it.blocks, file), ""]
+        return lines + [""]
+
+    def text(self):
+        """The page."""
+        lines = HEADER.read_text(encoding="utf-8").splitlines() + [""]
+        for title, introduction, paths in SECTIONS:
+            lines += [f"## {title}", ""]
+            lines += [*wrapped(self.linked(introduction, self.files[paths[0]])), ""] if introduction else []
+            for path in paths:
+                lines += self.file_lines(path)
+        return re.sub(r"\n{3,}", "\n\n", "\n".join(lines)).strip() + "\n"
+
+
+def ended(text):
+    """The text, ended by a full stop."""
+    return text if not text or text.endswith((".", ":", "?", ".)")) else f"{text}."
+
+
+def page():
+    """The text of docs/MODEL.md."""
+    return Page().text()
