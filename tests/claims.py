@@ -317,10 +317,10 @@ class Model:
             texts += [field.text for it in file.definitions for field in it.fields]
             for name in (name for text in texts for name in re.findall(r"`([A-Z]\w+)[^`]*`", text)):
                 self.hold(name in self.known, file, name, "there is no such name")
+        there = {(file.crate, it.name) for file in self.files.values() for it in file.definitions}
         for (crate, name), call in self.laws.items():
-            is_so = any(it.name == name for file in self.files.values() if file.crate == crate for it in file.definitions)
             with self.claims.subTest(call):
-                self.claims.assertTrue(is_so, f"its contract {name} is no public definition of its crate")
+                self.claims.assertIn((crate, name), there, "its contract is no public definition of its crate")
 
 
 # ---- PROVED.md

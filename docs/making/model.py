@@ -27,10 +27,12 @@ def anchor_of(path):
 
 
 def wrapped(text, begin="", indent=None):
-    """The text, wrapped, with this before its first line and as many spaces before the others."""
+    """The text, wrapped, with this before its first line and as many spaces before the others. What is in backticks
+    stays on one line."""
     indent = " " * len(begin) if indent is None else indent
     how = {"initial_indent": begin, "subsequent_indent": indent, "break_long_words": False, "break_on_hyphens": False}
-    return textwrap.wrap(text, COLUMNS, **how)
+    joined = re.sub(r"`[^`]*`", lambda it: it[0].replace(" ", "\0"), text)
+    return [line.replace("\0", " ") for line in textwrap.wrap(joined, COLUMNS, **how)]
 
 
 class Page:
@@ -73,7 +75,7 @@ class Page:
             return file.path
         if name in file.imports:
             key = file.imports[name]
-            is_there = len(key) == 2 and key[0] in self.files and any(it.name == key[1] for it in self.files[key[0]].definitions)
+            is_there = len(key) == 2 and key[0] in self.owners.get(key[1], [])
             return key[0] if is_there else self.type_places.get(key, "")
         owners = self.owners.get(name, []) if re.search(r"[A-Z_]", name) else []
         near = [it for it in owners if it.split("/")[0] == file.crate]
@@ -88,9 +90,9 @@ class Page:
             return f"[`{match[1]}`](#{anchor_of(place)})" if place and place != file.path else match[0]
 
         def bare(match):
-            is_known = self.place_of(match[0], file) or any(match[0] == it.name for own in file.definitions for it in own.fields)
-            return f"`{match[0]}`" if is_known else match[0]
+            return f"`{match[0]}`" if match[0] in fields or self.place_of(match[0], file) else match[0]
 
+        fields = {it.name for own in file.definitions for it in own.fields}
         text = re.sub(r"\bdocs/(\w+\.md)\b", r"[\1](\1)", text)
         pieces = re.split(r"(`[^`]*`)", text)
         pieces[::2] = [re.sub(r"\b(?:[A-Z][a-z]+){2,}\b|\b[a-z]+(?:_[a-z]+)+\b", bare, it) for it in pieces[::2]]
@@ -119,12 +121,13 @@ class Page:
     def definition_lines(self, it, file):
         """The lines of a definition: its name and its arguments, its comment and its source, and its fields."""
         name = f"- `{' '.join((it.name, *it.arguments))}`"
-        first, others = (it.blocks[0], it.blocks[1:]) if it.blocks and not it.blocks[0].startswith(("- ", "|")) else ("", it.blocks)
-        law = self.laws.get((file.crate, it.name), "")
-        source = " ".join((f"A law: the contract of `{law}`.",) * bool(law) + (f"*Source: {it.source}.*",) * bool(it.source))
+        has_first = it.blocks and not it.blocks[0].startswith(("- ", "|"))
+        first, others = (it.blocks[0], it.blocks[1:]) if has_first else ("", it.blocks)
+        law = self.laws.get((file.crate, it.name))
+        notes = [f"A law: the contract of `{law}`."] if law else []
+        source = " ".join(notes + [f"*Source: {it.source}.*"] if it.source else notes)
         told = f"{name}: {self.linked(ended(first), file)}" if first else name
-        is_short = not others
-        lines = wrapped(f"{told} {self.linked(source, file)}".strip() if is_short else told, "", "  ")
+        lines = wrapped(told if others else f"{told} {self.linked(source, file)}".strip(), "", "  ")
         if others:
             lines += ["", *self.blocks_lines(others, file, "  ")]
             lines += ["", *wrapped(self.linked(source, file), "  ")] if source else []
@@ -142,7 +145,8 @@ class Page:
 
     def type_lines(self, it, file):
         """The lines of a type of the code, with its values."""
-        lines = wrapped(f"- the type `{it.name}` of the crate {it.crate}: {self.linked(ended(' '.join(it.blocks)), file)}", "", "  ")
+        text = self.linked(ended(" ".join(it.blocks)), file)
+        lines = wrapped(f"- the type `{it.name}` of the crate {it.crate}: {text}", "", "  ")
         return lines + (self.field_lines(it.fields, file) if len(it.fields) <= MOST_VALUES else [])
 
     def file_lines(self, path):

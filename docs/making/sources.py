@@ -67,9 +67,9 @@ class Note(NamedTuple):
 
 
 class SpecFile(NamedTuple):
-    """A file of definitions: its path, what its first comment says, what follows, and what it imports: definitions, each
-    with its file and its name there; types of the code, each with its crate, module and name; and their values, each
-    with nothing."""
+    """A file of definitions: its path, what its first comment says, what follows, and what it imports: definitions,
+    each with its file and its name there; types of the code, each with its crate, module and name; and values of these,
+    each with nothing. The types of the code stand once more by themselves."""
 
     path: str
     blocks: tuple
@@ -154,7 +154,8 @@ def named_by_type(kind):
         return named_by_type(rest[0])
     if head == "List" and rest:
         one = named_by_type(rest[0])
-        return {"ℕ": "bytes", "(List ℕ)": "lines"}.get(rest[0], f"{one[:-1]}ies" if one.endswith("y") else f"{one}s")
+        many = f"{one[:-1]}ies" if one.endswith("y") else f"{one}s"
+        return {"ℕ": "bytes", "(List ℕ)": "lines"}.get(rest[0], many)
     if not re.fullmatch(r"[A-Z]\w*", head):
         return {"ℕ": "n"}.get(head, "x")
     return SHORT_NAMES.get(head, re.sub(r"(?<!^)(?=[A-Z])", "_", head).lower())
@@ -229,7 +230,8 @@ class Reader:
             self.types += [key] if is_type else []
             self.imports.update({here: key if is_type else () for here, _ in names_in(names or "")})
         else:
-            self.imports.update({here: (f"{crate}/specs/{module.replace('.', '/')}.antt", there) for here, there in names_in(names or "")})
+            path = f"{crate}/specs/{module.replace('.', '/')}.antt"
+            self.imports.update({here: (path, there) for here, there in names_in(names or "")})
 
     def take_fields(self, indent, is_data):
         """Takes the fields of a record, or the constructors of data: the lines up to a blank one, further in."""
@@ -321,9 +323,10 @@ def spec_files():
 def laws():
     """The laws: for a crate and a definition, the call whose contract the definition is."""
     found = {}
+    contract = re.compile(r"^pub fn (\w+)\(\)\n    ensures \{ (\w+) \}$", re.MULTILINE)
     for file in sorted(CRATES.glob("*/src/laws.rt")):
         crate = file.parent.parent.name
-        for call, name in re.findall(r"^pub fn (\w+)\(\)\n    ensures \{ (\w+) \}$", file.read_text(encoding="utf-8"), re.MULTILINE):
+        for call, name in contract.findall(file.read_text(encoding="utf-8")):
             found[crate, name] = f"{crate}::laws::{call}"
     return found
 

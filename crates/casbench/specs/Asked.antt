@@ -279,7 +279,7 @@ in_turns_rule = record (new_rule (codes "in-turns")) { long = Some (codes "in-tu
 abbrev pub searched_line : Text → App
 searched_line name = with_rule (with_rule (with_rule (with_rule (new_app name) (file_rule (codes "history"))) (option_rule (codes "conflicts"))) workers_rule) rule_out_rule
 
--- the command `check`, which takes what a check takes
+-- the command `check`
 -- Source: profile.
 abbrev pub check_line : App
 check_line = searched_line (codes "check")

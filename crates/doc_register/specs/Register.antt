@@ -84,8 +84,8 @@ last_pair Never = None
 last_pair (Gone p) = Some p
 last_pair (Here p k) = Some p
 
--- the pair is greater than the pair of the document's last change, a delete included; if the document was
--- never written, each pair is
+-- The pair is greater than the pair of the document's last change, a delete included. Each pair exceeds a
+-- document that was never written.
 -- Source: profile.
 abbrev pub Exceeds : Pair → DocState → Type 0
 Exceeds q Never = Unit {0}

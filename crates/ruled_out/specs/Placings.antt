@@ -137,7 +137,7 @@ MayConflict records floor event (Delete (Some b)) n = MayRefuse records floor ev
 MayConflict records floor event (Create k) n = MayBePresent records floor event n
 
 -- The call c may have this reply at the position n. A get that found a pair is at the position of the pair,
--- and one that found nothing is where the document may be missing.
+-- and one that found nothing is at a position at which the document may be missing.
 -- Source: profile.
 abbrev pub MayAnswer : List Rec → (ℕ → ℕ) → ℕ → Rec → Reply → ℕ → Type 0
 MayAnswer records floor event c (Indexed q created) n = MayWrite records floor event c q created n
