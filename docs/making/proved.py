@@ -73,8 +73,8 @@ class Block(NamedTuple):
 
 
 class Source(NamedTuple):
-    """A file: its blocks, and the definitions that it imports, by the names that it has for them: the name of the
-    definition, and the crate and the file that it comes from."""
+    """A file: its blocks, and the definitions that it imports, by their names: the name again, and the crate and the
+    file that it comes from."""
 
     module: str
     blocks: list
@@ -98,10 +98,23 @@ def imports_of(text):
     imports = {}
     for crate, file, names in re.findall(r"ghost use Rattle\.(\w+)\.specs\.([A-Z]\w*)\.\{([^}]*)\}", text):
         if (CRATES / crate / "specs" / f"{file}.antt").exists():
-            for it in (it.strip() for it in names.split(",")):
-                name, _, alias = it.partition(" as ")
-                imports[alias or name] = (name, crate, file)
+            names = [it.split()[0] for it in names.split(",")]
+            imports.update({name: (name, crate, file) for name in names})
     return imports
+
+
+def unaliased(text):
+    """The text of a file, in which each name that its contracts have for another one is that name."""
+    aliases = {}
+    for names in re.findall(r"ghost use [\w.]+\.\{([^}]*)\}", text):
+        aliases.update({alias: name for name, alias in re.findall(r"(\w+) as (\w+)", names)})
+    pattern = re.compile(rf"(?<![\w.`])({'|'.join(aliases)})(?!\w)") if aliases else None
+
+    def line_of(line):
+        is_code = re.match(r"\s*(//|ghost use|use |pub |fn |\w+:)", line)
+        return line if is_code else pattern.sub(lambda it: aliases[it[1]], line)
+
+    return "\n".join(line_of(it) for it in text.split("\n")) if aliases else text
 
 
 def clauses_in(lines):
@@ -205,7 +218,7 @@ def source_of(module, text):
         elif line.startswith("//") and not line.startswith("//!"):
             says += [f" {line[2:].strip()}"] if not says or says[0].startswith("\0") else []
         elif re.match(r"\w", line):
-            while end < len(lines) and (not lines[end] or lines[end][0] in " )}") and lines[end - 1] not in ("}", ")"):
+            while end < len(lines) and (not lines[end] or lines[end][0] in " )}" or lines[end] == "where") and lines[end - 1] not in ("}", ")"):
                 end += 1
             block = None if is_test or line.startswith(("use", "ghost use", "mod")) else block_of(lines[place:end], says)
             blocks += [block] if block else []
@@ -227,7 +240,7 @@ class Crate:
         self.says = said[: said.index("")] if "" in said else said
         files = [(str(it.relative_to(folder).with_suffix("")), it) for it in sorted(folder.rglob("*.rt"))]
         files = [(module, it) for module, it in files if not {"tests", "testing"} & set(module.split("/"))]
-        self.sources = [source_of(module, it.read_text(encoding="utf-8")) for module, it in files]
+        self.sources = [source_of(module, unaliased(it.read_text(encoding="utf-8"))) for module, it in files]
         self.sources.sort(key=lambda it: it.module == "laws")
         self.exported = {}
         for path, names in re.findall(r"^pub use (\w+(?:::\w+)*)::(\w+|\{[^}]*\});", self.main, re.MULTILINE):
@@ -353,6 +366,8 @@ class Section:
             lines = wrapped(f"{names or 'it holds that'}" + (f" ({links})" if links else "") + ":", "- ", "  ")
             return [*lines, "", "  ```text", *(f"  {it}" for it in formula_lines(clause.formula)), "  ```", ""]
         links = ", ".join(self.link_to(it, by_name[it]) for it in cited)
+        if not told and cited == [clause.formula]:
+            told, links = links, ""
         told = (told or f"`{clause.formula}`") + (f" ({links})" if links else "")
         return wrapped(ahead + told, "- ", "  ")
 
@@ -393,7 +408,8 @@ class Section:
         self.lines += [f"### {title}", "", *said, *([""] if said else []), *self.clauses_lines(verb, ghosts, imports)]
 
     def add_source(self, source):
-        """Adds what a file declares and a caller has."""
+        """Adds what a file declares and a caller has. The methods of a type and what it gives to traits stand with it,
+        in whichever file they are."""
         for block in source.blocks:
             shown = self.crate.shown_name(source, block)
             if not shown:
@@ -404,26 +420,42 @@ class Section:
                 self.add_block(f"The trait `{shown}`", block, source.imports)
                 for call in block.calls:
                     self.lines += self.call_lines(f"{shown}::{call.name}", call, source.imports, "####")
-            elif block.kind == "impl" and not block.trait:
-                self.add_methods(shown, block, source)
-            elif block.kind == "impl" and block.trait not in UNSHOWN_TRAITS:
-                self.add_block(f"`{shown}` as `{block.trait}`", block, source.imports)
-                for call in block.calls if any(it.clauses for it in block.calls) else []:
-                    self.lines += self.call_lines(f"{shown} as {block.trait}::{call.name}", call, source.imports, "####")
+            elif block.kind == "type":
+                self.add_type(shown, block, source)
+            elif block.kind == "impl" and shown not in self.crate.types:
+                self.add_impl(shown, block, source)
 
-    def add_methods(self, shown, block, source):
-        """Adds the methods of a type, and at the first of them the type."""
-        calls = [it for it in block.calls if is_shown(self.crate, it)]
-        title = f"### `{shown}`"
-        if calls and title not in self.lines:
-            held = self.crate.types.get(shown)
-            said = paragraphs_of(held.says, str) if held else []
-            self.lines += [title, "", *said, *([""] if said else [])]
-            for other in (it for it in source.blocks if it.kind == "impl" and it.trait == "Model" and it.name == shown):
-                kept = [it for it in other.ghosts if it.name == "invariant"]
-                self.lines += self.clauses_lines("Each value keeps", [it._replace(name="") for it in kept], source.imports)
-        for call in calls:
-            self.lines += self.call_lines(f"{shown}::{call.name}", call, source.imports, "####")
+    def add_type(self, shown, block, source):
+        """Adds a type with its methods and what it gives to traits, if it has any."""
+        others = [it for it in self.crate.sources if it is not source]
+        impls = [(it, other) for it in (source, *others) for other in it.blocks if other.kind == "impl" and other.name == shown]
+        start = len(self.lines)
+        for own, impl in sorted(impls, key=lambda it: bool(it[1].trait)):
+            self.add_impl(shown, impl, own)
+        if any(it.startswith(f"#### `{shown}::") for it in self.lines[start:]):
+            said = paragraphs_of(block.says, str)
+            kept = [
+                line
+                for own, impl in impls
+                if impl.trait == "Model"
+                for line in self.kept_lines(impl, own.imports)
+            ]
+            self.lines[start:start] = [f"### `{shown}`", "", *said, *([""] if said else []), *kept]
+
+    def kept_lines(self, impl, imports):
+        """The lines about what each value of a type keeps, if a comment says it."""
+        kept = [it._replace(name="") for it in impl.ghosts if it.name == "invariant" and it.comment]
+        return self.clauses_lines("Each value keeps", kept, imports)
+
+    def add_impl(self, shown, block, source):
+        """Adds the methods of an impl, or what it gives to a trait."""
+        if not block.trait:
+            for call in (it for it in block.calls if is_shown(self.crate, it)):
+                self.lines += self.call_lines(f"{shown}::{call.name}", call, source.imports, "####")
+        elif block.trait not in UNSHOWN_TRAITS:
+            self.add_block(f"`{shown}` as `{block.trait}`", block, source.imports)
+            for call in block.calls if any(it.clauses for it in block.calls) else []:
+                self.lines += self.call_lines(f"{shown} as {block.trait}::{call.name}", call, source.imports, "####")
 
 
 def shows(formula):
