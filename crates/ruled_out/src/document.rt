@@ -48,13 +48,16 @@ fn ruled_out_as_told(alloc: Global, told: &[Rec]) -> Result<Option<u64>, NoMemor
 
 /// Returns the number of the call at which the document of the records is provably not linearizable (ruled
 /// out), if it is. The answered calls are taken in response order, each with the least position that it may
-/// have; the call returned has none.
+/// have; the call returned has none. The only error is that memory was refused.
 pub fn ruled_out_at(
     alloc: Global,
     records: &[Rec],
     conflicts: Conflicts,
 ) -> Result<Option<u64>, NoMemory>
+    // The records are in order, as those of a document of a history are.
     requires { AreInOrder (told conflicts records.now) }
+    // The document is provably not linearizable at the call that is returned; if none is returned, at no
+    // call.
     ensures { IfOk result (IsRuledOutAt (told conflicts records.now)) }
 {
     match conflicts {

@@ -12,8 +12,8 @@ use version_pair::{NoMemory, Pair};
 /// The earliest positions of the answered calls of a document, and why the walk over them stops, if it does:
 /// what `ruled_out_at` goes by, kept for explanations to people.
 ///
-/// No contract covers what is reported here. That a document is ruled out is what the contract of
-/// `ruled_out_at` says.
+/// No contract covers what is reported here. That a document is provably not linearizable is what the
+/// contract of `ruled_out_at` says.
 #[derive(Drop)]
 pub struct Standings {
     told: Vec<Rec>,
@@ -33,7 +33,7 @@ fn bound_of(raises: &[(usize, usize)], floor: usize) -> Option<usize> {
 }
 
 impl Standings {
-    /// Returns the standings for the records of a document.
+    /// Returns the standings for the records of a document. The only error is that memory was refused.
     pub fn of(alloc: Global, records: &[Rec], conflicts: Conflicts) -> Result<Standings, NoMemory> {
         let told = told_records(alloc, records, conflicts)?;
         let answers = answers_of(alloc, &told)?;
