@@ -1,4 +1,4 @@
--- What the words of the command line ask for.
+-- What the arguments of the command line ask for.
 use Rattle.std.specs.Prelude.{ℕ, ◌==◌, Bool, true, List, Option, Some, None, ◌&&◌, ◌^◌, codes, if◌then◌else◌, length, nat_lt, option_and_then, option_map}
 use Rattle.std.specs.Char.{digit_value}
 use Rattle.std.specs.List.{after_first, before_first, list_all, position_or_len}
@@ -24,9 +24,11 @@ use Rattle.seed_search.specs.Range.{seeds_between}
 use Rattle.casbench.specs.declared.words.Words.{Words}
 use Rattle.casbench.specs.declared.words.Words.TheVariants as words
 
--- a check of a history, with a number of workers, a witness of one, both of standard input where no file is named, a check of a
--- witness against a history, each with a reading of conflicts; or the lines of a bulk's body and its reply, the calls numbered from a number on; or a run in a manner; or
--- runs in turns from a seed to another, under a disturbance, until one is found that no order explains; or a check that is told, with a file for the page or none
+-- A check of a history, with a number of workers, or a witness of one, both of standard input if no file is
+-- named; or a check of a witness against a history; each of these with a reading of conflicts. Or the lines
+-- of a bulk's body and its reply, the calls numbered from a number on. Or a run in a manner; or runs in turns
+-- from one seed to another, under a disturbance, until one is found that no order was found for. Or a check
+-- that is explained, with a file for the page or none.
 pub data Asked : Type 0 where
   ToCheck : Option Text → Conflicts → ℕ → RulingOut → Asked
   ToWitness : Option Text → Conflicts → RulingOut → Asked
@@ -45,35 +47,35 @@ asked_by (words.Run setting manner) = ToRun setting manner
 asked_by (words.Search seeds setting disturbance) = ToSearch seeds.first seeds.last setting disturbance
 asked_by (words.Explain file conflicts workers ruling page) = ToExplain (option_map (λ f. f.now) file) conflicts workers ruling (option_map (λ t. t.now) page)
 
--- the reading of conflicts of this name, which is plain where none is given
+-- the reading of conflicts of this name; the plain one if none is given
 abbrev pub conflicts_named : Option Text → Option Conflicts
 conflicts_named None = Some Plain
 conflicts_named (Some name) =
     if bytes_eq name (codes "plain") then Some Plain else (if bytes_eq name (codes "maybe") then Some Maybe else None)
 
--- a number below 2^64: digits, with a plus before them or not
+-- a number below 2^64: digits, with or without a plus before them
 abbrev pub is_number : Text → Bool
 is_number text =
     let digits = without_leading_plus text in
     (nat_lt 0 (length digits) && list_all (λ c. nat_lt (digit_value c) 10) digits) && nat_lt (digits_value 10 digits) (2 ^ 64)
 
--- the number that is given, or another one where none is
+-- the number that is given, or another one if none is
 abbrev pub number_or : ℕ → Option Text → Option ℕ
 number_or other None = Some other
 number_or other (Some text) = if is_number text then Some (digits_value 10 (without_leading_plus text)) else None
 
--- documents are looked at that may be ruled out where the option for it is given: its text is then `true`
+-- Documents are checked for being ruled out if the option for it is given: its text is then `true`.
 abbrev pub ruling_given : Option Text → RulingOut
 ruling_given None = Off
 ruling_given (Some text) = if bytes_eq text (codes "true") then On else Off
 
--- one worker where no number is given
+-- one worker if no number is given
 abbrev pub check_of : List Row → Option Asked
 check_of rows =
     option_and_then (λ conflicts. option_map (λ n. ToCheck (first_of (codes "history") rows) conflicts n (ruling_given (first_of (codes "rule-out") rows)))
     (number_or 1 (first_of (codes "workers") rows))) (conflicts_named (first_of (codes "conflicts") rows))
 
--- one worker where no number is given
+-- one worker if no number is given
 abbrev pub explain_of : List Row → Option Asked
 explain_of rows =
     option_and_then (λ conflicts. option_map (λ n. ToExplain (first_of (codes "history") rows) conflicts n (ruling_given (first_of (codes "rule-out") rows)) (first_of (codes "html") rows))
@@ -88,7 +90,7 @@ verify_of rows =
     option_and_then (λ history. option_and_then (λ witness. option_map (λ conflicts. ToVerify history witness conflicts) (conflicts_named (first_of (codes "conflicts") rows)))
     (first_of (codes "witness") rows)) (first_of (codes "history") rows)
 
--- the calls are numbered from 0 where no number is given
+-- the calls are numbered from 0 if no number is given
 abbrev pub bulk_of : List Row → Option Asked
 bulk_of rows =
     option_and_then (λ body. option_and_then (λ reply. option_map (λ n. ToWriteBulk body reply n) (number_or 0 (first_of (codes "first") rows))) (first_of (codes "reply") rows)) (first_of (codes "body") rows)
@@ -112,7 +114,7 @@ fault_named name =
     else (if bytes_eq name (codes "stale") then Some fault.Stale
     else (if bytes_eq name (codes "blind") then Some fault.Blind else None)))))
 
--- what a run is made with, where each number is given and the fault is named
+-- what a run is made with, if each number is given and the fault is named
 abbrev pub setting_given : Option ℕ → List Row → Option RunSetting
 setting_given seed rows =
     option_and_then (λ s. option_and_then (λ a. option_and_then (λ b. option_and_then (λ d. option_and_then (λ e.
@@ -120,7 +122,7 @@ setting_given seed rows =
     (small_given (first_of (codes "copies") rows))) (small_given (first_of (codes "docs") rows))) (small_given (first_of (codes "calls") rows)))
     (small_given (first_of (codes "clients") rows))) seed
 
--- the disturbance of this name, which is none where none is given
+-- the disturbance of this name; `None` if no name is given
 abbrev pub disturbance_named : Option Text → Option Disturbance
 disturbance_named None = Some by.None
 disturbance_named (Some name) =
@@ -129,12 +131,12 @@ disturbance_named (Some name) =
     else (if bytes_eq name (codes "promotions") then Some by.Promotions
     else (if bytes_eq name (codes "storm") then Some by.Storm else None)))
 
--- the clients take turns where the option for it is given: its text is then `true`
+-- the clients take turns if the option for it is given: its text is then `true`
 abbrev pub playing_given : Option Text → Playing
 playing_given None = OnThreads
 playing_given (Some text) = if bytes_eq text (codes "true") then InTurns else OnThreads
 
--- how a run goes, where the disturbance is named or none is
+-- how a run goes, if the disturbance is named or none is
 abbrev pub manner_given : List Row → Option Manner
 manner_given rows =
     option_map (λ d. record { playing = playing_given (first_of (codes "in-turns") rows); disturbance = d }) (disturbance_named (first_of (codes "disturb") rows))
@@ -154,18 +156,18 @@ seeds_named text =
 abbrev pub one_run_of : Option Text → List Row → Option Asked
 one_run_of seed rows = option_and_then (λ setting. option_map (λ manner. ToRun setting manner) (manner_given rows)) (setting_given (number_given seed) rows)
 
--- runs with these seeds; that of the setting is the first of them
+-- runs with these seeds; the seed of the setting is the first of them
 abbrev pub search_among : ℕ × ℕ → List Row → Option Asked
 search_among seeds rows =
     option_and_then (λ setting. option_map (λ disturbance. ToSearch seeds.0 seeds.1 setting disturbance) (disturbance_named (first_of (codes "disturb") rows)))
     (setting_given (Some seeds.0) rows)
 
--- runs with the seeds that are named, until one is refuted
+-- runs with the seeds that are named, until one is refuted or gets `no`
 abbrev pub search_of : Text → Text → List Row → Option Asked
 search_of until seeds rows =
     if bytes_eq until (codes "refuted") then option_and_then (λ named. search_among named rows) (seeds_named seeds) else None
 
--- One run where a seed is given; a search where it isn't, and what is looked for and the seeds are.
+-- One run if a seed is given; a search if no seed is given, and what is searched for and the seeds are.
 abbrev pub runs_of : Option Text → Option Text → Option Text → List Row → Option Asked
 runs_of seed None None rows = one_run_of seed rows
 runs_of None (Some until) (Some seeds) rows = search_of until seeds rows
@@ -174,7 +176,7 @@ runs_of _ _ _ rows = None
 abbrev pub run_of : List Row → Option Asked
 run_of rows = runs_of (first_of (codes "seed") rows) (first_of (codes "until") rows) (first_of (codes "seeds") rows) rows
 
--- what a command of this name asks for, which was given these texts by the names of its arguments
+-- what the command of this name asks for, which was given these texts by the names of its arguments
 abbrev pub asked_of_command : Text → List Row → Option Asked
 asked_of_command name rows =
     if bytes_eq name (codes "check") then check_of rows
@@ -184,7 +186,7 @@ asked_of_command name rows =
     else (if bytes_eq name (codes "run") then run_of rows
     else (if bytes_eq name (codes "explain") then explain_of rows else None)))))
 
--- no command asks for a check of standard input by one worker
+-- without a command, a check of standard input by one worker is asked for
 abbrev pub asked_of : Option (Text × List Row) → Option Asked
 asked_of None = Some (ToCheck None Plain 1 Off)
 asked_of (Some command) = asked_of_command command.0 command.1
@@ -197,7 +199,7 @@ file_rule name = record (new_rule name) { value_names = 1 }
 abbrev pub needed_rule : Text → Rule
 needed_rule name = record (file_rule name) { required = true }
 
--- an option with a value, under this name
+-- an option with a value, of this name
 abbrev pub option_rule : Text → Rule
 option_rule name = record (file_rule name) { long = Some name }
 
@@ -213,7 +215,7 @@ workers_rule = record (option_rule (codes "workers")) { parser = Some (parser.Un
 abbrev pub rule_out_rule : Rule
 rule_out_rule = record (new_rule (codes "rule-out")) { long = Some (codes "rule-out"); action = Some SetTrue }
 
--- a number below 2^32 that is required, under this name
+-- a required number below 2^32, of this name
 abbrev pub small_rule : Text → Rule
 small_rule name = record (needed_rule name) { long = Some name; parser = Some (parser.Unsigned 0 4294967295) }
 
@@ -236,7 +238,7 @@ searched_line name = with_rule (with_rule (with_rule (with_rule (new_app name) (
 abbrev pub check_line : App
 check_line = searched_line (codes "check")
 
--- with the page too
+-- the same, with the page too
 abbrev pub explain_line : App
 explain_line = with_rule (searched_line (codes "explain")) (option_rule (codes "html"))
 
@@ -250,19 +252,19 @@ verify_line =
 abbrev pub bulk_line : App
 bulk_line = with_rule (with_rule (with_rule (new_app (codes "bulk")) (needed_rule (codes "body"))) (needed_rule (codes "reply"))) first_rule
 
--- `run` with what the clients do
+-- `run` with the arguments that say what the clients do
 abbrev pub plan_line : App
 plan_line = with_rule (with_rule (with_rule (new_app (codes "run")) seed_rule) (small_rule (codes "clients"))) (small_rule (codes "calls"))
 
--- and with the group
+-- and with those of the group
 abbrev pub group_line : App
 group_line = with_rule (with_rule (with_rule plan_line (small_rule (codes "docs"))) (small_rule (codes "copies"))) fault_rule
 
--- and with how it goes
+-- and with those that say how it goes
 abbrev pub manner_line : App
 manner_line = with_rule (with_rule group_line in_turns_rule) (option_rule (codes "disturb"))
 
--- and with the seeds that are tried
+-- and with those of the seeds that are tried
 abbrev pub run_line : App
 run_line = with_rule (with_rule manner_line (option_rule (codes "until"))) (option_rule (codes "seeds"))
 
@@ -276,10 +278,10 @@ command_line =
     with_subcommand (with_subcommand (with_subcommand (with_subcommand (with_subcommand (with_subcommand named_line check_line.top) witness_line.top) verify_line.top) bulk_line.top)
     run_line.top) explain_line.top
 
--- what the words ask for, the first of which is the program's name
+-- what the arguments ask for, the first of which is the program's name
 unfoldable pub asked_on : List Text → Option Asked
 asked_on line = asked_of (subcommand_of command_line line)
 
--- the fault of the words, as the kinds of error that they may be told with; none where they are taken
+-- the fault of the arguments, as the kinds of error that they may be reported with; none if they are accepted
 unfoldable pub faults_on : List Text → Kinds
 faults_on line = fault_of command_line line

@@ -21,7 +21,7 @@ code_of_fault (Worker doc) = 5
 code_of_fault Recording = 5
 code_of_fault Setting = 64
 
--- help and the version are no refusal
+-- help and the version are not refusals
 abbrev pub code_of_words : ErrorKind → ℕ
 code_of_words DisplayHelp = 0
 code_of_words DisplayVersion = 0

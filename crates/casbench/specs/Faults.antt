@@ -1,11 +1,11 @@
--- Which faults the commands answer.
+-- Which faults the commands return.
 use Rattle.casbench.specs.declared.words.Words.{Words}
 use Rattle.casbench.specs.declared.words.Words.TheVariants as words
 use Rattle.recorded_runs.specs.Runs.{IsRunFault}
 use Rattle.stream_io.specs.Faults.{IsStreamFault, IsWorkedFault}
 use Rattle.stream_io.specs.declared.stream_fault.StreamFault.{StreamFault}
 
--- a check, told or not, has workers; a run reads nothing
+-- a check, explained or not, has workers; a run reads nothing
 abbrev pub MayFail : Words → StreamFault → Type 0
 MayFail (words.Check file conflicts workers ruling) fault = IsWorkedFault fault
 MayFail (words.Witness file conflicts ruling) fault = IsStreamFault fault

@@ -12,7 +12,7 @@ pub const HISTORY: &str = "history";
 /// The body of a bulk request.
 pub const BODY: &str = "body";
 
-/// Its reply.
+/// The reply to a bulk request.
 pub const REPLY: &str = "reply";
 
 /// The number of the first call.
@@ -21,10 +21,10 @@ pub const FIRST: &str = "first";
 /// How a conflict is read.
 pub const CONFLICTS: &str = "conflicts";
 
-/// How many workers there are.
+/// The number of workers.
 pub const WORKERS: &str = "workers";
 
-/// Whether documents are looked at that may be ruled out.
+/// Whether documents are checked for being ruled out.
 pub const RULE_OUT: &str = "rule-out";
 
 /// The file of a page.
@@ -36,16 +36,16 @@ pub const WITNESS: &str = "witness";
 /// The seed of a run.
 pub const SEED: &str = "seed";
 
-/// How many clients a run has.
+/// The number of clients of a run.
 pub const CLIENTS: &str = "clients";
 
-/// How many calls each of them makes.
+/// The number of calls that each of them makes.
 pub const CALLS: &str = "calls";
 
-/// How many documents there are.
+/// The number of documents.
 pub const DOCS: &str = "docs";
 
-/// How many copies the group has.
+/// The number of copies of the group.
 pub const COPIES: &str = "copies";
 
 /// What the group does wrong.
@@ -57,13 +57,13 @@ pub const IN_TURNS: &str = "in-turns";
 /// How the group is disturbed.
 pub const DISTURB: &str = "disturb";
 
-/// What a run is looked for that gets it.
+/// The answer that a search looks for.
 pub const UNTIL: &str = "until";
 
 /// The seeds that are tried.
 pub const SEEDS: &str = "seeds";
 
-/// The file of the history text, which may be left out.
+/// Returns the argument of the history text's file, which may be left out.
 pub fn history<'a>(alloc: Global) -> Arg<'a>
     ensures rule { rule_of result ≡ file_rule (codes "history") }
     ensures local { result.global ≡ false }
@@ -73,7 +73,7 @@ pub fn history<'a>(alloc: Global) -> Arg<'a>
         .help("The history text; standard input where it is left out")
 }
 
-/// A file that may not be left out.
+/// Returns the argument of a file that may not be left out.
 pub fn needed_file<'a>(alloc: Global, id: &'a str, shown: &'a str, help: &'a str) -> Arg<'a>
     ensures rule { rule_of result ≡ needed_rule id.entry.now }
     ensures local { result.global ≡ false }
@@ -84,7 +84,7 @@ pub fn needed_file<'a>(alloc: Global, id: &'a str, shown: &'a str, help: &'a str
         .required(true)
 }
 
-/// An option with a value, which may be left out.
+/// Returns an option with a value, which may be left out.
 pub fn option<'a>(alloc: Global, id: &'a str, shown: &'a str, help: &'a str) -> Arg<'a>
     ensures rule { rule_of result ≡ option_rule id.entry.now }
     ensures local { result.global ≡ false }
@@ -92,7 +92,7 @@ pub fn option<'a>(alloc: Global, id: &'a str, shown: &'a str, help: &'a str) -> 
     Arg::new(alloc, id).long(id).value_name(shown).help(help)
 }
 
-/// The number of the first call, which may be left out.
+/// Returns the option of the number of the first call, which may be left out.
 pub fn first<'a>(alloc: Global) -> Arg<'a>
     ensures rule { rule_of result ≡ first_rule }
     ensures local { result.global ≡ false }
@@ -101,7 +101,7 @@ pub fn first<'a>(alloc: Global) -> Arg<'a>
     option(alloc, FIRST, "N", help).value_parser(ValueParser::Unsigned(0, u64::MAX))
 }
 
-/// How a conflict is read, which may be left out.
+/// Returns the option of how a conflict is read, which may be left out.
 pub fn conflicts<'a>(alloc: Global) -> Arg<'a>
     ensures rule { rule_of result ≡ option_rule (codes "conflicts") }
     ensures local { result.global ≡ false }
@@ -111,7 +111,7 @@ pub fn conflicts<'a>(alloc: Global) -> Arg<'a>
     option(alloc, CONFLICTS, "READING", help)
 }
 
-/// How many workers there are, which may be left out.
+/// Returns the option of the number of workers, which may be left out.
 pub fn workers<'a>(alloc: Global) -> Arg<'a>
     ensures rule { rule_of result ≡ workers_rule }
     ensures local { result.global ≡ false }
@@ -120,7 +120,7 @@ pub fn workers<'a>(alloc: Global) -> Arg<'a>
     option(alloc, WORKERS, "N", help).value_parser(ValueParser::Unsigned(1, 16))
 }
 
-/// Whether documents are looked at that may be ruled out.
+/// Returns the option that has documents checked for being ruled out.
 pub fn rule_out<'a>(alloc: Global) -> Arg<'a>
     ensures rule { rule_of result ≡ rule_out_rule }
     ensures local { result.global ≡ false }
@@ -133,7 +133,7 @@ pub fn rule_out<'a>(alloc: Global) -> Arg<'a>
         )
 }
 
-/// The seed of a run, which is left out where several are tried.
+/// Returns the option of the seed of a run, which is left out if several seeds are tried.
 pub fn seed<'a>(alloc: Global) -> Arg<'a>
     ensures rule { rule_of result ≡ seed_rule }
     ensures local { result.global ≡ false }
@@ -143,7 +143,7 @@ pub fn seed<'a>(alloc: Global) -> Arg<'a>
     option(alloc, SEED, "S", help).value_parser(ValueParser::Unsigned(0, u64::MAX))
 }
 
-/// A number below 2^32 that may not be left out.
+/// Returns the option of a number below 2^32 that may not be left out.
 pub fn small<'a>(alloc: Global, id: &'a str, shown: &'a str, help: &'a str) -> Arg<'a>
     ensures rule { rule_of result ≡ small_rule id.entry.now }
     ensures local { result.global ≡ false }
@@ -156,7 +156,7 @@ pub fn small<'a>(alloc: Global, id: &'a str, shown: &'a str, help: &'a str) -> A
         .required(true)
 }
 
-/// What the group does wrong.
+/// Returns the option of what the group does wrong.
 pub fn fault<'a>(alloc: Global) -> Arg<'a>
     ensures rule { rule_of result ≡ fault_rule }
     ensures local { result.global ≡ false }
@@ -168,7 +168,7 @@ pub fn fault<'a>(alloc: Global) -> Arg<'a>
         .required(true)
 }
 
-/// Whether the clients take their turns on one thread.
+/// Returns the option by which the clients take their turns on one thread.
 pub fn in_turns<'a>(alloc: Global) -> Arg<'a>
     ensures rule { rule_of result ≡ in_turns_rule }
     ensures local { result.global ≡ false }

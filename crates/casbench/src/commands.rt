@@ -11,25 +11,25 @@ use crate::arguments::{
 use clap::{Arg, Command};
 use std::alloc::{AllocError, Global};
 
-/// Checks a history.
+/// The name of the command that checks a history.
 pub const CHECK: &str = "check";
 
-/// Writes the witness of a history.
+/// The name of the command that writes the witness of a history.
 pub const WITNESS: &str = "witness";
 
-/// Checks a witness against a history.
+/// The name of the command that checks a witness against a history.
 pub const VERIFY: &str = "verify";
 
-/// Writes a bulk as lines of a history.
+/// The name of the command that writes a bulk as lines of a history.
 pub const BULK: &str = "bulk";
 
-/// Runs clients against a replication group.
+/// The name of the command that runs clients against a replication group.
 pub const RUN: &str = "run";
 
-/// Checks a history, and tells what was found.
+/// The name of the command that checks a history, and explains what was found.
 pub const EXPLAIN: &str = "explain";
 
-// The command with one more argument, which its subcommands don't take.
+// Returns the command with one more argument, which its subcommands don't take.
 fn with_argument<'a>(command: Command<'a>, argument: Arg<'a>) -> Result<Command<'a>, AllocError>
     requires { argument.global ≡ false }
     ensures line { IfOk result (λ told. app_of told ≡ with_rule (app_of command.entry) (rule_of argument.entry)) }
@@ -38,7 +38,7 @@ fn with_argument<'a>(command: Command<'a>, argument: Arg<'a>) -> Result<Command<
     command.arg(argument)
 }
 
-// A command of this name that takes what a check takes.
+// Returns a command of this name that takes what a check takes.
 fn searched_command<'a>(
     alloc: Global,
     name: &'a str,
@@ -126,7 +126,7 @@ fn explain_command<'a>(alloc: Global) -> Result<Command<'a>, AllocError>
     with_argument(command, option(alloc, HTML, "OUT", help))
 }
 
-// The command without its arguments.
+// Returns the command `run` without its arguments.
 fn bare_command<'a>(alloc: Global) -> Command<'a>
     ensures line { app_of result ≡ new_app (codes "run") }
     ensures local { (fields_of result).has_globals ≡ false }
@@ -138,7 +138,7 @@ fn bare_command<'a>(alloc: Global) -> Command<'a>
         )
 }
 
-// The command with those arguments that say what the clients do.
+// Returns the command with those arguments that say what the clients do.
 fn plan_command<'a>(alloc: Global) -> Result<Command<'a>, AllocError>
     ensures line { IfOk result (λ command. app_of command ≡ plan_line) }
     ensures local { IfOk result (λ command. (fields_of command).has_globals ≡ false) }
@@ -155,7 +155,7 @@ fn plan_command<'a>(alloc: Global) -> Result<Command<'a>, AllocError>
     with_argument(command, calls)
 }
 
-// And with those that say what the group is.
+// Returns the same with those that say what the group is.
 fn group_command<'a>(alloc: Global) -> Result<Command<'a>, AllocError>
     ensures line { IfOk result (λ command. app_of command ≡ group_line) }
     ensures local { IfOk result (λ command. (fields_of command).has_globals ≡ false) }
@@ -167,7 +167,7 @@ fn group_command<'a>(alloc: Global) -> Result<Command<'a>, AllocError>
     with_argument(command, fault(alloc))
 }
 
-// And with those that say how the run goes.
+// Returns the same with those that say how the run goes.
 fn manner_command<'a>(alloc: Global) -> Result<Command<'a>, AllocError>
     ensures line { IfOk result (λ command. app_of command ≡ manner_line) }
     ensures local { IfOk result (λ command. (fields_of command).has_globals ≡ false) }
@@ -178,7 +178,7 @@ fn manner_command<'a>(alloc: Global) -> Result<Command<'a>, AllocError>
     with_argument(command, option(alloc, DISTURB, "NAME", help))
 }
 
-// And with those that say which seeds are tried.
+// Returns the same with those that say which seeds are tried.
 fn run_command<'a>(alloc: Global) -> Result<Command<'a>, AllocError>
     ensures line { IfOk result (λ command. app_of command ≡ run_line) }
     ensures local { IfOk result (λ command. (fields_of command).has_globals ≡ false) }
@@ -193,7 +193,7 @@ fn run_command<'a>(alloc: Global) -> Result<Command<'a>, AllocError>
     with_argument(command, option(alloc, SEEDS, "A-B", seeds))
 }
 
-// The program without its commands.
+// Returns the program without its commands.
 fn named_program<'a>(alloc: Global) -> Result<Command<'a>, AllocError>
     ensures { IfOk result (λ program. app_of program ≡ named_line) }
 {
@@ -210,7 +210,7 @@ fn named_program<'a>(alloc: Global) -> Result<Command<'a>, AllocError>
     )
 }
 
-/// The program with its commands.
+/// Returns the program with its commands.
 pub fn program<'a>(alloc: Global) -> Result<Command<'a>, AllocError>
     ensures { IfOk result (λ program. app_of program ≡ command_line) }
 {

@@ -4,10 +4,10 @@ ghost use Rattle.casbench.specs.Exit.{code_of_fault, code_of_status, code_of_wor
 use clap::error::ErrorKind;
 use report::{Status, StreamFault};
 
-/// The exit status of words that are refused.
+/// The exit status of arguments that are refused.
 pub const WORDS_REFUSED: u8 = 64;
 
-/// The exit status of an answer.
+/// Returns the exit status of an answer.
 pub fn status_code(status: Status) -> u8
     ensures { result ≡ code_of_status status }
 {
@@ -18,7 +18,7 @@ pub fn status_code(status: Status) -> u8
     }
 }
 
-/// The exit status of a fault.
+/// Returns the exit status of a fault.
 pub fn fault_code(fault: StreamFault) -> u8
     ensures { result ≡ code_of_fault fault }
 {
@@ -30,7 +30,7 @@ pub fn fault_code(fault: StreamFault) -> u8
     }
 }
 
-/// The exit status of words that ask for nothing but help or the version, or are refused.
+/// Returns the exit status of arguments that ask for nothing but help or the version, or are refused.
 pub fn words_code(kind: ErrorKind) -> u8
     ensures { result ≡ code_of_words kind }
 {

@@ -25,7 +25,7 @@ impl<F: Read, I: Read> Read for Source<F, I> {
     }
 }
 
-/// Reports on standard error which file can't be opened, and why; also if standard error fails.
+/// Reports on standard error which file can't be opened, and why. A fault of standard error is ignored.
 pub fn tell_unopened(rt: &impl Eprint, path: &str, error: &io::Error) {
     let _ = match error.kind() {
         ErrorKind::NotFound => eprintln!(rt; "casbench: {path}: no such file"),
@@ -33,8 +33,8 @@ pub fn tell_unopened(rt: &impl Eprint, path: &str, error: &io::Error) {
     };
 }
 
-/// The file, open to be read from its start. If it can't be opened it is named on standard error, and that is a
-/// read fault.
+/// Opens the file, to be read from its start. Errors: `Read` if it can't be opened; it is then named on
+/// standard error.
 pub fn open<R: Files + Eprint>(rt: &R, path: &str) -> Result<R::File, StreamFault>
     ensures { IfErr result (λ fault. fault ≡ StreamFault.Read) }
 {
@@ -47,7 +47,7 @@ pub fn open<R: Files + Eprint>(rt: &R, path: &str) -> Result<R::File, StreamFaul
     }
 }
 
-/// The file that is named, open as by `open`, or the input if none is.
+/// Returns the file that is named, opened as by `open`, or the input if none is named.
 pub fn open_or<R: Files + Eprint, I: Drop>(
     rt: &R,
     path: Option<&str>,
@@ -62,7 +62,8 @@ pub fn open_or<R: Files + Eprint, I: Drop>(
     }
 }
 
-/// Both files, open as by `open`, the first before the second. Where the first can't be opened the second isn't tried.
+/// Opens both files as by `open`, the first before the second. If the first can't be opened, the second isn't
+/// tried.
 pub fn open_both<R: Files + Eprint>(
     rt: &R,
     first: &str,

@@ -1,5 +1,5 @@
-//! casbench: tells whether a recorded history of an OpenSearch index keeps the compare-and-set promise. The words of the
-//! process become a value `Words`, which `run` does; then an exit status.
+//! casbench: says whether a recorded history of an OpenSearch index keeps the compare-and-set promise. The
+//! arguments of the process become a value `Words`, which `run` does; an exit status follows.
 //!
 //! ```text
 //! $ casbench check history.ndjson
@@ -29,13 +29,13 @@ use std::rt::Env;
 use std::{env, io};
 use words::read_words;
 
-// Tells the fault on standard error and gives its exit status, also where standard error fails.
+// Reports the fault on standard error and returns its exit status, also if standard error fails.
 fn tell_fault(rt: &impl Eprint, fault: StreamFault) -> u8 {
     let _ = eprintln!(rt; "casbench: {fault}");
     fault_code(fault)
 }
 
-// Tells why no words are had: one is no text, or memory was refused.
+// Reports why the arguments can't be read: one is not UTF-8, or memory was refused.
 fn tell_no_words(rt: &impl Eprint, error: &io::Error) -> u8 {
     if error.kind() == io::ErrorKind::OutOfMemory {
         return tell_fault(rt, StreamFault::NoMemory);
@@ -44,7 +44,7 @@ fn tell_no_words(rt: &impl Eprint, error: &io::Error) -> u8 {
     WORDS_REFUSED
 }
 
-// Writes help or the version to standard output, or to standard error why the words are refused.
+// Writes help or the version to standard output, or to standard error why the arguments are refused.
 fn tell_words<R: Print + Eprint>(rt: &R, error: &clap::Error) -> u8 {
     if error.kind() == ErrorKind::OutOfMemory {
         return tell_fault(rt, StreamFault::NoMemory);
@@ -55,13 +55,13 @@ fn tell_words<R: Print + Eprint>(rt: &R, error: &clap::Error) -> u8 {
     words_code(error.kind())
 }
 
-// The words of the process, of which the first is the program's name.
+// Returns the arguments of the process, of which the first is the program's name.
 fn process_words<R: Env + AllocGlobal>(rt: &R) -> io::Result<Vec<String>> {
     let words = env::args(rt)?.collect(rt.alloc())?;
     Ok(words)
 }
 
-// Keys that a text can't know, drawn by the system; the fixed ones where it gives none.
+// Returns keys that a text can't know, drawn by the system; the fixed ones if the system gives none.
 fn drawn_keys(rt: &impl RandomSource) -> HashKeys {
     let mut first = [0; 8];
     let mut second = [0; 8];

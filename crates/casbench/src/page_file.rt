@@ -1,5 +1,6 @@
-//! The page of `explain` as a file. It is written whole to a new file beside the path, which takes the path's name when all else is
-//! done: a page that is there survives every fault and interruption. It never takes the place of the history.
+//! The page of `explain` as a file. It is written whole to a new file beside the path, which takes the path's
+//! name when all else is done: an existing page survives every fault and interruption. It never takes the
+//! place of the history.
 
 ghost use Rattle.std.specs.Prelude.{◌≡◌, ◌⊎◌, IfErr};
 
@@ -12,13 +13,13 @@ use std::os::unix::fs::MetadataExt;
 use std::rt::Files;
 use stream_io::write_text;
 
-// The name by which the system knows what standard input is.
+// The name by which the system knows which file standard input is.
 const STANDARD_INPUT: &str = "/dev/stdin";
 
-// How many names are tried for a new file.
+// The number of names that are tried for a new file.
 const NEW_NAMES: u32 = 100;
 
-// What the system knows of the file that is read, or of standard input.
+// Returns what the system knows of the file that is read, or of standard input.
 fn metadata_of<R: Files, I>(rt: &R, source: &Source<R::File, I>) -> io::Result<Metadata> {
     match source {
         Source::File(file) => file.metadata(),
@@ -26,13 +27,13 @@ fn metadata_of<R: Files, I>(rt: &R, source: &Source<R::File, I>) -> io::Result<M
     }
 }
 
-// Whether both are one regular file, whatever it is called.
+// Whether both are one regular file, whatever its names are.
 fn are_one_file(one: &Metadata, other: &Metadata) -> bool {
     one.is_file() && one.dev() == other.dev() && one.ino() == other.ino()
 }
 
-/// Refuses a page that is the history itself, whatever both are called. That is reported on standard error by the page's name, and is
-/// a write fault.
+/// Refuses a page that is the history itself, whatever names they have. Errors: `Write`; it is reported on
+/// standard error, with the page's name.
 pub fn refuse_history<R: Files + Eprint, I>(
     rt: &R,
     page: Option<&str>,
@@ -53,7 +54,7 @@ pub fn refuse_history<R: Files + Eprint, I>(
     Ok(())
 }
 
-// That the file of this name can't be written, which is reported on standard error.
+// Reports on standard error that the file of this name can't be written, and returns the fault.
 fn unwritten(rt: &impl Eprint, path: &str, error: &io::Error) -> StreamFault
     ensures { result ≡ StreamFault.Write }
 {
@@ -61,7 +62,7 @@ fn unwritten(rt: &impl Eprint, path: &str, error: &io::Error) -> StreamFault
     StreamFault::Write
 }
 
-// A new file beside the path, with its name.
+// Returns a new file beside the path, with its name.
 fn new_file<R: Files + Eprint>(
     rt: &R,
     alloc: Global,
@@ -85,7 +86,7 @@ fn new_file<R: Files + Eprint>(
     Err(unwritten(rt, path, &taken))
 }
 
-// Writes the page to the file, and that to the disk.
+// Writes the page to the file, and the file to the disk.
 fn write_through<R: Files + Eprint>(
     rt: &R,
     file: &mut R::File,
@@ -104,16 +105,18 @@ fn write_through<R: Files + Eprint>(
 /// A page that is ready to take its place.
 #[derive(Drop)]
 pub enum ReadyPage<'p> {
-    /// It stands whole in a new file of the first name, beside the one of the second name.
+    /// It is complete in a new file of the first name, beside the one of the second name.
     Beside(String, String),
-    /// It is to be written to what has this name, which is no regular file: a pipe or a terminal, for one.
+    /// It is to be written to what has this name, which is no regular file: for example a pipe or a terminal.
     Through(&'p str),
 }
 
 impl<'p> ReadyPage<'p> {
-    /// Writes the page to a new file beside the path, or beside the file that the path links to.
+    /// Writes the page to a new file beside the path, or beside the file that the path links to. If what the
+    /// path names is no regular file, nothing is written yet.
     ///
-    /// `Write` if it can't be written, and `NoMemory` if a growth was refused: then the new file is gone again.
+    /// Errors: `Write` if it can't be written, and `NoMemory` if memory was refused. The new file is then
+    /// removed.
     pub fn new<R: Files + Eprint>(
         rt: &R,
         alloc: Global,
@@ -140,7 +143,8 @@ impl<'p> ReadyPage<'p> {
         }
     }
 
-    /// Has the page take its place, at once if that is a regular file's or nobody's. If it can't, what is there stays.
+    /// Puts the page in its place; in one step if a regular file is there, or nothing. If it can't, what is
+    /// there stays.
     pub fn keep<R: Files + Eprint>(self, rt: &R, page: &[u8]) -> Result<(), StreamFault>
         ensures { IfErr result (λ fault. fault ≡ StreamFault.Write) }
     {

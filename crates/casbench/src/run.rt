@@ -35,7 +35,8 @@ use std::sync::Wait;
 use std::thread::Threads;
 use workload::Target;
 
-// A number of workers from 1 to 16: the nearest one if the number is another, which no arguments give.
+// Returns a number of workers from 1 to 16: the nearest one if the number is another, which no arguments
+// give.
 fn worker_count(workers: u64) -> usize
     ensures some { 1 ≤ result }
     ensures few { result ≤ 16 }
@@ -49,7 +50,8 @@ fn worker_count(workers: u64) -> usize
     }
 }
 
-// Checks a history and reports what was found; on a page too, if one is named, which takes its place when the answer is written.
+// Checks a history and reports what was found; on a page too, if one is named, which takes its place when the
+// answer is written.
 fn explain<F: Files + Eprint, T: Threads + Wait + Sync, R: Read, W: Write>(
     rt: &F,
     threads: &T,
@@ -94,11 +96,11 @@ fn explain<F: Files + Eprint, T: Threads + Wait + Sync, R: Read, W: Write>(
     }
 }
 
-/// Does what the words ask for: opens the files in the order in which they were named, then reads, and writes the
-/// answer. Workers run on `threads`; ids and pairs are found by hashes with these keys.
+/// Does what the arguments ask for: opens the files in the order in which they were named, then reads, and
+/// writes the answer. Workers run on `threads`; ids and pairs are found by hashes with these keys.
 ///
-/// A file that can't be opened is named on standard error, and is a read fault: then nothing was read, nor
-/// written to the writer.
+/// A file that can't be opened is named on standard error, and is a read fault: then nothing was read, and
+/// nothing was written to the writer.
 pub fn run<R: Files + Eprint, T: Threads + Wait + Sync, I: Read + Drop, W: Write>(
     alloc: Global,
     keys: HashKeys,
@@ -108,16 +110,17 @@ pub fn run<R: Files + Eprint, T: Threads + Wait + Sync, I: Read + Drop, W: Write
     writer: &mut W,
     words: Words<'_>,
 ) -> Result<Status, StreamFault>
-    // A check of the input answers it, with conflicts read as the words say.
+    // A check of the input answers it, with conflicts read as the arguments say.
     ensures checked { (conflicts : Reading) (workers : ℕ) (ruling : Ruling)
         → words.entry ≡ Words.Check None conflicts workers ruling
         → IfOk result (IsAnswered ruling conflicts (I.remaining input) (W.contents writer.old)
         (W.contents writer.new)) }
-    // The witness of the input is written, with conflicts read as the words say.
+    // The witness of the input is written, or the line of a check that is not yes, with conflicts read as the
+    // arguments say.
     ensures witnessed { (conflicts : Reading) (ruling : Ruling) → words.entry ≡ Words.Witness None conflicts ruling
         → IfOk result (λ status. HasAnswer (WitnessesInput ruling conflicts (I.remaining input) status)
         (W.contents writer.old) (W.contents writer.new)) }
-    // A check of the input that is reported begins with its answer, whether a page is written too or not.
+    // A check of the input that is explained begins with its answer, whether a page is written too or not.
     ensures explained { (conflicts : Reading) (workers : ℕ) (ruling : Ruling) (page : Option (Bor (List ℕ)))
         → words.entry ≡ Words.Explain None conflicts workers ruling page
         → IfOk result (λ status. HasAnswer (ExplainsInput ruling conflicts (I.remaining input) status)
@@ -126,16 +129,17 @@ pub fn run<R: Files + Eprint, T: Threads + Wait + Sync, I: Read + Drop, W: Write
     ensures recorded { (setting : Setting) (manner : Going) → words.entry ≡ Words.Run setting manner
         → IfOk result (λ status. (status ≡ Status.Yes) × HasAnswer (IsRunText ⟦<DisturbedGroup as Target>⟧.issued ⟦<DisturbedGroup as Target>⟧.gave setting)
         (W.contents writer.old) (W.contents writer.new)) }
-    // In turns it is the text of just the run that the setting and the disturbance lead to.
+    // In turns it is the text of exactly the run that the setting and the disturbance determine.
     ensures in_turns { (setting : Setting) (manner : Going) → words.entry ≡ Words.Run setting manner
         → manner.playing ≡ Playing.InTurns → IfOk result (λ _. HasAnswer (IsTextInTurns setting manner.disturbance)
         (W.contents writer.old) (W.contents writer.new)) }
-    // Of a search through seeds the first run is written that no order is found for, and the status is yes; or none has it, and no.
+    // A search through seeds writes the first run that no order was found for, and the status is yes; or
+    // there is none, and the status is no.
     ensures searched { (seeds : Range) (setting : Setting) (way : Way) → words.entry ≡ Words.Search seeds setting way
         → IfOk result (IsSearched ⟦<DisturbedGroup as Target>⟧.issued ⟦<DisturbedGroup as Target>⟧.gave way setting
         seeds.first seeds.last (W.contents writer.old) (W.contents writer.new)) }
-    // After a write fault the writer holds a front of what the command answers; of an `explain` maybe nothing more than it held, since
-    // a page can fail before.
+    // After a write fault the writer holds a prefix of what the command answers, after what it held; of an
+    // `explain` it may hold no more than it held, since a page can fail before.
     ensures check_cut_off { (conflicts : Reading) (workers : ℕ) (ruling : Ruling)
         → words.entry ≡ Words.Check None conflicts workers ruling → IsErrOf result StreamFault.Write
         → IsCutOff ruling conflicts (I.remaining input) (W.contents writer.old) (W.contents writer.new) }
@@ -157,7 +161,7 @@ pub fn run<R: Files + Eprint, T: Threads + Wait + Sync, I: Read + Drop, W: Write
         seeds.first seeds.last) (W.contents writer.old) (W.contents writer.new) }
     ensures kept { IfErr result (λ fault. fault ≢ StreamFault.Write
         → Keeps (W.contents writer.old) (W.contents writer.new)) }
-    // Each command answers its own faults alone.
+    // Each command returns only its own faults.
     ensures told { IfErr result (MayFail words.entry) }
 {
     match words {

@@ -13,7 +13,7 @@ use recorded_runs::{Manner, Playing, RunSetting};
 use repl_group::Fault;
 use seed_search::Seeds;
 
-// The number that is given, if one is.
+// Returns the number that is given, if one is.
 fn number_given(text: Option<&str>) -> Option<u64>
     ensures { result ≡ number_by (option_map (λ t. t.now) text.entry) }
 {
@@ -23,7 +23,7 @@ fn number_given(text: Option<&str>) -> Option<u64>
     }
 }
 
-// The number below 2^32 that is given, if one is.
+// Returns the number below 2^32 that is given, if one is.
 fn small_given(text: Option<&str>) -> Option<u32>
     ensures { result ≡ small_by (option_map (λ t. t.now) text.entry) }
 {
@@ -35,7 +35,7 @@ fn small_given(text: Option<&str>) -> Option<u32>
     }
 }
 
-// The fault of this name.
+// Returns the fault of this name.
 fn fault_named(name: &str) -> Option<Fault>
     ensures { result ≡ fault_by name.now }
 {
@@ -50,7 +50,7 @@ fn fault_named(name: &str) -> Option<Fault>
     }
 }
 
-/// The name of a fault, which `--fault` takes.
+/// Returns the name of a fault, which `--fault` takes.
 pub fn fault_name(fault: Fault) -> &'static str
     ensures { fault_by result.now ≡ Some fault }
 {
@@ -64,7 +64,7 @@ pub fn fault_name(fault: Fault) -> &'static str
     }
 }
 
-// What a run with the seed is made with, where each number is given and the fault is named.
+// Returns what a run with the seed is made with, if each number is given and the fault is named.
 fn setting_given(seed: Option<u64>, given: &ArgMatches<'_>) -> Option<RunSetting>
     ensures { result ≡ given_by seed (rows_of (found_of given.now)) }
 {
@@ -78,7 +78,7 @@ fn setting_given(seed: Option<u64>, given: &ArgMatches<'_>) -> Option<RunSetting
     })
 }
 
-// The disturbance of this name: none where none is given.
+// Returns the disturbance of this name; `Disturbance::None` if no name is given.
 fn disturbance_named(name: Option<&str>) -> Option<Disturbance>
     ensures { result ≡ disturbance_by (option_map (λ t. t.now) name.entry) }
 {
@@ -94,7 +94,7 @@ fn disturbance_named(name: Option<&str>) -> Option<Disturbance>
     }
 }
 
-/// The name of a disturbance, which `--disturb` takes.
+/// Returns the name of a disturbance, which `--disturb` takes.
 pub fn disturbance_name(disturbance: Disturbance) -> &'static str
     ensures { disturbance_by (Some result.now) ≡ Some disturbance }
 {
@@ -106,7 +106,7 @@ pub fn disturbance_name(disturbance: Disturbance) -> &'static str
     }
 }
 
-// Where the clients take their turns, where the option for turns has the text.
+// Returns how the clients are played: in turns, if the option for turns has the text that says it is given.
 fn playing_given(text: Option<&str>) -> Playing
     ensures { result ≡ playing_by (option_map (λ t. t.now) text.entry) }
 {
@@ -116,14 +116,14 @@ fn playing_given(text: Option<&str>) -> Playing
     }
 }
 
-// How the group is disturbed by the matches of the command.
+// Returns how the group is disturbed by the matches of the command.
 fn disturbance_given(given: &ArgMatches<'_>) -> Option<Disturbance>
     ensures { result ≡ disturbance_by (first_of (codes "disturb") (rows_of (found_of given.now))) }
 {
     disturbance_named(text_given(given, DISTURB))
 }
 
-// How a run goes, where the disturbance is named or none is.
+// Returns how a run goes, if the disturbance is named or none is.
 fn manner_given(given: &ArgMatches<'_>) -> Option<Manner>
     ensures { result ≡ manner_by (rows_of (found_of given.now)) }
 {
@@ -133,7 +133,8 @@ fn manner_given(given: &ArgMatches<'_>) -> Option<Manner>
     })
 }
 
-// The run that is asked for, where the seed and each number is given and the fault and the disturbance are named.
+// Returns the run that is asked for, if the seed and each number is given and the fault is named, and the
+// disturbance is named or none is.
 fn one_run<'a>(seed: Option<&str>, given: &ArgMatches<'_>) -> Option<Words<'a>>
     ensures { option_map asked_by result ≡ one_run_of (option_map (λ t. t.now) seed.entry) (rows_of (found_of given.now)) }
 {
@@ -142,7 +143,7 @@ fn one_run<'a>(seed: Option<&str>, given: &ArgMatches<'_>) -> Option<Words<'a>>
     Some(Words::Run(setting, manner))
 }
 
-// The seeds of a text A-B.
+// Returns the seeds of a text A-B.
 fn seeds_named(text: &str) -> Option<Seeds>
     ensures { option_map (λ seeds. (seeds.first, seeds.last)) result ≡ seeds_by text.now }
 {
@@ -152,7 +153,8 @@ fn seeds_named(text: &str) -> Option<Seeds>
     Seeds::new(first, last)
 }
 
-// Runs with these seeds, where each number is given and the fault and the disturbance are named.
+// Returns runs with these seeds, if each number is given and the fault is named, and the disturbance is named
+// or none is.
 fn search_among<'a>(seeds: Seeds, given: &ArgMatches<'_>) -> Option<Words<'a>>
     ensures { option_map asked_by result ≡ among_by (seeds.first, seeds.last) (rows_of (found_of given.now)) }
 {
@@ -161,10 +163,10 @@ fn search_among<'a>(seeds: Seeds, given: &ArgMatches<'_>) -> Option<Words<'a>>
     Some(Words::Search(seeds, setting, disturbance))
 }
 
-// What a search ends with.
+// The answer that a search looks for.
 const REFUTED: &str = "refuted";
 
-// Runs with the seeds that are named, until what is named is found.
+// Returns runs with the seeds that are named, until what is named is found.
 fn search<'a>(until: &str, seeds: &str, given: &ArgMatches<'_>) -> Option<Words<'a>>
     ensures { option_map asked_by result ≡ search_of until.now seeds.now (rows_of (found_of given.now)) }
 {
@@ -174,7 +176,8 @@ fn search<'a>(until: &str, seeds: &str, given: &ArgMatches<'_>) -> Option<Words<
     }
 }
 
-// One run where a seed is given; a search where it isn't, and what is looked for and the seeds are.
+// Returns one run if a seed is given; a search if no seed is given, and what is searched for and the seeds
+// are.
 fn runs<'a>(
     seed: Option<&str>,
     until: Option<&str>,
@@ -191,7 +194,7 @@ fn runs<'a>(
     }
 }
 
-/// The run or the search that is asked for.
+/// Returns the run or the search that is asked for.
 pub fn asked_run<'a>(given: &ArgMatches<'a>) -> Option<Words<'a>>
     ensures { option_map asked_by result ≡ run_of (rows_of (found_of given.now)) }
 {
@@ -203,7 +206,7 @@ pub fn asked_run<'a>(given: &ArgMatches<'a>) -> Option<Words<'a>>
     )
 }
 
-// What is wrong with the seeds of a run, where something is.
+// Returns what is wrong with the seeds of a run, if something is.
 fn seeds_fault(given: &ArgMatches<'_>) -> Option<&'static str> {
     match (
         text_given(given, SEED),
@@ -222,7 +225,8 @@ fn seeds_fault(given: &ArgMatches<'_>) -> Option<&'static str> {
     }
 }
 
-/// What the words of a run may name where they name none: a fault, or else a disturbance; and how its seeds are given.
+/// Returns what the arguments of a run may name if they name none of these: a fault, or else a disturbance;
+/// or how its seeds are given, if they are wrong.
 pub fn unnamed_of_run(given: &ArgMatches<'_>) -> &'static str {
     if let Some(told) = seeds_fault(given) {
         return told;

@@ -3,8 +3,8 @@ use disturbances::Disturbance;
 use recorded_runs::RunSetting;
 use seed_search::{FoundRun, Seeds, Watch};
 
-/// Tells on standard error how far a search through seeds is, and the words that play the run again that it finds; also where
-/// standard error fails.
+/// Reports on standard error how far a search through seeds is, and the arguments that play again the run
+/// that it finds. Faults of standard error are ignored.
 #[derive(Drop)]
 pub struct SearchTeller<'a, R> {
     rt: &'a R,
@@ -13,7 +13,7 @@ pub struct SearchTeller<'a, R> {
 }
 
 impl<'a, R: Eprint> SearchTeller<'a, R> {
-    /// Who tells of runs with the setting under the disturbance.
+    /// Returns a reporter of runs with the setting under the disturbance.
     pub fn new(rt: &'a R, setting: RunSetting, disturbance: Disturbance) -> SearchTeller<'a, R> {
         SearchTeller {
             rt,

@@ -20,14 +20,15 @@ use std::convert::AsStr;
 /// What the program is asked for.
 #[derive(Clone, Copy, PartialEq, Eq)]
 pub enum Words<'a> {
-    /// To check a history text: that of the file, or of standard input where none is named; by so many workers, 1 to 16.
+    /// To check a history text: that of the file, or of standard input if none is named; by that many
+    /// workers, 1 to 16.
     Check {
         file: Option<&'a str>,
         conflicts: Conflicts,
         workers: u64,
         ruling_out: RulingOut,
     },
-    /// To write the witness of a history text: that of the file, or of standard input where none is named.
+    /// To write the witness of a history text: that of the file, or of standard input if none is named.
     Witness {
         file: Option<&'a str>,
         conflicts: Conflicts,
@@ -39,8 +40,8 @@ pub enum Words<'a> {
         witness: &'a str,
         conflicts: Conflicts,
     },
-    /// To write the body of a bulk request and its reply, of these files, as lines of a history, its calls numbered from
-    /// `first`.
+    /// To write the body of a bulk request and its reply, of these files, as lines of a history, its calls
+    /// numbered from `first`.
     Bulk {
         body: &'a str,
         reply: &'a str,
@@ -48,11 +49,12 @@ pub enum Words<'a> {
     },
     /// To run clients against a replication group in this manner, and to write what they recorded.
     Run(RunSetting, Manner),
-    /// To run clients in turns with these seeds, in order, against a group that is disturbed so, until no order explains what they
-    /// recorded, and to write that. The seed of the setting is the first of them.
+    /// To run clients in turns with these seeds, in order, against a group under this disturbance, until no
+    /// order is found for what they recorded, and to write that. The seed of the setting is the first of
+    /// them.
     Search(Seeds, RunSetting, Disturbance),
-    /// To check a history text as `Check` does and to tell what was found; and to write it as a page to a file, where one is
-    /// named.
+    /// To check a history text as `Check` does and to explain what was found; and to write the explanation as
+    /// a page to a file, if one is named.
     Explain {
         file: Option<&'a str>,
         conflicts: Conflicts,
@@ -67,7 +69,7 @@ const PLAIN: &str = "plain";
 
 const MAYBE: &str = "maybe";
 
-// The reading of a conflict that is named: plain where none is, and none where the name is of no reading.
+// Returns the reading of a conflict that is named: plain if none is, and `None` if the name is of no reading.
 fn conflicts_named(name: Option<&str>) -> Option<Conflicts>
     ensures { result ≡ conflicts_named (option_map (λ t. t.now) name.entry) }
 {
@@ -81,10 +83,10 @@ fn conflicts_named(name: Option<&str>) -> Option<Conflicts>
     }
 }
 
-/// The text of an option without a value that is given.
+/// The text of an option without a value, if the option is given.
 pub const GIVEN: &str = "true";
 
-// Whether documents are looked at that may be ruled out, where the option has the text.
+// Returns whether documents are checked for being ruled out: if the option has the text.
 fn ruling_given(text: Option<&str>) -> RulingOut
     ensures { result ≡ ruling_given (option_map (λ t. t.now) text.entry) }
 {
@@ -94,7 +96,7 @@ fn ruling_given(text: Option<&str>) -> RulingOut
     }
 }
 
-/// The number that is given, or another one where none is. The parse refuses a text that is none.
+/// Returns the number that is given, or another one if none is. The parse refuses a text that is no number.
 pub fn number_or(other: u64, text: Option<&str>) -> Option<u64>
     ensures { result ≡ number_told other (option_map (λ t. t.now) text.entry) }
 {
@@ -107,7 +109,8 @@ pub fn number_or(other: u64, text: Option<&str>) -> Option<u64>
     }
 }
 
-// A check of a history, where a reading is named or none, and a number of workers or none.
+// Returns a check of a history, if a reading is named or none is, and a number of workers is given or none
+// is.
 fn check_words<'a>(given: &ArgMatches<'a>) -> Option<Words<'a>>
     ensures { option_map asked_by result ≡ check_of (rows_of (found_of given.now)) }
 {
@@ -119,7 +122,7 @@ fn check_words<'a>(given: &ArgMatches<'a>) -> Option<Words<'a>>
     })
 }
 
-// The witness of a history, where a reading is named or none.
+// Returns the witness of a history, if a reading is named or none is.
 fn witness_words<'a>(given: &ArgMatches<'a>) -> Option<Words<'a>>
     ensures { option_map asked_by result ≡ witness_of (rows_of (found_of given.now)) }
 {
@@ -130,7 +133,7 @@ fn witness_words<'a>(given: &ArgMatches<'a>) -> Option<Words<'a>>
     })
 }
 
-// A check of a witness, where both files are named, and a reading or none.
+// Returns a check of a witness, if both files are named, and a reading is named or none is.
 fn verify_words<'a>(given: &ArgMatches<'a>) -> Option<Words<'a>>
     ensures { option_map asked_by result ≡ verify_of (rows_of (found_of given.now)) }
 {
@@ -141,7 +144,7 @@ fn verify_words<'a>(given: &ArgMatches<'a>) -> Option<Words<'a>>
     })
 }
 
-// The lines of a bulk, where both files are named.
+// Returns the lines of a bulk, if both files are named.
 fn bulk_words<'a>(given: &ArgMatches<'a>) -> Option<Words<'a>>
     ensures { option_map asked_by result ≡ bulk_of (rows_of (found_of given.now)) }
 {
@@ -152,8 +155,8 @@ fn bulk_words<'a>(given: &ArgMatches<'a>) -> Option<Words<'a>>
     })
 }
 
-// A check of a history that is told, where a reading is named or none, a number of workers or none, and a file for the page or
-// none.
+// Returns a check of a history that is explained, if a reading is named or none is, and a number of workers
+// is given or none is. A file for the page may be named.
 fn explain_words<'a>(given: &ArgMatches<'a>) -> Option<Words<'a>>
     ensures { option_map asked_by result ≡ explain_of (rows_of (found_of given.now)) }
 {
@@ -166,7 +169,7 @@ fn explain_words<'a>(given: &ArgMatches<'a>) -> Option<Words<'a>>
     })
 }
 
-// What the command of this name asks for.
+// Returns what the command of this name asks for.
 fn asked_of_command<'a>(name: &str, given: &ArgMatches<'a>) -> Option<Words<'a>>
     ensures { option_map asked_by result
         ≡ asked_of_command name.now (rows_of (found_of given.now)) }
@@ -182,7 +185,7 @@ fn asked_of_command<'a>(name: &str, given: &ArgMatches<'a>) -> Option<Words<'a>>
     }
 }
 
-// What is asked for by the matches of the program.
+// Returns what is asked for by the matches of the program.
 fn asked_for<'a>(matches: &ArgMatches<'a>) -> Option<Words<'a>>
     ensures { option_map asked_by result ≡ asked_of (subcommand_rows_of matches.now) }
 {
@@ -197,7 +200,7 @@ fn asked_for<'a>(matches: &ArgMatches<'a>) -> Option<Words<'a>>
     }
 }
 
-// The matches of the program on the words.
+// Returns the matches of the program on the arguments.
 fn parse<'a, S: AsStr>(alloc: Global, words: &'a [S]) -> Result<ArgMatches<'a>, Error>
     ensures asked { IfOk result (λ matches. asked_of (subcommand_rows_of matches)
         ≡ asked_on (map S.text words.entry.now)) }
@@ -206,8 +209,9 @@ fn parse<'a, S: AsStr>(alloc: Global, words: &'a [S]) -> Result<ArgMatches<'a>, 
     program(alloc)?.try_get_matches_from(words)
 }
 
-// The error of words that name no reading of a conflict or, for a run, no fault, no disturbance or no seeds, with what they may name. That no command is
-// named, or not all its files and numbers, the parse refuses before.
+// Returns the error of arguments that name no reading of a conflict or, for a run, no fault, no disturbance
+// or no seeds, with what they may name. If no command is named, or not all its files and numbers, the parse
+// has refused them before.
 fn unnamed_error(alloc: Global, matches: &ArgMatches<'_>) -> Result<Error, AllocError> {
     let told = match matches.subcommand() {
         Some((RUN, given)) => unnamed_of_run(given),
@@ -216,15 +220,16 @@ fn unnamed_error(alloc: Global, matches: &ArgMatches<'_>) -> Result<Error, Alloc
     program(alloc)?.error(ErrorKind::InvalidValue, told)
 }
 
-/// What the words ask for. The first is the program's name.
+/// Returns what the arguments ask for. The first is the program's name.
 ///
-/// Words that are refused, and those that ask for help or the version, are an error with the text for the user.
+/// Errors: arguments that are refused, and those that ask for help or the version, with the text for the
+/// user.
 pub fn read_words<'a, S: AsStr>(alloc: Global, words: &'a [S]) -> Result<Words<'a>, Error>
     ensures asked { IfOk result (λ asked. asked_on (map S.text words.entry.now)
         ≡ Some (asked_by asked)) }
     ensures taken { OnOk result (faults_on (map S.text words.entry.now) ≡ []) }
-    // The words have that fault, or what they name is none of the commands with its files and a reading of conflicts, or with its
-    // numbers, a fault and a disturbance, and a seed or several.
+    // The arguments have that fault, or what they name is none of the commands with its files and a reading
+    // of conflicts, or with its numbers, a fault and a disturbance, and a seed or several.
     ensures refused { IfErr result (λ error. HasKind (faults_on (map S.text words.entry.now)) error
         ⊎ (asked_on (map S.text words.entry.now) ≡ None)) }
 {

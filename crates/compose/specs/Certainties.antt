@@ -21,7 +21,8 @@ pub record IsDocumentOf (events : List Event) (n doc : ℕ) : Type 0 where
   pub call : IsCallAt events called n shard document.0 op
   pub listed : slice_get (documents_of events) doc ≡ Some document
 
--- each write of the document of this number is settled, and no order of its calls explains their replies
+-- the records of the document of this number are complete (settled), and no order of its calls explains their
+-- replies
 abbrev pub IsWithoutOrder : Conflicts → List Event → ℕ → Type 0
 IsWithoutOrder conflicts events doc = (document : List ℕ × ℕ) × (slice_get (documents_of events) doc ≡ Some document)
     × AreSettled conflicts (records_of events document.0) × HasNoOrder conflicts (records_of events document.0)
@@ -30,11 +31,12 @@ IsWithoutOrder conflicts events doc = (document : List ℕ × ℕ) × (slice_get
 abbrev pub IsCallRuledOut : Conflicts → List Event → ℕ → Type 0
 IsCallRuledOut conflicts events n = (doc : ℕ) × IsDocumentOf events n doc × IsDocumentRuledOut conflicts events doc
 
--- the document of the call numbered n is settled and has no order
+-- the records of the document of the call numbered n are complete (settled), and the document has no order
 abbrev pub IsCallWithoutOrder : Conflicts → List Event → ℕ → Type 0
 IsCallWithoutOrder conflicts events n = (doc : ℕ) × IsDocumentOf events n doc × IsWithoutOrder conflicts events doc
 
--- What is said without evidence, if n is the number of the call at which the search first fails: the first of these that holds.
+-- What is said without evidence, if n is the number of the call at which the search first fails: the first of
+-- these that holds.
 abbrev pub SaysOfCall : Conflicts → List Event → ℕ → Certainty → Type 0
 SaysOfCall conflicts events n certainty.Evident = ⊥
 SaysOfCall conflicts events n certainty.ToldRuledOut = ⊥

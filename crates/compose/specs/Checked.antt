@@ -1,4 +1,4 @@
--- What a check of a history answers.
+-- What a check of a history returns.
 use Rattle.std.specs.Prelude.{◌≡◌, ◌≢◌, ◌<◌, List, length}
 use Rattle.doc_register.specs.declared.state.Conflicts.{Conflicts}
 use Rattle.history.specs.declared.event.Event.{Event}
@@ -11,8 +11,8 @@ use Rattle.compose.specs.declared.checking.CheckFault.TheVariants as check_fault
 use Rattle.compose.specs.declared.checking.Verdict.{Verdict}
 use Rattle.compose.specs.declared.checking.Verdict.TheVariants.{Yes, No}
 
--- The verdict is on this history and this reading of conflicts: `Yes` with witnesses that cover it, so that it is
--- linearizable, `No` where none without a given pair do.
+-- The verdict is on this history and this reading of conflicts: `Yes` with witnesses that cover it, so that
+-- it is linearizable, `No` if no entries without a given pair cover it.
 abbrev pub IsVerdictOn : Conflicts → List Event → Verdict → Type 0
 IsVerdictOn conflicts events (Yes p) =
     (p.events ≡ events) × (p.conflicts ≡ conflicts) × AreWitnesses conflicts events p.witnesses × IsLinearizable conflicts events
@@ -22,12 +22,13 @@ abbrev pub IsYes : Verdict → Type 0
 IsYes (Yes p) = Unit {0}
 IsYes (No c) = ⊥
 
--- the fault hands the history back; want of memory is told as that, in a worker too
+-- the fault hands the history back; being out of memory is reported as that, in a worker too
 abbrev pub HandsBack : List Event → CheckFault → Type 0
 HandsBack events (check_fault.Pool fault back) = (back ≡ events) × (fault ≢ pool_fault.NoMemory)
 HandsBack events (check_fault.NoMemory back) = back ≡ events
 
--- a job that is lost, of which two messages came, or to which an answer is none, is that of a document of the history
+-- a job that is lost, for which two messages came, or that an answer is not about, is the job of a document
+-- of the history
 abbrev pub NamesDocument : List Event → CheckFault → Type 0
 NamesDocument events (check_fault.Pool (pool_fault.Lost doc) back) = doc < length (documents_of events)
 NamesDocument events (check_fault.Pool (pool_fault.Double doc) back) = doc < length (documents_of events)

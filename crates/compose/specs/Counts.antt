@@ -1,4 +1,4 @@
--- How many calls a history has.
+-- The number of calls of a history.
 use Rattle.std.specs.Prelude.{ℕ, List, filter, length}
 use Rattle.history.specs.declared.event.Event.{Event}
 use Rattle.history.specs.Events.{is_any_call}

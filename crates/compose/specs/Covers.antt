@@ -53,8 +53,8 @@ ArePairsDistinct events entries = (i j k l h : ℕ) (q : Pair) → IsTakenAt eve
 
 -- ---- covers
 
--- The entries cover the history: each document is entered once and no other, the places of each are valid, and no pair of a
--- shard is taken at two places.
+-- The entries cover the history: each document is entered once, and no other is, the places of each are
+-- valid, and no pair of a shard is taken at two places.
 pub record AreCover (conflicts : Conflicts) (events : List Event) (entries : List DocPlaces) : Type 0 where
   pub fine : AreFine conflicts events entries
   pub complete : AreComplete events entries

@@ -23,13 +23,13 @@ use Rattle.compose.specs.declared.verify_fault.VerifyFault.{VerifyFault}
 abbrev pub part_of_order : List ℕ → List Placed → List Placed
 part_of_order d order = filter (λ p. is_same p.entry.doc d) order
 
--- how many places the entries have
+-- the number of places of the entries
 abbrev pub places_in : List DocPlaces → ℕ
 places_in [] = 0
 places_in (e ∷ es) = length e.places + places_in es
 
--- The order has exactly the places of the entries: the calls of each entry's document stand in it as its places tell, and no
--- others stand in it.
+-- The order has exactly the places of the entries: the calls of each entry's document are in it as the
+-- entry's places say, and no other calls are in it.
 pub record IsOrderOf (events : List Event) (entries : List DocPlaces) (order : List Placed) : Type 0 where
   pub placed : (i : ℕ) (e : DocPlaces) → slice_get entries i ≡ Some e
       → ArePlacedBy (records_of events e.doc) e.places (part_of_order e.doc order)
@@ -54,8 +54,8 @@ abbrev pub restricted : List Event → List ℕ → List Placed → List Placed
 restricted events d order =
     filter (λ p. is_kept (heard_of events p.no) (pair_taken p.entry.reply p.entry.hidden)) (part_of_order d order)
 
--- An order that explains a history, restricted to each document without its unanswered calls that change nothing, gives
--- valid places of it, and all of them together are a cover.
+-- An order that explains a history, restricted to each document without its unanswered calls that change
+-- nothing, gives valid places of the document; and all of them together are a cover.
 abbrev pub OrdersAreCovers : Type 0
 OrdersAreCovers = (conflicts : Conflicts) (events : List Event) (order : List Placed) → IsHistory events → Explains conflicts events order
     → (entries : List DocPlaces) × AreCover conflicts events entries
@@ -63,17 +63,17 @@ OrdersAreCovers = (conflicts : Conflicts) (events : List Event) (order : List Pl
 
 -- ---- histories without a cover
 
--- each write has a reply, under Maybe one other than a conflict
+-- the history is complete (settled): each write has a reply, under Maybe one other than a conflict
 abbrev pub IsSettled : Conflicts → List Event → Type 0
 IsSettled conflicts events = (i n h : ℕ) (d : List ℕ) (op : Op) → IsCallAt events i n h d op → op ≢ Get
     → (k : ℕ) × (r : Answer) × IsReplyAt events k n r × (conflicts ≡ Maybe → r ≢ Conflict)
 
--- a settled history that no entries without a given pair cover is not linearizable
+-- a complete (settled) history that no entries without a given pair cover is not linearizable
 abbrev pub SettledHaveNoOrder : Type 0
 SettledHaveNoOrder = (conflicts : Conflicts) (events : List Event) → IsHistory events → IsSettled conflicts events → HasNoUnpairedCover conflicts events
     → ¬ IsLinearizable conflicts events
 
--- a plainly right history is covered by entries without a given pair
+-- a history that is legal in response order is covered by entries without a given pair
 abbrev pub PlainlyRightAreCovered : Type 0
 PlainlyRightAreCovered = (conflicts : Conflicts) (events : List Event) → IsHistory events → IsPlainlyRight events
     → (entries : List DocPlaces) × AreAllUnpaired entries × AreCover conflicts events entries

@@ -8,8 +8,9 @@ use Rattle.history.specs.Order.{IsLinearizable, IsPlainlyRight}
 use Rattle.compose.specs.Verdicts.{HasNoOrderFound}
 use Rattle.compose.specs.declared.offence.Offence.{Offence}
 
--- At its place stands a reply, to the call with its number; the events up to it are not plainly right. If it says that the events
--- before it have an order, they are linearizable; if not, no order was found for them.
+-- At its position there is a reply, to the call with its number; the events up to and including it are not
+-- legal in response order. If it says that the events before it have an order, they are linearizable; if not,
+-- no order was found for them.
 pub record IsOffence (conflicts : Conflicts) (events : List Event) (o : Offence) : Type 0 where
   pub reply : (r : Answer) × IsReplyAt events o.event o.call r
   pub wrong : ¬ IsPlainlyRight (prefix events (o.event + 1))

@@ -28,14 +28,15 @@ part_of_shard h events = filter (concerns h events) events
 
 -- ---- the law
 
--- Each event concerns just one shard. The part of a shard is a history, and that of a shard without a call has no event.
+-- Each event concerns exactly one shard. The part of a shard is a history, and the part of a shard without a
+-- call has no event.
 pub record IsSplitByShard (events : List Event) : Type 0 where
   pub one : (i : ℕ) (e : Event) → slice_get events i ≡ Some e
       → (h : ℕ) × (concerns h events e ≡ true) × ((g : ℕ) → concerns g events e ≡ true → g ≡ h)
   pub history : (h : ℕ) → IsHistory (part_of_shard h events)
   pub empty : (h : ℕ) → ((i n : ℕ) (d : List ℕ) (op : Op) → ¬ IsCallAt events i n h d op) → part_of_shard h events ≡ []
 
--- A history is split into the parts of its shards, and it is linearizable exactly where each of them is.
+-- A history is split into the parts of its shards, and it is linearizable exactly if each of them is.
 pub record LocalByShard : Type 0 where
   pub split : (events : List Event) → IsHistory events → IsSplitByShard events
   pub linearizable : (conflicts : Conflicts) (events : List Event) → IsHistory events

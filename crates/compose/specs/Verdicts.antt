@@ -27,19 +27,19 @@ pub record Unproven : Type 0 where
   pub events : List Event
   pub conflicts : Conflicts
 
--- how many calls of the history stand in no place of the witnesses
+-- the number of calls of the history that are in no place of the witnesses
 abbrev pub left_out_of : Proven → ℕ
 left_out_of p = calls_of p.events - places_in (map witness_places p.witnesses)
 
--- what is counted of a history and its entries: so many documents, so many calls, and so many of these that stand in no place of the
--- entries
+-- what is counted of a history and its entries: the documents, the calls, and those of the calls that are in
+-- no place of the entries
 pub record AreCounts (events : List Event) (entries : List DocPlaces) (docs calls left_out : ℕ) : Type 0 where
   pub documents : length (documents_of events) ≡ docs
   pub all_calls : calls_of events ≡ calls
   pub the_rest : places_in entries + left_out ≡ calls
 
--- What a `yes` rests on once the text is read: so many documents and calls, and an order that explains the history, in which
--- so many of its calls do not stand.
+-- What a `yes` rests on once the text is read: that many documents and calls, and an order that explains the
+-- history; that many of its calls are not in the order.
 pub record HasOrder (conflicts : Conflicts) (events : List Event) (docs calls left_out : ℕ) : Type 0 where
   pub documents : length (documents_of events) ≡ docs
   pub all_calls : calls_of events ≡ calls
@@ -47,8 +47,8 @@ pub record HasOrder (conflicts : Conflicts) (events : List Event) (docs calls le
   pub explains : Explains conflicts events order
   pub the_rest : length order + left_out ≡ calls
 
--- What a `no` rests on: no entries without a given pair cover the history. So it is not plainly right, and where it is settled
--- no order explains it.
+-- What a `no` rests on: no entries without a given pair cover the history. So it is not legal in response
+-- order, and if it is complete (settled), no order explains it.
 pub record HasNoOrderFound (conflicts : Conflicts) (events : List Event) : Type 0 where
   pub uncovered : HasNoUnpairedCover conflicts events
   pub not_right : ¬ IsPlainlyRight events

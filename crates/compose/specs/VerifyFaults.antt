@@ -11,7 +11,7 @@ use Rattle.compose.specs.Covers.{AreComplete, AreFine, IsEntered, IsKnown, IsTak
 use Rattle.compose.specs.declared.verify_fault.VerifyFault.{VerifyFault}
 use Rattle.compose.specs.declared.verify_fault.VerifyFault.TheVariants as fault
 
--- the entry stands at i, and those before it are fine
+-- the entry is at index i, and those before it are fine
 pub record IsAtEntry (conflicts : Conflicts) (events : List Event) (entries : List DocPlaces) (i : ℕ) (e : DocPlaces) : Type 0 where
   pub here : slice_get entries i ≡ Some e
   pub fine : AreFine conflicts events (take i entries)
@@ -30,9 +30,9 @@ pub record IsTakenTwice (events : List Event) (entries : List DocPlaces) (h : �
 abbrev pub IsAtMost : ℕ → Pair → ℕ → Pair → Type 0
 IsAtMost h q g p = (h < g) ⊎ ((h ≡ g) × ((q ≡ p) ⊎ IsBelow q p))
 
--- The fault holds, and none that is told before it: entry by entry a document that the history lacks, one that was entered
--- before, places that are not valid; then the first document that is not entered; then the least shard, and of it the least
--- pair, that is taken at two places.
+-- The fault holds, and no fault that is reported before it. The order is: entry by entry, a document that the
+-- history lacks, one that was entered before, places that are not valid; then the first document that is not
+-- entered; then the least shard, and of it the least pair, that is taken at two places.
 abbrev pub IsFirstVerifyFault : Conflicts → List Event → List DocPlaces → VerifyFault → Type 0
 IsFirstVerifyFault conflicts events entries (fault.DocStranger i) = (e : DocPlaces) × IsAtEntry conflicts events entries i e × (¬ IsKnown events e)
 IsFirstVerifyFault conflicts events entries (fault.DocTwice i) =

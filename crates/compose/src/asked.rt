@@ -9,16 +9,17 @@ struct DocLimit {
     limit: Limit,
 }
 
-/// The documents that are searched again, by their numbers, and the limits on what is inserted in their orders.
+/// The documents that are searched again, by their numbers, and the limits on what is inserted in their
+/// orders.
 #[derive(Drop)]
 pub struct Asked {
-    // Of each document whether it is.
+    // For each document, whether it is.
     flags: Vec<bool>,
     limits: Vec<DocLimit>,
 }
 
 impl Asked {
-    /// None of so many documents, and no limits.
+    /// Returns a value that asks for none of that many documents, without limits.
     pub fn none(alloc: Global, docs: usize) -> Result<Asked, NoMemory> {
         Ok(Asked {
             flags: vec![in alloc; false; docs]?,
@@ -41,14 +42,14 @@ impl Asked {
         Ok(())
     }
 
-    // Notes whether a document is asked for.
+    // Sets whether a document is asked for.
     fn set(&mut self, doc: usize, is_asked: bool) {
         if let Some(flag) = self.flags.get_mut(doc) {
             *flag = is_asked;
         }
     }
 
-    /// The limits on the document, whether it is asked for or not.
+    /// Returns the limits on the document, whether it is asked for or not.
     pub fn limits_on(&self, alloc: Global, doc: usize) -> Result<Vec<Limit>, NoMemory> {
         let mut limits = Vec::new(alloc);
         for entry in &self.limits {
@@ -59,7 +60,7 @@ impl Asked {
         Ok(limits)
     }
 
-    /// The limits on the document, if it is asked for.
+    /// Returns the limits on the document, if it is asked for.
     pub fn limits(&self, alloc: Global, doc: usize) -> Result<Option<Vec<Limit>>, NoMemory> {
         if self.flags.get(doc) == Some(&true) {
             Ok(Some(self.limits_on(alloc, doc)?))

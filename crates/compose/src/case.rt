@@ -10,15 +10,16 @@ use std::marker::Model;
 
 /// A history for which no order was found.
 ///
-/// Its type keeps that no witnesses without a given pair cover the history. So it is not plainly right, and where each
-/// write was answered (under Maybe by another reply than a conflict) no order of its calls explains it.
+/// The type guarantees that no witnesses without a given pair cover the history. So it is not legal in
+/// response order; and if it is complete (settled), that is, if each write was answered (under Maybe, by a
+/// reply other than a conflict), no order of its calls explains it.
 #[derive(Debug, Drop)]
 pub struct Case {
     history: History,
     conflicts: Conflicts,
     // The documents for which no order was found at first: no other may be ruled out.
     unordered: Vec<usize>,
-    // The place of the reply with which numbers seem to become too few, if that is why.
+    // The position of the reply with which the numbers seem to become too few, if that is why.
     short_at: Option<usize>,
 }
 
@@ -37,7 +38,8 @@ impl Model for Case {
 }
 
 impl Case {
-    // The case of a history that no witnesses without a given pair cover, and of whose documents only these may be ruled out.
+    // Returns the case of a history that no witnesses without a given pair cover. Of its documents only these
+    // may be ruled out.
     pub(crate) fn of(
         history: History,
         conflicts: Conflicts,
@@ -58,19 +60,19 @@ impl Case {
         }
     }
 
-    /// The history.
+    /// Returns the history.
     #[tactic(auto, using(crate::proofs::VerdictLemmas::uncovered_has_none))]
     pub fn history(&self) -> &History
         ensures same { result.now ≡ self.now.events }
         ensures history { IsHistory self.now.events }
         ensures none { HasNoOrderFound self.now.conflicts self.now.events }
     {
-        // A look at a field: what the type keeps is known from here on.
+        // The access to a field makes the type's invariant known from here on.
         let _ = &self.conflicts;
         &self.history
     }
 
-    // The numbers of the documents that may be ruled out.
+    // Returns the numbers of the documents that may be ruled out.
     pub(crate) fn unordered(&self) -> &[usize]
         ensures within { AreDocuments self.now.events result.now }
         ensures listed { ListsRuledOut self.now.conflicts self.now.events result.now }
@@ -78,12 +80,13 @@ impl Case {
         &self.unordered
     }
 
-    // The place of the reply with which numbers seem to become too few, if that is why no order was found: a guess.
+    // Returns the position of the reply with which the numbers seem to become too few, if that is why no
+    // order was found: a guess.
     pub(crate) fn short_at(&self) -> Option<usize> {
         self.short_at
     }
 
-    /// How a conflict is read.
+    /// Returns how a conflict is read.
     pub fn conflicts(&self) -> Conflicts
         ensures { result ≡ self.now.conflicts }
     {

@@ -20,7 +20,8 @@ use history::{Event, History, Rec};
 use std::alloc::Global;
 use version_pair::NoMemory;
 
-// Whether what stands at the place is no write; or the write has a reply, under Maybe one other than a conflict.
+// Whether the event at the position is not a write; or the write has a reply, under Maybe one other than a
+// conflict.
 fn is_settled_at(history: &History, place: usize, conflicts: Conflicts) -> bool
     requires { place < length history.now }
     ensures { (event : Happening) → slice_get history.now place ≡ Just event
@@ -40,7 +41,7 @@ fn is_settled_at(history: &History, place: usize, conflicts: Conflicts) -> bool
     }
 }
 
-// Whether each write of the history has a reply, under Maybe one other than a conflict.
+// Whether the history is complete (settled): each write has a reply, under Maybe one other than a conflict.
 fn is_settled_history(history: &History, conflicts: Conflicts) -> bool
     requires { IsHistory history.now }
     ensures { IsTrue result ↔ IsSettled conflicts history.now }
@@ -53,7 +54,7 @@ fn is_settled_history(history: &History, conflicts: Conflicts) -> bool
     true
 }
 
-// The number of the document of a call, if the history has that call.
+// Returns the number of the document of a call, if the history has that call.
 fn document_of(history: &History, call: u64) -> Option<usize>
     requires { IsHistory history.now }
     ensures { (doc : ℕ) → result ≡ Just doc ↔ IsDocumentOf history.now call doc }
@@ -81,7 +82,7 @@ fn is_without_order(
     if !is_settled(&records, conflicts) {
         return Ok(false);
     }
-    // What settled records without an order say is known from here on.
+    // What complete (settled) records without an order say is known from here on.
     settled_have_none();
     let id = history.doc(doc).copy()?;
     match answer(alloc, id, records, history.seen(), conflicts)? {
@@ -122,7 +123,7 @@ fn is_call_without_order(
     }
 }
 
-// How much the replies say by themselves, without evidence, at the call of the offence.
+// Returns how much the replies say by themselves, without evidence, at the call of the offence.
 fn certainty_without_evidence(
     alloc: Global,
     history: &History,
@@ -144,7 +145,8 @@ fn certainty_without_evidence(
     Ok(Certainty::Undecided)
 }
 
-/// How much the answer says of the history of the case, with the evidence that was found, if any was, and the offence.
+/// Returns how much the answer says of the history of the case, by the evidence that was found, if any was,
+/// and the offence.
 #[tactic(auto, using(crate::proofs::CertaintyLemmas::said_is_proved))]
 pub fn certainty_of(alloc: Global, case: &Case, failing: &Failing) -> Result<Certainty, NoMemory>
     requires { IfSome failing.now.evidence (Holds case.now.conflicts case.now.events) }
@@ -154,7 +156,8 @@ pub fn certainty_of(alloc: Global, case: &Case, failing: &Failing) -> Result<Cer
     ensures proved { IfOk result (λ certainty. certainty ≢ Certainty.Undecided
         → ¬ IsLinearizable case.now.conflicts case.now.events) }
 {
-    // What evidence and settled records say is known from here on, and that the case has a history.
+    // What evidence and complete (settled) records say is known from here on, and that the case has a
+    // history.
     evidence_refutes();
     settled_have_none();
     let history = case.history();

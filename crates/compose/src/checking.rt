@@ -25,20 +25,20 @@ use version_pair::NoMemory;
 /// Whether one order of all calls was found for a history.
 #[derive(Debug, Drop)]
 pub enum Verdict {
-    /// One was.
+    /// An order was found.
     Yes(Proof),
-    /// None was.
+    /// No order was found.
     No(Case),
 }
 
-/// Why a history was not checked.
+/// The reason why a history was not checked.
 #[derive(Debug, Drop, Error)]
 pub enum CheckFault {
-    /// The workers gave no answers, for another reason than want of memory; the history. Jobs are numbered as the documents
-    /// are.
+    /// The workers gave no answers, for another reason than being out of memory; with the history. Jobs have
+    /// the numbers of their documents.
     #[error("{0}")]
     Pool(PoolFault, History),
-    /// A growth was refused memory; the history.
+    /// Memory was refused; with the history.
     #[error("no memory")]
     NoMemory(History),
 }
@@ -46,13 +46,15 @@ pub enum CheckFault {
 /// Whether one order was found for events.
 #[derive(Clone, Copy)]
 pub enum Looked {
-    /// One was.
+    /// An order was found.
     Found,
-    /// None was. If it is numbers that are too few, the place of the reply with which they seem to become so.
+    /// No order was found. If that is because numbers are too few, the position of the reply with which they
+    /// seem to become so.
     NotFound(Option<usize>),
 }
 
-/// Whether one order of all calls explains these events, as `check_alone` looks for one in a history that has no others.
+/// Returns whether one order of all calls is found that explains these events, as `check_alone` searches for
+/// one in a history that has no other events.
 pub fn looked_for(
     alloc: Global,
     history: &Front<'_>,
@@ -60,7 +62,7 @@ pub fn looked_for(
 ) -> Result<Looked, NoMemory>
     ensures { IfOk result (IsLookedFor conflicts history.now) }
 {
-    // A look at the events: that they are a history is known from here on.
+    // Calling `len` makes it known from here on that these are a history.
     let _ = history.len();
     let answers = answers_found(alloc, history, conflicts)?;
     match cover_answers(alloc, history, answers) {
@@ -70,7 +72,7 @@ pub fn looked_for(
     }
 }
 
-/// Whether one order of all calls explains these events.
+/// Returns whether one order of all calls is found that explains these events.
 pub fn is_explained(
     alloc: Global,
     history: &Front<'_>,
@@ -85,7 +87,7 @@ pub fn is_explained(
     }
 }
 
-// The numbers of the documents for which no order was found.
+// Returns the numbers of the documents for which no order was found.
 fn unordered_documents(alloc: Global, answers: &[DocAnswer]) -> Result<Vec<usize>, NoMemory>
     ensures { IfOk result (λ docs. AreUnordered answers.now (length answers.now) docs.items) }
 {
@@ -99,7 +101,7 @@ fn unordered_documents(alloc: Global, answers: &[DocAnswer]) -> Result<Vec<usize
     Ok(docs)
 }
 
-// The verdict on a history, by the answers of the search for its documents.
+// Returns the verdict on a history, by the answers of the search for its documents.
 fn verdict_of(
     alloc: Global,
     history: History,
@@ -111,7 +113,7 @@ fn verdict_of(
     ensures accepts { IfOk result (λ verdict. IsPlainlyRight history → IsYes verdict) }
     ensures back { IfErr result (λ fault. fault ≡ Unchecked history) }
 {
-    // A look at the history: that it is one is known from here on.
+    // Calling `len` makes it known from here on that this is a history.
     let _ = history.len();
     let Ok(unordered) = unordered_documents(alloc, &answers) else {
         return Err(CheckFault::NoMemory(history));
@@ -127,8 +129,8 @@ fn verdict_of(
     }
 }
 
-/// Whether one order of all calls explains the history, over all documents: each document is searched by itself, and no
-/// pair of a shard may be taken twice. `NoMemory` hands the history back.
+/// Searches for one order of all calls, over all documents, that explains the history. Each document is
+/// searched by itself, and no pair of a shard may be taken twice. Errors: `NoMemory`, with the history.
 pub fn check_alone(
     alloc: Global,
     history: History,
@@ -144,11 +146,11 @@ pub fn check_alone(
     }
 }
 
-/// The same, the documents being searched by at most this many workers, 1 to 16, each on a thread of its own where one can
-/// be made; each passes the gate before each document. With one document there is one worker.
+/// Does the same with at most this many workers, 1 to 16, each on a thread of its own if one can be made.
+/// Each worker passes the gate before each document. With one document there is one worker.
 ///
-/// The workers' number is looked at first: `NoWorkers`, `TooMany`. Then the faults of the workers' messages are told, as
-/// `check_pool::answers` tells them, and `NoMemory`. Each fault hands the history back.
+/// Errors: first `NoWorkers` and `TooMany`, for the number of workers; then the faults of the workers'
+/// messages, as `check_pool::answers` reports them, and `NoMemory`. Each error hands the history back.
 pub fn check<R: Threads + Wait + Sync, G: Gate + Sync>(
     rt: &R,
     alloc: Global,

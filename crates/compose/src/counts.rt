@@ -9,7 +9,7 @@ use crate::proof::Proof;
 use history::{Event, History};
 use witness::DocWitness;
 
-/// How many documents and calls a history has, and how many of its calls stand in no order.
+/// The numbers of documents and of calls of a history, and the number of its calls that are in no order.
 #[derive(Clone, Copy, Debug, PartialEq, Eq)]
 pub struct Counts {
     pub docs: usize,
@@ -17,7 +17,7 @@ pub struct Counts {
     pub left_out: usize,
 }
 
-// One for a call, and none for another event.
+// Returns one for a call, and zero for another event.
 fn calls_in(event: &Event) -> usize
     ensures { result ≡ cond (is_any_call event.now) 1 0 }
 {
@@ -27,7 +27,7 @@ fn calls_in(event: &Event) -> usize
     }
 }
 
-/// How many calls a history has.
+/// Returns the number of calls of a history.
 pub fn count_calls(history: &History) -> usize
     ensures { result ≡ calls_of history.now }
 {
@@ -38,7 +38,7 @@ pub fn count_calls(history: &History) -> usize
     calls
 }
 
-/// How many places the witnesses have.
+/// Returns the number of places of the witnesses.
 pub fn count_places(witnesses: &[DocWitness]) -> usize
     requires { places_in (map witness_places witnesses.now) < 2 ^ 64 }
     ensures { result ≡ places_in (map witness_places witnesses.now) }
@@ -51,7 +51,8 @@ pub fn count_places(witnesses: &[DocWitness]) -> usize
 }
 
 impl Counts {
-    /// The counts of a proof: the documents and calls of its history, and the calls that stand in no place of its witnesses.
+    /// Returns the counts of a proof: the documents and calls of its history, and the calls that are in no
+    /// place of its witnesses.
     pub fn of(proof: &Proof) -> Counts
         ensures counts { AreCounts proof.now.events (map witness_places proof.now.witnesses) result.docs
             result.calls result.left_out }

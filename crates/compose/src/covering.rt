@@ -17,16 +17,17 @@ use std::alloc::Global;
 use version_pair::NoMemory;
 use witness::DocWitness;
 
-/// Whether orders of the documents are found that explain the history together.
+/// Whether orders of the documents are found that together explain the history.
 #[derive(Drop)]
 pub enum Covering {
-    /// They are: witnesses that cover it.
+    /// They are found: witnesses that cover it.
     Found(Vec<DocWitness>),
-    /// They aren't. If it is numbers that are too few, the place of the reply with which they seem to become so.
+    /// They aren't found. If that is because numbers are too few, the position of the reply with which they
+    /// seem to become so.
     NotFound(Option<usize>),
 }
 
-// A second and a third look, if the documents want more numbers than are free.
+// Takes a second and a third look, if the documents want more numbers than are free.
 fn cover_scarce(
     alloc: Global,
     history: &Front<'_>,
@@ -52,7 +53,8 @@ fn cover_scarce(
     }
 }
 
-// Whether the witnesses of all documents cover the history, or others with other numbers or from another look do.
+// Returns whether the witnesses of all documents cover the history, or others with other numbers or from
+// another look do.
 fn cover_witnesses(
     alloc: Global,
     history: &Front<'_>,
@@ -75,8 +77,8 @@ fn cover_witnesses(
     }
 }
 
-/// Whether witnesses cover the history: those of the answers, or if two documents take one pair or one has no order, those that
-/// another look finds.
+/// Returns whether witnesses cover the history: those of the answers, or, if two documents take one pair or a
+/// document has no order, those that another look finds.
 pub fn cover_answers(
     alloc: Global,
     history: &Front<'_>,

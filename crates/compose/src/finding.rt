@@ -17,6 +17,6 @@ pub struct Failing {
 pub enum Finding {
     /// An order that explains it.
     Explained(Proof),
-    /// None.
+    /// No order was found.
     Unexplained(Case, Failing),
 }

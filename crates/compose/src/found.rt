@@ -8,7 +8,7 @@ use history::{Front, Seen};
 use std::alloc::Global;
 use version_pair::NoMemory;
 
-// What the search finds for a document of the history.
+// Returns what the search finds for a document of the history.
 fn document_answer(
     alloc: Global,
     history: &Front<'_>,
@@ -24,7 +24,7 @@ fn document_answer(
     answer(alloc, id, records, seen, conflicts)
 }
 
-/// What the search finds for the documents, in their order, each searched by itself.
+/// Returns what the search finds for the documents, in their order, each searched by itself.
 pub fn answers_found(
     alloc: Global,
     history: &Front<'_>,

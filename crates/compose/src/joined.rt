@@ -20,15 +20,15 @@ use witness::DocWitness;
 /// What the witnesses of all documents are together.
 #[derive(Drop)]
 pub enum Joined {
-    /// They cover the history, if need be with other numbers for invented pairs.
+    /// They cover the history, if needed with other numbers for invented pairs.
     Cover(Vec<DocWitness>),
-    /// The witnesses again: too few numbers are free for the pairs that they invent.
+    /// The witnesses are handed back: too few numbers are free for the pairs that they invent.
     Short(Vec<DocWitness>, Shortage),
-    /// No cover, and nothing that another look could mend.
+    /// They are no cover, and there is nothing that another look could mend.
     Spent,
 }
 
-/// Whether a document has no order.
+/// Returns whether a document has no order.
 pub fn has_lost(answers: &[DocAnswer]) -> bool
     ensures { result ≡ true → HasLost answers.now }
 {
@@ -41,7 +41,7 @@ pub fn has_lost(answers: &[DocAnswer]) -> bool
     false
 }
 
-/// The witnesses, if each document has one.
+/// Returns the witnesses, if each document has one.
 pub fn witnesses_of(
     alloc: Global,
     answers: Vec<DocAnswer>,
@@ -59,7 +59,7 @@ pub fn witnesses_of(
     Ok(Some(witnesses))
 }
 
-// What the witnesses are together with other pairs for some of their places.
+// Returns what the witnesses are together, with other pairs for some of their places.
 fn join_changed(
     alloc: Global,
     history: &Front<'_>,
@@ -80,8 +80,8 @@ fn join_changed(
     }
 }
 
-/// What the witnesses of all documents, which have these gaps, are together with other numbers for the pairs that they invent, given
-/// which pairs are in use.
+/// Returns what the witnesses of all documents, which have these gaps, are together with other numbers for
+/// the pairs that they invent, given which pairs are in use.
 pub fn renumbered(
     alloc: Global,
     history: &Front<'_>,
@@ -100,8 +100,8 @@ pub fn renumbered(
     }
 }
 
-/// What the witnesses of all documents are together, if need be with other numbers for the pairs that they invent, given which pairs
-/// are in use.
+/// Returns what the witnesses of all documents are together, if needed with other numbers for the pairs that
+/// they invent, given which pairs are in use.
 pub fn joined_again(
     alloc: Global,
     history: &Front<'_>,

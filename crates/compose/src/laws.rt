@@ -1,41 +1,41 @@
-//! Laws of covers and of shards, each the contract of a function that does nothing.
+//! Laws of covers and of shards. Each is the contract of a function that does nothing.
 
 ghost use Rattle.compose.specs.Laws.{CoversExplain, FaultyAreNoCover, OrdersAreCovers, PlainlyRightAreCovered, SettledHaveNoOrder};
 ghost use Rattle.compose.specs.Shards.{LocalByShard};
 
-/// Shows that entries which cover a history make it linearizable, by an order of exactly their places.
+/// Shows that entries that cover a history make it linearizable, by an order of exactly their places.
 #[tactic(auto, using(crate::proofs::Locality::covers_explain))]
 pub fn covers_explain()
     ensures { CoversExplain }
 {}
 
-/// Shows that an order which explains a history, restricted to each document without its unanswered calls that change
-/// nothing, gives valid places of it, and that all of them together are a cover.
+/// Shows that an order that explains a history, restricted to each document without its unanswered calls that
+/// change nothing, gives valid places of the document, and that all of them together are a cover.
 #[tactic(auto, using(crate::proofs::Restriction::orders_are_covers))]
 pub fn orders_are_covers()
     ensures { OrdersAreCovers }
 {}
 
-/// Shows that a settled history which no entries without a given pair cover is not linearizable.
+/// Shows that a complete (settled) history that no entries without a given pair cover is not linearizable.
 #[tactic(auto, using(crate::proofs::Restriction::settled_have_no_order))]
 pub fn settled_have_no_order()
     ensures { SettledHaveNoOrder }
 {}
 
-/// Shows that a plainly right history is covered by entries without a given pair.
+/// Shows that a history that is legal in response order is covered by entries without a given pair.
 #[tactic(auto, using(crate::proofs::Restriction::plainly_right_are_covered))]
 pub fn plainly_right_are_covered()
     ensures { PlainlyRightAreCovered }
 {}
 
-/// Shows that entries which have a first fault are no cover.
+/// Shows that entries that have a first fault are no cover.
 #[tactic(auto, using(crate::proofs::FaultLaws::faulty_are_no_cover))]
 pub fn faulty_are_no_cover()
     ensures { FaultyAreNoCover }
 {}
 
-/// Shows that a history is split into the parts of its shards, each of them a history, and that it is linearizable exactly
-/// where each of them is.
+/// Shows that a history is split into the parts of its shards, each of them a history, and that it is
+/// linearizable exactly if each of them is.
 #[tactic(auto, using(crate::proofs::ShardLocality::local_by_shard))]
 pub fn local_by_shard()
     ensures { LocalByShard }

@@ -1,5 +1,5 @@
-//! All documents of a history together: whether one order of all its calls explains it, the reply at which the search for
-//! one first fails, and whether the entries of a witness text cover it.
+//! All documents of a history together: whether one order of all its calls explains it, the reply at which
+//! the search for one first fails, and whether the entries of a witness text cover it.
 //!
 //! ```text
 //! match check_alone(alloc, history, Conflicts::Plain)? {

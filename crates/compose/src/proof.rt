@@ -11,8 +11,8 @@ use witness::DocWitness;
 
 /// A history with the witnesses of its documents.
 ///
-/// Its type keeps that the witnesses cover the history, each document once and no pair of a shard taken twice; so one order
-/// of all its calls explains it.
+/// The type guarantees that the witnesses cover the history, each document once and no pair of a shard taken
+/// twice; so one order of all its calls explains it.
 #[derive(Debug, Drop)]
 pub struct Proof {
     history: History,
@@ -36,7 +36,7 @@ impl Model for Proof {
 }
 
 impl Proof {
-    // The proof of a history that these witnesses cover.
+    // Returns the proof of a history that these witnesses cover.
     pub(crate) fn of(history: History, witnesses: Vec<DocWitness>, conflicts: Conflicts) -> Proof
         requires history { IsHistory history }
         requires cover { AreWitnesses conflicts history witnesses.items }
@@ -53,36 +53,36 @@ impl Proof {
         }
     }
 
-    /// The history.
+    /// Returns the history.
     #[tactic(auto, using(crate::proofs::VerdictLemmas::witnesses_explain))]
     pub fn history(&self) -> &History
         ensures same { result.now ≡ self.now.events }
         ensures history { IsHistory self.now.events }
         ensures linearizable { IsLinearizable self.now.conflicts self.now.events }
     {
-        // A look at a field: what the type keeps is known from here on.
+        // The access to a field makes the type's invariant known from here on.
         let _ = &self.conflicts;
         &self.history
     }
 
-    /// The witnesses of its documents.
+    /// Returns the witnesses of its documents.
     pub fn witnesses(&self) -> &[DocWitness]
         ensures same { result.now ≡ self.now.witnesses }
         ensures cover { AreWitnesses self.now.conflicts self.now.events self.now.witnesses }
     {
-        // A look at a field: what the type keeps is known from here on.
+        // The access to a field makes the type's invariant known from here on.
         let _ = &self.conflicts;
         &self.witnesses
     }
 
-    /// How many of its calls stand in no place: they are left out of the order.
+    /// Returns the number of its calls that are in no place: they are left out of the order.
     pub fn left_out(&self) -> usize
         ensures { result ≡ left_out_of self.now }
     {
         Counts::of(self).left_out
     }
 
-    /// How a conflict is read.
+    /// Returns how a conflict is read.
     pub fn conflicts(&self) -> Conflicts
         ensures { result ≡ self.now.conflicts }
     {

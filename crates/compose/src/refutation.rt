@@ -6,9 +6,10 @@ use evidence::{Refuted, RulingOut, find_evidence};
 use std::alloc::Global;
 use version_pair::NoMemory;
 
-/// Evidence that holds in the case's history, with conflicts read as the case reads them: of the first kind that does, in
-/// the order of `Refuted`, and of that kind the one with the least call numbers, the first number counting first.
-/// `None` where no kind holds; documents that are ruled out are not looked for.
+/// Returns evidence that holds in the case's history, with conflicts read as the case reads them. It is of
+/// the first kind that holds, in the order of `Refuted`, and of that kind it has the least call numbers,
+/// compared by the first number first. Returns `None` if no kind holds. Documents that are ruled out are not
+/// searched for.
 pub fn refute(alloc: Global, case: &Case) -> Result<Option<Refuted>, NoMemory>
     ensures holds { IfOk result (λ found. IfSome found (Holds case.now.conflicts case.now.events)) }
     ensures of_calls { IfOk result (λ found. IfSome found IsOfCalls) }
@@ -16,8 +17,9 @@ pub fn refute(alloc: Global, case: &Case) -> Result<Option<Refuted>, NoMemory>
     find_evidence(alloc, case.history(), case.conflicts())
 }
 
-/// The evidence that a document of the case's history is ruled out, with conflicts read as the case reads them: the least call
-/// at which one is. `None` where none is. Only those documents are walked for which no order was found: the others have one.
+/// Returns the evidence that a document of the case's history is provably not linearizable (ruled out), with
+/// conflicts read as the case reads them: the least call at which one is. Returns `None` if no document is.
+/// Only the documents for which no order was found are checked: the others have one.
 pub fn rule_out(alloc: Global, case: &Case) -> Result<Option<Refuted>, NoMemory>
     ensures holds { IfOk result (λ found. IfSome found (Holds case.now.conflicts case.now.events)) }
     ensures least { IfOk result (λ found. IfSome found (IsReported RulingOut.On case.now.conflicts case.now.events)) }

@@ -17,10 +17,10 @@ mod given;
 mod names;
 mod tight;
 
-/// Another pair for a place: the number of the witness, that of the place, the pair.
+/// Another pair for a place: the number of the witness, the index of the place, the pair.
 pub type Change = (usize, usize, Pair);
 
-// What numbers are given from, and to which places.
+// The source of the numbers that are given, and what decides which places may take them.
 #[derive(Drop)]
 struct Numbering<'a> {
     free: FreeNumbers<'a>,
@@ -30,8 +30,8 @@ struct Numbering<'a> {
 }
 
 impl Numbering<'_> {
-    // Free pairs for the places of a gap, in their order: each takes the least above the one before that it may take. `None` if the
-    // gap has too few.
+    // Returns free pairs for the places of a gap, in their order: each takes the least above the one before
+    // that it may take. `None` if the gap has too few.
     fn free_pairs(
         &mut self,
         alloc: Global,
@@ -53,8 +53,8 @@ impl Numbering<'_> {
         Ok(Some(pairs))
     }
 
-    // Free pairs for the places of a gap. If named pairs are avoided, those that a condition of the document names are taken only
-    // if there are too few others.
+    // Returns free pairs for the places of a gap. If named pairs are avoided, those that a condition of the
+    // document names are taken only if there are too few others.
     fn pairs_for(&mut self, alloc: Global, gap: &Gap) -> Result<Option<Vec<Pair>>, NoMemory> {
         if self.avoids {
             if let Some(pairs) = self.free_pairs(alloc, gap, true)? {
@@ -64,7 +64,7 @@ impl Numbering<'_> {
         self.free_pairs(alloc, gap, false)
     }
 
-    // Gives the gap its pairs. `None` if there are too few.
+    // Gives the gap its pairs, and returns them; `None` if there are too few.
     fn fill(&mut self, alloc: Global, gap: &Gap) -> Result<Option<Vec<Pair>>, NoMemory> {
         let Some(pairs) = self.pairs_for(alloc, gap)? else {
             return Ok(None);
@@ -76,7 +76,7 @@ impl Numbering<'_> {
     }
 }
 
-// The gaps, by shard and then by rising upper end.
+// Returns the gaps, by shard and then by rising upper end.
 fn gaps_by_end(alloc: Global, gaps: &Gaps) -> Result<Vec<usize>, NoMemory> {
     let mut ends = Vec::with_capacity(alloc, gaps.list.len())?;
     for gap in 0..gaps.list.len() {
@@ -90,7 +90,7 @@ fn gaps_by_end(alloc: Global, gaps: &Gaps) -> Result<Vec<usize>, NoMemory> {
     Ok(order)
 }
 
-// The changes that give the gaps their pairs, in the order of witnesses and places.
+// Returns the changes that give the gaps their pairs, in the order of witnesses and places.
 fn changes_to(alloc: Global, gaps: &Gaps, filled: &[Filled]) -> Result<Vec<Change>, NoMemory> {
     let mut changes = Vec::new(alloc);
     for entry in filled {
@@ -106,17 +106,17 @@ fn changes_to(alloc: Global, gaps: &Gaps, filled: &[Filled]) -> Result<Vec<Chang
     Ok(changes)
 }
 
-/// What giving numbers to gaps comes to.
+/// The result of giving numbers to gaps.
 #[derive(Drop)]
 pub enum Numbers {
     /// Other pairs for their places, in the order of witnesses and places.
     Given(Vec<Change>),
-    /// Too few numbers are free for these gaps, by their positions in the list.
+    /// Too few numbers are free for these gaps, by their indices in the list.
     Short(Vec<usize>),
 }
 
-// Numbers for all gaps, the one with the least upper end first: as each takes the least numbers that are free and that it may
-// take, there are enough for all exactly if each finds some.
+// Returns numbers for all gaps, the one with the least upper end first. Each takes the least numbers that are
+// free and that it may take, so there are enough for all exactly if each finds some.
 fn numbers_in(alloc: Global, gaps: &Gaps, numbering: Numbering<'_>) -> Result<Numbers, NoMemory> {
     let mut numbering = numbering;
     for (shard, pair) in &gaps.kept {
@@ -138,11 +138,12 @@ fn numbers_in(alloc: Global, gaps: &Gaps, numbering: Numbering<'_>) -> Result<Nu
     Ok(Numbers::Given(changes_to(alloc, gaps, &filled)?))
 }
 
-/// Numbers for all gaps of the witnesses: over all documents of a shard, the gap with the least upper end first, each takes the least
-/// number that is neither in use nor given, one that a condition of its document names only if too few others are left. If there are too
-/// few so, named numbers aren't avoided.
+/// Returns numbers for all gaps of the witnesses, over all documents of a shard, the gap with the least upper
+/// end first. Each takes the least number that is neither in use nor given, and one that a condition of its
+/// document names only if too few others are left. If there are too few in this way, named numbers aren't
+/// avoided.
 ///
-/// Nothing is promised of the numbers: whether they are distinct is checked again.
+/// The numbers come with no guarantee: whether they are distinct is checked again.
 pub fn numbers_of(
     alloc: Global,
     keys: HashKeys,
@@ -166,7 +167,7 @@ pub fn numbers_of(
     Ok(numbers)
 }
 
-// The witness with its changes, where they leave it valid.
+// Returns the witness with its changes, if they leave it valid.
 fn change_places(
     alloc: Global,
     witness: DocWitness,
@@ -192,7 +193,7 @@ fn change_places(
     }
 }
 
-// The changes of this witness are those from `from` up to what is given.
+// Returns the index at which the changes of this witness end, which begin at `from`.
 fn end_of(changes: &[Change], from: usize, witness: usize) -> usize {
     for i in from..changes.len() {
         if changes[i].0 != witness {
@@ -202,7 +203,7 @@ fn end_of(changes: &[Change], from: usize, witness: usize) -> usize {
     changes.len()
 }
 
-// The witness as it is, or with its changes.
+// Returns the witness as it is, or with its changes; `None` if it is not valid any more.
 fn with_changes(
     alloc: Global,
     witness: DocWitness,
@@ -211,14 +212,14 @@ fn with_changes(
     ensures { IfOk result (λ other. IfSome other (IsAlike witness)) }
 {
     if changes.is_empty() {
-        // A look at its places: that they are valid is known from here on.
+        // Calling `places` makes it known from here on that its places are valid.
         let _ = witness.places();
         return Ok(Some(witness));
     }
     change_places(alloc, witness, changes)
 }
 
-/// The witnesses with their changes, which are in their order; `None` where one is not valid any more.
+/// Returns the witnesses with their changes, which are in their order; `None` if one is not valid any more.
 pub fn with_all(
     alloc: Global,
     witnesses: Vec<DocWitness>,

@@ -24,7 +24,8 @@ pub struct Known<'a> {
     pub used: &'a UsedPairs,
 }
 
-// What the search forward finds for the document of an answer, given which pairs its shard uses; else the answer itself.
+// Returns what the search forward finds for the document of an answer, given which pairs its shard uses; the
+// answer itself if the search finds nothing.
 fn second_answer(
     alloc: Global,
     answer: DocAnswer,
@@ -41,7 +42,7 @@ fn second_answer(
     }
 }
 
-// The answer, or if its document has no order, what another search finds.
+// Returns the answer, or, if its document has no order, what another search finds.
 fn answer_again(
     alloc: Global,
     history: &Front<'_>,
@@ -59,7 +60,7 @@ fn answer_again(
     }
 }
 
-// The answers, each document without an order being searched again.
+// Returns the answers, with each document without an order searched again.
 fn answers_again(
     alloc: Global,
     history: &Front<'_>,
@@ -90,8 +91,8 @@ fn is_hopeless(answers: &[DocAnswer]) -> bool {
     false
 }
 
-/// Orders of all documents, those without one being searched again, given which pairs the documents of their shards use. `None` if one
-/// isn't found.
+/// Returns orders of all documents, with those without one searched again, given which pairs the documents of
+/// their shards use. `None` if an order isn't found.
 pub fn orders_again(
     alloc: Global,
     history: &Front<'_>,
@@ -113,7 +114,8 @@ pub fn orders_again(
     witnesses_of(alloc, others)
 }
 
-// Another order of the same calls within the limits, given which pairs the documents of the shard use, if the search forward finds one.
+// Returns another order of the same calls within the limits, given which pairs the documents of the shard
+// use, if the search forward finds one.
 pub fn order_within(
     alloc: Global,
     history: &Front<'_>,
@@ -140,7 +142,7 @@ pub fn order_within(
     )
 }
 
-// The witness, or if it is asked for, another one of its document.
+// Returns the witness, or, if it is asked for and another one of its document is found, that one.
 fn witness_again(
     alloc: Global,
     history: &Front<'_>,
@@ -150,7 +152,7 @@ fn witness_again(
 ) -> Result<DocWitness, NoMemory>
     ensures { IfOk result (IsAlike witness) }
 {
-    // A look at its places: that they are valid is known from here on.
+    // Calling `places` makes it known from here on that its places are valid.
     let _ = witness.places();
     let Some(limits) = limits else {
         return Ok(witness);
@@ -161,7 +163,7 @@ fn witness_again(
     }
 }
 
-/// The witnesses, those that are asked for being searched again.
+/// Returns the witnesses, with those that are asked for searched again.
 pub fn witnesses_again(
     alloc: Global,
     history: &Front<'_>,
@@ -179,7 +181,7 @@ pub fn witnesses_again(
     Ok(others)
 }
 
-/// The witnesses, those with a pair that was invented between two of one term being searched again.
+/// Returns the witnesses. Those that have one of these gaps are searched again.
 pub fn with_gaps_again(
     alloc: Global,
     history: &Front<'_>,

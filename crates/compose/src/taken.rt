@@ -8,7 +8,7 @@ use std::alloc::Global;
 use version_pair::{DocId, NoMemory, Pair};
 use witness::{DocWitness, Place};
 
-// The pair that a call takes: the one that its reply tells, or the one that is given to its place.
+// Returns the pair that a call takes: the one that its reply shows, or the one that is given to its place.
 fn pair_taken(heard: Option<(usize, Reply)>, given: Option<Pair>) -> Option<Pair>
     ensures { result ≡ taken_by heard given }
 {
@@ -18,7 +18,7 @@ fn pair_taken(heard: Option<(usize, Reply)>, given: Option<Pair>) -> Option<Pair
     }
 }
 
-/// The shard of the document, where the history has it.
+/// Returns the shard of the document, if the history has it.
 pub fn shard_of(history: &Front<'_>, id: &DocId) -> Option<u32>
     ensures { result ≡ shard_in history.now id.now }
 {
@@ -28,7 +28,7 @@ pub fn shard_of(history: &Front<'_>, id: &DocId) -> Option<u32>
     }
 }
 
-/// The pair that the call of a place takes.
+/// Returns the pair that the call of a place takes.
 pub fn pair_of_place(records: &[Rec], place: Place) -> Option<Pair>
     ensures { result ≡ pair_at records.now place }
 {
@@ -84,7 +84,7 @@ fn add_witness(
     }
 }
 
-// The number of places of all documents: no fewer than the pairs that their calls take.
+// Returns the number of places of all documents: no fewer than the pairs that their calls take.
 fn places_of(witnesses: &[DocWitness]) -> usize {
     let mut count = 0usize;
     for witness in witnesses {
@@ -93,7 +93,7 @@ fn places_of(witnesses: &[DocWitness]) -> usize {
     count
 }
 
-// The pairs that the calls of all documents take, each with its shard.
+// Returns the pairs that the calls of all documents take, each with its shard.
 fn pairs_of(
     alloc: Global,
     history: &Front<'_>,
@@ -108,7 +108,7 @@ fn pairs_of(
     Ok(pairs)
 }
 
-// The first pair that stands beside itself: in a sorted list the least that stands there twice.
+// Returns the first pair that is next to an equal one: in a sorted list, the least pair that is in it twice.
 fn first_repeated(pairs: &[(u32, Pair)]) -> Option<(u32, Pair)>
     ensures { IsSorted by_shard pairs.now → IsLeastTwice pairs.now result }
 {
@@ -121,7 +121,7 @@ fn first_repeated(pairs: &[(u32, Pair)]) -> Option<(u32, Pair)>
     None
 }
 
-/// The least pair that two calls of a shard take, by shard and then by pair.
+/// Returns the least pair that two calls of a shard take, by shard and then by pair.
 pub fn pair_twice(
     alloc: Global,
     history: &Front<'_>,

@@ -16,18 +16,19 @@ use std::alloc::Global;
 use version_pair::NoMemory;
 use witness::DocWitness;
 
-// How many documents give way at most, one after the other.
+// The greatest number of documents that give way, one after the other.
 const MOST_STEPS: usize = 64;
 
-// How many gaps are looked at for one that can do with fewer numbers.
+// The greatest number of gaps that are tried for one that can do with fewer numbers.
 const MOST_TRIED: usize = 64;
 
-// How many records are searched again at most, for each event of the history and in any case.
+// The greatest number of records that are searched again: for each event of the history, and in addition in
+// any case.
 const MOST_SEARCHED: usize = 2;
 
 const ALWAYS_SEARCHED: usize = 100_000;
 
-// One insertion fewer than the gap has.
+// Returns the limit of one insertion fewer than the gap has.
 fn fewer_than(gap: &Gap) -> Option<Limit> {
     Some(Limit {
         lower: gap.numbers.from,
@@ -36,7 +37,7 @@ fn fewer_than(gap: &Gap) -> Option<Limit> {
     })
 }
 
-// What documents are asked for, and how many records may still be searched.
+// The documents that are asked for, and the number of records that may still be searched.
 #[derive(Drop)]
 struct Trials {
     asked: Asked,
@@ -44,7 +45,7 @@ struct Trials {
 }
 
 impl Trials {
-    // Whether so many records may be searched; they are taken off.
+    // Returns whether that many records may be searched; if so, they are subtracted.
     fn take(&mut self, records: usize) -> bool {
         match self.left.checked_sub(records) {
             Some(left) => {
@@ -61,11 +62,11 @@ impl Trials {
 struct GivesWay {
     doc: usize,
     limit: Limit,
-    // How many numbers more it wants in all.
+    // How many more numbers it wants in all.
     more: usize,
 }
 
-// How many numbers the document of a witness wants within the limits, if an order is found.
+// Returns how many numbers the document of a witness wants within the limits, if an order is found.
 fn wanted_within(
     alloc: Global,
     history: &Front<'_>,
@@ -84,7 +85,8 @@ fn wanted_within(
     }
 }
 
-// Whether the document of a gap can do with one number fewer there, as far as it may be searched.
+// Returns what to ask of the document of a gap if it can do with one number fewer there, as far as it may be
+// searched.
 fn gives_way(
     alloc: Global,
     history: &Front<'_>,
@@ -112,7 +114,8 @@ fn gives_way(
     }
 }
 
-// The document that gives way where numbers are short and then wants the fewest numbers more; the first that wants none more.
+// Returns the document that gives way where numbers are short and then wants the fewest more numbers; the
+// first that wants no more.
 fn best_of(
     alloc: Global,
     history: &Front<'_>,
@@ -140,8 +143,9 @@ fn best_of(
     Ok(best)
 }
 
-/// A third look, if the documents want more numbers than are free: as long as there are too few for some gaps, one of their documents
-/// is searched again with one number fewer there. Witnesses that cover the history, if the numbers suffice in the end.
+/// Takes a third look, if the documents want more numbers than are free: as long as there are too few for
+/// some gaps, one of their documents is searched again with one number fewer there. Returns witnesses that
+/// cover the history, if the numbers suffice in the end.
 pub fn cover_with_fewer(
     alloc: Global,
     history: &Front<'_>,

@@ -12,7 +12,8 @@ pub struct UsedPairs {
     shards: Vec<Vec<Pair>>,
 }
 
-// Adds the pairs that a call shows to be in use: the one that its reply shows, and if it is performed, that of its condition.
+// Adds the pairs that a call shows to be in use: the one that its reply shows, and, if it was performed, that
+// of its condition.
 fn note_used(list: &mut Vec<Pair>, found: Rec) -> Result<(), NoMemory> {
     if let Some(pair) = found.heard.and_then(|heard| heard.1.pair()) {
         list.push(pair)?;
@@ -26,8 +27,8 @@ fn note_used(list: &mut Vec<Pair>, found: Rec) -> Result<(), NoMemory> {
 }
 
 impl UsedPairs {
-    /// Those that the calls of these documents show to be in use: a get found them, a write that was performed has them, or its
-    /// condition names them.
+    /// Returns those that the calls of these documents show to be in use: a get found them, a write that was
+    /// performed has them, or its condition names them.
     pub fn shown(
         alloc: Global,
         history: &Front<'_>,
@@ -47,7 +48,7 @@ impl UsedPairs {
         Ok(used)
     }
 
-    /// Those that the answered writes of these witnesses have, and others, each with its shard.
+    /// Returns those that the answered writes of these witnesses have, and the others, each with its shard.
     pub fn taken(
         alloc: Global,
         history: &Front<'_>,
@@ -75,7 +76,7 @@ impl UsedPairs {
         Ok(used)
     }
 
-    // The list of a shard.
+    // Returns the list of a shard.
     fn list(
         &mut self,
         alloc: Global,
@@ -98,7 +99,7 @@ impl UsedPairs {
         }
     }
 
-    /// Those of a shard, rising.
+    /// Returns those of a shard, rising.
     pub fn of_shard(&self, shard: u32) -> &[Pair] {
         match usize::try_from(shard) {
             Ok(shard) => match self.shards.get(shard) {

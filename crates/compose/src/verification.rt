@@ -18,14 +18,15 @@ use std::alloc::Global;
 use version_pair::{DocId, NoMemory};
 use witness::{Broken, DocWitness, Place};
 
-// The entries that were verified: their witnesses, and of each document of the history whether it is entered.
+// The entries that were verified: their witnesses, and for each document of the history whether it is
+// entered.
 #[derive(Drop)]
 struct Verification {
     entered: Vec<bool>,
     witnesses: Vec<DocWitness>,
 }
 
-// The witness of a document with these places.
+// Returns the witness of a document with these places.
 fn witness_of(
     alloc: Global,
     history: &History,
@@ -52,7 +53,7 @@ fn witness_of(
 }
 
 impl Verification {
-    // No entries.
+    // Returns a verification of no entries.
     fn new(alloc: Global, history: &History) -> Result<Verification, VerifyFault>
         ensures size { IfOk result (λ v. length v.entered.items ≡ length (documents_of history.now)) }
         ensures ok { IfOk result (λ v. (conflicts : Reading) → AreVerified conflicts history.now [] v.entered.items v.witnesses.items) }
@@ -67,7 +68,7 @@ impl Verification {
         }
     }
 
-    // The document of an entry, where it is one of the history and not entered yet.
+    // Returns the document of an entry, if it is one of the history and not entered yet.
     fn document(&self, history: &History, entry: usize, id: &DocId) -> Result<usize, VerifyFault>
         requires { length self.now.entered.items ≡ length (documents_of history.now) }
         ensures { MatchResult result (IsOpen history.now self.now.entered.items id.now)
@@ -120,7 +121,7 @@ impl Verification {
         Ok(())
     }
 
-    // The first document that is not entered.
+    // Returns the first document that is not entered.
     fn missing(&self) -> Option<usize>
         ensures { MatchOption result
             ((k : ℕ) → k < length self.now.entered.items → slice_get self.now.entered.items k ≡ Some true)
@@ -136,8 +137,8 @@ impl Verification {
     }
 }
 
-// The witnesses of entries that were verified, where they cover the history: each document is entered, and no pair of a shard
-// is taken twice.
+// Returns the witnesses of entries that were verified, if they cover the history: each document is entered,
+// and no pair of a shard is taken twice.
 fn covering(
     alloc: Global,
     history: &History,
@@ -161,7 +162,7 @@ fn covering(
     }
 }
 
-// The witnesses of the entries, where they cover the history.
+// Returns the witnesses of the entries, if they cover the history.
 fn witnesses_of(
     alloc: Global,
     history: &History,
@@ -188,10 +189,12 @@ fn witnesses_of(
     covering(alloc, history, verification, conflicts)
 }
 
-/// The proof of a history that the entries of a witness text cover; else the first fault, with the history.
+/// Returns the proof of a history that the entries of a witness text cover. Errors: the first fault, with the
+/// history.
 ///
-/// Entry by entry `DocStranger`, `DocTwice`, `Broken`; then `DocMissing`, with the first document in the order of first calls;
-/// then `PairTwice`, with the least shard and then the least pair. `NoMemory` is told where a growth was refused.
+/// The faults come in this order: entry by entry `DocStranger`, `DocTwice`, `Broken`; then `DocMissing`, with
+/// the first document in the order of first calls; then `PairTwice`, with the least shard and then the least
+/// pair. `NoMemory` if memory was refused.
 pub fn verify(
     alloc: Global,
     history: History,
@@ -207,7 +210,7 @@ pub fn verify(
         → ¬ AreCover conflicts history (map doc_places entries.items)) }
     ensures back { IfErr result (λ e. e.1 ≡ history) }
 {
-    // A look at the history: that it is one is known from here on.
+    // Calling `len` makes it known from here on that this is a history.
     let _ = history.len();
     match witnesses_of(alloc, &history, entries, conflicts) {
         Ok(witnesses) => Ok(Proof::of(history, witnesses, conflicts)),

@@ -2,8 +2,8 @@ use thiserror::Error;
 use version_pair::Pair;
 use witness::Broken;
 
-/// Why the entries of a witness text do not cover a history: the first fault. Entries and documents are numbered from
-/// 0, documents in the order of their first calls.
+/// Why the entries of a witness text do not cover a history: the first fault. Entries and documents are
+/// numbered from 0, documents in the order of their first calls.
 #[derive(Clone, Copy, Debug, PartialEq, Eq, Error)]
 pub enum VerifyFault {
     /// No entry is of this document.
@@ -21,7 +21,7 @@ pub enum VerifyFault {
     /// Two performed calls of this shard take this pair.
     #[error("two calls of shard {0} take the same pair")]
     PairTwice(u32, Pair),
-    /// A growth was refused memory.
+    /// Memory was refused.
     #[error("no memory")]
     NoMemory,
 }

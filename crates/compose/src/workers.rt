@@ -13,7 +13,7 @@ use std::sync::Wait;
 use std::thread::Threads;
 use version_pair::NoMemory;
 
-// The search of a document of the history.
+// Returns the search of a document of the history, as a job.
 fn job_of(
     history: &Front<'_>,
     doc: usize,
@@ -33,7 +33,7 @@ fn job_of(
     })
 }
 
-// The search of each document, in their order.
+// Returns the search of each document, in their order, as jobs.
 fn jobs_of(
     alloc: Global,
     history: &Front<'_>,
@@ -50,7 +50,7 @@ fn jobs_of(
     Ok(jobs)
 }
 
-/// What the search finds for the documents, in their order, searched by workers.
+/// Returns what the search finds for the documents, in their order, searched by workers.
 pub fn answers_of_workers<R: Threads + Wait + Sync, G: Gate + Sync>(
     rt: &R,
     alloc: Global,

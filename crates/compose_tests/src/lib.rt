@@ -1,4 +1,5 @@
-//! Tests of the verdict on all documents of a history, of its evidence, and of the reply at which the search first fails.
+//! Tests of the verdict on all documents of a history, of its evidence, and of the reply at which the search
+//! first fails.
 #![tactic(auto)]
 
 #[cfg(test)]

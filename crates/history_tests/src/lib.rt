@@ -1,4 +1,5 @@
-//! Tests of histories: their events, fronts and records, and the texts that they are read from and written as; by public calls.
+//! Tests of histories, by public calls: their events, prefixes and records, and the texts that they are read
+//! from and written as.
 #![tactic(auto)]
 
 #[cfg(test)]

@@ -1,4 +1,4 @@
--- What is written of a bulk request and its reply.
+-- What is written for a bulk request and its reply.
 use Rattle.std.specs.Prelude.{◌≡◌, ℕ, List, Ok, Err, Option, IfSome}
 use Rattle.api_lines.specs.declared.bulk_fault.BulkFault.{BulkFault}
 use Rattle.history.specs.BulkText.{bulk_history}
@@ -6,14 +6,14 @@ use Rattle.result_lines.specs.Lines.{bulk_fault_line}
 use Rattle.stream_io.specs.declared.status.Status.{Status}
 use Rattle.stream_io.specs.declared.status.Status.TheVariants.{Yes, No, Refuted, Refused}
 
--- The lines of the bulk's calls, numbered from first on, and of their endings, where its status is 200; or the line of the
--- first fault.
+-- The lines of the bulk's calls, numbered from first on, and of their endings, the status being 200; or the
+-- line of the first fault.
 abbrev pub IsBulkAnswer : ℕ → List ℕ → List ℕ → Status → List ℕ → Type 0
 IsBulkAnswer first body reply Yes text = bulk_history first body 200 reply ≡ Ok text
 IsBulkAnswer first body reply No text = ⊥
 IsBulkAnswer first body reply Refuted text = ⊥
 IsBulkAnswer first body reply Refused line = (told : BulkFault) × (line ≡ bulk_fault_line told) × (bulk_history first body 200 reply ≡ Err told)
 
--- what is written of the bytes that the two readers had
+-- what is written for the bytes that the two readers had
 abbrev pub AnswersBulk : ℕ → Option (List ℕ) → Option (List ℕ) → Status → List ℕ → Type 0
 AnswersBulk first body reply status text = IfSome body (λ b. IfSome reply (λ r. IsBulkAnswer first b r status text))

@@ -1,4 +1,4 @@
--- What is found of a history beside the line that answers it.
+-- What is found of a history, beside the line that answers it.
 use Rattle.std.specs.Prelude.{◌≡◌, ℕ, List, Option, Some, None, IfSome}
 use Rattle.doc_register.specs.declared.state.Conflicts.{Conflicts}
 use Rattle.history.specs.declared.event.Event.{Event}
@@ -12,21 +12,22 @@ use Rattle.result_lines.specs.Lines.{no_line, refuted_line}
 use Rattle.stream_io.specs.declared.status.Status.{Status}
 use Rattle.stream_io.specs.declared.status.Status.TheVariants.{Yes, No, Refuted}
 
--- The line says that no order was found, with the offence; and if there is evidence, the line has it, it holds and may be reported.
+-- The line reports that no order was found, with the offence. If there is evidence, the line has it, and it
+-- holds and may be reported.
 abbrev pub SaysFailing : RulingOut → Conflicts → List Event → Status → List ℕ → Offence → Option Evidence → Type 0
 SaysFailing ruling conflicts events status line offence None = (status ≡ No) × (line ≡ no_line offence)
 SaysFailing ruling conflicts events status line offence (Some told) =
     (status ≡ Refuted) × (line ≡ refuted_line told offence) × Holds conflicts events told × IsReported ruling conflicts events told
 
--- What was found is of this history and this reading of conflicts, and the line says it: an order and `yes`, or no order, with the
--- evidence and the offence of the line.
+-- What was found is of this history and this reading of conflicts, and the line reports it: an order and
+-- `yes`, or no order, with the evidence and the offence of the line.
 abbrev pub IsFindingOf : RulingOut → Conflicts → List Event → Status → List ℕ → Finding → Type 0
 IsFindingOf ruling conflicts events status line (Explained proof) = (proof.events ≡ events) × (proof.conflicts ≡ conflicts) × (status ≡ Yes)
 IsFindingOf ruling conflicts events status line (Unexplained case failing) =
     (case.events ≡ events) × (case.conflicts ≡ conflicts)
     × SaysFailing ruling case.conflicts case.events status line failing.offence failing.evidence
 
--- the evidence that was found, if any was, holds
+-- the evidence that was found, if any, holds
 abbrev pub HasItsEvidence : Finding → Type 0
 HasItsEvidence (Explained proof) = Unit {0}
 HasItsEvidence (Unexplained case failing) = IfSome failing.evidence (Holds case.conflicts case.events)

@@ -1,4 +1,4 @@
--- What a line that is written says of the bytes that were read.
+-- What a written line says of the bytes that were read.
 use Rattle.std.specs.Prelude.{◌≡◌, ℕ, ◌+◌, ◌⊎◌, List, codes, length, Ok, Err, Option, IfSome}
 use Rattle.doc_register.specs.declared.state.Conflicts.{Conflicts}
 use Rattle.history.specs.declared.event.Event.{Event}
@@ -24,8 +24,8 @@ use Rattle.stream_io.specs.Written.{HasAnswer, HasFront}
 use Rattle.stream_io.specs.declared.status.Status.{Status}
 use Rattle.stream_io.specs.declared.status.Status.TheVariants.{Yes, No, Refuted, Refused}
 
--- The input is a text of a history with so many documents and so many calls, and there is an order that explains it, in
--- which so many of its calls do not stand.
+-- The input is a text of a history with that many documents and that many calls. There is an order that
+-- explains it, and that many of its calls are not in the order.
 pub record IsExplained (conflicts : Conflicts) (input : List ℕ) (docs calls left_out : ℕ) : Type 0 where
   pub events : List Event
   pub is_text : IsHistoryText input events
@@ -35,42 +35,45 @@ pub record IsExplained (conflicts : Conflicts) (input : List ℕ) (docs calls le
   pub explains : Explains conflicts events order
   pub the_rest : length order + left_out ≡ calls
 
--- The input is a text of a history for which no order was found: no entries without a given pair cover it, it is not plainly
--- right, and where it is settled no order explains it; and the offence is one of that history.
+-- The input is a text of a history for which no order was found: no entries without a given pair cover it; it
+-- is not legal in response order; and if it is complete (settled), no order explains it. The offence is one
+-- of that history.
 pub record IsUnexplained (conflicts : Conflicts) (input : List ℕ) (o : Offence) : Type 0 where
   pub events : List Event
   pub is_text : IsHistoryText input events
   pub none_found : HasNoOrderFound conflicts events
   pub offence : IsOffence conflicts events o
 
--- All that an unexplained input is; and where documents were looked at that may be ruled out, none is.
+-- The input is unexplained; and if documents were checked for being ruled out, none is.
 pub record IsUndecided (ruling : RulingOut) (conflicts : Conflicts) (input : List ℕ) (o : Offence) : Type 0 where
   pub unexplained : IsUnexplained conflicts input o
   pub none : ruling ≡ On → IsWithoutRuledOut conflicts unexplained.events
 
--- All that an unexplained input is, and beside it the evidence holds in the history that it is a text of, and may be reported: that
--- a document is ruled out only if that was asked for, and by the least call at which one is. So no order of the calls explains that
--- history, however those of unknown outcome are completed or left out.
+-- The input is unexplained, and the evidence holds in the history that it is a text of, and may be reported:
+-- that a document is ruled out only if that was asked for, and by the least call at which one is. So no order
+-- of the calls explains that history, however those of unknown outcome are completed or left out.
 pub record IsRefutedBy (ruling : RulingOut) (conflicts : Conflicts) (input : List ℕ) (told : Evidence) (o : Offence) : Type 0 where
   pub unexplained : IsUnexplained conflicts input o
   pub holds : Holds conflicts unexplained.events told
   pub reported : IsReported ruling conflicts unexplained.events told
   pub no_order : ¬ IsLinearizable conflicts unexplained.events
 
--- the input is a text of no history: the line tells the first of its lines that is refused, with its first cause
+-- the input is a text of no history: the line reports the first of its lines that is refused, with its first
+-- cause
 abbrev pub IsRefused : List ℕ → List ℕ → Type 0
 IsRefused input line = (told : TextFault) × (line ≡ refused_line told.line told.cause) × (history_text input ≡ Err told)
 
--- The line, and what it says of the input: `yes` says that it is explained, `no` that no order was found for the history that it
--- is a text of, and at which reply the search first failed, `refuted` says that too and gives evidence that there is no order, and
--- `refused` says that it is a text of no history.
+-- The line, and what it says of the input. `yes`: the input is explained. `no`: no order was found for the
+-- history that it is a text of; the line names the reply at which the search first failed. `refuted`: the
+-- same, with evidence that there is no order. `refused`: the input is a text of no history.
 abbrev pub IsAnswer : RulingOut → Conflicts → List ℕ → Status → List ℕ → Type 0
 IsAnswer ruling conflicts input Yes line = (docs calls left_out : ℕ) × (line ≡ yes_line docs calls left_out) × IsExplained conflicts input docs calls left_out
 IsAnswer ruling conflicts input No line = (o : Offence) × (line ≡ no_line o) × IsUndecided ruling conflicts input o
 IsAnswer ruling conflicts input Refuted line = (told : Evidence) × (o : Offence) × (line ≡ refuted_line told o) × IsRefutedBy ruling conflicts input told o
 IsAnswer ruling conflicts input Refused line = IsRefused input line
 
--- The input is a text of a history, and what is written reads as entries that cover it; so an order explains it.
+-- The input is a text of a history, and what is written reads as entries that cover it; so an order explains
+-- it.
 pub record IsWitnessed (conflicts : Conflicts) (input text : List ℕ) : Type 0 where
   pub events : List Event
   pub is_text : IsHistoryText input events
@@ -79,15 +82,16 @@ pub record IsWitnessed (conflicts : Conflicts) (input text : List ℕ) : Type 0 
   pub cover : AreCover conflicts events entries
   pub explained : IsLinearizable conflicts events
 
--- what is written where a witness is asked for: the text of one, or the line of a check
+-- what is written if a witness is asked for: the text of one, or the line of a check
 abbrev pub IsWitnessAnswer : RulingOut → Conflicts → List ℕ → Status → List ℕ → Type 0
 IsWitnessAnswer ruling conflicts input Yes text = IsWitnessed conflicts input text
 IsWitnessAnswer ruling conflicts input No text = (o : Offence) × (text ≡ no_line o) × IsUndecided ruling conflicts input o
 IsWitnessAnswer ruling conflicts input Refuted text = (told : Evidence) × (o : Offence) × (text ≡ refuted_line told o) × IsRefutedBy ruling conflicts input told o
 IsWitnessAnswer ruling conflicts input Refused text = IsRefused input text
 
--- The one input is a text of a history, and the other reads as entries that cover it, in no place of which so many of its
--- calls stand; there is an order that explains it, of as many calls as the entries have places.
+-- The one input is a text of a history, and the other reads as entries that cover it; that many of its calls
+-- are in no place of the entries. There is an order that explains it, of as many calls as the entries have
+-- places.
 pub record IsVerified (conflicts : Conflicts) (history witness : List ℕ) (docs calls left_out : ℕ) : Type 0 where
   pub events : List Event
   pub is_text : IsHistoryText history events
@@ -97,8 +101,8 @@ pub record IsVerified (conflicts : Conflicts) (history witness : List ℕ) (docs
   pub counts : AreCounts events entries docs calls left_out
   pub explained : HasOrder conflicts events docs calls left_out
 
--- The one input is a text of a history, and the other reads as entries of which this is the first fault; so they do not cover
--- it.
+-- The one input is a text of a history, and the other reads as entries of which this is the first fault; so
+-- they do not cover it.
 pub record IsBroken (conflicts : Conflicts) (history witness : List ℕ) (fault : VerifyFault) : Type 0 where
   pub events : List Event
   pub is_text : IsHistoryText history events
@@ -107,7 +111,8 @@ pub record IsBroken (conflicts : Conflicts) (history witness : List ℕ) (fault 
   pub first : IsFirstVerifyFault conflicts events entries fault
   pub no_cover : ¬ AreCover conflicts events entries
 
--- the one input is a text of no history: the line tells the first of its lines that is refused, with its first cause
+-- the one input is a text of no history: the line reports the first of its lines that is refused, with its
+-- first cause
 abbrev pub IsRefusedHistory : List ℕ → List ℕ → Type 0
 IsRefusedHistory history line =
     (told : TextFault) × (line ≡ refused_file_line (codes "history") told.line told.cause) × (history_text history ≡ Err told)
@@ -116,12 +121,14 @@ IsRefusedHistory history line =
 abbrev pub IsSomeHistory : List ℕ → Type 0
 IsSomeHistory input = (events : List Event) × IsHistoryText input events
 
--- the one input is a text of some history, and the other is no witness text: the line tells as much of that one
+-- the one input is a text of some history, and the other is no witness text: the line reports the first line
+-- of the other that is refused, with its first cause
 abbrev pub IsRefusedWitness : List ℕ → List ℕ → List ℕ → Type 0
 IsRefusedWitness history witness line =
     (told : TextFault) × (line ≡ refused_file_line (codes "witness") told.line told.cause) × IsSomeHistory history × (witness_text witness ≡ Err told)
 
--- the line, and what it says of both inputs; a witness that does not cover a history is no evidence against that
+-- the line, and what it says of both inputs; a witness that does not cover a history is no evidence against
+-- the history
 abbrev pub IsVerifyAnswer : Conflicts → List ℕ → List ℕ → Status → List ℕ → Type 0
 IsVerifyAnswer conflicts history witness Yes line =
     (docs calls left_out : ℕ) × (line ≡ verified_line docs calls left_out) × IsVerified conflicts history witness docs calls left_out
@@ -129,7 +136,7 @@ IsVerifyAnswer conflicts history witness No line = (fault : VerifyFault) × (lin
 IsVerifyAnswer conflicts history witness Refuted line = ⊥
 IsVerifyAnswer conflicts history witness Refused line = IsRefusedHistory history line ⊎ IsRefusedWitness history witness line
 
--- nothing is taken of the witness where the history's text is refused
+-- nothing is taken of the witness if the history text is refused
 abbrev pub LeavesUnread : Option (List ℕ) → Option (List ℕ) → Option (List ℕ) → Type 0
 LeavesUnread history old new = IfSome history (λ h. (told : TextFault) → history_text h ≡ Err told → new ≡ old)
 
@@ -147,10 +154,10 @@ WitnessesInput ruling conflicts input status text = IfSome input (λ bytes. IsWi
 abbrev pub VerifiesInputs : Conflicts → Option (List ℕ) → Option (List ℕ) → Status → List ℕ → Type 0
 VerifiesInputs conflicts history witness status line = IfSome history (λ h. IfSome witness (λ w. IsVerifyAnswer conflicts h w status line))
 
--- The writer holds the line beside what it held, and the line is an answer to the bytes that the reader had.
+-- The writer holds the line after what it held, and the line is an answer to the bytes that the reader had.
 abbrev pub IsAnswered : RulingOut → Conflicts → Option (List ℕ) → Option (List ℕ) → Option (List ℕ) → Status → Type 0
 IsAnswered ruling conflicts input old new status = HasAnswer (AnswersInput ruling conflicts input status) old new
 
--- The writer holds a front of such a line beside what it held.
+-- The writer holds a prefix of such a line after what it held.
 abbrev pub IsCutOff : RulingOut → Conflicts → Option (List ℕ) → Option (List ℕ) → Option (List ℕ) → Type 0
 IsCutOff ruling conflicts input old new = HasFront (AnswersInput ruling conflicts input) old new

@@ -11,7 +11,8 @@ use version_pair::NoMemory;
 // The status of every bulk whose reply is recorded.
 const STATUS: u16 = 200;
 
-/// The answer to the body of a bulk request and its reply: their lines in a history, the calls numbered from `first`.
+/// Returns the answer to the body of a bulk request and its reply: their lines in a history, with the calls
+/// numbered from `first`.
 pub fn bulk_answer(alloc: Global, first: u64, body: &[u8], reply: &[u8]) -> Result<Answer, NoMemory>
     ensures { IfOk result (λ answer. IsBulkAnswer first body.now reply.now answer.status
         answer.text.items) }

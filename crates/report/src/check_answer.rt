@@ -29,8 +29,8 @@ use std::thread::Threads;
 use stream_io::{Answer, Status, StreamFault, read_history};
 use version_pair::NoMemory;
 
-// The evidence that no order explains the case's history, if some is found; documents that are ruled out are looked for
-// last, if that is asked for.
+// Returns evidence that no order explains the case's history, if some is found. Documents that are ruled out
+// are searched for last, and only if that is asked for.
 fn evidence_against(
     alloc: Global,
     case: &Case,
@@ -50,8 +50,8 @@ fn evidence_against(
     }
 }
 
-/// The answer to a text of a history for which no order was found: with the evidence that there is none, if some is found;
-/// and what it reports.
+/// Returns the answer to a text of a history for which no order was found, with evidence that there is none,
+/// if some is found; and what the answer reports.
 pub fn case_answer(
     alloc: Global,
     case: &Case,
@@ -63,7 +63,7 @@ pub fn case_answer(
     ensures failing { IfOk result (λ made. SaysFailing ruling_out case.now.conflicts case.now.events made.0.status
         made.0.text.items made.1.offence made.1.evidence) }
 {
-    // A look at the history: that no order was found for it is known from here on.
+    // Calling `history` makes it known from here on that no order was found for it.
     let _ = case.history();
     let evidence = evidence_against(alloc, case, ruling_out)?;
     let offence = first_offence(alloc, case)?;
@@ -82,7 +82,7 @@ pub fn case_answer(
     }
 }
 
-/// The answer to a text that was refused.
+/// Returns the answer to a text that was refused.
 pub fn refusal(alloc: Global, fault: TextFault) -> Result<Answer, NoMemory>
     ensures status { IfOk result (λ answer. answer.status ≡ Status.Refused) }
     ensures line { IfOk result (λ answer. answer.text.items ≡ told_refused fault.line fault.cause) }
@@ -96,7 +96,7 @@ pub fn refusal(alloc: Global, fault: TextFault) -> Result<Answer, NoMemory>
     Ok(Answer::of(Status::Refused, line))
 }
 
-// The verdict on a history by so many workers. One worker is the caller's thread.
+// Returns the verdict on a history by that many workers. One worker is the caller's thread.
 fn verdict_by<R: Threads + Wait + Sync>(
     rt: &R,
     alloc: Global,
@@ -130,9 +130,10 @@ fn verdict_by<R: Threads + Wait + Sync>(
     }
 }
 
-/// The answer to a text that was read as this history, and what was found of it: the line that `check_stream` writes for it.
+/// Returns the answer to a text that was read as this history, which is the line that `check_stream` writes
+/// for it; and what was found of the history.
 ///
-/// `NoMemory` if a growth was refused; `Worker` if a worker was lost, which one worker never is.
+/// Errors: `NoMemory` if memory was refused; `Worker` if a worker was lost, which one worker never is.
 pub fn history_answer<R: Threads + Wait + Sync>(
     rt: &R,
     alloc: Global,
@@ -166,7 +167,8 @@ pub fn history_answer<R: Threads + Wait + Sync>(
     }
 }
 
-/// The answer to the text of a reader: whether an order explains its history, searched for by so many workers.
+/// Returns the answer to the text of a reader: whether an order explains its history. That many workers
+/// search for one.
 pub fn check_answer<T: Threads + Wait + Sync, R: Read>(
     rt: &T,
     alloc: Global,

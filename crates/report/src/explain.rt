@@ -1,4 +1,4 @@
-//! Stories: what an answer means, for people.
+//! Explanations: what an answer means, for people.
 
 ghost use Rattle.std.specs.Prelude.{◌≡◌, ◌≢◌, ◌≤◌, ◌++◌, ℕ, List, IfErr, IfOk, IfSome};
 ghost use Rattle.evidence.specs.Evidence.{Holds};
@@ -28,7 +28,7 @@ use story::{
 use stream_io::{Answer, StreamFault};
 use version_pair::NoMemory;
 
-// What a story says of a history for which no order was found.
+// Returns what an explanation says of a history for which no order was found.
 fn unexplained_of<'h>(
     alloc: Global,
     case: &'h Case,
@@ -55,7 +55,7 @@ fn unexplained_of<'h>(
     })
 }
 
-// The story of a history.
+// Returns the explanation of a history.
 fn story_of(alloc: Global, finding: &Finding, lines: &EventLines) -> Result<Story, NoMemory>
     requires { HasItsEvidence finding.now }
 {
@@ -77,7 +77,7 @@ fn story_of(alloc: Global, finding: &Finding, lines: &EventLines) -> Result<Stor
     }
 }
 
-// The line of a check of the text of a reader, and what it means.
+// Returns the line of a check of the text of a reader, and its explanation.
 fn explain<T: Threads + Wait + Sync, R: Read>(
     rt: &T,
     alloc: Global,
@@ -113,7 +113,7 @@ fn explain<T: Threads + Wait + Sync, R: Read>(
     }
 }
 
-// The line of an answer, as text.
+// Returns the line of an answer, as text.
 fn line_of(answer: &Answer) -> &str {
     match str::from_utf8(answer.text.as_slice()) {
         Ok(line) => line,
@@ -121,7 +121,7 @@ fn line_of(answer: &Answer) -> &str {
     }
 }
 
-// The answer with the story behind its line.
+// Returns the answer with the explanation after its line.
 fn with_story(alloc: Global, answer: Answer, story: &Story) -> Result<Answer, NoMemory>
     ensures status { IfOk result (λ made. made.status ≡ answer.status) }
     ensures line { IfOk result (λ made. (rest : List ℕ) × (made.text.items ≡ answer.text.items ++ rest)) }
@@ -130,7 +130,7 @@ fn with_story(alloc: Global, answer: Answer, story: &Story) -> Result<Answer, No
     answer.followed_by(plain.as_bytes())
 }
 
-/// The line of a check of the text of a reader, with a story behind it.
+/// Returns the line of a check of the text of a reader, followed by its explanation.
 pub fn explained_text<T: Threads + Wait + Sync, R: Read>(
     rt: &T,
     alloc: Global,
@@ -153,8 +153,8 @@ pub fn explained_text<T: Threads + Wait + Sync, R: Read>(
     Ok(with_story(alloc, answer, &story)?)
 }
 
-/// Reads a history text to its end, and gives the answer that `explain_stream` writes for it, and the story as a page of HTML, with
-/// a drawing of the calls. It writes nothing.
+/// Reads a history text to its end. Returns the answer that `explain_stream` writes for it, and the
+/// explanation as a page of HTML, with a drawing of the calls. It writes nothing.
 pub fn explained_page<T: Threads + Wait + Sync, R: Read>(
     rt: &T,
     alloc: Global,
@@ -166,7 +166,8 @@ pub fn explained_page<T: Threads + Wait + Sync, R: Read>(
 ) -> Result<(Answer, Vec<u8>), StreamFault>
     requires some { 1 ≤ workers }
     requires few { workers ≤ 16 }
-    // The text of the answer begins with a line that answers the bytes of the reader as the line of `check_stream` does.
+    // The text of the answer begins with a line that answers the bytes of the reader as the line of
+    // `check_stream` does.
     ensures text { IfOk result (λ made. ExplainsInput ruling_out conflicts (R.remaining reader.old) made.0.status
         made.0.text.items) }
     // The page is made of markup of the crate `page`, numbers, and escaped texts.

@@ -1,8 +1,10 @@
-//! Bytes in, a line or a text out: a history checked, and what was found told; its witness written, a witness verified, a bulk
-//! as history lines. Whoever wants the checker as a library takes this crate.
+//! Bytes in, a line or a text out: a history is checked, and what was found is explained; its witness is
+//! written; a witness is verified; a bulk is written as history lines. To use the checker as a library, take
+//! this crate.
 //!
 //! ```text
-//! let status = check_stream(rt, alloc, keys, &mut reader, &mut writer, 1, Conflicts::Plain, RulingOut::Off)?;
+//! let reading = Conflicts::Plain;
+//! let status = check_stream(rt, alloc, keys, &mut reader, &mut writer, 1, reading, RulingOut::Off)?;
 //! let passed = status == Status::Yes;
 //! ```
 #![tactic(auto)]

@@ -10,9 +10,10 @@ use std::alloc::Global;
 use std::io::Read;
 use story::{EventLines, read_numbered_from};
 
-/// The history, with these keys, whose text the reader has to its end, and on which lines its events stand; or the first line
-/// that is refused. Nothing after that line is taken but what the last read brought, which is asked for 32,768 bytes. A fault
-/// of the reader of any kind ends the reading.
+/// Reads the history text of the reader to its end, and returns its history, with these keys, and the lines
+/// that its events are on; or the first line that is refused. No bytes after that line are taken but those
+/// that the last read brought, which is asked for 32,768 bytes. A fault of the reader of any kind ends the
+/// reading.
 pub fn read_numbered<R: Read>(
     alloc: Global,
     keys: HashKeys,

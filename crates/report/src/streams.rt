@@ -22,20 +22,22 @@ use std::sync::Wait;
 use std::thread::Threads;
 use stream_io::{Status, StreamFault, read_all, write_answer};
 
-/// Reads a history text to its end and writes one line: `yes docs=D calls=C left_out=L` where one order of its
-/// calls, over all documents, explains it; `no event=E call=N before=shown` (or `unshown`) where none was found;
-/// `refuted kind=NAME calls=A,B event=E call=N before=shown` where none was found and there is evidence that there is
-/// none; `refused line=L cause=NAME` where it is no history text.
+/// Reads a history text to its end and writes one line: `yes docs=D calls=C left_out=L` if one order of its
+/// calls, over all documents, explains it; `no event=E call=N before=shown` (or `unshown`) if none was found;
+/// `refuted kind=NAME calls=A,B event=E call=N before=shown` if none was found and there is evidence that
+/// there is none; `refused line=L cause=NAME` if it is no history text.
 ///
-/// Each document is searched for an order of its answered calls, and where they have none, for one that completes
-/// unanswered writes; and no pair of a shard may be taken twice. Where each write was answered (under Maybe by another reply
-/// than a conflict), `no` says that there is no order; `refuted` says so of every history. The event is the reply at which the
-/// search first fails, the call the one that it answers, and the last word tells whether the events before have an order. The
-/// documents are searched by 1 to 16 workers. What is answered doesn't depend on the keys of the hashes.
+/// Each document is searched for an order of its answered calls, and, if they have none, for one that
+/// completes unanswered writes; and no pair of a shard may be taken twice. If each write was answered (under
+/// Maybe, by a reply other than a conflict), `no` says that there is no order; `refuted` says so of every
+/// history. The event is the reply at which the search first fails, the call is the one that it answers, and
+/// the last word says whether the events before it have an order. The documents are searched by 1 to 16
+/// workers. The answer doesn't depend on the keys of the hashes.
 ///
-/// The kinds of evidence are `pair-twice` of two writes, `no-writer` of one get, `stale-get` of a get and a write, and
-/// `stale-swap` of two writes, with the numbers of these calls in this order; and, where that is asked for and no other is found,
-/// `ruled-out` of the answered call at which a document is ruled out.
+/// The kinds of evidence are `pair-twice` of two writes, `no-writer` of one get, `stale-get` of a get and a
+/// write, and `stale-swap` of two writes, with the numbers of these calls in this order; and, if that is
+/// asked for and no other evidence is found, `ruled-out` of the answered call at which a document is provably
+/// not linearizable (ruled out).
 pub fn check_stream<T: Threads + Wait + Sync, R: Read, W: Write>(
     rt: &T,
     alloc: Global,
@@ -48,19 +50,21 @@ pub fn check_stream<T: Threads + Wait + Sync, R: Read, W: Write>(
 ) -> Result<Status, StreamFault>
     requires some_workers { 1 ≤ workers }
     requires few_workers { workers ≤ 16 }
-    // Where it answers yes, the bytes of the reader to its end are a text of a history that an order of calls explains, over
-    // all its documents, with the counts of the line. Where it answers no, they are a text of a history that no entries
-    // without a given pair cover: it is not plainly right, and where it is settled, so that each write was answered, no
-    // order explains it; and where documents were looked at that may be ruled out, none is. Where it answers refuted, all that is true as well, and the evidence of the line holds in the
-    // history: no order explains it, however its unanswered calls are completed. Where it refuses, they are a text of none,
-    // and the line tells the first that is refused.
+    // If it answers yes, the bytes of the reader to its end are a text of a history that an order of calls
+    // explains, over all its documents, with the counts of the line. If it answers no, they are a text of a
+    // history that no entries without a given pair cover: it is not legal in response order, and if it is
+    // complete (settled), so that each write was answered, no order explains it. Also, if documents were
+    // checked for being ruled out, none is. If it answers refuted, all that is true as well, except the last,
+    // and the evidence of the line holds in the history: no order explains it, however its unanswered calls
+    // are completed. If it refuses, they are a text of no history, and the line reports the first line that
+    // is refused.
     ensures answered { IfOk result (IsAnswered ruling_out conflicts (R.remaining reader.old)
         (W.contents writer.old) (W.contents writer.new)) }
-    // After a write fault a front of such a line is written.
+    // After a write fault a prefix of such a line is written.
     ensures cut_off { IsErrOf result StreamFault.Write
         → IsCutOff ruling_out conflicts (R.remaining reader.old) (W.contents writer.old)
         (W.contents writer.new) }
-    // After any other fault nothing is.
+    // After any other fault nothing is written.
     ensures kept { IfErr result (λ fault. fault ≢ StreamFault.Write
         → Keeps (W.contents writer.old) (W.contents writer.new)) }
     ensures told { IfErr result IsWorkedFault }
@@ -68,18 +72,19 @@ pub fn check_stream<T: Threads + Wait + Sync, R: Read, W: Write>(
     ensures alone { workers ≡ 1 → IfErr result IsStreamFault }
     // A document that a fault names is one of the history whose text the reader had.
     ensures named { IfErr result (NamesOwnDocument (R.remaining reader.old)) }
-    // Of the bytes of the reader no line behind the first that is refused is taken, and nothing behind that one but what the
-    // last read brought, 32,768 bytes at most; and no more than the limits allow. So it is of the two streams below, of each of
-    // their readers.
+    // No line after the first that is refused is taken of the bytes of the reader, and no bytes after that
+    // line but those that the last read brought, at most 32,768; and no more than the limits allow. The same
+    // holds for the three streams below, for each of their readers.
     ensures taken { TakesHistory (R.remaining reader.old) (R.remaining reader.new) }
 {
     let answer = check_answer(rt, alloc, keys, reader, workers, conflicts, ruling_out)?;
     write_answer(writer, &answer)
 }
 
-/// Reads a history text to its end and writes the line that `check_stream` writes for it, and after it a story of what was
-/// found, for people: where no order was found the calls that matter, why no order explains the reply, and the order before
-/// it; where one was found what became of the calls of unknown outcome; where the text was refused its line.
+/// Reads a history text to its end and writes the line that `check_stream` writes for it, followed by an
+/// explanation of what was found, for people. If no order was found: the calls that matter, why no order
+/// explains the reply, and the order before it. If one was found: what became of the calls of unknown outcome
+/// (indeterminate). If the text was refused: its line.
 pub fn explain_stream<T: Threads + Wait + Sync, R: Read, W: Write>(
     rt: &T,
     alloc: Global,
@@ -92,10 +97,11 @@ pub fn explain_stream<T: Threads + Wait + Sync, R: Read, W: Write>(
 ) -> Result<Status, StreamFault>
     requires some_workers { 1 ≤ workers }
     requires few_workers { workers ≤ 16 }
-    // What it writes begins with a line that answers the bytes of the reader as the line of `check_stream` does.
+    // What it writes begins with a line that answers the bytes of the reader as the line of `check_stream`
+    // does.
     ensures answered { IfOk result (λ status. HasAnswer (ExplainsInput ruling_out conflicts (R.remaining reader.old) status)
         (W.contents writer.old) (W.contents writer.new)) }
-    // After a write fault a front of such a text is written, and after any other fault nothing is.
+    // After a write fault a prefix of such a text is written, and after any other fault nothing is.
     ensures cut_off { IsErrOf result StreamFault.Write
         → HasFront (ExplainsInput ruling_out conflicts (R.remaining reader.old)) (W.contents writer.old)
         (W.contents writer.new) }
@@ -112,8 +118,8 @@ pub fn explain_stream<T: Threads + Wait + Sync, R: Read, W: Write>(
     write_answer(writer, &answer)
 }
 
-/// Reads a history text to its end and writes the text of its witness where `check_stream` says yes, and the line of
-/// `check_stream` where it does not.
+/// Reads a history text to its end and writes the text of its witness if `check_stream` says yes, and the
+/// line of `check_stream` if it does not.
 pub fn witness_stream<R: Read, W: Write>(
     alloc: Global,
     keys: HashKeys,
@@ -122,12 +128,13 @@ pub fn witness_stream<R: Read, W: Write>(
     conflicts: Conflicts,
     ruling_out: RulingOut,
 ) -> Result<Status, StreamFault>
-    // Where it answers yes, what it wrote reads as entries that cover the history that the bytes are a text of, each document
-    // once, so that an order explains it; else it wrote the line of a check, which says what it says above.
+    // If it answers yes, what it wrote reads as entries that cover the history that the bytes are a text of,
+    // each document once, so that an order explains it. Otherwise it wrote the line of a check, which says
+    // what it says above.
     ensures answered { IfOk result (λ status. HasAnswer (WitnessesInput ruling_out conflicts
         (R.remaining reader.old) status)
         (W.contents writer.old) (W.contents writer.new)) }
-    // After a write fault a front of such a text is written, and after any other fault nothing is.
+    // After a write fault a prefix of such a text is written, and after any other fault nothing is.
     ensures cut_off { IsErrOf result StreamFault.Write
         → HasFront (WitnessesInput ruling_out conflicts (R.remaining reader.old)) (W.contents writer.old)
         (W.contents writer.new) }
@@ -140,10 +147,10 @@ pub fn witness_stream<R: Read, W: Write>(
     write_answer(writer, &answer)
 }
 
-/// Reads a history text and then a witness text, each to its end, and writes one line: `verified docs=D calls=C
-/// left_out=L` where the witness covers the history; `broken` with the first fault where it does not;
-/// `refused file=history` or `refused file=witness` with the line and the cause where one of them is no such text.
-/// A witness is not read where the history's text is refused.
+/// Reads a history text and then a witness text, each to its end, and writes one line: `verified docs=D
+/// calls=C left_out=L` if the witness covers the history; `broken` with the first fault if it does not;
+/// `refused file=history` or `refused file=witness` with the line and the cause if one of them is no such
+/// text. The witness is not read if the history text is refused.
 pub fn verify_stream<R: Read, Q: Read, W: Write>(
     alloc: Global,
     keys: HashKeys,
@@ -152,13 +159,14 @@ pub fn verify_stream<R: Read, Q: Read, W: Write>(
     writer: &mut W,
     conflicts: Conflicts,
 ) -> Result<Status, StreamFault>
-    // Where it answers yes, the one's bytes are a text of a history, and the other's read as entries that cover it, so that an
-    // order explains it, with the counts of the line; where it answers no, as entries of which the line tells the first
-    // fault, so that they do not cover it; and a refusal tells the first line of the first text that is refused.
+    // If it answers yes, the one's bytes are a text of a history, and the other's read as entries that cover
+    // it, so that an order explains it, with the counts of the line. If it answers no, they read as entries
+    // of which the line reports the first fault, so that they do not cover it. A refusal reports the first
+    // refused line of the first text that is refused.
     ensures answered { IfOk result (λ status. HasAnswer (VerifiesInputs conflicts
         (R.remaining history.old) (Q.remaining witness.old) status)
         (W.contents writer.old) (W.contents writer.new)) }
-    // After a write fault a front of such a line is written, and after any other fault nothing is.
+    // After a write fault a prefix of such a line is written, and after any other fault nothing is.
     ensures cut_off { IsErrOf result StreamFault.Write
         → HasFront (VerifiesInputs conflicts (R.remaining history.old) (Q.remaining witness.old))
         (W.contents writer.old) (W.contents writer.new) }
@@ -167,16 +175,17 @@ pub fn verify_stream<R: Read, Q: Read, W: Write>(
     ensures told { IfErr result IsStreamFault }
     ensures taken { TakesHistory (R.remaining history.old) (R.remaining history.new) }
     ensures witness_taken { TakesWitness (Q.remaining witness.old) (Q.remaining witness.new) }
-    // Of the witness nothing is where the history's text is refused.
+    // Nothing of the witness is taken if the history text is refused.
     ensures unread { LeavesUnread (R.remaining history.old) (Q.remaining witness.old) (Q.remaining witness.new) }
 {
     let answer = verify_input(alloc, keys, history, witness, conflicts)?;
     write_answer(writer, &answer)
 }
 
-/// Reads the body of a bulk request and then its reply, each to its end, and writes their lines in a history: the calls of
-/// all items, numbered from `first`, and then a reply or a lost line for each. Where they are refused it writes one line:
-/// `refused line=L cause=NAME`, `refused cause=count` or `refused item=I cause=kind`, with the first fault.
+/// Reads the body of a bulk request and then its reply, each to its end, and writes their lines in a history:
+/// the calls of all items, numbered from `first`, followed by a reply or a lost line for each. If they are
+/// refused, it writes one line with the first fault: `refused line=L cause=NAME`, `refused cause=count` or
+/// `refused item=I cause=kind`.
 ///
 /// The status of the reply is taken to be 200. Both are read before either is judged.
 pub fn bulk_stream<R: Read, Q: Read, W: Write>(
@@ -186,8 +195,8 @@ pub fn bulk_stream<R: Read, Q: Read, W: Write>(
     reply: &mut Q,
     writer: &mut W,
 ) -> Result<Status, StreamFault>
-    // What it wrote are the lines of the one's bytes with the other's, and it answers yes; or the line of their first
-    // fault, and it answers refused.
+    // It wrote the lines of the one's bytes with the other's, and answers yes; or the line of their first
+    // fault, and answers refused.
     ensures answered { IfOk result (λ status. HasAnswer (AnswersBulk first
         (R.remaining body.old) (Q.remaining reply.old) status)
         (W.contents writer.old) (W.contents writer.new)) }
@@ -197,7 +206,7 @@ pub fn bulk_stream<R: Read, Q: Read, W: Write>(
     ensures kept { IfErr result (λ fault. fault ≢ StreamFault.Write
         → Keeps (W.contents writer.old) (W.contents writer.new)) }
     ensures told { IfErr result IsStreamFault }
-    // Where it answers, nothing is left of either.
+    // If it answers, nothing is left of either.
     ensures end { OnOk result (OnSome (R.remaining body.old) (IsAtEnd (R.remaining body.new))
         × OnSome (Q.remaining reply.old) (IsAtEnd (Q.remaining reply.new))) }
 {

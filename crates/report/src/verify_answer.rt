@@ -17,7 +17,7 @@ use stream_io::{Answer, Status};
 use version_pair::{DocId, NoMemory};
 use witness::Place;
 
-/// The answer to a history's text that was refused.
+/// Returns the answer to a history text that was refused.
 pub fn refused_history(alloc: Global, fault: TextFault) -> Result<Answer, NoMemory>
     ensures line { IfOk result (λ answer. answer.text.items
         ≡ refused_file_line (codes "history") fault.line fault.cause) }
@@ -29,7 +29,7 @@ pub fn refused_history(alloc: Global, fault: TextFault) -> Result<Answer, NoMemo
     Ok(Answer::of(Status::Refused, line))
 }
 
-/// The answer to a witness text that was refused.
+/// Returns the answer to a witness text that was refused.
 pub fn refused_witness(alloc: Global, fault: TextFault) -> Result<Answer, NoMemory>
     ensures line { IfOk result (λ answer. answer.text.items
         ≡ refused_file_line (codes "witness") fault.line fault.cause) }
@@ -41,7 +41,7 @@ pub fn refused_witness(alloc: Global, fault: TextFault) -> Result<Answer, NoMemo
     Ok(Answer::of(Status::Refused, line))
 }
 
-/// The answer to entries that were read, for this history.
+/// Returns the answer to entries that were read, for this history.
 pub fn entries_answer(
     alloc: Global,
     history: History,

@@ -11,7 +11,7 @@ use std::alloc::Global;
 use std::io::Read;
 use stream_io::{Answer, StreamFault, read_entries, read_history};
 
-// The answer to the witness text of a reader, for this history.
+// Returns the answer to the witness text of a reader, for this history.
 fn read_witness_answer<Q: Read>(
     alloc: Global,
     history: History,
@@ -30,8 +30,8 @@ fn read_witness_answer<Q: Read>(
     }
 }
 
-/// The answer to the history's text of one reader and the witness text of another: whether the one's documents are covered by
-/// the other's entries. The witness is not read where the history's text is refused.
+/// Returns the answer to the history text of one reader and the witness text of another: whether the entries
+/// of the other cover the documents of the one. The witness is not read if the history text is refused.
 pub fn verify_input<R: Read, Q: Read>(
     alloc: Global,
     keys: HashKeys,

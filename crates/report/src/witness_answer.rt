@@ -14,7 +14,7 @@ use stream_io::{Answer, Status, StreamFault, read_history};
 use version_pair::NoMemory;
 use witness::write_witness;
 
-// The witness of a history as a text, or the answer that no order was found.
+// Returns the witness of a history as a text, or the answer that no order was found.
 fn history_witness(
     alloc: Global,
     history: History,
@@ -40,7 +40,8 @@ fn history_witness(
     }
 }
 
-/// The witness of the history whose text a reader has, as a text; or the answer of a check that is not yes.
+/// Returns the witness of the history whose text a reader has, as a text; or the answer of a check that is
+/// not yes.
 pub fn witness_answer<R: Read>(
     alloc: Global,
     keys: HashKeys,

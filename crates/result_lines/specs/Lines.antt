@@ -1,4 +1,4 @@
--- The lines that are written.
+-- The lines that are written as answers.
 use Rattle.std.specs.Prelude.{ℕ, Bool, true, false, List, [], ◌++◌, ◌==◌, codes, decimal, if◌then◌else◌}
 use Rattle.api_lines.specs.declared.text_fault.TextCause.{TextCause}
 use Rattle.api_lines.specs.declared.text_fault.TextCause.TheVariants.{Long, Lines, Json, Shape, Id, Range, Half, Stranger, SecondCall, NoCall, Ended, Full, ShardMoved}
@@ -32,7 +32,7 @@ abbrev pub yes_line : ℕ → ℕ → ℕ → List ℕ
 yes_line docs calls left_out =
     codes "yes docs=" ++ (decimal docs ++ (codes " calls=" ++ (decimal calls ++ (codes " left_out=" ++ (decimal left_out ++ codes "\n")))))
 
--- whether the events before the offence have an order
+-- the word that says whether the events before the offence have an order
 abbrev pub before_name : Bool → List ℕ
 before_name true = codes "shown"
 before_name false = codes "unshown"
@@ -49,7 +49,7 @@ kind_name (evidence.StaleGet g w) = codes "stale-get"
 kind_name (evidence.StaleSwap a b) = codes "stale-swap"
 kind_name (evidence.RuledOut n) = codes "ruled-out"
 
--- the numbers of two calls
+-- the numbers of two calls, with a comma between
 abbrev pub both_numbers : ℕ → ℕ → List ℕ
 both_numbers a b = decimal a ++ (codes "," ++ decimal b)
 
@@ -61,7 +61,7 @@ named_calls (evidence.StaleGet g w) = both_numbers g w
 named_calls (evidence.StaleSwap a b) = both_numbers a b
 named_calls (evidence.RuledOut n) = decimal n
 
--- the evidence, and after it what the line of a `no` would tell
+-- the evidence, followed by what the line of a `no` would report
 abbrev pub refuted_line : Refuted → Offence → List ℕ
 refuted_line e o =
     codes "refuted kind=" ++ (kind_name e ++ (codes " calls=" ++ (named_calls e ++ (codes " event=" ++ (decimal o.event ++ (codes " call=" ++ (decimal o.call ++ (codes " before=" ++ (before_name o.before_shown ++ codes "\n")))))))))
@@ -73,21 +73,21 @@ abbrev pub verified_line : ℕ → ℕ → ℕ → List ℕ
 verified_line docs calls left_out =
     codes "verified docs=" ++ (decimal docs ++ (codes " calls=" ++ (decimal calls ++ (codes " left_out=" ++ (decimal left_out ++ codes "\n")))))
 
--- a refused line of one of the two texts, the history's or the witness's
+-- the refused line of one of two texts, the history's or the witness's
 abbrev pub refused_file_line : List ℕ → ℕ → TextCause → List ℕ
 refused_file_line file line cause =
     codes "refused file=" ++ (file ++ (codes " line=" ++ (decimal line ++ (codes " cause=" ++ (cause_name cause ++ codes "\n")))))
 
--- an entry with a fault at one of its places
+-- the line of an entry with a fault at one of its places
 abbrev pub broken_place_line : ℕ → List ℕ → ℕ → List ℕ
 broken_place_line entry name i =
     codes "broken entry=" ++ (decimal entry ++ (codes " cause=" ++ (name ++ (codes " place=" ++ (decimal i ++ codes "\n")))))
 
--- an entry with a fault of its own
+-- the line of an entry with a fault of its own
 abbrev pub broken_entry_line : ℕ → List ℕ → List ℕ
 broken_entry_line entry name = codes "broken entry=" ++ (decimal entry ++ (codes " cause=" ++ (name ++ codes "\n")))
 
--- the fault of an entry's places; want of memory has no line
+-- the line of a fault of an entry's places; being out of memory has no line
 abbrev pub broken_places_line : ℕ → Broken → List ℕ
 broken_places_line entry (StrangePlace i) = broken_place_line entry (codes "stranger") i
 broken_places_line entry (Twice i) = broken_place_line entry (codes "twice") i
@@ -99,11 +99,11 @@ broken_places_line entry (Absent k) =
     codes "broken entry=" ++ (decimal entry ++ (codes " cause=absent rec=" ++ (decimal k ++ codes "\n")))
 broken_places_line entry NoMemory = []
 
--- the shard of a pair, where it isn't 0
+-- the shard of a pair, if it isn't 0, and the end of the line
 abbrev pub shard_end : ℕ → List ℕ
 shard_end h = if h == 0 then codes "\n" else codes " shard=" ++ (decimal h ++ codes "\n")
 
--- what is told of a witness that doesn't cover its history; want of memory has no line
+-- the line of a witness that doesn't cover its history; being out of memory has no line
 abbrev pub broken_line : VerifyFault → List ℕ
 broken_line (fault.DocMissing k) = codes "broken doc=" ++ (decimal k ++ codes " cause=doc-missing\n")
 broken_line (fault.DocTwice i) = broken_entry_line i (codes "doc-twice")
@@ -113,11 +113,11 @@ broken_line (fault.PairTwice shard pair) =
     codes "broken term=" ++ (decimal pair.term ++ (codes " seq=" ++ (decimal pair.seq ++ (codes " cause=pair-twice" ++ shard_end shard))))
 broken_line fault.NoMemory = []
 
--- a refused line of the body of a bulk, or of its reply
+-- the refused line of the body of a bulk request, or of its reply
 abbrev pub refused_bulk_line : ℕ → List ℕ → List ℕ
 refused_bulk_line line name = codes "refused line=" ++ (decimal line ++ (codes " cause=" ++ (name ++ codes "\n")))
 
--- what is told of a bulk that is refused; want of memory has no line
+-- the line of a bulk that is refused; being out of memory has no line
 abbrev pub bulk_fault_line : BulkFault → List ℕ
 bulk_fault_line (bulk.Syntax n) = refused_bulk_line n (codes "syntax")
 bulk_fault_line (bulk.Action n) = refused_bulk_line n (codes "action")

@@ -6,14 +6,14 @@ use std::alloc::{AllocError, Global};
 use version_pair::{NoMemory, Pair};
 use witness::Broken;
 
-// The line of a fault at a place of an entry.
+// Returns the line of a fault at a place of an entry.
 fn place_line(alloc: Global, entry: usize, cause: &str, place: usize) -> Result<String, NoMemory>
     ensures { IfOk result (λ line. string_bytes line ≡ broken_place_line entry cause.now place) }
 {
     format!(in alloc; "broken entry={entry} cause={cause} place={place}\n")
 }
 
-// The line of a fault of an entry's places.
+// Returns the line of a fault of an entry's places.
 fn places_line(alloc: Global, entry: usize, broken: Broken) -> Result<String, NoMemory>
     ensures { IfOk result (λ line. string_bytes line ≡ broken_places_line entry broken) }
 {
@@ -29,14 +29,14 @@ fn places_line(alloc: Global, entry: usize, broken: Broken) -> Result<String, No
     }
 }
 
-// The line of a fault of an entry.
+// Returns the line of a fault of an entry.
 fn entry_line(alloc: Global, entry: usize, cause: &str) -> Result<String, NoMemory>
     ensures { IfOk result (λ line. string_bytes line ≡ broken_entry_line entry cause.now) }
 {
     format!(in alloc; "broken entry={entry} cause={cause}\n")
 }
 
-// The end of the line of a pair: its shard, where that is not 0.
+// Returns the end of the line of a pair: its shard, if that is not 0, and the line feed.
 fn shard_end(alloc: Global, shard: u32) -> Result<String, NoMemory>
     ensures { IfOk result (λ text. string_bytes text ≡ told_shard shard) }
 {
@@ -47,7 +47,7 @@ fn shard_end(alloc: Global, shard: u32) -> Result<String, NoMemory>
     }
 }
 
-// The line of a pair that two calls take.
+// Returns the line of a pair that two calls take.
 fn pair_line(alloc: Global, shard: u32, pair: Pair) -> Result<String, NoMemory>
     ensures { IfOk result (λ line. string_bytes line
         ≡ told_line (VerifyFault.PairTwice shard pair)) }
@@ -59,7 +59,7 @@ fn pair_line(alloc: Global, shard: u32, pair: Pair) -> Result<String, NoMemory>
     format!(in alloc; "broken term={term} seq={seq} cause=pair-twice{end}")
 }
 
-/// The line of a fault.
+/// Returns the line of a fault of a witness.
 pub fn broken_line(alloc: Global, fault: VerifyFault) -> Result<String, NoMemory>
     ensures { IfOk result (λ line. string_bytes line ≡ told_line fault) }
 {

@@ -5,14 +5,14 @@ use api_lines::BulkFault;
 use std::alloc::{AllocError, Global};
 use version_pair::NoMemory;
 
-// The line of a fault in a line of the body or the reply.
+// Returns the line of a fault in a line of the body or of the reply.
 fn refused_line(alloc: Global, line: u64, cause: &str) -> Result<String, NoMemory>
     ensures { IfOk result (λ text. string_bytes text ≡ refused_bulk_line line cause.now) }
 {
     format!(in alloc; "refused line={line} cause={cause}\n")
 }
 
-/// The line of a fault of a bulk request or its reply.
+/// Returns the line of a fault of a bulk request or its reply.
 pub fn bulk_fault_line(alloc: Global, fault: BulkFault) -> Result<String, NoMemory>
     ensures { IfOk result (λ text. string_bytes text ≡ told_line fault) }
 {

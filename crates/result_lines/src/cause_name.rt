@@ -3,7 +3,7 @@ ghost use Rattle.result_lines.specs.Lines.{cause_name as printed};
 
 use api_lines::TextCause;
 
-/// The printed name of a cause.
+/// Returns the printed name of a cause.
 pub fn cause_name(cause: TextCause) -> &'static str
     ensures { result.now ≡ printed cause }
 {

@@ -7,14 +7,14 @@ use compose::{Counts, Offence};
 use std::alloc::Global;
 use version_pair::NoMemory;
 
-/// Whether the events before an offence have an order, in words.
+/// Returns the word that says whether the events before an offence have an order.
 pub fn before_name(before_shown: bool) -> &'static str
     ensures { result.now ≡ shown_name before_shown }
 {
     if before_shown { "shown" } else { "unshown" }
 }
 
-/// The line of an order that explains a history.
+/// Returns the line of a history that an order explains.
 pub fn yes_line(alloc: Global, counts: Counts) -> Result<String, NoMemory>
     ensures { IfOk result (λ line. string_bytes line
         ≡ told_yes counts.docs counts.calls counts.left_out) }
@@ -27,7 +27,8 @@ pub fn yes_line(alloc: Global, counts: Counts) -> Result<String, NoMemory>
     format!(in alloc; "yes docs={docs} calls={calls} left_out={left_out}\n")
 }
 
-/// The line of a history for which no order was found, and of the reply at which the search first failed.
+/// Returns the line of a history for which no order was found. It reports the reply at which the search first
+/// failed.
 pub fn no_line(alloc: Global, offence: Offence) -> Result<String, NoMemory>
     ensures { IfOk result (λ line. string_bytes line ≡ told_no offence) }
 {
@@ -40,7 +41,7 @@ pub fn no_line(alloc: Global, offence: Offence) -> Result<String, NoMemory>
     format!(in alloc; "no event={event} call={call} before={before}\n")
 }
 
-/// The line of a text that is refused.
+/// Returns the line of a text that is refused.
 pub fn refused_line(alloc: Global, fault: TextFault) -> Result<String, NoMemory>
     ensures { IfOk result (λ line. string_bytes line ≡ told_refused fault.line fault.cause) }
 {

@@ -1,4 +1,4 @@
-//! The lines that are written: each answer in the words that its definition gives.
+//! The lines that are written: each answer as its definition spells it.
 //!
 //! ```text
 //! let line = no_line(alloc, offence)?; // no event=6 call=3 before=shown

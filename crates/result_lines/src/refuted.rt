@@ -6,7 +6,7 @@ use compose::{Offence, Refuted};
 use std::alloc::Global;
 use version_pair::NoMemory;
 
-// The printed name of a kind of evidence.
+// Returns the printed name of a kind of evidence.
 fn kind_name(evidence: Refuted) -> &'static str
     ensures { result.now ≡ told_kind evidence }
 {
@@ -19,14 +19,14 @@ fn kind_name(evidence: Refuted) -> &'static str
     }
 }
 
-// The numbers of two calls.
+// Returns the numbers of two calls, with a comma between.
 fn numbers(alloc: Global, one: u64, two: u64) -> Result<String, NoMemory>
     ensures { IfOk result (λ text. string_bytes text ≡ both_numbers one two) }
 {
     format!(in alloc; "{one},{two}")
 }
 
-// The numbers of the calls that evidence names.
+// Returns the numbers of the calls that evidence names.
 fn named_calls(alloc: Global, evidence: Refuted) -> Result<String, NoMemory>
     ensures { IfOk result (λ text. string_bytes text ≡ told_calls evidence) }
 {
@@ -38,7 +38,8 @@ fn named_calls(alloc: Global, evidence: Refuted) -> Result<String, NoMemory>
     }
 }
 
-/// The line of evidence against a history, and of the reply at which the search first fails.
+/// Returns the line of evidence against a history. It also reports the reply at which the search first
+/// failed.
 pub fn refuted_line(alloc: Global, evidence: Refuted, offence: Offence) -> Result<String, NoMemory>
     ensures { IfOk result (λ line. string_bytes line ≡ told_line evidence offence) }
 {

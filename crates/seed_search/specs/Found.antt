@@ -20,23 +20,23 @@ with_seed setting seed = record setting { seed = seed }
 
 -- What the target issued tickets for, and what it gave when they were polled; and how the group is disturbed.
 module _ (issued : Ticket → List ℕ → Op → Type 0) (gave : Ticket → Progress → Type 0) (disturbance : Disturbance) where
-  -- The text is that of the run of the setting in turns, whose lists are runs of its clients, and the line answers it, documents being
-  -- looked at that may be ruled out.
+  -- The text is that of the run of the setting in turns, whose lists are runs of its clients. The line
+  -- answers it, with documents checked for being ruled out.
   pub record IsJudgedRun (setting : RunSetting) (text : List ℕ) (status : Status) (line : List ℕ) : Type 0 where
     pub is_run : IsRunText issued gave setting text
     pub in_turns : IsTextInTurns setting disturbance text
     pub answer : IsAnswer On Plain text status line
 
-  -- the run of the setting in turns is explained by an order
+  -- an order explains the run of the setting in turns
   abbrev pub IsCleared : RunSetting → Type 0
   IsCleared setting = (text : List ℕ) × (line : List ℕ) × IsJudgedRun setting text Yes line
 
-  -- so it is with each seed from one to another, that one left out
+  -- the same for each seed from the first on, below the end
   abbrev pub AreCleared : RunSetting → ℕ → ℕ → Type 0
   AreCleared setting first end = (seed : ℕ) → first ≤ seed → seed < end → IsCleared (with_seed setting seed)
 
-  -- The text is that of a run with this seed of the range, the line answers it with something else than yes, and the runs with the
-  -- seeds before are explained by orders.
+  -- The text is that of a run with this seed of the range, the line gives it an answer other than yes, and
+  -- orders explain the runs with the seeds before it.
   pub record IsFoundRun (setting : RunSetting) (first last seed : ℕ) (text : List ℕ) (status : Status) (line : List ℕ) : Type 0 where
     pub from : first ≤ seed
     pub to : seed ≤ last
@@ -48,7 +48,8 @@ module _ (issued : Ticket → List ℕ → Op → Type 0) (gave : Ticket → Pro
   abbrev pub IsFoundText : RunSetting → ℕ → ℕ → List ℕ → Type 0
   IsFoundText setting first last text = (seed : ℕ) × (status : Status) × (line : List ℕ) × IsFoundRun setting first last seed text status line
 
-  -- Yes: the writer holds the text of a run that is found beside what it held. No: it holds what it held, and each run is explained.
+  -- Yes: the writer holds, after what it held, the text of a run that was found. No: it holds what it held,
+  -- and an order explains each run.
   abbrev pub IsSearched : RunSetting → ℕ → ℕ → Option (List ℕ) → Option (List ℕ) → Status → Type 0
   IsSearched setting first last old new Yes = HasAnswer (IsFoundText setting first last) old new
   IsSearched setting first last old new No = Keeps old new × AreCleared setting first (last + 1)

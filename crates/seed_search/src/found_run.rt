@@ -7,6 +7,6 @@ pub struct FoundRun {
     pub seed: u64,
     /// The text of the history.
     pub text: Vec<u8>,
-    /// What a check of the text answers, documents being looked at that may be ruled out.
+    /// The answer of a check of the text, with documents checked for being ruled out.
     pub answer: Answer,
 }

@@ -1,8 +1,8 @@
-//! Runs of a replication group tried seed by seed, until one is found for whose history no order is.
+//! Runs of a replication group, tried seed by seed until one is found for whose history no order is found.
 //!
 //! ```text
 //! let seeds = Seeds::new(1, 1_000).ok_or("the least first")?;
-//! let status = search_stream(rt, alloc, &seeds, &setting, Disturbance::Storm, &watch, &mut writer)?;
+//! let status = search_stream(rt, alloc, seeds, &setting, Disturbance::Storm, &watch, &mut writer)?;
 //! ```
 #![tactic(auto)]
 

@@ -19,10 +19,10 @@ use std::thread::Threads;
 use stream_io::{Status, StreamFault, write_text};
 use workload::Target;
 
-// How many seeds are tried from one time that it is told to the next.
+// The number of seeds that are tried from one progress report to the next.
 const SEEDS_APART: u64 = 100;
 
-// A run that is made with the setting, in turns, and judged.
+// Makes the run of the setting, in turns, and judges it.
 fn judged_run<T: Threads + Wait + Sync>(
     rt: &T,
     alloc: Global,
@@ -49,7 +49,7 @@ fn judged_run<T: Threads + Wait + Sync>(
     })
 }
 
-// The run that is made with the setting and this seed, where no order is found for its history.
+// Returns the run that is made with the setting and this seed, if no order is found for its history.
 fn tried_seed<T: Threads + Wait + Sync>(
     rt: &T,
     alloc: Global,
@@ -72,18 +72,19 @@ fn tried_seed<T: Threads + Wait + Sync>(
     }
 }
 
-// Tells after each hundredth seed how many were tried beside the last.
+// Reports, after each hundredth seed, how many were tried and which was the last. `others` is the number of
+// seeds before the last.
 fn tell_tried<H: Watch>(watch: &H, others: u64, last: u64) {
     if others % SEEDS_APART == SEEDS_APART - 1 {
         watch.tried(others / SEEDS_APART + 1, last);
     }
 }
 
-/// The first run of these seeds for whose history no order is found: the clients are played in turns, and documents are looked at
-/// that may be ruled out. Who looks on is told after each hundredth seed.
+/// Returns the first run of these seeds for whose history no order is found. The clients are played in turns,
+/// and documents are checked for being ruled out. The watch is called after each hundredth seed.
 ///
-/// `Setting` where a number of the plan or of the group is refused; `NoMemory` where a growth was refused; `Recording` as of
-/// `run_played_stream`.
+/// Errors: `Setting` if a number of the plan or of the group is refused; `NoMemory` if memory was refused;
+/// `Recording` as in `run_played_stream`.
 pub fn first_found<T: Threads + Wait + Sync, H: Watch>(
     rt: &T,
     alloc: Global,
@@ -110,10 +111,11 @@ pub fn first_found<T: Threads + Wait + Sync, H: Watch>(
     Ok(None)
 }
 
-/// Tries the seeds in order until a run is found for whose history no order is, and writes the text of that history. Who looks on
-/// is told what is found, with the seed.
+/// Tries the seeds in order until a run is found for whose history no order is found, and writes the text of
+/// that history. The watch is called with what was found, and its seed.
 ///
-/// Yes where one is found; No where none is, and then nothing is written. The faults are those of `first_found`, and `Write`.
+/// Returns Yes if a run is found; No if none is, and then nothing is written. Errors: those of `first_found`,
+/// and `Write`.
 pub fn search_stream<T: Threads + Wait + Sync, H: Watch, W: Write>(
     rt: &T,
     alloc: Global,
@@ -123,12 +125,12 @@ pub fn search_stream<T: Threads + Wait + Sync, H: Watch, W: Write>(
     watch: &H,
     writer: &mut W,
 ) -> Result<Status, StreamFault>
-    // Where it answers yes, what it wrote is the text of the first run that is found, and the runs with the seeds before it have orders; where it
-    // answers no, the runs with all seeds have.
+    // If it answers yes, what it wrote is the text of the first run that is found, and the runs with the
+    // seeds before it have orders. If it answers no, the runs with all seeds have orders.
     ensures searched { IfOk result (IsSearched ⟦<DisturbedGroup as Target>⟧.issued
         ⟦<DisturbedGroup as Target>⟧.gave disturbance setting.now seeds.first seeds.last (W.contents writer.old)
         (W.contents writer.new)) }
-    // After a write fault a front of such a text is written, and after any other fault nothing is.
+    // After a write fault a prefix of such a text is written, and after any other fault nothing is.
     ensures cut_off { IsErrOf result StreamFault.Write
         → HasFront (λ _. IsFoundText ⟦<DisturbedGroup as Target>⟧.issued
         ⟦<DisturbedGroup as Target>⟧.gave disturbance setting.now seeds.first seeds.last) (W.contents writer.old)

@@ -1,7 +1,7 @@
 ghost use Rattle.std.specs.Prelude.{◌≡◌, ◌≤◌, option_map};
 ghost use Rattle.seed_search.specs.Range.{seeds_between};
 
-/// The seeds from one to another, each of them too.
+/// The seeds from one to another, both included.
 #[derive(Clone, Copy, Debug, PartialEq, Eq)]
 pub struct Seeds {
     first: u64,
@@ -10,7 +10,7 @@ pub struct Seeds {
 }
 
 impl Seeds {
-    /// The seeds from the first to the last; `None` where the last is below the first.
+    /// Returns the seeds from the first to the last; `None` if the last is below the first.
     pub fn new(first: u64, last: u64) -> Option<Seeds>
         ensures { option_map (λ seeds. (seeds.first, seeds.last)) result ≡ seeds_between first last }
     {
@@ -21,14 +21,14 @@ impl Seeds {
         }
     }
 
-    /// The least of them.
+    /// Returns the least of them.
     pub fn first(self) -> u64
         ensures { result ≡ self.first }
     {
         self.first
     }
 
-    /// The greatest of them.
+    /// Returns the greatest of them.
     pub fn last(self) -> u64
         ensures { result ≡ self.last }
     {

@@ -1,14 +1,15 @@
 use crate::found_run::FoundRun;
 use crate::seeds::Seeds;
 
-/// Who looks on while seeds are tried.
+/// An observer of a search through seeds.
 pub trait Watch {
-    /// Called after each hundredth seed, with the number of hundreds that were tried, and the last of them.
+    /// Called after each hundredth seed, with the number of hundreds of seeds that were tried, and the last
+    /// seed tried.
     fn tried(&self, hundreds: u64, last: u64);
 
-    /// Called where a run is found.
+    /// Called if a run is found.
     fn found(&self, run: &FoundRun);
 
-    /// Called where each seed was tried and none is found.
+    /// Called if each seed was tried and no run is found.
     fn none_found(&self, seeds: Seeds);
 }

@@ -16,7 +16,7 @@ pub struct Call<'h> {
     pub record: Rec,
 }
 
-/// The call with this number.
+/// Returns the call with this number, if there is one.
 pub fn call_of(history: &History, no: u64) -> Option<Call<'_>> {
     let place = history.call(no)?;
     let record = history.record(no)?;
@@ -31,12 +31,12 @@ pub fn call_of(history: &History, no: u64) -> Option<Call<'_>> {
 }
 
 impl Call<'_> {
-    /// The place of the reply.
+    /// Returns the position of the reply, if there is one.
     pub fn reply_place(&self) -> Option<usize> {
         self.record.heard.map(|heard| heard.0)
     }
 
-    /// The version that it found, and its number.
+    /// Returns the version that it found, and the number.
     pub fn found(&self) -> Option<(Pair, u64)> {
         match self.record.heard {
             Some((_, Reply::Found { pair, k })) => Some((pair, k)),
@@ -44,12 +44,12 @@ impl Call<'_> {
         }
     }
 
-    /// Whether it is a write without a reply.
+    /// Returns whether it is a write without a reply, so that its outcome is unknown (indeterminate).
     pub fn may_have_happened(&self) -> bool {
         self.record.heard.is_none() && self.record.op != Op::Get
     }
 
-    /// Whether the two were open at the same time.
+    /// Returns whether the two were open at the same time.
     pub fn is_open_with(&self, other: &Call<'_>) -> bool {
         let other_ends = other.reply_place().unwrap_or(usize::MAX);
         let ends = self.reply_place().unwrap_or(usize::MAX);
@@ -57,7 +57,7 @@ impl Call<'_> {
     }
 }
 
-/// The numbers of the calls that evidence names.
+/// Returns the numbers of the calls that evidence names.
 pub fn evidence_calls(alloc: Global, evidence: Option<Refuted>) -> Result<Vec<u64>, NoMemory> {
     match evidence {
         Some(
@@ -70,13 +70,13 @@ pub fn evidence_calls(alloc: Global, evidence: Option<Refuted>) -> Result<Vec<u6
     }
 }
 
-/// A document's id in quotes, as it can be shown.
+/// Returns a document's id in quotes, as it can be shown.
 pub fn id_words(alloc: Global, id: &DocId) -> Result<String, NoMemory> {
     let id = shown(alloc, id.as_str())?;
     format!(in alloc; "\"{id}\"")
 }
 
-// What was answered, and on which line.
+// Returns what was answered, and on which line.
 fn answered_words(alloc: Global, call: &Call<'_>, lines: &EventLines) -> Result<String, NoMemory> {
     let heard = heard_words(alloc, call.record.heard)?;
     match call.reply_place() {
@@ -88,7 +88,7 @@ fn answered_words(alloc: Global, call: &Call<'_>, lines: &EventLines) -> Result<
     }
 }
 
-// The numbers of the other calls that were open at the same time.
+// Returns the numbers of the other calls that were open at the same time.
 fn open_words(alloc: Global, call: &Call<'_>, calls: &[Call<'_>]) -> Result<String, NoMemory> {
     let mut open = Vec::new(alloc);
     for other in calls {
@@ -99,7 +99,7 @@ fn open_words(alloc: Global, call: &Call<'_>, calls: &[Call<'_>]) -> Result<Stri
     list_of(alloc, &open)
 }
 
-/// What was asked, with the document where there are several.
+/// Returns what was asked, with the document if there are several.
 pub fn asked_words(alloc: Global, call: &Call<'_>, several: bool) -> Result<String, NoMemory> {
     let op = op_words(alloc, call.record.op)?;
     if !several {
@@ -109,7 +109,8 @@ pub fn asked_words(alloc: Global, call: &Call<'_>, several: bool) -> Result<Stri
     format!(in alloc; "{id} {op}")
 }
 
-/// The calls in words, which are some of those that are told; with their documents where there are several.
+/// Returns the calls in words, with their documents if there are several. The calls are some of `told_ones`,
+/// the calls that are shown.
 pub fn calls_told(
     alloc: Global,
     calls: &[Call<'_>],

@@ -8,7 +8,7 @@ use ruled_out::{Cause, Stage, Unmet};
 use std::alloc::Global;
 use version_pair::{NoMemory, Pair};
 
-// Which call shows the version that is spoken of, and on which line; nothing where none does.
+// Returns which call shows the version that is mentioned, and on which line; nothing if no call does.
 fn shower_words(alloc: Global, reason: &Reason, lines: &EventLines) -> Result<String, NoMemory> {
     match &reason.shower {
         Some(shower) => {
@@ -20,7 +20,7 @@ fn shower_words(alloc: Global, reason: &Reason, lines: &EventLines) -> Result<St
     }
 }
 
-// That the condition asks for a version which the document had all the time.
+// Says that the condition asks for a version that the document had all the time.
 fn still_there(alloc: Global, asked: Pair, line: ToldLine) -> Result<String, NoMemory> {
     let pair = pair_words(alloc, asked)?;
     format!(in alloc;
@@ -28,7 +28,7 @@ fn still_there(alloc: Global, asked: Pair, line: ToldLine) -> Result<String, NoM
     )
 }
 
-// That a create met a document which wasn't there, or a get missed one that was.
+// Says that a create met a document that wasn't there, or that a get missed one that was.
 fn otherwise(
     alloc: Global,
     reason: &Reason,
@@ -55,7 +55,7 @@ fn otherwise(
     }
 }
 
-// That the reply shows a version which the document had passed.
+// Says that the reply shows a version that the document had passed.
 fn passed(alloc: Global, reason: &Reason) -> Result<String, NoMemory> {
     let reached = reached_words(alloc, reason.stage)?;
     let law = if reason.stop.op == Op::Get {
@@ -66,7 +66,7 @@ fn passed(alloc: Global, reason: &Reason) -> Result<String, NoMemory> {
     format!(in alloc; "But the document had {reached} before the call was made, and {law}.")
 }
 
-// What is known of the document before a write, by the last version that a reply shows.
+// Returns what is known of the document before a write, by the last version that a reply shows.
 fn known_words(
     alloc: Global,
     reason: &Reason,
@@ -93,7 +93,7 @@ fn known_words(
     }
 }
 
-// That the document was there, or absent, before a write that tells otherwise.
+// Says that the document was there, or absent, before a write whose reply says otherwise.
 fn before_write(
     alloc: Global,
     reason: &Reason,
@@ -108,7 +108,7 @@ fn before_write(
     )
 }
 
-// Why the condition of a write that was performed can't have been met.
+// Says why the condition of a write that was performed can't have been met.
 fn unmet_words(
     alloc: Global,
     reason: &Reason,
@@ -147,7 +147,7 @@ fn unmet_words(
     }
 }
 
-// That nobody can have written a version.
+// Says that nobody can have written a version.
 fn unwritten(
     alloc: Global,
     reason: &Reason,
@@ -165,7 +165,8 @@ fn unwritten(
     )
 }
 
-/// What follows from the reply to the call that has no place, and why it can't be, in sentences.
+/// Returns what follows from the reply to the call that has no position in any order, and why it can't be, in
+/// sentences.
 pub fn cause_words(alloc: Global, reason: &Reason, lines: &EventLines) -> Result<String, NoMemory> {
     let line = lines.reply(&reason.stop);
     match reason.cause {

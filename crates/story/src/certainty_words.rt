@@ -2,7 +2,7 @@ use evidence::Certainty;
 use std::alloc::Global;
 use version_pair::NoMemory;
 
-/// What a story is about, in a sentence.
+/// Returns what an explanation is about, in a sentence.
 pub fn title_of(alloc: Global, certainty: Certainty, call: u64) -> Result<String, NoMemory> {
     match certainty {
         Certainty::Evident | Certainty::ToldRuledOut | Certainty::RuledOut => String::from_str(
@@ -18,7 +18,7 @@ pub fn title_of(alloc: Global, certainty: Certainty, call: u64) -> Result<String
     }
 }
 
-/// How much the answer says, in words.
+/// Returns how much the answer says, in words.
 pub fn certainty_words(certainty: Certainty) -> &'static str {
     match certainty {
         Certainty::Evident => {

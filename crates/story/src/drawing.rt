@@ -8,32 +8,32 @@ use crate::words::{heard_words, state_words};
 use std::alloc::Global;
 use version_pair::NoMemory;
 
-/// How wide a drawing is; all its measures are in units of which it has so many.
+/// The width of a drawing, in the unit of all its measures.
 pub const WIDTH: u64 = 1180;
 
-/// How high a bar is.
+/// The height of a bar.
 pub const BAR_HEIGHT: u64 = 12;
 
-/// How high the box of a version is.
+/// The height of the box of a version.
 pub const BOX_HEIGHT: u64 = 40;
 
-// Where the first event stands, and where a call without a reply ends.
+// Where the first event is, and where a call without a reply ends.
 const LEFT: u64 = 20;
 
 const RIGHT: u64 = 1160;
 
-// How far two events stand apart at most.
+// The greatest distance from one event to the next.
 const WIDEST_STEP: u64 = 72;
 
-// How wide ten characters are.
+// The width of ten characters.
 const TEN_CHARACTERS: u64 = 74;
 
-// Where the first lane begins, and how high a lane is.
+// Where the first lane begins, and the height of a lane.
 const TOP: u64 = 34;
 
 const LANE_HEIGHT: u64 = 40;
 
-// What is left free between two things in a row.
+// The free space between two things in a row.
 const GAP: u64 = 24;
 
 /// The bar of a call.
@@ -69,7 +69,7 @@ pub struct Drawing {
     pub height: u64,
     /// The line of the first event.
     pub first_line: u64,
-    /// Where the broken reply stands, and its line.
+    /// Where the broken reply is, and its line.
     pub here: u64,
     pub here_line: u64,
     /// Where the lanes end.
@@ -78,7 +78,7 @@ pub struct Drawing {
     pub boxes: Vec<VersionBox>,
 }
 
-// The places of the calls and of their replies, rising.
+// Returns the positions of the calls and of their replies, rising.
 fn places_of(alloc: Global, calls: &[Call<'_>]) -> Result<Vec<usize>, NoMemory> {
     let mut places = Vec::new(alloc);
     for call in calls {
@@ -91,7 +91,7 @@ fn places_of(alloc: Global, calls: &[Call<'_>]) -> Result<Vec<usize>, NoMemory> 
     Ok(places)
 }
 
-// Where an event stands from left to right, by how many of the events that are drawn stand before it.
+// Returns where an event is from left to right, by the number of drawn events before it.
 fn x_of(places: &[usize], place: usize) -> u64 {
     let rank = places.partition_point(|other| *other < place) as u64;
     let count = (places.len() as u64).saturating_add(1);
@@ -100,12 +100,12 @@ fn x_of(places: &[usize], place: usize) -> u64 {
     LEFT.saturating_add(rank.saturating_mul(step)).min(RIGHT)
 }
 
-// How wide the words are.
+// Returns the width of the words.
 fn width_of(words: &str) -> u64 {
     (words.len() as u64).saturating_mul(TEN_CHARACTERS) / 10
 }
 
-// What was asked and answered, short.
+// Returns what was asked and answered, in short.
 fn bar_words(alloc: Global, call: &Call<'_>, several: bool) -> Result<String, NoMemory> {
     let no = call.record.no;
     let asked = asked_words(alloc, call, several)?;
@@ -113,7 +113,7 @@ fn bar_words(alloc: Global, call: &Call<'_>, several: bool) -> Result<String, No
     format!(in alloc; "{no} {asked}: {heard}")
 }
 
-// The bar of a call, in the first lane where it and its words are free.
+// Returns the bar of a call, in the first lane that has room for it and its words.
 fn bar_of(
     alloc: Global,
     call: &Call<'_>,
@@ -145,7 +145,7 @@ fn bar_of(
     })
 }
 
-// Adds the box of a version behind the last one, in a new row where there is no room.
+// Adds the box of a version after the last one, in a new row if there is no room.
 fn add_box(
     boxes: &mut Vec<VersionBox>,
     top: u64,
@@ -175,7 +175,7 @@ fn add_box(
     Ok(())
 }
 
-// The places of an order at which the document changed.
+// Returns the steps of an order at which the document changed.
 fn changes_of(alloc: Global, order: &OrderBefore) -> Result<Vec<Step>, NoMemory> {
     let mut changes = Vec::new(alloc);
     for step in order.steps.iter() {
@@ -186,7 +186,8 @@ fn changes_of(alloc: Global, order: &OrderBefore) -> Result<Vec<Step>, NoMemory>
     Ok(changes)
 }
 
-// The boxes of the last versions of an order, below the lanes: at most so many, and what the document was before them.
+// Returns the boxes of the last versions of an order, below the lanes: at most that many, after the box of
+// the state before them.
 fn boxes_of(
     alloc: Global,
     order: &Option<OrderBefore>,
@@ -214,7 +215,7 @@ fn boxes_of(
     Ok(boxes)
 }
 
-/// What a drawing is of: calls, and the last versions of an order, at most so many.
+/// What a drawing shows: calls, and the last versions of an order, at most that many.
 #[derive(Clone, Copy)]
 pub struct Drawn<'a, 'h> {
     pub calls: &'a [Call<'h>],
@@ -223,7 +224,8 @@ pub struct Drawn<'a, 'h> {
     pub versions: usize,
 }
 
-/// A drawing, with the broken reply at the event, and of the calls with their documents where there are several.
+/// Returns a drawing, with the broken reply at the event. The calls are shown with their documents if there
+/// are several.
 pub fn drawing_of(
     alloc: Global,
     drawn: Drawn<'_, '_>,

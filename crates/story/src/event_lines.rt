@@ -5,20 +5,20 @@ use jiff::Timestamp;
 use std::alloc::Global;
 use version_pair::NoMemory;
 
-/// On which lines of a text its events stand, and when these were written, where they tell it.
+/// The lines of a text that its events are on, and when these lines were written, if they say so.
 #[derive(Debug, Drop)]
 pub struct EventLines {
     alloc: Global,
-    // How many events there are.
+    // The number of events.
     events: usize,
-    // For each blank line how many events stand before it; rising.
+    // For each blank line, the number of events before it; rising.
     blank: Vec<usize>,
-    // The events whose lines tell when they were written, by their places; rising.
+    // The events whose lines say when they were written, by their positions; rising.
     times: Vec<(usize, Timestamp)>,
 }
 
 impl EventLines {
-    /// Of a text without a line. It allocates nothing.
+    /// Returns the lines of an empty text. It allocates nothing.
     pub fn new(alloc: Global) -> EventLines {
         EventLines {
             alloc,
@@ -28,7 +28,7 @@ impl EventLines {
         }
     }
 
-    /// Notes the next line, which was not refused.
+    /// Adds the next line, which was not refused.
     pub fn note(&mut self, line: &[u8]) -> Result<(), NoMemory> {
         if is_blank(line) {
             self.blank.push(self.events)?;
@@ -41,7 +41,7 @@ impl EventLines {
         Ok(())
     }
 
-    /// The line, from 1, of the event at this place, from 0.
+    /// Returns the line, from 1, of the event at this position, from 0.
     pub fn number(&self, place: usize) -> u64 {
         let skipped = self.blank.partition_point(|events| *events <= place);
         (place as u64)
@@ -49,7 +49,7 @@ impl EventLines {
             .saturating_add(1)
     }
 
-    /// The line of the event at this place, for words.
+    /// Returns the line of the event at this position, as sentences name it.
     pub fn line(&self, place: usize) -> ToldLine {
         let before = self.times.partition_point(|noted| noted.0 < place);
         let time = match self.times.get(before) {
@@ -62,7 +62,7 @@ impl EventLines {
         }
     }
 
-    /// The line of the reply to the call; of the call where there is none.
+    /// Returns the line of the reply to the call; that of the call if there is no reply.
     pub fn reply(&self, record: &Rec) -> ToldLine {
         self.line(record.heard.map_or(record.call_at, |heard| heard.0))
     }

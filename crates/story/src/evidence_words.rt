@@ -7,7 +7,7 @@ use history::History;
 use std::alloc::Global;
 use version_pair::{NoMemory, Pair};
 
-// Two writes with one version.
+// Explains two writes with one version.
 fn pair_twice(
     alloc: Global,
     lines: &EventLines,
@@ -28,7 +28,7 @@ fn pair_twice(
     )
 }
 
-// A get of what nobody wrote.
+// Explains a get of what nobody wrote.
 fn no_writer(
     alloc: Global,
     lines: &EventLines,
@@ -46,7 +46,7 @@ fn no_writer(
     )
 }
 
-// A get of a version that was replaced before.
+// Explains a get of a version that was replaced before.
 fn stale_get(
     alloc: Global,
     lines: &EventLines,
@@ -68,7 +68,7 @@ fn stale_get(
     )
 }
 
-// Why the first write stands before the second.
+// Returns why the first write comes before the second.
 fn first_because(
     alloc: Global,
     lines: &EventLines,
@@ -87,7 +87,7 @@ fn first_because(
     }
 }
 
-// A write whose condition was replaced before.
+// Explains a write whose condition asks for a version that was replaced before.
 fn stale_swap(
     alloc: Global,
     lines: &EventLines,
@@ -108,7 +108,8 @@ fn stale_swap(
     )
 }
 
-/// Why no order can have what evidence names, in words; `None` where the history doesn't have its calls.
+/// Returns why no order can have what evidence names, in words. Returns `None` if the history doesn't have
+/// its calls, and for `Refuted::RuledOut`.
 pub fn evidence_words(
     alloc: Global,
     history: &History,

@@ -16,7 +16,7 @@ use evidence::Certainty;
 use std::alloc::Global;
 use version_pair::NoMemory;
 
-// The last event that matters: the broken reply, or a later event of the calls that are named.
+// Returns the last event that matters: the broken reply, or a later event of the calls that are named.
 fn last_event(
     alloc: Global,
     unexplained: &Unexplained<'_>,
@@ -31,14 +31,14 @@ fn last_event(
     Ok(last)
 }
 
-// The document of the offence, in words.
+// Returns the document of the offence, in words.
 fn document_words(alloc: Global, call: &Call<'_>) -> Result<String, NoMemory> {
     let id = id_words(alloc, call.id)?;
     let shard = call.shard;
     format!(in alloc; "The document: {id} on shard {shard}.")
 }
 
-// The reply at which the search first fails, in words.
+// Returns the reply at which the search first fails, in words.
 fn offence_words(
     alloc: Global,
     unexplained: &Unexplained<'_>,
@@ -80,7 +80,7 @@ fn add_answer(
     Ok(())
 }
 
-// What is kept of the calls of the documents.
+// Returns what is kept of the calls of the documents.
 fn kept_of<'h>(
     alloc: Global,
     subjects: &[Subject<'h>],
@@ -95,7 +95,7 @@ fn kept_of<'h>(
     Ok(kept)
 }
 
-// An order of the calls of the first document before the broken reply, where there is one.
+// Returns an order of the calls of the first document before the broken reply, if one is found.
 fn order_of(
     alloc: Global,
     unexplained: &Unexplained<'_>,
@@ -109,7 +109,7 @@ fn order_of(
     }
 }
 
-/// What is told of a history for which no order was found.
+/// Returns the explanation of a history for which no order was found.
 pub fn failing_story(
     alloc: Global,
     unexplained: &Unexplained<'_>,

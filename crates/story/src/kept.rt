@@ -5,24 +5,25 @@ use history::Rec;
 use std::alloc::Global;
 use version_pair::{DocId, NoMemory};
 
-/// How many calls are drawn.
+/// The greatest number of calls that are drawn.
 pub const MOST_DRAWN: usize = 200;
 
 /// What is kept of the calls of some documents.
 #[derive(Drop)]
 pub struct Kept<'h> {
-    /// How many calls there are.
+    /// The number of calls.
     pub count: usize,
-    /// Those that matter and, of each document, the last ones: enough of them for a drawing.
+    /// The calls that matter and, of each document, the last ones of the others: enough of them for a
+    /// drawing.
     pub calls: Vec<Call<'h>>,
-    /// How many writes have no reply.
+    /// The number of writes without a reply.
     pub unanswered_count: usize,
     /// The last of them.
     pub unanswered: Vec<Call<'h>>,
 }
 
 impl<'h> Kept<'h> {
-    /// Of no document. It allocates nothing.
+    /// Returns what is kept of no documents. It allocates nothing.
     pub fn new(alloc: Global) -> Kept<'h> {
         Kept {
             count: 0,
@@ -32,7 +33,7 @@ impl<'h> Kept<'h> {
         }
     }
 
-    // Counts a call, and keeps it where it is a write without a reply.
+    // Counts a call, and keeps it if it is a write without a reply.
     fn count_call(&mut self, call: Call<'h>) -> Result<(), NoMemory> {
         self.count = self.count.saturating_add(1);
         if call.may_have_happened() {
@@ -77,7 +78,7 @@ impl<'h> Kept<'h> {
         Ok(())
     }
 
-    /// Puts the calls into their order.
+    /// Puts the calls into the order in which they were made.
     pub fn sort(&mut self) {
         self.calls.sort_unstable_by_key(|call| call.record.call_at);
         self.unanswered

@@ -1,7 +1,7 @@
 use std::alloc::Global;
 use version_pair::NoMemory;
 
-/// Lanes of a drawing, one below the other. What overlaps from left to right stands in different lanes.
+/// Lanes of a drawing, one below the other. Things that overlap from left to right are in different lanes.
 #[derive(Drop)]
 pub struct Lanes {
     // Where each lane is free from.
@@ -9,19 +9,20 @@ pub struct Lanes {
 }
 
 impl Lanes {
-    /// No lane. It allocates nothing.
+    /// Returns no lanes. It allocates nothing.
     pub fn new(alloc: Global) -> Lanes {
         Lanes {
             free: Vec::new(alloc),
         }
     }
 
-    /// How many lanes there are.
+    /// Returns the number of lanes.
     pub fn len(&self) -> usize {
         self.free.len()
     }
 
-    /// The first lane that is free from `start` on, which is taken up to `end`; a new one where none is.
+    /// Takes the first lane that is free from `start` on, up to `end`; a new one if none is free. Returns its
+    /// number, from 0.
     pub fn take(&mut self, start: u64, end: u64) -> Result<usize, NoMemory> {
         let lane = self
             .free

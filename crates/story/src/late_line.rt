@@ -5,7 +5,7 @@ use history::Rec;
 use std::alloc::Global;
 use version_pair::NoMemory;
 
-// The write that was recorded only after the reply to a get that shows what it writes.
+// Returns the write that was recorded only after the reply to a get that shows what it writes.
 fn late_write(get: &Rec, records: &[Rec]) -> Option<Rec> {
     let (place, Reply::Found { pair, k }) = get.heard? else {
         return None;
@@ -21,7 +21,8 @@ fn late_write(get: &Rec, records: &[Rec]) -> Option<Rec> {
         .copied()
 }
 
-/// Whether the line of a write was written late, as a question; `None` where the get shows nothing that a later line writes.
+/// Asks whether the line of a write was written late. Returns `None` if the get shows nothing that a later
+/// line writes.
 pub fn late_words(
     alloc: Global,
     get: &Rec,

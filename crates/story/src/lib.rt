@@ -1,5 +1,5 @@
-//! Stories: what an answer means, for people, as plain text and as a page. Of its sentences nothing is proved; a
-//! page is bytes of pieces, so that each id in it is escaped.
+//! Explanations: what an answer means, for people, as plain text and as a page. Nothing is proved of their
+//! sentences. A page consists of the bytes of pieces, so each id in it is escaped.
 //!
 //! ```text
 //! let story = failing_story(alloc, &unexplained, &lines)?;

@@ -8,7 +8,7 @@ use ruled_out::Stage;
 use std::alloc::Global;
 use version_pair::NoMemory;
 
-/// How far a document has come, in words that follow `it had`.
+/// Returns how far a document has come, in words that follow `it had`.
 pub fn reached_words(alloc: Global, stage: Stage) -> Result<String, NoMemory> {
     match stage {
         Stage::Never => String::from_str(alloc, "not been written"),
@@ -27,7 +27,7 @@ pub fn reached_words(alloc: Global, stage: Stage) -> Result<String, NoMemory> {
     }
 }
 
-// What a call that shows no version was answered, and what follows of the document, on which line.
+// Returns what a call that shows no version was answered, on which line, and what follows for the document.
 fn said_words(alloc: Global, record: &Rec, line: ToldLine) -> Result<String, NoMemory> {
     match (record.op, record.op.condition()) {
         (Op::Get, _) => format!(in alloc;
@@ -45,7 +45,7 @@ fn said_words(alloc: Global, record: &Rec, line: ToldLine) -> Result<String, NoM
     }
 }
 
-// A call whose reply shows no version, in a sentence.
+// Returns a call whose reply shows no version, as a sentence.
 fn unshown_link(
     alloc: Global,
     link: &Link,
@@ -63,7 +63,7 @@ fn unshown_link(
     )
 }
 
-/// A call of a chain in a sentence.
+/// Returns a call of a chain as a sentence.
 pub fn link_words(
     alloc: Global,
     link: &Link,

@@ -6,7 +6,8 @@ use history::History;
 use std::alloc::Global;
 use version_pair::{NoMemory, Pair};
 
-// How much a call matters: it is one of the calls that are named, it made a version that they name, or it was open beside them.
+// How much a call matters: it is one of the calls that are named, it made a version that they name, or it was
+// open at the same time as one of them.
 #[derive(Clone, Copy, Debug, PartialEq, Eq)]
 enum Rank {
     Named,
@@ -25,7 +26,7 @@ pub struct Named {
 }
 
 impl Named {
-    /// What the calls of an offence, of evidence and of the reasons name.
+    /// Returns what the calls of an offence, of evidence and of the reasons name.
     pub fn of(
         alloc: Global,
         unexplained: &Unexplained<'_>,
@@ -44,14 +45,14 @@ impl Named {
         Ok(named)
     }
 
-    /// The numbers of the calls; one may stand twice.
+    /// Returns the numbers of the calls; a number may be there twice.
     pub fn numbers(&self, alloc: Global) -> Result<Vec<u64>, NoMemory> {
         let mut numbers = vec![in alloc; self.broken]?;
         numbers.extend_from_slice(self.reasons.as_slice())?;
         Ok(numbers)
     }
 
-    // Notes the versions that the call names.
+    // Adds the versions that the call names.
     fn note_pairs(&mut self, history: &History, no: u64) -> Result<(), NoMemory> {
         if let Some(call) = call_of(history, no) {
             if let Some(pair) = call.record.pair_taken() {
@@ -67,7 +68,7 @@ impl Named {
         Ok(())
     }
 
-    /// How the call stands out.
+    /// Returns how the call stands out.
     pub fn mark(&self, no: u64) -> Mark {
         if no == self.broken {
             Mark::Broken
@@ -78,7 +79,7 @@ impl Named {
         }
     }
 
-    /// Whether the call is one of them, or made a version that they name.
+    /// Returns whether the call is one of them, or made a version that they name.
     pub fn matters(&self, call: &Call<'_>) -> bool {
         if self.mark(call.record.no) != Mark::Plain {
             return true;
@@ -89,7 +90,7 @@ impl Named {
         }
     }
 
-    // How much the call matters, beside those that are named.
+    // Returns how much the call matters. `beside` are the calls that are named.
     fn rank(&self, call: &Call<'_>, beside: &[Call<'_>]) -> Rank {
         if self.mark(call.record.no) != Mark::Plain {
             Rank::Named
@@ -102,8 +103,8 @@ impl Named {
         }
     }
 
-    /// At most so many of the calls, in their order: those that are named, those that made the versions which they name, and the
-    /// last ones of those that were open beside them.
+    /// Returns at most that many of the calls, in their order: those that are named, those that made the
+    /// versions that these name, and the last ones of those that were open at the same time.
     pub fn first<'h>(
         &self,
         alloc: Global,
@@ -128,7 +129,8 @@ impl Named {
         Ok(first)
     }
 
-    /// At most so many of the calls, in their order: those that matter most, and of the others the last ones.
+    /// Returns at most that many of the calls, in their order: those that matter most, and the last ones of
+    /// the others.
     pub fn chosen<'h>(
         &self,
         alloc: Global,
@@ -154,7 +156,8 @@ impl Named {
     }
 }
 
-/// At most so many of the calls, in their order: the last ones of those that are not among the first.
+/// Returns at most that many of the calls, in their order: the last ones of those that are not among the
+/// first.
 pub fn rest_of<'h>(
     alloc: Global,
     calls: &[Call<'h>],

@@ -9,7 +9,7 @@ use history::{HashKeys, History, HistoryReader};
 use std::alloc::Global;
 use std::io::Read;
 
-// A history that is read line by line, and on which lines its events stand.
+// A history that is read line by line, and the lines that its events are on.
 #[derive(Drop)]
 struct NumberedReader {
     history: HistoryReader,
@@ -35,9 +35,10 @@ impl LineReader for NumberedReader {
     }
 }
 
-/// The history, with these keys, whose text the input has to its end, and on which lines its events stand; or the first line
-/// that is refused. Nothing after that line is taken but what the last read brought, which is asked for 32,768 bytes. A fault
-/// of the input of any kind ends the reading.
+/// Reads the history text of the input to its end, and returns its history, with these keys, and the lines
+/// that its events are on; or the first line that is refused. No bytes after that line are taken but those
+/// that the last read brought, which is asked for 32,768 bytes. A fault of the input of any kind ends the
+/// reading.
 pub fn read_numbered_from<R: Read>(
     alloc: Global,
     keys: HashKeys,

@@ -9,7 +9,7 @@ use std::alloc::Global;
 use version_pair::{DocId, NoMemory};
 use witness::{DocWitness, Place};
 
-/// A place of an order: its call, and what the document is after it.
+/// A place of an order: its call, and the state of the document after it.
 #[derive(Clone, Copy)]
 pub struct Step {
     pub record: Rec,
@@ -18,17 +18,17 @@ pub struct Step {
     pub is_change: bool,
 }
 
-/// An order of the calls of a document, or its end.
+/// An order of the calls of a document, or the end of one.
 #[derive(Drop)]
 pub struct OrderBefore {
-    /// How many places stand before those that are told.
+    /// The number of places before those that are shown.
     pub left_out: usize,
-    /// What the document is before the first place that is told.
+    /// The state of the document before the first place that is shown.
     pub start: DocState,
     pub steps: Vec<Step>,
 }
 
-// The step at a place, from this state.
+// Returns the step at a place, from this state.
 fn step_from(state: DocState, place: Place, record: Rec) -> Step {
     let taken = place.pair.or(record.pair_taken());
     Step {
@@ -38,7 +38,7 @@ fn step_from(state: DocState, place: Place, record: Rec) -> Step {
     }
 }
 
-// The last so many places of a witness, of which so many first ones are not told.
+// Returns the last places of a witness, at most that many, without the first `untold` ones.
 fn last_steps(
     alloc: Global,
     witness: &DocWitness,
@@ -67,8 +67,8 @@ fn last_steps(
     Ok(order)
 }
 
-/// The last so many places of an order of the document's calls before the reply that broke it; `None` where the search of the
-/// document alone finds none.
+/// Returns the last places, at most that many, of an order of the document's calls before the reply that
+/// broke it. Returns `None` if the search of the document alone finds no order.
 pub fn order_before(
     alloc: Global,
     unexplained: &Unexplained<'_>,
@@ -102,7 +102,7 @@ pub fn order_before(
     }
 }
 
-/// The order in words.
+/// Returns the order in words.
 pub fn places_told(alloc: Global, order: &OrderBefore) -> Result<Vec<PlaceTold>, NoMemory> {
     let mut told = Vec::new(alloc);
     for step in order.steps.iter() {

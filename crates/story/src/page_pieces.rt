@@ -42,7 +42,7 @@ impl Pieces {
         self.fixed(end)
     }
 
-    // Adds a number behind a markup.
+    // Adds a number after a markup.
     fn at(&mut self, markup: Markup, number: u64) -> Result<(), NoMemory> {
         self.fixed(markup)?;
         self.number(number)
@@ -71,7 +71,7 @@ impl Pieces {
         self.fixed(Markup::MarkEnd)
     }
 
-    // Adds the cell of a line, with when it was written where it tells that.
+    // Adds the cell of a line, with the time when the line was written if it says so.
     fn line_cell(&mut self, line: ToldLine) -> Result<(), NoMemory> {
         self.at(Markup::CellBreak, line.number)?;
         if let Some(time) = line.time {
@@ -156,7 +156,7 @@ impl Pieces {
         self.fixed(Markup::GroupEnd)
     }
 
-    // Adds the box of a version; behind another one with an arrow before it.
+    // Adds the box of a version, with an arrow before it if it isn't the first.
     fn version(&mut self, version: &VersionBox, is_first: bool) -> Result<(), NoMemory> {
         self.fixed(Markup::VersionStart)?;
         self.rectangle(version.x, version.y, version.width, BOX_HEIGHT)?;
@@ -180,7 +180,7 @@ impl Pieces {
         self.fixed(Markup::WordsEnd)
     }
 
-    // Adds the axis: the first line, the place of the broken reply, and what the boxes are.
+    // Adds the axis: the first line, the position of the broken reply, and what the boxes are.
     fn axis(&mut self, drawing: &Drawing) -> Result<(), NoMemory> {
         self.fixed(Markup::AxisStart)?;
         self.line_number(20, drawing.first_line)?;
@@ -203,7 +203,7 @@ impl Pieces {
         self.fixed(Markup::GroupEnd)
     }
 
-    // Adds a drawing, and below it how to read it.
+    // Adds a drawing, and below it the text that says how to read it.
     fn drawing(&mut self, drawing: &Drawing) -> Result<(), NoMemory> {
         self.at(Markup::DrawingStart, drawing.height)?;
         self.fixed(Markup::DrawingOpen)?;
@@ -222,7 +222,7 @@ impl Pieces {
         )
     }
 
-    // Adds a part of a story.
+    // Adds a part of an explanation.
     fn part(&mut self, part: &Part) -> Result<(), NoMemory> {
         match part {
             Part::Heading(heading) => {
@@ -241,7 +241,7 @@ impl Pieces {
     }
 }
 
-// The pieces of the page of a story, with the line of the check at its head.
+// Returns the pieces of the page of an explanation, with the line of the check at its head.
 fn pieces_of(alloc: Global, line: &str, story: &Story) -> Result<Vec<Piece>, NoMemory> {
     let mut pieces = Pieces {
         alloc,
@@ -259,7 +259,7 @@ fn pieces_of(alloc: Global, line: &str, story: &Story) -> Result<Vec<Piece>, NoM
     Ok(pieces.list)
 }
 
-/// The page of a story, with the line of the check at its head.
+/// Returns the page of an explanation, with the line of the check at its head.
 pub fn page_of(alloc: Global, line: &str, story: &Story) -> Result<Vec<u8>, NoMemory>
     ensures { IfOk result (λ page. IsPage page.items) }
 {

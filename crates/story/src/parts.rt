@@ -26,7 +26,7 @@ pub struct CallTold {
     pub asked: String,
     /// What was answered, and on which line.
     pub answered: String,
-    /// Which of the calls that are told were open at the same time.
+    /// Which of the calls that are shown were open at the same time.
     pub open_with: String,
 }
 
@@ -37,11 +37,11 @@ pub struct PlaceTold {
     pub no: u64,
     /// What was asked.
     pub asked: String,
-    /// What the document is after it.
+    /// The state of the document after it.
     pub after: String,
 }
 
-/// A part of a story.
+/// A part of an explanation.
 #[derive(Debug, Drop)]
 pub enum Part {
     Heading(&'static str),
@@ -50,12 +50,12 @@ pub enum Part {
     Calls(Vec<CallTold>),
     Order(Vec<PlaceTold>),
     Drawing(Drawing),
-    /// What follows, up to `FoldEnd`, is less important; it is called so.
+    /// What follows, up to `FoldEnd`, is less important; this is its title.
     FoldStart(&'static str),
     FoldEnd,
 }
 
-/// Adds the first of so many items, and how many more there are.
+/// Adds the items, which are the first of that many, and how many more there are.
 pub fn add_items(
     alloc: Global,
     items: Vec<String>,
@@ -70,7 +70,7 @@ pub fn add_items(
     Ok(())
 }
 
-/// What is told of an answer.
+/// The explanation of an answer.
 #[derive(Debug, Drop)]
 pub struct Story {
     /// What it is about, in a sentence.

@@ -2,7 +2,7 @@ use crate::parts::{CallTold, Mark, Part, PlaceTold, Story};
 use std::alloc::Global;
 use version_pair::NoMemory;
 
-// How a call stands out in plain text.
+// Returns how a call stands out in plain text.
 fn mark_sign(mark: Mark) -> &'static str {
     match mark {
         Mark::Plain => " ",
@@ -11,7 +11,7 @@ fn mark_sign(mark: Mark) -> &'static str {
     }
 }
 
-// The line of a call.
+// Returns the line of a call.
 fn call_line(alloc: Global, call: &CallTold) -> Result<String, NoMemory> {
     let sign = mark_sign(call.mark);
     let line = call.line;
@@ -28,7 +28,7 @@ fn call_line(alloc: Global, call: &CallTold) -> Result<String, NoMemory> {
     }
 }
 
-// The line of a place of an order.
+// Returns the line of a place of an order.
 fn place_line(alloc: Global, place: &PlaceTold) -> Result<String, NoMemory> {
     let no = place.no;
     let asked = place.asked.as_str();
@@ -67,7 +67,7 @@ fn add_items(items: &[String], text: &mut String) -> Result<(), NoMemory> {
     Ok(())
 }
 
-// Adds a part; drawings and folds are not for plain text.
+// Adds a part; plain text leaves out drawings and folds.
 fn add_part(alloc: Global, part: &Part, text: &mut String) -> Result<(), NoMemory> {
     match part {
         Part::Heading(heading) => {
@@ -86,7 +86,7 @@ fn add_part(alloc: Global, part: &Part, text: &mut String) -> Result<(), NoMemor
     }
 }
 
-/// The story as plain text, which begins with an empty line.
+/// Returns the explanation as plain text, which begins with an empty line.
 pub fn plain_text(alloc: Global, story: &Story) -> Result<String, NoMemory> {
     let title = story.title.as_str();
     let mut text = format!(in alloc; "\n{title}\n")?;

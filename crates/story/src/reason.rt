@@ -6,12 +6,12 @@ use ruled_out::{Cause, Stage, Standing, Standings, Unhelpful, Unmet};
 use std::alloc::Global;
 use version_pair::{NoMemory, Pair};
 
-// How many calls of a chain are told, and how many writes without a reply.
+// The greatest number of calls of a chain that are shown, and the greatest number of writes without a reply.
 const MOST_LINKS: usize = 6;
 
 const MOST_LOST: usize = 5;
 
-/// An answered call of a chain: it brought the document from one stage at least to another one.
+/// An answered call of a chain. It brought the document from one stage to another one, at least.
 #[derive(Clone, Copy)]
 pub struct Link {
     pub record: Rec,
@@ -22,29 +22,31 @@ pub struct Link {
 /// Why no order explains a document, whatever became of its calls without a reply.
 #[derive(Drop)]
 pub struct Reason {
-    /// The call that has no place.
+    /// The call that has no position in any order.
     pub stop: Rec,
     /// Why it has none.
     pub cause: Cause,
-    /// How far the document had come as that call was made.
+    /// How far the document had come when that call was made.
     pub stage: Stage,
     /// The calls that brought it there, the first one first.
     pub links: Vec<Link>,
-    /// Whether earlier ones of them are not told.
+    /// Whether earlier ones of them are left out.
     pub is_cut: bool,
-    /// The version which is spoken of beside these, and the first call that shows it.
+    /// The version that is mentioned beside these, and the first call that shows it.
     pub last: Option<Pair>,
     pub shower: Option<Rec>,
-    /// The writes that were looked at of which no reply tells whether they were performed, and why none helps; the first few.
+    /// The writes that were checked of which no reply says whether they were performed, each with why it
+    /// doesn't help; the first few.
     pub untold: Vec<(Rec, Unhelpful)>,
-    /// How many there are.
+    /// The number of all of them.
     pub untold_count: usize,
-    /// Whether the evidence tells of the call that has no place already.
+    /// Whether the evidence already explains the call that has no position.
     pub is_told: bool,
 }
 
 impl Reason {
-    /// The numbers of the calls of which it speaks; none where the evidence does.
+    /// Returns the numbers of the calls that it mentions; none if the evidence already explains the call that
+    /// has no position.
     pub fn calls(&self, alloc: Global) -> Result<Vec<u64>, NoMemory> {
         if self.is_told {
             return Ok(Vec::new(alloc));
@@ -59,7 +61,7 @@ impl Reason {
         Ok(numbers)
     }
 
-    /// The calls whose replies show the versions of which it speaks.
+    /// Returns the calls whose replies show the versions that it mentions.
     pub fn showers(&self, alloc: Global) -> Result<Vec<Rec>, NoMemory> {
         let mut showers = Vec::new(alloc);
         if let Some(shower) = self.shower {
@@ -71,7 +73,8 @@ impl Reason {
         Ok(showers)
     }
 
-    /// Whether a write of which no reply tells could help, were it another one.
+    /// Returns whether a write of which no reply says whether it was performed could help, if it were another
+    /// one.
     pub fn wants_write(&self) -> bool {
         !matches!(
             self.cause,
@@ -80,7 +83,7 @@ impl Reason {
     }
 }
 
-// Whether the cause speaks of what the document had reached as the call was made.
+// Whether the cause is about what the document had reached when the call was made.
 fn is_bound(standings: &Standings, stop: Standing, cause: Cause) -> bool {
     match cause {
         Cause::StillThere(_)
@@ -95,7 +98,7 @@ fn is_bound(standings: &Standings, stop: Standing, cause: Cause) -> bool {
     }
 }
 
-// The version of which the cause speaks beside what the document had reached.
+// Returns the version that the cause mentions beside what the document had reached.
 fn version_spoken_of(standings: &Standings, stop: Rec, cause: Cause) -> Option<Pair> {
     match cause {
         Cause::WasThere(pair) | Cause::WasAbsent(pair) => standings.last_below(pair),
@@ -105,14 +108,15 @@ fn version_spoken_of(standings: &Standings, stop: Rec, cause: Cause) -> Option<P
     }
 }
 
-// Whether a reply shows that the document had the version: it found it, took it, or was performed where the document had it.
+// Whether the reply to a call shows that the document had the version: the call found it, took it, or was
+// performed on the condition that the document has it.
 fn shows(record: &Rec, pair: Pair) -> bool {
     let shown = record.heard.and_then(|heard| heard.1.pair());
     let asked = record.pair_taken().and(record.op.condition());
     shown == Some(pair) || asked == Some(pair)
 }
 
-// A standing as a link of a chain.
+// Returns a standing as a link of a chain.
 fn link_of(standings: &Standings, standing: Standing, record: Rec) -> Link {
     Link {
         record,
@@ -121,8 +125,8 @@ fn link_of(standings: &Standings, standing: Standing, record: Rec) -> Link {
     }
 }
 
-// The chain that leads to the standing, the first call first, and whether it is cut. It begins with a call whose reply shows the
-// version, or with one that is bound by none.
+// Returns the chain that leads to the standing, the first call first, and whether it is cut. It begins with a
+// call whose reply shows the version, or with one that is bound by none.
 fn chain_to(
     alloc: Global,
     records: &[Rec],
@@ -148,7 +152,8 @@ fn chain_to(
     Ok((links, next.is_some()))
 }
 
-// The first few of the writes of which no reply tells, those first that were made last before the event, and how many there are.
+// Returns the first few of the writes of which no reply says whether they were performed, and the number of
+// all of them. Those that were made last before the event come first.
 fn untold_writes(
     alloc: Global,
     records: &[Rec],
@@ -172,7 +177,7 @@ fn untold_writes(
     Ok((untold, count))
 }
 
-// Whether the evidence is of another kind and names the call.
+// Whether the evidence is of another kind than `RuledOut` and names the call.
 fn is_told(alloc: Global, evidence: Option<Refuted>, no: u64) -> Result<bool, NoMemory> {
     if let Some(Refuted::RuledOut(_)) = evidence {
         return Ok(false);
@@ -180,7 +185,7 @@ fn is_told(alloc: Global, evidence: Option<Refuted>, no: u64) -> Result<bool, No
     Ok(evidence_calls(alloc, evidence)?.contains(&no))
 }
 
-// The reason, of a document whose walk stops at this call.
+// Returns the reason for a document whose walk stops at this call.
 fn reason_at(
     alloc: Global,
     evidence: Option<Refuted>,
@@ -212,9 +217,10 @@ fn reason_at(
     })
 }
 
-/// Why no order explains the document with these records; `None` where it isn't ruled out.
+/// Returns why no order explains the document with these records; `None` if it isn't ruled out.
 ///
-/// The reason is a guess for people, but where there is one the document is ruled out: that is looked at again, as evidence is.
+/// The reason is a guess for people. But if there is one, the document is ruled out (provably not
+/// linearizable): that is checked again, as evidence is.
 pub fn reason_of(
     alloc: Global,
     unexplained: &Unexplained<'_>,

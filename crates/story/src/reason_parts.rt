@@ -8,7 +8,7 @@ use doc_register::Conflicts;
 use std::alloc::Global;
 use version_pair::NoMemory;
 
-// The chain and the call to which it leads, in sentences.
+// Returns the chain and the call to which it leads, in sentences.
 fn chain_words(alloc: Global, reason: &Reason, lines: &EventLines) -> Result<String, NoMemory> {
     let mut words = String::new(alloc);
     if let (true, Some(first)) = (reason.is_cut, reason.links.first()) {
@@ -26,7 +26,7 @@ fn chain_words(alloc: Global, reason: &Reason, lines: &EventLines) -> Result<Str
     Ok(words)
 }
 
-/// Adds the writes of which no reply tells, and why none of them helps.
+/// Adds the writes of which no reply says whether they were performed, and why none of them helps.
 pub fn add_untold(
     alloc: Global,
     reason: &Reason,

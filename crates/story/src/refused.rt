@@ -3,10 +3,10 @@ use api_lines::TextCause;
 use std::alloc::Global;
 use version_pair::NoMemory;
 
-// The most bytes of a refused line that are shown.
+// The greatest number of bytes of a refused line that are shown.
 const SHOWN: usize = 200;
 
-/// What the cause means, in a sentence.
+/// Returns what the cause means, in a sentence.
 pub fn cause_words(cause: TextCause) -> &'static str {
     match cause {
         TextCause::Long => "The line has more than 65,536 bytes.",
@@ -43,7 +43,7 @@ pub fn cause_words(cause: TextCause) -> &'static str {
     }
 }
 
-// A byte in hexadecimal digits.
+// Returns a byte as it can be shown: as its character, or in hexadecimal digits.
 fn byte_shown(alloc: Global, byte: u8) -> Result<String, NoMemory> {
     if byte.is_ascii_graphic() || byte == b' ' {
         let c = char::from(byte);
@@ -53,7 +53,7 @@ fn byte_shown(alloc: Global, byte: u8) -> Result<String, NoMemory> {
     }
 }
 
-// Bytes that are no text: those that can't be shown by their numbers.
+// Returns bytes that are no text as they can be shown: those that can't, by their numbers.
 fn bytes_shown(alloc: Global, bytes: &[u8]) -> Result<String, NoMemory> {
     let mut text = String::new(alloc);
     for byte in bytes {
@@ -63,7 +63,8 @@ fn bytes_shown(alloc: Global, bytes: &[u8]) -> Result<String, NoMemory> {
     Ok(text)
 }
 
-// The first bytes of the line that are a text, where a character is not cut through; at most 200.
+// Returns the first bytes of the line, at most 200, as a text that doesn't cut through a character; `None` if
+// they are no text.
 fn text_front(line: &[u8]) -> Option<&str> {
     for cut in 0..4usize {
         let end = line.len().min(SHOWN.saturating_sub(cut));
@@ -76,8 +77,8 @@ fn text_front(line: &[u8]) -> Option<&str> {
     None
 }
 
-/// The first 200 bytes of a line as they can be shown: as text, or where they are none with the bytes outside of ASCII by their
-/// numbers.
+/// Returns the first 200 bytes of a line as they can be shown: as text, or, if they are no text, with the
+/// bytes that aren't printable ASCII by their numbers.
 pub fn line_shown(alloc: Global, line: &[u8]) -> Result<String, NoMemory> {
     match text_front(line) {
         Some(text) => shown(alloc, text),

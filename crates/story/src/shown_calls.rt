@@ -10,24 +10,24 @@ use crate::words::{NOTATION, op_words};
 use std::alloc::Global;
 use version_pair::NoMemory;
 
-// How many calls are told and drawn first, and how many versions below them.
+// The greatest number of calls that are shown and drawn first, and of versions below them.
 const MOST_FIRST: usize = 12;
 
-/// The calls of which a story tells, and how they are told.
+/// The calls that an explanation shows, and how it shows them.
 #[derive(Clone, Copy)]
 pub struct Shown<'a, 'h> {
     pub kept: &'a Kept<'h>,
     pub named: &'a Named,
     pub order: &'a Option<OrderBefore>,
     pub lines: &'a EventLines,
-    /// The place of the broken reply.
+    /// The position of the broken reply.
     pub event: usize,
     /// Whether the calls are of several documents.
     pub several: bool,
 }
 
 impl<'h> Shown<'_, 'h> {
-    // A drawing of the calls, with at most so many versions.
+    // Returns a drawing of the calls, with at most that many versions.
     fn drawing(
         &self,
         alloc: Global,
@@ -43,7 +43,7 @@ impl<'h> Shown<'_, 'h> {
         drawing_of(alloc, drawn, self.lines, self.event, self.several)
     }
 
-    // Adds the table of some of the calls that are told.
+    // Adds the table of some of the calls that are shown.
     fn add_table(
         &self,
         alloc: Global,
@@ -119,7 +119,8 @@ impl<'h> Shown<'_, 'h> {
         Ok(())
     }
 
-    // Adds what is folded away, where there is something: the other calls, an order, and the writes without a reply.
+    // Adds what is folded away, if there is something: the other calls, an order, and the writes without a
+    // reply.
     fn add_folded(
         &self,
         alloc: Global,
@@ -142,7 +143,7 @@ impl<'h> Shown<'_, 'h> {
         Ok(())
     }
 
-    /// Adds the calls: first those that matter most, told and drawn, and then the rest, folded away.
+    /// Adds the calls: first those that matter most, listed and drawn, then the rest, folded away.
     pub fn add(&self, alloc: Global, parts: &mut Vec<Part>) -> Result<(), NoMemory> {
         let calls = self.kept.calls.as_slice();
         let first = self.named.first(alloc, calls, MOST_FIRST)?;

@@ -6,7 +6,7 @@ use doc_register::Reply;
 use std::alloc::Global;
 use version_pair::NoMemory;
 
-// What was answered, in words that follow `was answered`.
+// Returns what was answered, in words that follow `was answered`.
 fn reply_told(alloc: Global, reason: &Reason) -> Result<String, NoMemory> {
     let heard = heard_words(alloc, reason.stop.heard)?;
     match reason.stop.heard.map(|heard| heard.1) {
@@ -22,7 +22,7 @@ fn reply_told(alloc: Global, reason: &Reason) -> Result<String, NoMemory> {
     }
 }
 
-// That the call was made, after the calls that bound it where there are some, and how it was answered.
+// Says that the call was made, after the calls that bound it if there are some, and how it was answered.
 fn answered_words(alloc: Global, reason: &Reason, lines: &EventLines) -> Result<String, NoMemory> {
     let no = reason.stop.no;
     let called = lines.line(reason.stop.call_at);
@@ -40,7 +40,7 @@ fn answered_words(alloc: Global, reason: &Reason, lines: &EventLines) -> Result<
     }
 }
 
-/// The call that has no place, and why, in sentences.
+/// Returns the call that has no position in any order, and why, in sentences.
 pub fn stop_words(alloc: Global, reason: &Reason, lines: &EventLines) -> Result<String, NoMemory> {
     let answered = answered_words(alloc, reason, lines)?;
     let answered = answered.as_str();

@@ -3,30 +3,30 @@ use evidence::{Certainty, Refuted};
 use history::History;
 use witness::DocWitness;
 
-/// What a story tells of a history that an order explains.
+/// What an explanation says of a history that an order explains.
 #[derive(Clone, Copy)]
 pub struct Explained<'h> {
-    /// How many documents the history has.
+    /// The number of documents of the history.
     pub docs: usize,
-    /// How many calls it has.
+    /// The number of its calls.
     pub calls: usize,
-    /// How many of these stand in no place of the order.
+    /// The number of these that are in no place of the order.
     pub left_out: usize,
     /// The orders of the documents.
     pub witnesses: &'h [DocWitness],
 }
 
-/// What a story tells of a history for which no order was found.
+/// What an explanation says of a history for which no order was found.
 #[derive(Clone, Copy)]
 pub struct Unexplained<'h> {
     pub history: &'h History,
     /// How a conflict was read.
     pub conflicts: Conflicts,
-    /// The evidence that there is no order, where some was found.
+    /// The evidence that there is no order, if some was found.
     pub evidence: Option<Refuted>,
     /// How much the answer says.
     pub certainty: Certainty,
-    /// The place of the reply at which the search first failed, from 0.
+    /// The position of the reply at which the search first failed, from 0.
     pub event: usize,
     /// The number of the call that it answers.
     pub call: u64,

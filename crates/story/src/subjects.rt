@@ -5,18 +5,18 @@ use history::Rec;
 use std::alloc::Global;
 use version_pair::{DocId, NoMemory};
 
-/// A document of which a story tells.
+/// A document that an explanation is about.
 #[derive(Drop)]
 pub struct Subject<'h> {
     pub id: &'h DocId,
     pub shard: u32,
     /// All its calls.
     pub records: Vec<Rec>,
-    /// Why no order explains it, where it is ruled out.
+    /// Why no order explains it, if it is ruled out.
     pub reason: Option<Reason>,
 }
 
-// The documents of the offence and of the evidence, the offence's first, by their numbers.
+// Returns the documents of the offence and of the evidence, by their numbers, the offence's first.
 fn documents_of(alloc: Global, unexplained: &Unexplained<'_>) -> Result<Vec<usize>, NoMemory> {
     let history = unexplained.history;
     let mut docs = Vec::new(alloc);
@@ -34,7 +34,7 @@ fn documents_of(alloc: Global, unexplained: &Unexplained<'_>) -> Result<Vec<usiz
     Ok(docs)
 }
 
-/// The documents of the offence and of the evidence, the offence's first.
+/// Returns the documents of the offence and of the evidence, the offence's first.
 pub fn subjects_of<'h>(
     alloc: Global,
     unexplained: &Unexplained<'h>,
@@ -56,7 +56,7 @@ pub fn subjects_of<'h>(
     Ok(subjects)
 }
 
-/// The numbers of the calls of which the reasons speak.
+/// Returns the numbers of the calls that the reasons mention.
 pub fn reason_calls(alloc: Global, subjects: &[Subject<'_>]) -> Result<Vec<u64>, NoMemory> {
     let mut numbers = Vec::new(alloc);
     for subject in subjects {

@@ -10,10 +10,10 @@ use std::alloc::Global;
 use version_pair::{DocId, NoMemory, Pair};
 use witness::DocWitness;
 
-/// How many calls are told one by one.
+/// The greatest number of calls that are shown one by one.
 pub const MOST_TOLD: usize = 40;
 
-// A call that took effect though no reply tells so.
+// Returns, in words, a call that took effect though no reply says so.
 fn completed_words(
     alloc: Global,
     id: &DocId,
@@ -30,7 +30,8 @@ fn completed_words(
     format!(in alloc; "line {line}, call {no} of {id}: {asked} -> {heard}, took effect as {pair}")
 }
 
-// The calls of unknown outcome that took effect in the order found: how many, and the first of them in words.
+// Returns the calls of unknown outcome (indeterminate) that took effect in the order found: their number, and
+// the first of them in words.
 fn completed_calls(
     alloc: Global,
     witnesses: &[DocWitness],
@@ -51,7 +52,7 @@ fn completed_calls(
     Ok((count, told))
 }
 
-/// What is told of a history that an order explains.
+/// Returns the explanation of a history that an order explains.
 pub fn explained_story(
     alloc: Global,
     explained: &Explained<'_>,
@@ -74,7 +75,7 @@ pub fn explained_story(
     })
 }
 
-/// What is told of a text that was refused.
+/// Returns the explanation of a text that was refused.
 pub fn refused_story(alloc: Global, refused: &RefusedLine) -> Result<Story, NoMemory> {
     let line = refused.fault.line;
     let shown = line_shown(alloc, &refused.line)?;

@@ -5,7 +5,7 @@ use std::alloc::{AllocError, Global};
 use std::fmt;
 use version_pair::NoMemory;
 
-/// A line of a text in words: its number, from 1, and when it was written, in UTC, where it tells that.
+/// A line of a text as sentences name it: its number, from 1, and when it was written, in UTC, if it says so.
 #[derive(Clone, Copy, Debug)]
 pub struct ToldLine {
     pub number: u64,
@@ -22,10 +22,10 @@ impl fmt::Display for ToldLine {
     }
 }
 
-/// When a line was written, by its member `t`, the milliseconds since 1970; `None` where it has none, or one that is no such
-/// number.
+/// Returns when a line was written, by its member `t`, the milliseconds since 1970; `None` if it has none, or
+/// one that is no such number.
 pub fn time_of(alloc: Global, line: &[u8]) -> Result<Option<Timestamp>, NoMemory> {
-    // Most texts tell no times: only a line that may have the member is looked at.
+    // Most texts have no times: only a line that may have the member is parsed.
     if memmem::find(line, b"\"t\"").is_none() {
         return Ok(None);
     }

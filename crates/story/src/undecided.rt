@@ -6,10 +6,10 @@ use history::Rec;
 use std::alloc::Global;
 use version_pair::NoMemory;
 
-// How many writes are named.
+// The greatest number of writes that are named.
 const MOST_NAMED: usize = 5;
 
-// A write in words, behind a separator.
+// Returns a write in words, after a separator.
 fn write_words(
     alloc: Global,
     record: &Rec,
@@ -23,7 +23,8 @@ fn write_words(
     format!(in alloc; "{separator}call {no} (line {line}: {asked}, {heard})")
 }
 
-// The document's writes of which no reply tells, in words: the last ones that were made before the event, and how many more.
+// Returns, in words, the document's writes of which no reply says whether they were performed: the last ones
+// that were made before the event, and how many more there are.
 fn writes_words(
     alloc: Global,
     unexplained: &Unexplained<'_>,
@@ -51,7 +52,7 @@ fn writes_words(
     Ok(words)
 }
 
-/// What would decide an answer that is undecided, in words.
+/// Returns, in words, what would decide an answer that is undecided.
 pub fn decision_words(
     alloc: Global,
     unexplained: &Unexplained<'_>,

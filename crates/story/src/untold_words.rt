@@ -7,7 +7,7 @@ use ruled_out::Unhelpful;
 use std::alloc::Global;
 use version_pair::{NoMemory, Pair};
 
-// That no version is free for a write.
+// Says that no version is free for a write.
 fn no_room(alloc: Global, below: Option<Pair>, above: Pair) -> Result<String, NoMemory> {
     let above = pair_words(alloc, above)?;
     match below {
@@ -23,7 +23,7 @@ fn no_room(alloc: Global, below: Option<Pair>, above: Pair) -> Result<String, No
     }
 }
 
-// The version for which the write asks, in words.
+// Returns the version that the write asks for, in words.
 fn asked_words(alloc: Global, write: &Rec) -> Result<String, NoMemory> {
     match write.op.condition() {
         Some(pair) => pair_words(alloc, pair),
@@ -31,7 +31,7 @@ fn asked_words(alloc: Global, write: &Rec) -> Result<String, NoMemory> {
     }
 }
 
-// Why the write doesn't help, in words.
+// Returns why the write doesn't help, in words.
 fn unhelpful_words(
     alloc: Global,
     reason: &Reason,
@@ -67,7 +67,7 @@ fn unhelpful_words(
     }
 }
 
-/// The writes that were looked at and don't help, each with why, in words.
+/// Returns the writes that were checked and don't help, each with the reason, in words.
 pub fn untold_items(
     alloc: Global,
     reason: &Reason,
@@ -85,7 +85,8 @@ pub fn untold_items(
     Ok(items)
 }
 
-/// What the writes without a reply have to do with it, in words; `None` where there are none that could.
+/// Returns, in words, what the writes without a reply have to do with it; `None` if there are none that
+/// could.
 pub fn untold_words(
     alloc: Global,
     reason: &Reason,

@@ -11,7 +11,7 @@ use history::Rec;
 use std::alloc::Global;
 use version_pair::NoMemory;
 
-// That the evidence is of another document than the reply at which the search failed, where it is.
+// Says that the evidence is of another document than the reply at which the search failed, if it is.
 fn add_other_document(
     alloc: Global,
     unexplained: &Unexplained<'_>,
@@ -43,7 +43,7 @@ fn add_other_document(
     Ok(())
 }
 
-// Adds why no order explains the document, where it is ruled out.
+// Adds why no order explains the document, if it is ruled out.
 fn add_subject(
     alloc: Global,
     unexplained: &Unexplained<'_>,
@@ -68,7 +68,7 @@ fn add_subject(
     add_reason(alloc, reason, lines, unexplained.conflicts, parts)
 }
 
-// The calls whose replies may show what a line writes that was written late.
+// Returns the calls whose replies may show what a line that was written late writes.
 fn suspects_of(
     alloc: Global,
     unexplained: &Unexplained<'_>,
@@ -86,7 +86,7 @@ fn suspects_of(
     Ok(suspects)
 }
 
-// Asks whether a line was written late, where it seems so.
+// Asks whether a line was written late, if it seems so.
 fn add_late(
     alloc: Global,
     unexplained: &Unexplained<'_>,
@@ -103,7 +103,8 @@ fn add_late(
     Ok(())
 }
 
-/// Adds why no order can have the replies, where it is known: by evidence, and of each document that is ruled out.
+/// Adds why no order can have the replies, if it is known: by evidence, and for each document that is ruled
+/// out.
 pub fn add_why(
     alloc: Global,
     unexplained: &Unexplained<'_>,

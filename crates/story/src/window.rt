@@ -5,13 +5,13 @@ use version_pair::NoMemory;
 
 /// The last calls of a document before an event.
 ///
-/// They begin at a moment at which no call of it was open and it was known what it is: so an order of these calls, from there on,
-/// continues each order of the calls before.
+/// They begin at a moment at which no call of the document was open and its state was known. So an order of
+/// these calls, from that moment on, continues each order of the calls before.
 #[derive(Drop)]
 pub struct Window {
-    /// How many answered calls stand before it.
+    /// The number of answered calls before it.
     pub answered_before: usize,
-    /// Whether the first record is a write that makes the document what it was at that moment.
+    /// Whether the first record is a write that brings the document to its state at that moment.
     pub is_prefixed: bool,
     pub records: Vec<Rec>,
 }
@@ -24,7 +24,7 @@ struct Start {
     last: Option<Rec>,
 }
 
-// Of two writes the one with the greater pair; the first where the second is none.
+// Returns the one of two writes with the greater pair; the first if the second took none.
 fn later(last: Option<Rec>, record: Rec) -> Option<Rec> {
     match (
         last.and_then(|record| record.pair_taken()),
@@ -36,7 +36,7 @@ fn later(last: Option<Rec>, record: Rec) -> Option<Rec> {
     }
 }
 
-// The last start of a window that has at least so many calls, where one is found.
+// Returns the last start of a window that has at least that many calls, if one is found.
 fn start_of(records: &[Rec], event: usize, conflicts: Conflicts, most: usize) -> Start {
     let mut start = Start {
         at: 0,
@@ -67,7 +67,7 @@ fn start_of(records: &[Rec], event: usize, conflicts: Conflicts, most: usize) ->
     start
 }
 
-// A write that makes a document that was never written what it was after this one.
+// Returns a write that brings a document that was never written to the state that it has after this one.
 fn standing(last: Rec) -> Option<Rec> {
     let place = last.heard.map(|heard| heard.0)?;
     let pair = last.pair_taken()?;
@@ -79,7 +79,8 @@ fn standing(last: Rec) -> Option<Rec> {
     })
 }
 
-/// A window with at least so many calls before the event, or all of them, of the document with these records.
+/// Returns a window of the document with these records: at least that many calls before the event, or all of
+/// them.
 pub fn window_before(
     alloc: Global,
     records: &[Rec],

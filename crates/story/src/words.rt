@@ -5,14 +5,14 @@ use version_pair::{NoMemory, Pair};
 /// How a version is written.
 pub const NOTATION: &str = "1/0 stands for the version with _primary_term 1 and _seq_no 0.";
 
-/// A pair in words: its term and its sequence number.
+/// Returns a pair in words: its term and its sequence number.
 pub fn pair_words(alloc: Global, pair: Pair) -> Result<String, NoMemory> {
     let term = pair.term();
     let seq = pair.seq();
     format!(in alloc; "{term}/{seq}")
 }
 
-// A condition in words, with a space before it; nothing where there is none.
+// Returns a condition in words, after a space; nothing if there is none.
 fn condition_words(alloc: Global, condition: Option<Pair>) -> Result<String, NoMemory> {
     match condition {
         Some(pair) => {
@@ -23,7 +23,7 @@ fn condition_words(alloc: Global, condition: Option<Pair>) -> Result<String, NoM
     }
 }
 
-/// What was asked, in words.
+/// Returns what was asked, in words.
 pub fn op_words(alloc: Global, op: Op) -> Result<String, NoMemory> {
     match op {
         Op::Get => String::from_str(alloc, "get"),
@@ -39,7 +39,7 @@ pub fn op_words(alloc: Global, op: Op) -> Result<String, NoMemory> {
     }
 }
 
-/// What was answered, in words.
+/// Returns what was answered, in words.
 pub fn reply_words(alloc: Global, reply: Reply) -> Result<String, NoMemory> {
     match reply {
         Reply::Indexed { pair, created } => {
@@ -65,7 +65,7 @@ pub fn reply_words(alloc: Global, reply: Reply) -> Result<String, NoMemory> {
     }
 }
 
-/// What was heard of a call, in words.
+/// Returns what was heard of a call, in words.
 pub fn heard_words(alloc: Global, heard: Option<(usize, Reply)>) -> Result<String, NoMemory> {
     match heard.map(|heard| heard.1) {
         Some(reply) => reply_words(alloc, reply),
@@ -73,7 +73,7 @@ pub fn heard_words(alloc: Global, heard: Option<(usize, Reply)>) -> Result<Strin
     }
 }
 
-/// What a document is, in words.
+/// Returns the state of a document, in words.
 pub fn state_words(alloc: Global, state: DocState) -> Result<String, NoMemory> {
     match state {
         DocState::Never => String::from_str(alloc, "never written"),
@@ -88,7 +88,7 @@ pub fn state_words(alloc: Global, state: DocState) -> Result<String, NoMemory> {
     }
 }
 
-/// What the writes are of which no reply tells whether they were performed.
+/// Returns, in words, which writes have no reply that says whether they were performed.
 pub fn untold_kind(conflicts: Conflicts) -> &'static str {
     match conflicts {
         Conflicts::Plain => "without a reply",
@@ -102,7 +102,8 @@ fn is_unshown(c: char) -> bool {
         || matches!(c, '\u{200b}'..='\u{200f}' | '\u{2028}'..='\u{202e}' | '\u{2060}'..='\u{206f}' | '\u{feff}')
 }
 
-/// A text as it can be shown: control characters, and those that change the direction of writing, by their numbers.
+/// Returns a text as it can be shown: control characters, and those that change the direction of writing, by
+/// their numbers.
 pub fn shown(alloc: Global, text: &str) -> Result<String, NoMemory> {
     let mut shown = String::new(alloc);
     for c in text.chars() {
@@ -117,7 +118,7 @@ pub fn shown(alloc: Global, text: &str) -> Result<String, NoMemory> {
     Ok(shown)
 }
 
-/// Numbers with commas between them: the first eight, and how many more there are.
+/// Returns numbers with commas between them: the first eight, and how many more there are.
 pub fn list_of(alloc: Global, numbers: &[u64]) -> Result<String, NoMemory> {
     let mut list = String::new(alloc);
     for number in numbers.iter().take(8) {

@@ -1,4 +1,4 @@
-//! Tests of places that no history leads to, and of lines that are handed over one by one; by public calls.
+//! Tests, by public calls, of places that no history leads to, and of lines that are handed over one by one.
 #![tactic(auto)]
 
 #[cfg(test)]

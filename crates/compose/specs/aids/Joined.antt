@@ -1,4 +1,4 @@
--- What the witnesses for the documents of a history are together.
+-- What the witnesses of the documents of a history are together.
 use Rattle.std.specs.Prelude.{◌≡◌, Bool, false, true, List}
 use Rattle.doc_register.specs.declared.state.Conflicts.{Conflicts}
 use Rattle.history.specs.declared.event.Event.{Event}
@@ -14,20 +14,21 @@ use Rattle.compose.specs.declared.covering.Covering.TheVariants.{Found, NotFound
 use Rattle.compose.specs.declared.joined.Joined.{Joined}
 use Rattle.compose.specs.declared.joined.Joined.TheVariants.{Cover, Short, Spent}
 
--- Witnesses that cover the history. If there are none, and those before were the first that the search gave, no entries without a given
--- pair cover it; witnesses that are given back are still about the documents.
+-- Witnesses that cover the history. If there are none, and the witnesses before were the first that the
+-- search gave, no entries without a given pair cover it. Witnesses that are handed back are still about the
+-- documents.
 abbrev pub IsJoined : Conflicts → List Event → Bool → Joined → Type 0
 IsJoined conflicts events first (Cover ws) = AreWitnesses conflicts events ws.items
 IsJoined conflicts events first (Short ws shortage) =
     AreSearched conflicts events false (documents_of events) ws.items × (first ≡ true → HasNoUnpairedCover conflicts events)
 IsJoined conflicts events first Spent = first ≡ true → HasNoUnpairedCover conflicts events
 
--- The same of what all looks find.
+-- The same for what all looks find.
 abbrev pub IsCovered : Conflicts → List Event → Bool → Covering → Type 0
 IsCovered conflicts events first (Found ws) = AreWitnesses conflicts events ws.items
 IsCovered conflicts events first (NotFound place) = first ≡ true → HasNoUnpairedCover conflicts events
 
--- What that says of the history: one order of all calls explains it; or none was found.
+-- What that says of the history: one order of all calls explains it; or no order was found.
 abbrev pub IsLookedFor : Conflicts → List Event → Looked → Type 0
 IsLookedFor conflicts events Explained = IsLinearizable conflicts events
 IsLookedFor conflicts events (Unexplained place) = HasNoOrderFound conflicts events

@@ -1,4 +1,4 @@
--- The replies of a history by their places.
+-- The replies of a history by their positions.
 use Rattle.std.specs.Prelude.{◌≡◌, ◌≤◌, ◌<◌, ◌+◌, ◌-◌, ◌++◌, ◌∷◌, [], ℕ, List, Some, slice_get}
 use Rattle.doc_register.specs.declared.reply.Reply.{Reply as Answer}
 use Rattle.history.specs.declared.event.Event.{Event}
@@ -8,23 +8,23 @@ use Rattle.history.specs.Order.{IsPlainlyRight}
 use Rattle.compose.specs.declared.checking.Looked.{Looked}
 use Rattle.compose.specs.declared.checking.Looked.TheVariants.{Found, NotFound}
 
--- a reply stands there
+-- a reply is at the position
 abbrev pub IsReplyPlace : List Event → ℕ → Type 0
 IsReplyPlace events p = (m : ℕ) × (r : Answer) × IsReplyAt events p m r
 
--- the places are those of the replies before the place n, rising
+-- the positions are those of the replies before the position n, rising
 pub record AreReplies (events : List Event) (n : ℕ) (places : List ℕ) : Type 0 where
   pub each : (i p : ℕ) → slice_get places i ≡ Some p → IsReplyPlace events p × (p < n)
   pub all : (p : ℕ) → p < n → IsReplyPlace events p → (i : ℕ) × (slice_get places i ≡ Some p)
   pub rise : (i j p q : ℕ) → slice_get places i ≡ Some p → slice_get places j ≡ Some q → i ≤ j → p ≤ q
 
--- the places with that of one more event, where it is a reply
+-- the positions, with that of one more event if it is a reply
 abbrev pub places_with : Event → ℕ → List ℕ → List ℕ
 places_with (Call h n d op) p places = places
 places_with (Reply n r) p places = places ++ p ∷ []
 places_with (Lost n) p places = places
 
--- the events up to the place, itself among them, are not plainly right
+-- the events up to and including the position are not legal in response order
 abbrev pub IsWrongAt : List Event → ℕ → Type 0
 IsWrongAt events p = ¬ IsPlainlyRight (prefix events (p + 1))
 
@@ -33,11 +33,12 @@ abbrev pub IsWrongUnlessFound : List Event → ℕ → Looked → Type 0
 IsWrongUnlessFound events p Found = Unit {0}
 IsWrongUnlessFound events p (NotFound place) = IsWrongAt events p
 
--- those up to the place with this number are not
+-- the events up to the position at this index are not legal in response order
 abbrev pub IsWrongFrom : List Event → List ℕ → ℕ → Type 0
 IsWrongFrom events places i = (p : ℕ) → slice_get places i ≡ Some p → IsWrongAt events p
 
--- fewer of the places, from one number to another, the last of them being wrong where that of the more is
+-- fewer of the positions, from one index to another; the last of them is wrong if the last of the more
+-- positions is
 pub record IsNarrower (events : List Event) (places : List ℕ) (low high : ℕ) (part : ℕ × ℕ) : Type 0 where
   pub order : part.0 ≤ part.1
   pub within : part.1 ≤ high

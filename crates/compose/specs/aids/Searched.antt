@@ -12,8 +12,8 @@ use Rattle.doc_check.specs.Search.{FindsUnpaired, IsAbout}
 use Rattle.doc_check.specs.declared.search.DocAnswer.{DocAnswer}
 use Rattle.doc_check.specs.declared.search.DocAnswer.TheVariants.{NotFound}
 
--- The witness is of the document: it has its records; and, where it is the first that the search gave, it gives no pair where any
--- places without a given pair are valid for them.
+-- The witness is of the document: it has the document's records. If it is the first that the search gave, it
+-- gives no pair if any places without a given pair are valid for them.
 pub record IsSearched (conflicts : Conflicts) (events : List Event) (first : Bool) (d : List ℕ) (w : Witness) : Type 0 where
   pub doc : w.doc ≡ d
   pub own : w.records ≡ records_of events d
@@ -28,13 +28,13 @@ AreSearched conflicts events first [] (w ∷ ws) = ⊥
 AreSearched conflicts events first (d ∷ ds) [] = ⊥
 AreSearched conflicts events first (d ∷ ds) (w ∷ ws) = IsSearched conflicts events first d.0 w × AreSearched conflicts events first ds ws
 
--- the answer is about the document at this place
+-- the answer is about the document at this index
 abbrev pub AnswersDocument : Conflicts → List Event → ℕ → DocAnswer → Type 0
 AnswersDocument conflicts events k answer = (d : List ℕ × ℕ) → slice_get (documents_of events) k ≡ Some d
     → IsAbout d.0 (records_of events d.0) conflicts answer × FindsUnpaired conflicts (records_of events d.0) answer
 
--- What an answer says of a document: it is about it and its records; where it is the first that the search gave, such places are
--- found where any places without a given pair are valid.
+-- What an answer says of a document: it is about the document and its records. If it is the first that the
+-- search gave, places without a given pair are found if any such places are valid.
 abbrev pub IsAnswerFor : Conflicts → List Event → Bool → List ℕ → DocAnswer → Type 0
 IsAnswerFor conflicts events first d answer =
     IsAbout d (records_of events d) conflicts answer × (first ≡ true → FindsUnpaired conflicts (records_of events d) answer)
@@ -50,12 +50,12 @@ AreAnswersFor conflicts events first (d ∷ ds) (x ∷ xs) = IsAnswerFor conflic
 abbrev pub HasLost : List DocAnswer → Type 0
 HasLost answers = (k : ℕ) × (n : Unordered) × (slice_get answers k ≡ Some (NotFound n))
 
--- these are places of the first answers, so many, and no other of these has no order
+-- these are indices of the first answers, that many, and no other of these answers has no order
 pub record AreUnordered (answers : List DocAnswer) (count : ℕ) (docs : List ℕ) : Type 0 where
   pub within : (i doc : ℕ) → slice_get docs i ≡ Some doc → doc < count
   pub listed : (doc : ℕ) (n : Unordered) → doc < count → slice_get answers doc ≡ Some (NotFound n) → (i : ℕ) × (slice_get docs i ≡ Some doc)
 
--- the other answer is about what the one is about
+-- the new answer is about what the old one is about
 abbrev pub Keeps : DocAnswer → DocAnswer → Type 0
 Keeps old new = (d : List ℕ) (records : List Rec) (conflicts : Conflicts) → IsAbout d records conflicts old → IsAbout d records conflicts new
 

@@ -13,8 +13,8 @@ use Rattle.compose.specs.Covers.{AreFine, IsEntered, IsKnown, IsOfShard}
 use Rattle.compose.specs.declared.verify_fault.VerifyFault.{VerifyFault}
 use Rattle.compose.specs.declared.verify_fault.VerifyFault.TheVariants as fault
 
--- The entries are fine, the witnesses have their places and the records of their documents, and a mark tells of each document
--- of the history whether it is entered.
+-- The entries are fine, the witnesses have their places and the records of their documents, and a mark says
+-- for each document of the history whether it is entered.
 pub record AreVerified (conflicts : Conflicts) (events : List Event) (entries : List DocPlaces) (marks : List Bool) (ws : List Witness) : Type 0 where
   pub fine : AreFine conflicts events entries
   pub places : map witness_places ws ≡ entries

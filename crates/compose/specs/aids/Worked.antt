@@ -13,7 +13,7 @@ pub record IsJobFor (conflicts : Conflicts) (events : List Event) (d : List ℕ)
   pub own : job.recs.items ≡ records_of events d
   pub read : job.conflicts ≡ conflicts
 
--- those of the document at this place
+-- those of the document at this index
 abbrev pub IsJobOf : Conflicts → List Event → ℕ → DocJob → Type 0
 IsJobOf conflicts events k job = (d : List ℕ × ℕ) → slice_get (documents_of events) k ≡ Some d → IsJobFor conflicts events d.0 job
 
@@ -24,7 +24,8 @@ AreJobsFor conflicts events [] (job ∷ jobs) = ⊥
 AreJobsFor conflicts events (d ∷ ds) [] = ⊥
 AreJobsFor conflicts events (d ∷ ds) (job ∷ jobs) = IsJobFor conflicts events d.0 job × AreJobsFor conflicts events ds jobs
 
--- a fault that workers can have whose number is right; one that names a job names a document of the history
+-- a fault that workers can have if their number is right; one that names a job names a document of the
+-- history
 abbrev pub IsWorkersFault : List Event → PoolFault → Type 0
 IsWorkersFault events NoWorkers = ⊥
 IsWorkersFault events TooMany = ⊥

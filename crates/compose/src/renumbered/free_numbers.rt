@@ -11,17 +11,18 @@ use version_pair::{NoMemory, Pair};
 #[derive(Drop)]
 pub struct FreeNumbers<'u> {
     used: &'u UsedPairs,
-    // The pairs that were given, each with a number to look on from: those between aren't free.
+    // The pairs that were given, each with a number from which to continue the search: those between aren't
+    // free.
     given: IndexMap<(u32, Pair), u64, HashKeys>,
 }
 
-/// The pair with the next number in the term.
+/// Returns the pair with the next number in the term.
 pub fn pair_after(pair: Pair) -> Option<Pair> {
     Pair::new(pair.term(), pair.seq().saturating_add(1))
 }
 
 impl FreeNumbers<'_> {
-    /// All but those in use. Pairs that are given are found by hashes with these keys.
+    /// Returns all numbers except those in use. Pairs that are given are found by hashes with these keys.
     pub fn without(alloc: Global, keys: HashKeys, used: &UsedPairs) -> FreeNumbers<'_> {
         FreeNumbers {
             used,
@@ -36,19 +37,19 @@ impl FreeNumbers<'_> {
         Ok(())
     }
 
-    // The least pair from this one on, of its term, that is not in use.
+    // Returns the least pair from this one on, of its term, that is not in use.
     fn unused(&self, shard: u32, from: Pair) -> Option<Pair> {
         let seq = Free::among(self.used.of_shard(shard)).least_from(from);
         Pair::new(from.term(), seq)
     }
 
-    // Where to look on behind a pair that was given.
+    // Returns where to continue the search after a pair that was given.
     fn after(&self, shard: u32, pair: Pair) -> Option<Pair> {
         let next = self.given.get(&(shard, pair)).copied()?;
         self.unused(shard, Pair::new(pair.term(), next)?)
     }
 
-    // The least free pair from this one on, of its term.
+    // Returns the least free pair from this one on, of its term.
     fn first(&self, shard: u32, from: Pair) -> Option<Pair> {
         let mut pair = self.unused(shard, from)?;
         for _ in 0..self.given.len() {
@@ -60,7 +61,7 @@ impl FreeNumbers<'_> {
         Some(pair)
     }
 
-    // Lets the given pairs on the way from one to a free one point to it.
+    // Makes the given pairs on the way from one pair to a free one point to the free one.
     fn point(&mut self, shard: u32, from: Pair, to: Pair) -> Result<(), NoMemory> {
         let mut pair = self.unused(shard, from);
         for _ in 0..self.given.len() {
@@ -75,7 +76,8 @@ impl FreeNumbers<'_> {
         Ok(())
     }
 
-    /// The least pair from this one on, below the gap's upper end, that is free and that the names allow for a place of the gap.
+    /// Returns the least pair from this one on, below the gap's upper end, that is free and that the names
+    /// allow for a place of the gap.
     pub fn least(
         &mut self,
         names: &Names,

@@ -6,7 +6,8 @@ use std::alloc::Global;
 use version_pair::{NoMemory, Pair};
 use witness::DocWitness;
 
-/// Places with invented pairs between two other pairs of one term.
+/// Places with invented pairs between two other pairs of one term, or before the first other pair, if that is
+/// of term 1.
 #[derive(Drop)]
 pub struct Gap {
     pub shard: u32,
@@ -14,30 +15,30 @@ pub struct Gap {
     pub witness: usize,
     /// The numbers that the places may take.
     pub numbers: Between,
-    /// The numbers of the places, in their order.
+    /// The indices of the places, in their order.
     pub places: Vec<usize>,
 }
 
 /// The gaps of witnesses.
 #[derive(Drop)]
 pub struct Gaps {
-    /// The gaps, those of each witness after those of the ones before.
+    /// The gaps, those of each witness after those of the witnesses before it.
     pub list: Vec<Gap>,
     /// The pairs that are given to places but were not invented, each with its shard.
     pub kept: Vec<(u32, Pair)>,
 }
 
-// The invented pairs before the next other one.
+// The invented pairs up to the next pair that wasn't invented.
 #[derive(Drop)]
 struct Open {
     // The pair before them.
     lower: Option<Pair>,
-    // The numbers of their places.
+    // The indices of their places.
     places: Vec<usize>,
 }
 
 impl Gaps {
-    /// No gaps.
+    /// Returns no gaps.
     pub fn none(alloc: Global) -> Gaps {
         Gaps {
             list: Vec::new(alloc),
@@ -45,7 +46,7 @@ impl Gaps {
         }
     }
 
-    /// The gaps of these witnesses.
+    /// Returns the gaps of these witnesses.
     pub fn of(
         alloc: Global,
         history: &Front<'_>,
@@ -58,7 +59,7 @@ impl Gaps {
         Ok(gaps)
     }
 
-    /// How many numbers the places of a witness want in all.
+    /// Returns how many numbers the places of a witness want in all.
     pub fn wanted(&self, number: usize) -> usize {
         let mut wanted = 0usize;
         for gap in &self.list {
@@ -69,7 +70,7 @@ impl Gaps {
         wanted
     }
 
-    /// Notes the gaps of a witness, and the other pairs that its places give.
+    /// Adds the gaps of a witness, and the other pairs that its places give.
     pub fn note(
         &mut self,
         alloc: Global,
@@ -108,7 +109,8 @@ impl Gaps {
         Ok(())
     }
 
-    // Closes what was invented before a pair: a gap if the pair before is of its term; else the pairs stay as they are.
+    // Closes what was invented before a pair: it is a gap if the pair before it is of the same term, which
+    // counts as 1 before the first pair; otherwise its pairs stay as they are.
     fn close(
         &mut self,
         alloc: Global,

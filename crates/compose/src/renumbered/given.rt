@@ -5,15 +5,15 @@ use std::alloc::Global;
 use version_pair::{NoMemory, Pair};
 use witness::DocWitness;
 
-/// The pairs that the places of a witness give, in their order, in which they rise.
+/// The pairs that the places of a witness give, in the order of the places, in which they rise.
 #[derive(Drop)]
 pub struct Given {
     pairs: Vec<Pair>,
-    // Of each whether a get found it or the condition of a performed write names it.
+    // For each pair, whether a get found it or the condition of a performed write names it.
     shown: Vec<bool>,
 }
 
-// The pair that a get found.
+// Returns the pair that a get found.
 fn found_pair(found: Rec) -> Option<Pair> {
     match found.op {
         Op::Get => found.heard.and_then(|heard| heard.1.pair()),
@@ -22,7 +22,7 @@ fn found_pair(found: Rec) -> Option<Pair> {
 }
 
 impl Given {
-    /// Those of a witness.
+    /// Returns the pairs of a witness.
     pub fn of(alloc: Global, witness: &DocWitness) -> Result<Given, NoMemory> {
         let mut given = Given {
             pairs: Vec::new(alloc),
@@ -40,7 +40,7 @@ impl Given {
         Ok(given)
     }
 
-    // Notes which of them other calls show.
+    // Marks those of them that other calls show.
     fn note_shown(&mut self, witness: &DocWitness) {
         for found in witness.records() {
             self.show(found_pair(*found));
@@ -53,7 +53,7 @@ impl Given {
         }
     }
 
-    // Notes that a pair is shown, if it is one of them.
+    // Marks a pair as shown, if it is one of them.
     fn show(&mut self, shown: Option<Pair>) {
         let Some(pair) = shown else {
             return;
@@ -65,12 +65,12 @@ impl Given {
         }
     }
 
-    /// Whether there are none.
+    /// Returns whether there are none.
     pub fn is_empty(&self) -> bool {
         self.pairs.is_empty()
     }
 
-    /// Whether one of them was invented: no other call shows it.
+    /// Returns whether the pair at this index was invented: no other call shows it.
     pub fn is_invented(&self, at: usize) -> bool {
         self.shown.get(at) == Some(&false)
     }

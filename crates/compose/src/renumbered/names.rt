@@ -13,12 +13,12 @@ use witness::DocWitness;
 pub struct Names {
     // The pairs not in use that conditions of a document name, each with the number of its witness.
     named: IndexSet<(usize, Pair), HashKeys>,
-    // The pairs that no write may take since a write on that condition is refused directly behind it, each with the numbers
-    // of its witness and of its place.
+    // The pairs that no write may take since a write on that condition is refused directly after it, each
+    // with the number of its witness and the index of its place.
     refused: IndexSet<(usize, usize, Pair), HashKeys>,
 }
 
-// The pair that a call's condition names, unless its reply shows that the call was performed.
+// Returns the pair that a call's condition names, unless its reply shows that the call was performed.
 fn name_of(found: Rec) -> Option<Pair> {
     match found.pair_taken() {
         Some(_) => None,
@@ -27,7 +27,8 @@ fn name_of(found: Rec) -> Option<Pair> {
 }
 
 impl Names {
-    /// Those of the documents of these gaps, given which pairs are in use. Pairs are found by hashes with these keys.
+    /// Returns those of the documents of these gaps, given which pairs are in use. Pairs are found by hashes
+    /// with these keys.
     pub fn of(
         alloc: Global,
         keys: HashKeys,
@@ -52,7 +53,7 @@ impl Names {
         Ok(names)
     }
 
-    // Notes the pairs not in use that conditions of the document name.
+    // Adds the pairs not in use that conditions of the document name.
     fn note_named(
         &mut self,
         number: usize,
@@ -69,7 +70,8 @@ impl Names {
         Ok(())
     }
 
-    // Notes the conditions of the writes that are refused while the document has the pair of an invented write.
+    // Adds the conditions of the writes that are refused while the document has the pair of an invented
+    // write.
     fn note_refused(&mut self, number: usize, witness: &DocWitness) -> Result<(), NoMemory> {
         let mut present = None;
         let places = witness.places();
@@ -91,13 +93,14 @@ impl Names {
         Ok(())
     }
 
-    /// How many pairs are named.
+    /// Returns the number of pairs that are named.
     pub fn len(&self) -> usize {
         self.named.len()
     }
 
-    /// Whether a place of the gap may take the pair, which is free: no condition of the document names it; or, if these aren't avoided,
-    /// no write on that condition is refused while the document has it.
+    /// Returns whether a place of the gap may take the pair, which is free: no condition of the document
+    /// names it; or, if such pairs aren't avoided, no write on that condition is refused while the document
+    /// has it.
     pub fn allow(&self, gap: &Gap, place: usize, pair: Pair, avoids: bool) -> bool {
         if avoids {
             !self.named.contains(&(gap.witness, pair))

@@ -6,12 +6,12 @@ use version_pair::{NoMemory, Pair};
 /// The pairs that a gap was given.
 #[derive(Drop)]
 pub struct Filled {
-    /// The position of the gap in the list.
+    /// The index of the gap in the list.
     pub gap: usize,
     pub pairs: Vec<Pair>,
 }
 
-// How often the span is widened at most.
+// The greatest number of rounds in which the span is widened.
 const MOST_ROUNDS: usize = 64;
 
 // Numbers of a shard between two ends of one term.
@@ -22,13 +22,13 @@ struct Span {
 }
 
 impl Span {
-    // Whether one of the pairs that the gap was given lies in it.
+    // Returns whether one of the pairs that the gap was given is in the span.
     fn touches(self, gap: &Gap, pairs: &[Pair]) -> bool {
         gap.shard == self.shard
             && pairs.iter().any(|pair| self.numbers.from <= *pair && *pair < self.numbers.upper)
     }
 
-    // The span with that of the gap.
+    // Returns the span, widened by that of the gap.
     fn with(self, gap: &Gap) -> Span {
         Span {
             shard: self.shard,
@@ -40,8 +40,8 @@ impl Span {
     }
 }
 
-/// The gaps that together want more numbers than are free between their ends: the one that found none, and those that were given
-/// numbers between its ends, between the ends of these, and so on.
+/// Returns the gaps that together want more numbers than are free between their ends: the one that found
+/// none, and those that were given numbers between its ends, between the ends of these, and so on.
 pub fn tight_set(
     alloc: Global,
     gaps: &Gaps,

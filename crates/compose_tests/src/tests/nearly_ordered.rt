@@ -1,10 +1,10 @@
-//! The sort of lists whose items stand near their places, and of one whose items don't.
+//! The sort of lists whose items are near their positions, and of one whose items aren't.
 
 use std::alloc::Global;
 use std::test::Fail;
 use write_chain::sort_nearly_ordered;
 
-// The numbers that a text lists.
+// Returns the numbers that a text lists.
 fn numbers(alloc: Global, text: &str) -> Result<Vec<u64>, Fail> {
     let mut numbers = Vec::new(alloc);
     for word in text.split_ascii_whitespace() {

@@ -1,11 +1,11 @@
-//! Evidence against cases that names calls which are not there.
+//! Evidence against cases that names calls that are not there.
 
 mod cases;
 
 use super::*;
 use cases::{GROUP_BLIND, GROUP_STALE, NO_WRITER, PAIR_TWICE_OVER_DOCUMENTS, REFUSED_FOR_NOTHING};
 
-// Whether evidence is accepted, in one reading of a conflict and in the other.
+// Asserts whether evidence is accepted, in one reading of a conflict and in the other.
 fn accepted(
     rt: &impl Abort,
     alloc: Global,
@@ -53,7 +53,7 @@ fn calls_that_are_not_there(rt: HostRuntime) -> Result<(), Fail> {
     Ok(())
 }
 
-// The call at which a document of the text is ruled out, where no order was found for it.
+// Returns the call at which a document of the text is ruled out, if no order was found for the text.
 fn ruled_out(alloc: Global, text: &str) -> Result<Option<Refuted>, Fail> {
     let history = history_of(alloc, text)?;
     match check_alone(alloc, history, Conflicts::Plain) {

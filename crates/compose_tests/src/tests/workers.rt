@@ -7,7 +7,7 @@ use std::sync::atomic::{AtomicUsize, Ordering};
 use std::thread;
 use std::time::{Clock, Duration};
 
-// The case documents-interleaved: neither document can stand before the other.
+// The case documents-interleaved: neither document can come before the other.
 const DOCUMENTS_INTERLEAVED: &str = r#"{"e":"call","n":0,"id":"a","op":"index","k":1}
 {"e":"call","n":1,"id":"b","op":"index","k":2}
 {"e":"reply","n":0,"status":201,"body":{"_id":"a","result":"created","_seq_no":0,"_primary_term":1}}
@@ -39,7 +39,7 @@ impl<R: Clock> Gate for Meeting<'_, R> {
     }
 }
 
-// Whether an order was found in which each call stands.
+// Returns whether an order was found that has each call.
 fn explains_all(checked: Result<Verdict, CheckFault>) -> bool {
     match checked {
         Ok(Verdict::Yes(proof)) => proof.left_out() == 0,
@@ -61,7 +61,7 @@ fn both_documents_at_once(rt: HostRuntime) -> Result<(), Fail> {
     Ok(())
 }
 
-// The fault of the pool, and how many events the history has that is handed back.
+// Returns the fault of the pool, and the number of events of the history that is handed back.
 fn refused(checked: Result<Verdict, CheckFault>) -> Option<(PoolFault, usize)> {
     match checked {
         Err(CheckFault::Pool(fault, history)) => Some((fault, history.len())),

@@ -32,7 +32,7 @@ const TEXT_FROM_LAST_NUMBERS: &str =
 {"e":"lost","n":18446744073709551615}
 "#;
 
-// Whether the bulk and this reply to it give the text.
+// Returns whether the bulk and this reply to it give the text.
 fn is_text(alloc: Global, first: u64, status: u16, reply: &str, want: &str) -> Option<bool> {
     let text = bulk_text(alloc, first, BODY.as_bytes(), status, reply.as_bytes()).ok()?;
     Some(text.as_slice() == want.as_bytes())

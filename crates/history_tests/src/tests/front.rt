@@ -1,4 +1,4 @@
-//! Fronts of histories: their first events.
+//! Prefixes of histories: their first events.
 
 use crate::tests::testing::same;
 use history::{Front, History, read};
@@ -21,7 +21,8 @@ const DOCUMENTS_INTERLEAVED: &str = r#"{"e":"call","n":0,"id":"a","op":"index","
 {"e":"reply","n":3,"status":200,"body":{"_index":"i","_id":"b","_version":1,"_seq_no":1,"_primary_term":1,"found":true,"_source":{"k":2}}}
 "#;
 
-// What a front has: how many events, its documents with their shards and records, and the greatest numbers.
+// Returns what a prefix has: the number of its events, its documents with their shards and records, and the
+// greatest numbers.
 fn told(alloc: Global, front: &Front<'_>) -> Result<String, Fail> {
     let len = front.len();
     let mut text = format!(in alloc; "{len}; ")?;
@@ -36,7 +37,7 @@ fn told(alloc: Global, front: &Front<'_>) -> Result<String, Fail> {
     Ok(text)
 }
 
-// The events of a front, and its numbers of the documents of the whole history.
+// Returns the events of a prefix, and its numbers of the documents of the whole history.
 fn numbered(alloc: Global, whole: &History, front: &Front<'_>) -> Result<String, Fail> {
     let mut text = String::new(alloc);
     for place in 0..front.len() {
@@ -50,7 +51,7 @@ fn numbered(alloc: Global, whole: &History, front: &Front<'_>) -> Result<String,
     Ok(text)
 }
 
-// Asserts that a front has what is told.
+// Asserts that a prefix of the history of a text has what is wanted.
 fn has(alloc: Global, text: &str, end: usize, want: &str) -> Result<(), Fail> {
     let history = read(alloc, text.as_bytes())?;
     let got = told(alloc, &history.front(end))?;
@@ -87,7 +88,7 @@ fn first_events(rt: HostRuntime) -> Result<(), Fail> {
     Ok(())
 }
 
-// Asserts that two fronts have the same events and documents.
+// Asserts that two prefixes have the same events and documents.
 fn are_same(
     alloc: Global,
     whole: &History,
@@ -102,7 +103,8 @@ fn are_same(
     same("events", got.as_str(), want.as_str())
 }
 
-// Asserts that each front of a history, and the front past its end, has what the copy of its first events has.
+// Asserts that each prefix of a history, and the prefix past its end, has what the copy of its first events
+// has.
 fn are_as_copied(alloc: Global, history: &History) -> Result<(), Fail> {
     for end in 0..history.len().saturating_add(2) {
         let copied = history.prefix(end)?;

@@ -1,4 +1,4 @@
-//! Events added to a history: what it answers to them, and what it has then.
+//! Events added to a history: what it answers to them, and what it has afterwards.
 
 use crate::tests::testing::same;
 use doc_register::{Conflicts, Op, Reply};
@@ -7,15 +7,16 @@ use std::alloc::Global;
 use std::test::Fail;
 use version_pair::{DocId, Pair};
 
-// An index of "d" on shard 3 that was answered, a get of "d" that is pending, and a get of "e" that is lost.
+// An index of "d" on shard 3 that was answered, a get of "d" that is pending, and a get of "e" whose outcome
+// is lost (indeterminate).
 const THREE_CALLS: &str =
     "call 0 3 d index; reply 0 created; call 1 3 d get; call 2 4 e get; lost 2";
 
-// What the history of the three calls has, as `shape_of` tells it.
+// What the history of the three calls has, as `shape_of` reports it.
 const THREE_CALLS_SHAPE: &str =
     "false 5 2; Some(0) Some(1); Some(2) None; Some(3) Some(4); None None";
 
-// The number that a word is.
+// Returns the number that a word spells.
 fn number(word: Option<&str>) -> Result<u64, Fail> {
     Ok(word.ok_or("a number")?.parse::<u64>()?)
 }
@@ -41,7 +42,7 @@ fn reply(name: Option<&str>) -> Result<Reply, Fail> {
     }
 }
 
-// What a history answers to a call.
+// Returns what a history answers to a call.
 fn push_call(
     alloc: Global,
     history: &mut History,
@@ -58,8 +59,8 @@ fn push_call(
     Ok(history.push(Event::Call { no, shard, id, op }))
 }
 
-// What a history answers to one more event, told by its kind and its number; then by its reply, or by its shard, its
-// document and its operation.
+// Returns what a history answers to one more event. The step gives the event's kind and its number; then its
+// reply, or its shard, its document and its operation.
 fn push(alloc: Global, history: &mut History, step: &str) -> Result<Result<(), HistFault>, Fail> {
     let mut words = step.split_whitespace();
     let kind = words.next().unwrap_or("");
@@ -79,7 +80,7 @@ fn push(alloc: Global, history: &mut History, step: &str) -> Result<Result<(), H
     }
 }
 
-// Adds these events to a history, which has to take them.
+// Adds these events to a history, which must take them.
 fn push_all(alloc: Global, history: &mut History, steps: &str) -> Result<(), Fail> {
     for step in steps.split_terminator(';') {
         if push(alloc, history, step)?.is_err() {
@@ -89,15 +90,15 @@ fn push_all(alloc: Global, history: &mut History, steps: &str) -> Result<(), Fai
     Ok(())
 }
 
-// The history of these events.
+// Returns the history of these events.
 fn history_of(alloc: Global, steps: &str) -> Result<History, Fail> {
     let mut history = History::new(alloc);
     push_all(alloc, &mut history, steps)?;
     Ok(history)
 }
 
-// Whether a history is empty, how many events it has, and how many documents; then the places of the calls 0 to 3 and of
-// their endings.
+// Returns whether a history is empty, and the numbers of its events and documents; then the positions of the
+// calls 0 to 3 and of their endings.
 fn shape_of(alloc: Global, history: &History) -> Result<String, Fail> {
     let is_empty = history.is_empty();
     let len = history.len();
@@ -111,7 +112,8 @@ fn shape_of(alloc: Global, history: &History) -> Result<String, Fail> {
     Ok(shape)
 }
 
-// Whether the get numbered 1 stands on shard 3 at the place 2, and the loss of the call 2 at the place 4.
+// Returns whether the get numbered 1 is on shard 3 at the position 2, and the loss of the call 2 at the
+// position 4.
 fn has_get_and_loss(history: &History) -> bool {
     history.len() >= 5
         && matches!(
@@ -172,7 +174,8 @@ fn calls_and_endings(rt: HostRuntime) -> Result<(), Fail> {
     keeps_three_calls(rt.alloc(), &mut history)
 }
 
-// What is known before an event of the call with this number: whether it is settled, and the pair that it took.
+// Returns what is known before an event of the call with this number: whether it is settled, and the pair
+// that it took.
 fn known_of(history: &History, no: u64, event: usize) -> Option<(bool, Option<Pair>)> {
     let known = history.record(no)?.known_before(event);
     Some((known.is_settled(Conflicts::Plain), known.pair_taken()))
@@ -199,7 +202,7 @@ fn records_by_number(rt: HostRuntime) -> Result<(), Fail> {
     Ok(())
 }
 
-// Asserts what the three calls answer to one more event.
+// Asserts what the history of the three calls answers to one more event.
 fn is_told(alloc: Global, step: &str, want: &str) -> Result<(), Fail> {
     let mut history = history_of(alloc, THREE_CALLS)?;
     is_pushed(alloc, &mut history, step, want)
@@ -208,7 +211,7 @@ fn is_told(alloc: Global, step: &str, want: &str) -> Result<(), Fail> {
 #[test]
 fn refused_events(rt: HostRuntime) -> Result<(), Fail> {
     for (step, want) in [
-        // The first cause is told where both hold.
+        // If both hold, the first cause is reported.
         ("reply 0 found", "Err(Ended)"),
         ("reply 1 created", "Err(Kind)"),
     ] {
@@ -232,7 +235,7 @@ fn is_numbered(
     }
 }
 
-// Asserts that "b" and "a" are the documents 0 and 1, and "c" is none.
+// Asserts that "b" and "a" are the documents 0 and 1, and that there is no document "c".
 fn are_numbered(alloc: Global, history: &History) -> Result<(), Fail> {
     is_numbered(alloc, history, "b", Some(0))?;
     is_numbered(alloc, history, "a", Some(1))?;

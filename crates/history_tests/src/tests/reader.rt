@@ -15,7 +15,7 @@ const REPLY_OF_ANOTHER_DOCUMENT: &str = r#"{"e":"call","n":0,"id":"d","op":"inde
 {"e":"reply","n":0,"status":201,"body":{"_id":"x","result":"created","_seq_no":0,"_primary_term":1}}
 "#;
 
-// What a reader told of a line: that it was taken, or why it was refused.
+// Returns what a reader reported of a line: that it was taken, or why it was refused.
 fn line_told(alloc: Global, told: Result<(), ReadFault>) -> Result<String, Fail> {
     match told {
         Ok(()) => Ok(format!(in alloc; "taken")?),
@@ -33,7 +33,8 @@ fn bracket_refused(alloc: Global, reader: &mut HistoryReader, number: u64) -> Re
     same("[", told.as_str(), want.as_str())
 }
 
-// Hands the lines of a text over, an open bracket before each of them, until one is refused. What is told of the last one.
+// Hands the lines of a text over, with an open bracket before each of them, until one is refused. Returns
+// what is reported of the last one.
 fn last_told(alloc: Global, reader: &mut HistoryReader, text: &str) -> Result<String, Fail> {
     let mut rest = text.as_bytes();
     let mut told = line_told(alloc, Ok(()))?;
@@ -56,7 +57,8 @@ fn has_events_of(alloc: Global, history: &History, text: &str) -> Result<(), Fai
     same(text, str::from_utf8(&got)?, str::from_utf8(&want)?)
 }
 
-// The call is taken, its reply refused as a stranger's; then the line is still the second one, and another reply is taken.
+// The call is taken, and its reply is refused as a stranger's; then the line is still the second one, and
+// another reply is taken.
 #[test]
 fn a_refused_line_changes_nothing(rt: HostRuntime) -> Result<(), Fail> {
     let mut reader = HistoryReader::new(rt.alloc());

@@ -12,7 +12,7 @@ const TERM_BEFORE_SEQUENCE: &str = r#"{"e":"call","n":0,"id":"d","op":"index","k
 const GREATEST_SEQUENCE_NUMBER: &str =
     r#"{"e":"call","n":0,"id":"d","op":"delete","if_seq_no":9223372036854775807,"if_primary_term":1}"#;
 
-// What the history of a text names.
+// Returns the greatest numbers that the history of a text names.
 fn seen_of(alloc: Global, text: &str) -> Option<(u64, u64)> {
     let seen = read(alloc, text.as_bytes()).ok()?.seen();
     Some((seen.term, seen.seq))

@@ -2,7 +2,7 @@
 
 use std::test::Fail;
 
-/// An error that tells the case and both texts, where they are not the same.
+/// Returns an error with the case and both texts if they are not the same.
 pub fn same(case: &str, got: &str, want: &str) -> Result<(), Fail> {
     if got == want {
         Ok(())

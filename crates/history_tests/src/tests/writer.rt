@@ -28,19 +28,19 @@ const CALLS_ON_A_SHARD: &str = r#"{"e":"call","id":"a","n":0,"op":"get","shard":
 {"e":"lost","n":1}
 "#;
 
-// What is written of the first events of a history.
+// Returns what is written of the first events of a history.
 fn written_of(alloc: Global, history: &History, events: usize) -> Result<Vec<u8>, Fail> {
     let first = history.prefix(events)?;
     Ok(write(alloc, &first)?)
 }
 
-// What is written of the first events of a text's history.
+// Returns what is written of the first events of a text's history.
 fn written(alloc: Global, text: &str, events: usize) -> Result<Vec<u8>, Fail> {
     let history = read(alloc, text.as_bytes())?;
     written_of(alloc, &history, events)
 }
 
-// Asserts that the first events of a text's history are written so.
+// Asserts that the first events of a text's history are written as wanted.
 fn is_written(alloc: Global, text: &str, events: usize, want: &str) -> Result<(), Fail> {
     let got = written(alloc, text, events)?;
     same(text, std::str::from_utf8(&got)?, want)

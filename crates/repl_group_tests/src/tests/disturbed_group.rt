@@ -1,4 +1,4 @@
-//! A disturbed group that threads share, beside the one that one caller owns.
+//! A disturbed group that threads share, compared with the one that one caller owns.
 
 use crate::tests::testing::{FAULTS, document, kth_call};
 use disturbances::{Disturbance, DisturbedCore, DisturbedGroup};
@@ -16,7 +16,7 @@ const DISTURBANCES: [Disturbance; 4] = [
     Disturbance::Storm,
 ];
 
-// Whether both tell the same of a ticket, twenty times.
+// Returns whether both report the same of a ticket, twenty times.
 fn polls_alike<R: Wait>(
     rt: &R,
     group: &DisturbedGroup,
@@ -31,7 +31,8 @@ fn polls_alike<R: Wait>(
     true
 }
 
-// Whether both answer twenty calls alike, each polled twenty times, under a schedule of as many incidents.
+// Returns whether both answer twenty calls alike, each polled twenty times, under a schedule of as many
+// incidents.
 fn plays_alike<R: Wait>(
     rt: &R,
     alloc: Global,

@@ -11,7 +11,7 @@ use std::thread::join;
 use version_pair::DocId;
 use workload::{Progress, Target, Ticket};
 
-// The reply that was told.
+// Returns the reply that was reported, if one was.
 fn reply_in(progress: Progress) -> Option<Reply> {
     match progress {
         Progress::Done(reply) => Some(reply),
@@ -19,7 +19,7 @@ fn reply_in(progress: Progress) -> Option<Reply> {
     }
 }
 
-// Polls a ticket until it is done, at most 1,000 times.
+// Polls a ticket until it is done, at most 1,000 times, and returns the reply.
 fn reply_to<R: Wait>(rt: &R, group: &Group, ticket: Ticket) -> Option<Reply> {
     for _ in 0..1_000 {
         let progress = group.poll(rt, ticket).ok()?;
@@ -54,7 +54,8 @@ fn polled_until_done(rt: HostRuntime) -> Result<(), Fail> {
     Ok(())
 }
 
-// Whether a group tells of a ticket, twenty times, what its core would, polled with the generator of the seed.
+// Returns whether a group reports of a ticket, twenty times, what its core would, polled with the generator
+// of the seed.
 fn polls_alike<R: Wait>(
     rt: &R,
     group: &Group,
@@ -70,7 +71,8 @@ fn polls_alike<R: Wait>(
     true
 }
 
-// Whether a group answers twenty calls, each polled twenty times, as its core does with the generator of the seed.
+// Returns whether a group answers twenty calls, each polled twenty times, as its core does with the generator
+// of the seed.
 fn plays_alike<R: Wait>(rt: &R, alloc: Global, copies: u32, fault: Fault) -> Result<bool, Fail> {
     let group = Group::new(alloc, copies, fault, 9)?;
     let mut core = Core::new(alloc, copies, fault)?;

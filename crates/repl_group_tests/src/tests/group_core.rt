@@ -73,8 +73,8 @@ fn named_faults(rt: HostRuntime) -> Result<(), Fail> {
     Ok(())
 }
 
-// A write is performed, and then acknowledged or lost by a promotion, behind which another one is performed: where the term
-// is kept, both get the same pair.
+// A write is performed, and then acknowledged or lost by a promotion, after which another one is performed:
+// if the term is kept, both get the same pair.
 #[test]
 fn kept_term_gives_one_pair_to_two_tickets(rt: HostRuntime) -> Result<(), Fail> {
     for (fault, script, want) in [
@@ -149,7 +149,7 @@ fn cut_copy_catches_up(rt: HostRuntime) -> Result<(), Fail> {
     Ok(())
 }
 
-// Fills a group with tickets; tells whether each was given.
+// Fills a group with tickets, and returns whether each was given.
 fn fill(alloc: Global, core: &mut Core) -> Result<bool, Fail> {
     for ticket in 0..524_288 {
         if core.step(Step::Submit(document(alloc)?, Op::Get))? != Answer::Ticket(ticket) {

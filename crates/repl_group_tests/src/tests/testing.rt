@@ -1,8 +1,9 @@
 //! Scripts of tests: what is done to a core and what it answers, as short texts.
 //!
-//! A script is a list of lines, each ended by a semicolon. `get`, `index K`, `swap K` (an index under the condition (1,0)),
-//! `delete` and `create K` submit an operation on the document `d`; `serve T`, `copy T C`, `ack T`, `cut C`, `heal C`,
-//! `drop C` and `promote C` are steps; `result T`, `term`, `primary` and `sync C` ask.
+//! A script is a list of lines, each ended by a semicolon. `get`, `index K`, `swap K` (an index under the
+//! condition (1,0)), `delete` and `create K` submit an operation on the document `d`; `serve T`, `copy T C`,
+//! `ack T`, `cut C`, `heal C`, `drop C` and `promote C` are steps; `result T`, `term`, `primary` and `sync C`
+//! ask.
 
 use doc_register::{Op, Reply};
 use repl_group::{Answer, Core, Fault, Step};
@@ -20,12 +21,12 @@ pub const FAULTS: [Fault; 6] = [
     Fault::Blind,
 ];
 
-/// The document `d`.
+/// Returns the document `d`.
 pub fn document(alloc: Global) -> Result<DocId, Fail> {
     Ok(DocId::new(alloc, "d")?)
 }
 
-// The operation that a line submits.
+// Returns the operation that a line submits.
 fn op_of(verb: &str, k: u64) -> Option<Op> {
     match verb {
         "get" => Some(Op::Get),
@@ -40,7 +41,7 @@ fn op_of(verb: &str, k: u64) -> Option<Op> {
     }
 }
 
-// The step that a line names.
+// Returns the step that a line names.
 fn step_of(verb: &str, first: u64, second: u32) -> Option<Step> {
     let copy = u32::try_from(first).unwrap_or(u32::MAX);
     match verb {
@@ -55,7 +56,7 @@ fn step_of(verb: &str, first: u64, second: u32) -> Option<Step> {
     }
 }
 
-/// A reply in short words.
+/// Returns a reply in short words.
 pub fn reply_told(alloc: Global, reply: Option<Reply>) -> Result<String, Fail> {
     let text = match reply {
         None => String::from_str(alloc, "none"),
@@ -77,7 +78,7 @@ pub fn reply_told(alloc: Global, reply: Option<Reply>) -> Result<String, Fail> {
     Ok(text?)
 }
 
-// An answer in short words.
+// Returns an answer in short words.
 fn answer_told(alloc: Global, answer: Answer) -> Result<String, Fail> {
     let text = match answer {
         Answer::Ticket(ticket) => format!(in alloc; "ticket {ticket}"),
@@ -89,7 +90,7 @@ fn answer_told(alloc: Global, answer: Answer) -> Result<String, Fail> {
     Ok(text?)
 }
 
-// What a line that asks is told.
+// Returns the answer to a line that asks.
 fn fact_told(alloc: Global, core: &Core, verb: &str, first: u64) -> Result<String, Fail> {
     match verb {
         "result" => reply_told(alloc, core.result(first)),
@@ -109,13 +110,13 @@ fn fact_told(alloc: Global, core: &Core, verb: &str, first: u64) -> Result<Strin
     }
 }
 
-// Takes a step, and tells its answer.
+// Takes a step, and returns its answer.
 fn step_told(alloc: Global, core: &mut Core, step: Step) -> Result<String, Fail> {
     let answer = core.step(step)?;
     answer_told(alloc, answer)
 }
 
-// What a line is told.
+// Returns the answer to a line.
 fn line_told(
     alloc: Global,
     core: &mut Core,
@@ -132,7 +133,7 @@ fn line_told(
     }
 }
 
-// The number that a word spells, or 0 where there is no word.
+// Returns the number that a word spells, or 0 if there is no word.
 fn number(word: Option<&str>) -> Result<u64, Fail> {
     match word {
         Some(word) => Ok(word.parse::<u64>()?),
@@ -140,7 +141,7 @@ fn number(word: Option<&str>) -> Result<u64, Fail> {
     }
 }
 
-// Plays one line.
+// Plays one line, and returns its answer.
 fn play_line(alloc: Global, core: &mut Core, line: &str) -> Result<String, Fail> {
     let mut words = line.split_whitespace();
     let verb = words.next().unwrap_or("");
@@ -155,7 +156,7 @@ fn play_line(alloc: Global, core: &mut Core, line: &str) -> Result<String, Fail>
     )
 }
 
-/// What the core of a group is told along a script, each line's answer ended by a semicolon.
+/// Returns what the core of a group answers along a script, each line's answer ended by a semicolon.
 pub fn played(alloc: Global, copies: u32, fault: Fault, script: &str) -> Result<String, Fail> {
     let mut core = Core::new(alloc, copies, fault)?;
     let mut text = String::new(alloc);
@@ -167,7 +168,8 @@ pub fn played(alloc: Global, copies: u32, fault: Fault, script: &str) -> Result<
     Ok(text)
 }
 
-/// What is asked for as the k-th call: in turn a write without condition, one with, and a get.
+/// Returns the operation of the k-th call: in turn a write without a condition, one with a condition, and a
+/// get.
 pub fn kth_call(k: u64) -> Op {
     match k % 3 {
         0 => Op::Index { k, cond: None },

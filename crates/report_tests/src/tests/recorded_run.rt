@@ -19,7 +19,7 @@ const ONE_CALL: RunSetting = RunSetting {
     fault: Fault::None,
 };
 
-// The text of a run.
+// Returns the text of a run.
 fn text_of<T: Threads + Wait + Sync>(
     rt: &T,
     alloc: Global,
@@ -30,7 +30,7 @@ fn text_of<T: Threads + Wait + Sync>(
     Ok(text)
 }
 
-// The line of a check of the text, and its status.
+// Returns the status of a check of the text, and its line.
 fn checked<T: Threads + Wait + Sync>(
     rt: &T,
     alloc: Global,

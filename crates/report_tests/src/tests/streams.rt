@@ -10,7 +10,7 @@ use std::thread::Threads;
 
 mod groups;
 
-// The status that is told with a line.
+// Returns the status that a line is returned with.
 fn status_of(line: &str) -> Status {
     if line.starts_with("refused") {
         Status::Refused
@@ -23,7 +23,7 @@ fn status_of(line: &str) -> Status {
     }
 }
 
-// The stream writes the line for the text.
+// Asserts that the stream writes the line for the text.
 fn writes<T: Abort + Threads + Wait + Sync>(
     rt: &T,
     alloc: Global,

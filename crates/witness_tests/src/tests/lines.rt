@@ -37,7 +37,7 @@ const DOCUMENT_TWICE: &str = r#"{"doc":"a"}
 const WITH_BLANK_LINES: &str =
     "\r\n{\"doc\":\"a\"}\r\n \t\n{\"doc\":\"b\"}\n\n\t {\"rec\" : 7} \r\n\n{\"doc\":\"c\"}";
 
-// The documents with their places, as texts.
+// Returns the documents with their places, as texts.
 fn said(alloc: Global, documents: &[(DocId, Vec<Place>)]) -> Result<String, Fail> {
     let mut said = String::new(alloc);
     for document in documents {
@@ -62,8 +62,8 @@ fn place_said(alloc: Global, place: Place) -> Result<String, Fail> {
     }
 }
 
-// The documents of a text, or the first line that is refused with its cause. Where memory is refused the test ends with an
-// error.
+// Returns the documents of a text, or the first line that is refused with its cause. If memory is refused,
+// the test ends with an error.
 fn told(alloc: Global, text: &[u8]) -> Result<String, Fail> {
     match read_witness(alloc, text) {
         Ok(documents) => said(alloc, &documents),
@@ -74,8 +74,8 @@ fn told(alloc: Global, text: &[u8]) -> Result<String, Fail> {
     }
 }
 
-// What a reader tells of the lines of a text, handed over one by one: the documents, or the line that is refused. An open
-// bracket before each line is refused and changes nothing.
+// Returns what a reader reports of the lines of a text, handed over one by one: the documents, or the line
+// that is refused. An open bracket before each line is refused and changes nothing.
 fn told_by_line(alloc: Global, text: &str) -> Result<String, Fail> {
     let mut reader = WitnessReader::new(alloc);
     let mut rest = text.as_bytes();

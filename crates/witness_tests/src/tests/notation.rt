@@ -1,8 +1,9 @@
 //! Records and places as short texts, for the tests, and the assertion that two texts are the same.
 //!
-//! `0 index 1, 1 created 1 0; 2 get` is an index of 1 that was called at 0 and answered at 1 by `created` with the term 1
-//! and the sequence number 0; and a get that was called at 2 and not answered. `0; 1 3 2` is the place of the record 0
-//! without a pair, and that of the record 1 with the term 3 and the sequence number 2.
+//! `0 index 1, 1 created 1 0; 2 get` is an index of 1 that was called at 0 and answered at 1 by `created`
+//! with the term 1 and the sequence number 0; and a get that was called at 2 and not answered. `0; 1 3 2` is
+//! the place of the record 0 without a pair, and that of the record 1 with the term 3 and the sequence number
+//! 2.
 
 use doc_register::{Op, Reply};
 use history::Rec;
@@ -11,7 +12,7 @@ use std::test::Fail;
 use version_pair::Pair;
 use witness::Place;
 
-// The number that a word is; 0 where it is left out.
+// Returns the number that a word spells; 0 if it is left out.
 fn number(word: Option<&str>) -> Result<u64, Fail> {
     match word {
         Some(word) => Ok(word.parse::<u64>()?),
@@ -19,7 +20,7 @@ fn number(word: Option<&str>) -> Result<u64, Fail> {
     }
 }
 
-// A number, a name and three more numbers.
+// Returns a number, a name and three more numbers.
 fn words(text: &str) -> Result<(usize, &str, (u64, u64, u64)), Fail> {
     let mut words = text.split_whitespace();
     let at = number(words.next())?;
@@ -30,7 +31,7 @@ fn words(text: &str) -> Result<(usize, &str, (u64, u64, u64)), Fail> {
     Ok((at as usize, name, (first, second, third)))
 }
 
-// An operation by its name, its number, and the term and the sequence number of its condition.
+// Returns an operation by its name, its number, and the term and the sequence number of its condition.
 fn op(name: &str, numbers: (u64, u64, u64)) -> Result<Op, Fail> {
     let k = numbers.0;
     match name {
@@ -45,7 +46,7 @@ fn op(name: &str, numbers: (u64, u64, u64)) -> Result<Op, Fail> {
     }
 }
 
-// A reply by its name, its term, its sequence number, and the number that it shows.
+// Returns a reply by its name, its term, its sequence number, and the number that it shows.
 fn reply(name: &str, numbers: (u64, u64, u64)) -> Result<Reply, Fail> {
     match name {
         "missing" => return Ok(Reply::Missing),
@@ -69,7 +70,7 @@ fn reply(name: &str, numbers: (u64, u64, u64)) -> Result<Reply, Fail> {
     }
 }
 
-// A record without what was heard.
+// Returns a record without what was heard.
 fn call(text: &str) -> Result<Rec, Fail> {
     let (call_at, name, numbers) = words(text)?;
     Ok(Rec {
@@ -90,7 +91,7 @@ fn record(text: &str) -> Result<Rec, Fail> {
     Ok(found)
 }
 
-/// The records that the text tells.
+/// Returns the records that the text describes.
 pub fn records(alloc: Global, text: &str) -> Result<Vec<Rec>, Fail> {
     let mut records = Vec::new(alloc);
     for part in text.split_terminator(';') {
@@ -110,7 +111,7 @@ fn place(text: &str) -> Result<Place, Fail> {
     })
 }
 
-/// The places that the text tells.
+/// Returns the places that the text describes.
 pub fn places(alloc: Global, text: &str) -> Result<Vec<Place>, Fail> {
     let mut places = Vec::new(alloc);
     for part in text.split_terminator(';') {
@@ -119,7 +120,7 @@ pub fn places(alloc: Global, text: &str) -> Result<Vec<Place>, Fail> {
     Ok(places)
 }
 
-/// An error that tells the case and both texts, where they are not the same.
+/// Returns an error with the case and both texts if they are not the same.
 pub fn same(case: &str, got: &str, want: &str) -> Result<(), Fail> {
     if got == want {
         Ok(())

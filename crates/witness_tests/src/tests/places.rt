@@ -9,10 +9,10 @@ use witness::{Broken, DocWitness, Place, write_witness};
 const MIXED: &str =
     "0 index 1, 1 created 1 0; 2 get; 3 delete; 4 get, 5 found 1 0 1; 6 get, 7 missing";
 
-// What a check gives: the witness, or the fault with all that was handed in.
+// The result of a check: the witness, or the fault with all that was handed in.
 type Checked = Result<DocWitness, (Broken, DocId, Vec<Rec>, Vec<Place>)>;
 
-// What the check of "d" with these records and places gives.
+// Returns the result of the check of "d" with these records and places.
 fn checked(
     alloc: Global,
     records: &[Rec],
@@ -25,13 +25,14 @@ fn checked(
     Ok(DocWitness::check(alloc, id, records, places, conflicts))
 }
 
-// Whether these are "d" and the records and places of it.
+// Returns whether these are "d" and its records and places.
 fn are_all(id: &DocId, kept: (&[Rec], &[Place]), records: &[Rec], places: &[Place]) -> bool {
     id.as_str() == "d" && kept.0 == records && kept.1 == places
 }
 
-// What the check tells of such records and places: "valid" where it makes a witness, which has all; else the fault,
-// where it hands all back. Where memory is refused, all is handed back too, and the test ends with an error.
+// Returns what the check reports of these records and places: "valid" if it makes a witness, which must have
+// them all; otherwise the fault, if all are handed back. If memory is refused, all are handed back too, and
+// the test ends with an error.
 fn told(
     alloc: Global,
     records: &[Rec],
@@ -58,7 +59,7 @@ fn told(
     }
 }
 
-// Asserts what is told of records and places.
+// Asserts what is reported of records and places.
 fn is_told(
     alloc: Global,
     records: &str,
@@ -72,7 +73,7 @@ fn is_told(
     notation::same(places, got.as_str(), want)
 }
 
-// Asserts what is told of records and places: plainly, and where a conflict may hide a pair.
+// Asserts what is reported of records and places: if a conflict is read plainly, and if it may hide a pair.
 fn all_told(alloc: Global, rows: &[(&str, &str, &str, &str)]) -> Result<(), Fail> {
     for (records, places, plain, maybe) in rows {
         is_told(alloc, records, places, Conflicts::Plain, plain)?;
@@ -81,7 +82,7 @@ fn all_told(alloc: Global, rows: &[(&str, &str, &str, &str)]) -> Result<(), Fail
     Ok(())
 }
 
-// A reply may stand at the place of a call, but not before it.
+// A reply may be at the position of a call, but not before it.
 #[test]
 fn places_of_replies(rt: HostRuntime) -> Result<(), Fail> {
     all_told(
@@ -121,7 +122,7 @@ fn places_of_replies(rt: HostRuntime) -> Result<(), Fail> {
     )
 }
 
-// A document without calls, the greatest number of a record, and a create that is told to have updated.
+// A document without calls, the greatest number of a record, and a create whose reply says that it updated.
 #[test]
 fn places_of_no_history(rt: HostRuntime) -> Result<(), Fail> {
     all_told(
@@ -145,7 +146,7 @@ fn places_of_no_history(rt: HostRuntime) -> Result<(), Fail> {
     )
 }
 
-// A witness of a document without calls.
+// Returns a witness of a document without calls.
 fn empty_witness(alloc: Global) -> Result<DocWitness, Fail> {
     match checked(alloc, &[], &[], Conflicts::Plain)? {
         Ok(witness) => Ok(witness),

@@ -34,7 +34,8 @@ pub const GROUP_BLIND: &str = r#"{"e":"call","n":0,"id":"d","op":"index","k":1}
 {"e":"reply","n":2,"status":200,"body":{"_id":"d","result":"updated","_seq_no":2,"_primary_term":1}}
 "#;
 
-// A write without a condition is refused, and a write of another document was lost.
+// A write without a condition is refused, and the outcome of a write of another document is lost
+// (indeterminate).
 pub const REFUSED_FOR_NOTHING: &str = r#"{"e":"call","n":0,"id":"d","op":"index","k":1}
 {"e":"reply","n":0,"status":201,"body":{"_id":"d","result":"created","_seq_no":0,"_primary_term":1}}
 {"e":"call","n":1,"id":"e","op":"index","k":2}

@@ -1,4 +1,5 @@
-//! Clients in turns against the group: honest runs are explained, and one client alone records what a run writes.
+//! Clients in turns against the group: honest runs are explained, and one client alone records what a run
+//! writes.
 
 use super::*;
 use history::write;
@@ -7,7 +8,7 @@ use repl_group::Group;
 use report::RUN_POLLS;
 use workload::{Plan, run_in_turns};
 
-// The text of what the setting's clients record in turns.
+// Returns the text of what the setting's clients record in turns.
 fn text_in_turns<T: Wait>(rt: &T, alloc: Global, setting: &RunSetting) -> Result<Vec<u8>, Fail> {
     let plan = Plan::draw(
         alloc,
@@ -25,7 +26,7 @@ fn text_in_turns<T: Wait>(rt: &T, alloc: Global, setting: &RunSetting) -> Result
     }
 }
 
-// Two clients of 20 calls each, of two documents.
+// Returns a setting of two clients of 20 calls each, on two documents.
 fn two_clients(seed: u64, copies: u32) -> RunSetting {
     RunSetting {
         seed,

@@ -31,12 +31,12 @@ struct Case<'a> {
     line: &'a str,
 }
 
-// A write of a value, under a condition or under none.
+// Returns a write of a value, with a condition or without one.
 fn index(k: u64, cond: Option<Pair>) -> Op {
     Op::Index { k, cond }
 }
 
-// Calls an operation: it is submitted, and the call of its ticket's number stands in the history.
+// Calls an operation: it is submitted, and the history gets the call with the ticket's number.
 fn call(
     alloc: Global,
     core: &mut Core,
@@ -57,7 +57,7 @@ fn call(
     Ok(())
 }
 
-// Hears the reply to a ticket, which is answered.
+// Hears the reply to a ticket, which must be answered.
 fn hear(core: &Core, history: &mut History, no: u64) -> Result<(), Fail> {
     let Some(reply) = core.result(no) else {
         return Err("a reply".into());
@@ -66,7 +66,7 @@ fn hear(core: &Core, history: &mut History, no: u64) -> Result<(), Fail> {
     Ok(())
 }
 
-// Takes a step, which is done.
+// Takes a step, which must be done.
 fn take(core: &mut Core, step: Step) -> Result<(), Fail> {
     if core.step(step)? != Answer::Done {
         return Err("a step that is done".into());
@@ -88,7 +88,7 @@ fn act(alloc: Global, core: &mut Core, history: &mut History, deed: Deed<'_>) ->
     }
 }
 
-// The text of the history that the deeds leave.
+// Returns the text of the history that the deeds leave.
 fn text_of(alloc: Global, case: Case<'_>, deeds: &[Deed<'_>]) -> Result<Vec<u8>, Fail> {
     let mut core = Core::new(alloc, case.copies, case.fault)?;
     let mut history = History::new(alloc);
@@ -98,7 +98,7 @@ fn text_of(alloc: Global, case: Case<'_>, deeds: &[Deed<'_>]) -> Result<Vec<u8>,
     Ok(write(alloc, &history)?)
 }
 
-// The deeds leave the events of the case's text, and these get its line.
+// Asserts that the deeds leave the events of the case's text, and that these get its line.
 fn plays<T: Abort + Threads + Wait + Sync>(
     rt: &T,
     alloc: Global,
@@ -225,8 +225,8 @@ fn blind_group(rt: HostRuntime) -> Result<(), Fail> {
     plays(&rt, rt.alloc(), case, &deeds)
 }
 
-// A write that is lost and one that is acknowledged get the same pair; the lost one was never seen, so the text can't show
-// it.
+// A write that is lost and one that is acknowledged get the same pair. The lost one was never seen, so the
+// text can't show it.
 #[test]
 fn same_term_group(rt: HostRuntime) -> Result<(), Fail> {
     let case = Case {
