@@ -63,8 +63,11 @@ impl Case {
     /// Returns the history.
     #[tactic(auto, using(crate::proofs::VerdictLemmas::uncovered_has_none))]
     pub fn history(&self) -> &History
+        // It is the history of the case.
         ensures same { result.now ≡ self.now.events }
+        // It is a history, as its type guarantees.
         ensures history { IsHistory self.now.events }
+        // No entries without a given pair cover it.
         ensures none { HasNoOrderFound self.now.conflicts self.now.events }
     {
         // The access to a field makes the type's invariant known from here on.

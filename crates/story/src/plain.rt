@@ -86,7 +86,8 @@ fn add_part(alloc: Global, part: &Part, text: &mut String) -> Result<(), NoMemor
     }
 }
 
-/// Returns the explanation as plain text, which begins with an empty line.
+/// Returns the explanation as plain text, which begins with an empty line. The only error is that memory was
+/// refused.
 pub fn plain_text(alloc: Global, story: &Story) -> Result<String, NoMemory> {
     let title = story.title.as_str();
     let mut text = format!(in alloc; "\n{title}\n")?;

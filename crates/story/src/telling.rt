@@ -52,7 +52,8 @@ fn completed_calls(
     Ok((count, told))
 }
 
-/// Returns the explanation of a history that an order explains.
+/// Returns the explanation of a history that an order explains. Nothing is promised of its sentences. The
+/// only error is that memory was refused.
 pub fn explained_story(
     alloc: Global,
     explained: &Explained<'_>,
@@ -75,7 +76,8 @@ pub fn explained_story(
     })
 }
 
-/// Returns the explanation of a text that was refused.
+/// Returns the explanation of a text that was refused. Nothing is promised of its sentences. The only error
+/// is that memory was refused.
 pub fn refused_story(alloc: Global, refused: &RefusedLine) -> Result<Story, NoMemory> {
     let line = refused.fault.line;
     let shown = line_shown(alloc, &refused.line)?;
