@@ -26,8 +26,8 @@ from typing import NamedTuple
 from program import TOP
 from program_test import ProgramTest, run_tests
 
-sys.path.insert(0, str(TOP / "docs" / "making"))
-import proved  # noqa: E402 (it lies in the folder above)
+sys.path.insert(0, str(TOP / "docs"))
+from making import proved  # noqa: E402 (it lies in docs)
 
 CRATES = TOP / "crates"
 STORES = [f"examples/stores/{it}README.md" for it in ("", "redis/", "postgresql/", "zookeeper/")]

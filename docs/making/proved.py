@@ -434,18 +434,7 @@ class Section:
             self.add_impl(shown, impl, own)
         if any(it.startswith(f"#### `{shown}::") for it in self.lines[start:]):
             said = paragraphs_of(block.says, str)
-            kept = [
-                line
-                for own, impl in impls
-                if impl.trait == "Model"
-                for line in self.kept_lines(impl, own.imports)
-            ]
-            self.lines[start:start] = [f"### `{shown}`", "", *said, *([""] if said else []), *kept]
-
-    def kept_lines(self, impl, imports):
-        """The lines about what each value of a type keeps, if a comment says it."""
-        kept = [it._replace(name="") for it in impl.ghosts if it.name == "invariant" and it.comment]
-        return self.clauses_lines("Each value keeps", kept, imports)
+            self.lines[start:start] = [f"### `{shown}`", "", *said, *([""] if said else [])]
 
     def add_impl(self, shown, block, source):
         """Adds the methods of an impl, or what it gives to a trait."""
