@@ -121,7 +121,8 @@ pub fn take_lines<L: LineReader, R: Read>(
 ) -> Result<Result<(), RefusedLine>, InputFault>
     // The reader has taken no line yet.
     requires { (L.reached reader.old).lines ≡ 0 }
-    // If the input's bytes are known, the result is that of `take_text` for the text of these bytes.
+    // If the input's bytes are known, the result is what the definition gives for the text of these bytes, as
+    // that of `take_text` is.
     ensures told { IfOk result (λ told. IfSome (R.remaining input.old) (λ text. MatchResult told
         (λ _. read_lines L.takes 1 (L.reached reader.old).state (lines_of text) ≡ Ok (L.reached reader.new).state)
         (λ refused. read_lines L.takes 1 (L.reached reader.old).state (lines_of text) ≡ Err refused.fault))) }

@@ -228,7 +228,7 @@ pub fn read_words<'a, S: AsStr>(alloc: Global, words: &'a [S]) -> Result<Words<'
     // The arguments ask for just what is returned.
     ensures asked { IfOk result (λ asked. asked_on (map S.text words.entry.now)
         ≡ Some (asked_by asked)) }
-    // Nothing in them can be refused.
+    // None of the errors of the definition applies to them.
     ensures taken { OnOk result (faults_on (map S.text words.entry.now) ≡ []) }
     // The arguments have that fault, or what they name is none of the commands with its files and a reading
     // of conflicts, or with its numbers, a fault and a disturbance, and a seed or several.

@@ -67,7 +67,8 @@ impl Case {
         ensures same { result.now ≡ self.now.events }
         // It is a history, as its type guarantees.
         ensures history { IsHistory self.now.events }
-        // No entries without a given pair cover it.
+        // No entries without a given pair cover it. So it is not legal in response order, and if it is
+        // complete it is not linearizable.
         ensures none { HasNoOrderFound self.now.conflicts self.now.events }
     {
         // The access to a field makes the type's invariant known from here on.

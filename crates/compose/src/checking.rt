@@ -81,7 +81,8 @@ pub fn is_explained(
 ) -> Result<bool, NoMemory>
     // If the result is true, the events are linearizable.
     ensures found { IfOk result (λ found. found ≡ true → IsLinearizable conflicts history.now) }
-    // If the result is false, no entries without a given pair cover the events.
+    // If the result is false, no entries without a given pair cover the events. So they are not legal in
+    // response order, and if they are complete they are not linearizable.
     ensures none { IfOk result (λ found. found ≡ false → HasNoOrderFound conflicts history.now) }
 {
     match looked_for(alloc, history, conflicts)? {
@@ -141,7 +142,8 @@ pub fn check_alone(
     conflicts: Conflicts,
 ) -> Result<Verdict, CheckFault>
     // The verdict is on this very history: Yes with witnesses that cover it, so that it is linearizable; No
-    // only if no entries without a given pair cover it.
+    // only if no entries without a given pair cover it, so that it is not legal in response order, and not
+    // linearizable if it is complete.
     ensures verdict { IfOk result (IsVerdictOn conflicts history) }
     // A history that is legal in response order gets Yes.
     ensures accepts { IfOk result (λ verdict. IsPlainlyRight history → IsYes verdict) }

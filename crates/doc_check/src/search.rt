@@ -190,8 +190,8 @@ pub fn answer(
     seen: Seen,
     conflicts: Conflicts,
 ) -> Result<DocAnswer, NoMemory>
-    // The answer is about the id, the records and the reading that were passed in: an order is valid for
-    // them, and otherwise no places without a given pair are.
+    // The answer is about the id, the records and the reading that were passed in: an order that is found is
+    // valid for them; if none is found, no places without a given pair are.
     ensures about { IfOk result (IsAbout id recs.items conflicts) }
     // If the order of the replies is valid, it is the one that is found.
     ensures replies { IfOk result (FollowsReplies conflicts recs.items) }

@@ -145,8 +145,8 @@ impl DocMap {
     /// `PairLow` if its pair is not greater than that of the document's last change; `NoMemory`. An error
     /// changes nothing.
     pub fn apply(&mut self, id: &DocId, op: &Op, pair: Pair) -> Result<Reply, MapFault>
-        // An accepted call is a step of its document with the reply, and a write that is performed takes the
-        // pair.
+        // An accepted call is a step of its document with the reply, and the pair in the reply of a write is
+        // the one that was passed in.
         ensures accepted { IfOk result (λ reply. Accepts self.old id.now op.now pair reply self.new) }
         ensures used { (result ≡ Err MapFault.PairUsed) ↔ IsUsedTwice self.old id.now op.now pair }
         ensures low { (result ≡ Err MapFault.PairLow) ↔ IsTooLow self.old id.now op.now pair }

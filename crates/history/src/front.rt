@@ -133,7 +133,8 @@ impl<'h> Front<'h> {
 
     /// Returns the number of the document with this id, if the prefix has a call on it.
     pub fn doc_of(&self, id: &DocId) -> Option<usize>
-        // There is no number exactly if no event before the end is a call on the document.
+        // It is the position of the id among the documents; there is none exactly if no call before the end
+        // is on the document.
         ensures { result ≡ position (λ d. is_same id.now d.0) (documents_of self.now) }
     {
         below(self.history.doc_of(id), self.docs)

@@ -227,7 +227,8 @@ impl History {
         ensures ok { OnOk result (self.new ≡ self.old ++ event ∷ []) }
         // An error leaves the events as they were.
         ensures err { OnErr result (self.new ≡ self.old) }
-        // The result is a reason exactly if the definition gives one, and that one, the first that holds.
+        // The error is another one than `NoMemory` exactly if the definition gives a reason, and then it is
+        // that one, the first that holds.
         ensures reason { refusal_told result ≡ refusal_of self.old event }
         ensures history { IsHistory self.new }
         ensures within { length self.new ≤ limit }
@@ -269,7 +270,8 @@ impl History {
 
     /// Returns the number of the document with this id, or `None` if no call is on it.
     pub fn doc_of(&self, id: &DocId) -> Option<usize>
-        // There is no number exactly if no event is a call on the document.
+        // It is the position of the id among the documents; there is none exactly if no call is on the
+        // document.
         ensures { result ≡ position (λ d. is_same id.now d.0) (documents_of self.now) }
     {
         self.doc_of_text(&id.text())

@@ -26,11 +26,12 @@ pub fn read_from<R: Read>(
     keys: HashKeys,
     input: &mut R,
 ) -> Result<Result<History, TextFault>, InputFault>
-    // If the reader's bytes are known, the result is what `read` returns for them.
+    // If the reader's bytes are known, the result is what the definition gives for them, as that of `read`
+    // is.
     ensures told { IfOk result (λ told. IfSome (R.remaining input.old) (λ text. MatchResult told
         (λ history. history_text text ≡ Ok history)
         (λ fault. history_text text ≡ Err fault))) }
-    // A history is one that the reader's bytes to their end are a text of.
+    // A history is one that the reader's bytes to their end are a text of, if they are known.
     ensures text { IfOk result (λ told. IfSome (R.remaining input.old)
         (λ text. IfOk told (IsHistoryText text))) }
     // No bytes after the first refused line are taken but those that the last read returned, 32,768 at most;

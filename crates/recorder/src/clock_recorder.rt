@@ -174,8 +174,7 @@ impl ClockRecorder {
         ensures handed_back { IsPenMissing result → result ≡ Err (CloseFault.PenMissing self pens) }
         // The error is never `Mismatch`.
         ensures agreed { result ≢ Err CloseFault.Mismatch }
-        // If `Full` was returned for one of the pens, a history has 1,048,576 events. So it is returned for a
-        // pen only if that many are recorded.
+        // If `Full` was returned for one of the pens, a history has 1,048,576 events.
         ensures full { has_full (pens_of pens.items) ≡ true → IfOk result (λ history. length history ≡ most_events) }
     {
         if pens.len() < self.pens {

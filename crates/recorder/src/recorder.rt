@@ -140,8 +140,8 @@ impl Recorder {
         ensures missing { IsPenMissing result ↔ (vec_len pens < self) }
         // With `PenMissing` the recorder and the pens come back.
         ensures handed_back { IsPenMissing result → result ≡ Err (CloseFault.PenMissing self pens) }
-        // If `Full` was returned for one of the pens, a history has 1,048,576 events. So if fewer were
-        // recorded, the error is `Mismatch`.
+        // If `Full` was returned for one of the pens, a history has 1,048,576 events. So of fewer events no
+        // history is returned then.
         ensures full { has_full pens.items ≡ true → IfOk result (λ history. length history ≡ most_events) }
     {
         if pens.len() < self.pens {

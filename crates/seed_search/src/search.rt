@@ -132,8 +132,9 @@ pub fn search_stream<T: Threads + Wait + Sync, H: Watch, W: Write>(
     watch: &H,
     writer: &mut W,
 ) -> Result<Status, StreamFault>
-    // If it answers yes, what it wrote is the text of the first run that is found, and the runs with the
-    // seeds before it have orders. If it answers no, the runs with all seeds have orders.
+    // If the result is yes, the writer holds the text of the first run that is found after what it held, and
+    // the runs with the seeds before it get yes. If it is no, the writer holds what it held, and the runs
+    // with all seeds get yes.
     ensures searched { IfOk result (IsSearched ⟦<DisturbedGroup as Target>⟧.issued
         ⟦<DisturbedGroup as Target>⟧.gave disturbance setting.now seeds.first seeds.last (W.contents writer.old)
         (W.contents writer.new)) }

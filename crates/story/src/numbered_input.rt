@@ -46,8 +46,8 @@ pub fn read_numbered_from<R: Read>(
     keys: HashKeys,
     input: &mut R,
 ) -> Result<Result<(History, EventLines), RefusedLine>, InputFault>
-    // If the input's bytes are known, the history, or the line and the cause, is what `history::read` returns
-    // for them.
+    // If the input's bytes are known, the history, or the line and the cause, is what the definition gives
+    // for them, as that of `history::read` is.
     ensures told { IfOk result (λ told. IfSome (R.remaining input.old) (λ text. MatchResult told
         (λ read. history_text text ≡ Ok read.0)
         (λ refused. history_text text ≡ Err refused.fault))) }

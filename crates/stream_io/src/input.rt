@@ -27,7 +27,8 @@ pub fn read_history<R: Read>(
     // A history is one that the reader's bytes to their end are a text of, if they are known.
     ensures text { IfOk result (λ told. IfSome (R.remaining reader.old)
         (λ text. IfOk told (IsHistoryText text))) }
-    // If the reader's bytes are known, the result is what `history::read` returns for them.
+    // If the reader's bytes are known, the result is what the definition gives for them, as that of
+    // `history::read` is.
     ensures told { IfOk result (λ told. IfSome (R.remaining reader.old) (λ text. MatchResult told
         (λ history. history_text text ≡ Ok history)
         (λ fault. history_text text ≡ Err fault))) }
@@ -51,7 +52,8 @@ pub fn read_entries<R: Read>(
     alloc: Global,
     reader: &mut R,
 ) -> Result<Result<Vec<(DocId, Vec<Place>)>, TextFault>, InputFault>
-    // If the reader's bytes are known, the result is what `witness::read_witness` returns for them.
+    // If the reader's bytes are known, the result is what the definition gives for them, as that of
+    // `witness::read_witness` is.
     ensures told { IfOk result (λ told. IfSome (R.remaining reader.old) (λ text. MatchResult told
         (λ entries. witness_text text ≡ Ok (map doc_places entries.items))
         (λ fault. witness_text text ≡ Err fault))) }

@@ -25,7 +25,8 @@ pub fn read_witness_from<R: Read>(
     alloc: Global,
     input: &mut R,
 ) -> Result<Result<Vec<(DocId, Vec<Place>)>, TextFault>, InputFault>
-    // If the reader's bytes are known, the result is what `read_witness` returns for them.
+    // If the reader's bytes are known, the result is what the definition gives for them, as that of
+    // `read_witness` is.
     ensures told { IfOk result (λ told. IfSome (R.remaining input.old) (λ text. MatchResult told
         (λ documents. witness_text text ≡ Ok (map doc_places documents.items))
         (λ fault. witness_text text ≡ Err fault))) }

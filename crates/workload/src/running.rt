@@ -117,6 +117,11 @@ where
 /// with the least number that met one: of the recorder (`Record`) or of the target (`Target`). The threads
 /// have then ended, and the pens are dropped. It waits for its threads, and returns only if each call of the
 /// target and of the recorder does.
+///
+/// What a caller learns from `cause` depends on what its target and its recorder say of themselves. Of a
+/// `Recorder`, a `ClockRecorder` and a `Group` of the crate `repl_group` it is that `NotMine` and `Ended` are
+/// never returned, and of a `ClockRecorder` that `Rewound` is not either: otherwise these count pens and
+/// replies of any value as their own.
 pub fn run_clients<R: Threads + Wait + Sync, T: Target + Sync, X: Recording + Sync>(
     rt: &R,
     alloc: Global,
@@ -141,10 +146,10 @@ where
         (lists_of (map X.pen_state done.items))) }
     // The pens stay the recorder's.
     ensures keeps { IfOk result (λ done. All (X.has_pen recorder.now) done.items) }
-    // Each error has its cause. `NotMine` and `Ended` are never returned; `Kind` only if the target gave to a
-    // ticket a reply that the ticket's operation doesn't have; `Full` of the recorder only if a pen of its
-    // own is full; `Rewound` only by a recorder that may return it; `Full` of the target only if its
-    // `all_given` holds.
+    // Each error has its cause. `NotMine` and `Ended` are never returned; `Kind` only if, by its relations,
+    // the target may give to a ticket a reply that the ticket's operation doesn't have; `Full` of the
+    // recorder only if a pen of its own is full; `Rewound` only by a recorder that may return it; `Full` of
+    // the target only if its `all_given` holds.
     ensures cause { IfErr result (HasCause (IsMisfit T.issued T.gave) T.all_given (X.may_rewind recorder.now)
         X.pen_state (X.has_pen recorder.now)) }
 {
