@@ -216,7 +216,7 @@ def source_of(module, text):
         elif line.startswith("#[cfg(test)]"):
             is_test = True
         elif line.startswith("//") and not line.startswith("//!"):
-            says += [f" {line[2:].strip()}"] if not says or says[0].startswith("\0") else []
+            says.append(line[2:])
         elif re.match(r"\w", line):
             while end < len(lines) and (not lines[end] or lines[end][0] in " )}" or lines[end] == "where") and lines[end - 1] not in ("}", ")"):
                 end += 1

@@ -65,6 +65,7 @@ impl DisturbedCore {
     }
 }
 
+// Its errors are those of `submit_step` and `disturbed_poll_step`. What they leave is left open.
 impl OwnedTarget for DisturbedCore {
     ghost use Rattle.disturbances.specs.Disturbed.{SubmitsTicket, TellsProgress};
 

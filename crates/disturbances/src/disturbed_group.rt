@@ -71,6 +71,8 @@ impl DisturbedGroup {
     }
 }
 
+// Under the lock a submission and a poll are those of a `DisturbedCore`, by the same body, which is tested.
+// Its errors are those of `submit_step` and `disturbed_poll_step`.
 impl Target for DisturbedGroup {
     ghost use Rattle.std.specs.Prelude.{◌<◌};
     ghost use Rattle.repl_group.specs.Group.{most_tickets};

@@ -31,7 +31,8 @@ fn take(core: &mut Core, step: Step) -> Result<(), TargetFault>
 }
 
 /// Disturbs a group: it takes the steps of the incident, one after the other, whatever the answer to each. A
-/// group of one copy takes none. If a step is refused memory, those before it have been taken.
+/// group of one copy takes none. If a step is refused memory, those before it have been taken, which no
+/// clause says.
 pub fn disturb(core: &mut Core, incident: Incident) -> Result<(), TargetFault>
     // The group is honest unless it has a fault.
     requires honest { IsHonestUnlessFaulty core.old }

@@ -82,9 +82,10 @@ impl Recorder {
     /// Records that an operation on a document is called, and returns the event's number, which is the
     /// call's. It may wait for the lock.
     ///
-    /// Errors, in this order: `Full` if it was returned for the pen before, `NoMemory` for the pen's list,
-    /// `Rewound`, `Full`, `NoMemory` for the recording. An error leaves the pen's list as it was. After
-    /// `Full` was returned for a pen, it is returned for that pen from then on.
+    /// Errors, in this order: `Full` if it was returned for the pen before; `NoMemory` for the pen's list,
+    /// which no clause says comes before the others; `Rewound`, `Full`, `NoMemory` for the recording. An
+    /// error leaves the pen's list as it was, and the id is dropped. After `Full` was returned for a pen, it
+    /// is returned for that pen from then on.
     pub fn call<R: Wait>(&self, rt: &R, pen: &mut Pen, id: DocId, op: Op) -> Result<u64, RecFault>
         // The result and the pen after it are as the definition says, for the call with the number of its
         // event.

@@ -28,9 +28,10 @@ pub trait Recording {
     /// Records that an operation on a document is called, and returns the event's number, which is the
     /// call's.
     ///
-    /// Errors, in this order: `Full` if it was returned for the pen before, `NoMemory` for the pen's list,
-    /// `Rewound`, `Full`, `NoMemory` for what the pens share. An error leaves the pen's list as it was. After
-    /// `Full` was returned for a pen, it is returned for that pen from then on.
+    /// Errors, in this order: `Full` if it was returned for the pen before; `NoMemory` for the pen's list,
+    /// which no clause says comes before the others; `Rewound`, `Full`, `NoMemory` for what the pens share.
+    /// An error leaves the pen's list as it was, and the id is dropped. After `Full` was returned for a pen,
+    /// it is returned for that pen from then on.
     fn call<R: Wait>(&self, rt: &R, pen: &mut Self::Pen, id: DocId, op: Op) -> Result<u64, RecFault>
         // The pen is this recorder's.
         requires { has_pen self.now pen.old }

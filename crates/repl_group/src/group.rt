@@ -90,6 +90,7 @@ impl Group {
     }
 }
 
+// Its errors, and what they leave under the lock, are those of `submit_step` and `poll_step`.
 impl Target for Group {
     ghost use Rattle.std.specs.Prelude.{◌<◌};
     ghost use Rattle.repl_group.specs.Group.{most_tickets};
