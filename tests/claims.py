@@ -254,6 +254,7 @@ class Sources:
         files = [it for it in CRATES.glob("*/specs/*.antt") if it.name not in LISTS]
         self.specs = {str(it.relative_to(CRATES)): Definitions(it) for it in sorted(files)}
         self.definitions = {name for it in self.specs.values() for name in it.names}
+        self.values = {value for crate in self.crates.values() for values in crate.types.values() for value in values} | {"None"}
 
 
 # ---- MODEL.md
