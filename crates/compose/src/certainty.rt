@@ -146,7 +146,7 @@ fn certainty_without_evidence(
 }
 
 /// Returns how much the answer says of the history of the case, by the evidence that was found, if any was,
-/// and the offence. The only error is that memory was refused.
+/// and the offence.
 #[tactic(auto, using(crate::proofs::CertaintyLemmas::said_is_proved))]
 pub fn certainty_of(alloc: Global, case: &Case, failing: &Failing) -> Result<Certainty, NoMemory>
     // The evidence, if there is any, holds in the history of the case.

@@ -72,8 +72,7 @@ pub fn looked_for(
     }
 }
 
-/// Returns whether one order of all calls is found that explains these events. The only error is that memory
-/// was refused.
+/// Returns whether one order of all calls is found that explains these events.
 pub fn is_explained(
     alloc: Global,
     history: &Front<'_>,

@@ -243,7 +243,7 @@ fn first_guess(alloc: Global, case: &Case) -> Result<Option<usize>, NoMemory> {
 /// First a reply is tried that is cheap to guess: if the search fails there, and not on the events before, it
 /// is that. Else the replies are halved: if the events up to the middle one have an order that the search
 /// finds, it is after that, else it is that or before. If it is numbers that are too few, the search gives a
-/// reply to try instead of the middle one. The only error is that memory was refused.
+/// reply to try instead of the middle one.
 pub fn first_offence(alloc: Global, case: &Case) -> Result<Offence, NoMemory>
     // `event` is the position of a reply of the history, and `call` the number of the call that it answers.
     // The events up to it are not legal in response order. If `before_shown` is true, those before it are

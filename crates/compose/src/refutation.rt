@@ -8,8 +8,7 @@ use version_pair::NoMemory;
 
 /// Returns evidence that holds in the case's history, with conflicts read as the case reads them. It is of
 /// the first kind that holds, in the order of `Refuted`, and of that kind it has the least call numbers,
-/// compared by the first number first. Documents that are provably not linearizable are not searched for. The
-/// only error is that memory was refused.
+/// compared by the first number first. Documents that are provably not linearizable are not searched for.
 ///
 /// Which evidence is found, and that some is found if a kind holds, is tested, not proved: `None` says
 /// nothing.
@@ -24,8 +23,7 @@ pub fn refute(alloc: Global, case: &Case) -> Result<Option<Refuted>, NoMemory>
 
 /// Returns the evidence that a document of the case's history is provably not linearizable (ruled out), with
 /// conflicts read as the case reads them: the least call at which one is. Returns `None` if no document is.
-/// Only the documents for which no order was found are checked: the others have one. The only error is that
-/// memory was refused.
+/// Only the documents for which no order was found are checked: the others have one.
 pub fn rule_out(alloc: Global, case: &Case) -> Result<Option<Refuted>, NoMemory>
     // Evidence that is found holds in the history.
     ensures holds { IfOk result (λ found. IfSome found (Holds case.now.conflicts case.now.events)) }

@@ -52,7 +52,7 @@ fn draw_incidents(
 
 impl Schedule {
     /// Returns the schedule that is drawn from the seed, of that many incidents, one word of a generator
-    /// each; of no incidents if the disturbance is `None`. The only error is that memory was refused.
+    /// each; of no incidents if the disturbance is `None`.
     pub fn draw(
         alloc: Global,
         disturbance: Disturbance,

@@ -181,8 +181,7 @@ fn answer_by_sweep(
 /// is one; then the rules, which complete unanswered writes; and last the search forward in time, which
 /// completes them too. So of a document each of whose writes has a reply (under Maybe one other than a
 /// conflict) an order is found exactly if there is one. That nearly all orders of honest recordings with lost
-/// writes are found is tested. The only error is that memory was refused; the id and the records are then
-/// dropped.
+/// writes are found is tested. If memory is refused, the id and the records are dropped.
 pub fn answer(
     alloc: Global,
     id: DocId,
@@ -209,8 +208,7 @@ pub fn answer(
 /// search knows which pairs the documents of the shard use, by rising pair; the document's own may be among
 /// them. It invents pairs only if one is left, and within the limits, of which no clause speaks.
 ///
-/// If nothing is found, this says nothing. The only error is that memory was refused; the id and the records
-/// are then dropped.
+/// If nothing is found, this says nothing. If memory is refused, the id and the records are dropped.
 pub fn answer_among(
     alloc: Global,
     id: DocId,

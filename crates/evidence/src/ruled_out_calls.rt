@@ -27,7 +27,7 @@ fn ruled_out_call(
 }
 
 /// Returns whether the document of this number is provably not linearizable, in this reading of conflicts. It
-/// takes one walk over its calls, and sorts their pairs. The only error is that memory was refused.
+/// takes one walk over its calls, and sorts their pairs.
 pub fn is_document_ruled_out(
     alloc: Global,
     history: &History,

@@ -49,8 +49,7 @@ fn confirm(
 
 /// Returns evidence that holds in the history, in this reading of conflicts. It is of the first kind that
 /// holds, in the order of `Refuted`, and of that kind it has the least call numbers, compared by the first
-/// number first. Documents that are provably not linearizable are not searched for. The only error is that
-/// memory was refused.
+/// number first. Documents that are provably not linearizable are not searched for.
 ///
 /// Which evidence is found, and that some is found if a kind holds, is tested, not proved: `None` says
 /// nothing.
@@ -83,7 +82,7 @@ pub fn find_evidence(
 
 /// Returns the evidence that a document of the history is provably not linearizable, in this reading of
 /// conflicts: the least call at which one is. Returns `None` if no document is. Only the documents of these
-/// numbers are checked. The only error is that memory was refused.
+/// numbers are checked.
 pub fn rule_out(
     alloc: Global,
     history: &History,

@@ -163,8 +163,7 @@ fn narrow(
 /// Returns a guess at the first reply at which the search finds no order of the events up to it, as its
 /// index. It is a reply that contradicts an earlier one by the pairs that both show, or an earlier one to
 /// which bisection over the replies of a document by itself leads. The documents are those for which the
-/// search finds no order, by their numbers, rising. The guess may be `None`. The only error is that memory
-/// was refused.
+/// search finds no order, by their numbers, rising. The guess may be `None`.
 ///
 /// It comes with no guarantee, since what came before a window of calls is only summarised: the two searches
 /// of `compose::first_offence` decide.

@@ -22,10 +22,13 @@ use std::sync::Wait;
 use std::thread::Threads;
 use stream_io::{Status, StreamFault, read_all, write_answer};
 
-/// Reads a history text to its end and writes one line: `yes docs=D calls=C left_out=L` if one order of its
-/// calls, over all documents, explains it; `no event=E call=N before=shown` (or `unshown`) if none was found;
-/// `refuted kind=NAME calls=A,B event=E call=N before=shown` if none was found and there is evidence that
-/// there is none; `refused line=L cause=NAME` if it is no history text.
+/// Reads a history text to its end, and writes one line:
+///
+/// - `yes docs=D calls=C left_out=L` if one order of its calls, over all documents, explains it;
+/// - `no event=E call=N before=shown` (or `unshown`) if none was found;
+/// - `refuted kind=NAME calls=A,B event=E call=N before=shown` if none was found and there is evidence that
+///   there is none;
+/// - `refused line=L cause=NAME` if it is no history text.
 ///
 /// Each document is searched for an order of its answered calls, and, if they have none, for one that
 /// completes unanswered writes; and no pair of a shard may be taken twice. If each write was answered (under
@@ -170,9 +173,11 @@ pub fn witness_stream<R: Read, W: Write>(
 }
 
 /// Reads a history text and then a witness text, each to its end, and writes one line:
-/// `verified docs=D calls=C left_out=L` if the witness covers the history; `broken` with the first fault if
-/// it does not; `refused file=history` or `refused file=witness` with the line and the cause if one of them
-/// is no such text.
+///
+/// - `verified docs=D calls=C left_out=L` if the witness covers the history;
+/// - `broken` with the first fault if it does not;
+/// - `refused file=history` or `refused file=witness` with the line and the cause if one of them is no such
+///   text.
 ///
 /// Errors: `Read` and `NoMemory`, whichever comes first, of the history before the witness is read (which is
 /// tested, not proved), after which the writer holds what it held; then `Write`, after which it holds a

@@ -14,7 +14,7 @@ pub fn before_name(before_shown: bool) -> &'static str
     if before_shown { "shown" } else { "unshown" }
 }
 
-/// Returns the line of a history that an order explains. The only error is that memory was refused.
+/// Returns the line of a history that an order explains.
 pub fn yes_line(alloc: Global, counts: Counts) -> Result<String, NoMemory>
     ensures { IfOk result (λ line. string_bytes line
         ≡ told_yes counts.docs counts.calls counts.left_out) }
@@ -28,7 +28,7 @@ pub fn yes_line(alloc: Global, counts: Counts) -> Result<String, NoMemory>
 }
 
 /// Returns the line of a history for which no order was found. It reports the reply at which the search first
-/// failed. The only error is that memory was refused.
+/// failed.
 pub fn no_line(alloc: Global, offence: Offence) -> Result<String, NoMemory>
     ensures { IfOk result (λ line. string_bytes line ≡ told_no offence) }
 {
@@ -41,7 +41,7 @@ pub fn no_line(alloc: Global, offence: Offence) -> Result<String, NoMemory>
     format!(in alloc; "no event={event} call={call} before={before}\n")
 }
 
-/// Returns the line of a text that is refused. The only error is that memory was refused.
+/// Returns the line of a text that is refused.
 pub fn refused_line(alloc: Global, fault: TextFault) -> Result<String, NoMemory>
     ensures { IfOk result (λ line. string_bytes line ≡ told_refused fault.line fault.cause) }
 {

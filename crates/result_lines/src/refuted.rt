@@ -39,7 +39,7 @@ fn named_calls(alloc: Global, evidence: Refuted) -> Result<String, NoMemory>
 }
 
 /// Returns the line of evidence against a history. It also reports the reply at which the search first
-/// failed. The only error is that memory was refused.
+/// failed.
 pub fn refuted_line(alloc: Global, evidence: Refuted, offence: Offence) -> Result<String, NoMemory>
     ensures { IfOk result (λ line. string_bytes line ≡ told_line evidence offence) }
 {

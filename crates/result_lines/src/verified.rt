@@ -7,7 +7,7 @@ use compose::Counts;
 use std::alloc::Global;
 use version_pair::NoMemory;
 
-/// Returns the line of a witness that covers its history. The only error is that memory was refused.
+/// Returns the line of a witness that covers its history.
 pub fn verified_line(alloc: Global, counts: Counts) -> Result<String, NoMemory>
     ensures { IfOk result (λ line. string_bytes line
         ≡ told_line counts.docs counts.calls counts.left_out) }
@@ -20,8 +20,7 @@ pub fn verified_line(alloc: Global, counts: Counts) -> Result<String, NoMemory>
     format!(in alloc; "verified docs={docs} calls={calls} left_out={left_out}\n")
 }
 
-/// Returns the line of a history text that is refused, for commands that read two texts. The only error is
-/// that memory was refused.
+/// Returns the line of a history text that is refused, for commands that read two texts.
 pub fn refused_history_line(alloc: Global, fault: TextFault) -> Result<String, NoMemory>
     ensures { IfOk result (λ line. string_bytes line
         ≡ refused_file_line (codes "history") fault.line fault.cause) }
@@ -31,8 +30,7 @@ pub fn refused_history_line(alloc: Global, fault: TextFault) -> Result<String, N
     format!(in alloc; "refused file=history line={number} cause={cause}\n")
 }
 
-/// Returns the line of a witness text that is refused, for commands that read two texts. The only error is
-/// that memory was refused.
+/// Returns the line of a witness text that is refused, for commands that read two texts.
 pub fn refused_witness_line(alloc: Global, fault: TextFault) -> Result<String, NoMemory>
     ensures { IfOk result (λ line. string_bytes line
         ≡ refused_file_line (codes "witness") fault.line fault.cause) }

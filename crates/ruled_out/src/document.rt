@@ -48,7 +48,7 @@ fn ruled_out_as_told(alloc: Global, told: &[Rec]) -> Result<Option<u64>, NoMemor
 
 /// Returns the number of the call at which the document of the records is provably not linearizable (ruled
 /// out), if it is. The answered calls are taken in response order, each with the least position that it may
-/// have; the call returned has none. The only error is that memory was refused.
+/// have; the call returned has none.
 pub fn ruled_out_at(
     alloc: Global,
     records: &[Rec],

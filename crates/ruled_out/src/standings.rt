@@ -33,7 +33,7 @@ fn bound_of(raises: &[(usize, usize)], floor: usize) -> Option<usize> {
 }
 
 impl Standings {
-    /// Returns the standings for the records of a document. The only error is that memory was refused.
+    /// Returns the standings for the records of a document.
     pub fn of(alloc: Global, records: &[Rec], conflicts: Conflicts) -> Result<Standings, NoMemory> {
         let told = told_records(alloc, records, conflicts)?;
         let answers = answers_of(alloc, &told)?;

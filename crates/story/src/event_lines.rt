@@ -29,7 +29,7 @@ impl EventLines {
         }
     }
 
-    /// Adds the next line, which was not refused. The only error is that memory was refused.
+    /// Adds the next line, which was not refused.
     pub fn note(&mut self, line: &[u8]) -> Result<(), NoMemory> {
         if is_blank(line) {
             self.blank.push(self.events)?;

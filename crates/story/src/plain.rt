@@ -86,8 +86,7 @@ fn add_part(alloc: Global, part: &Part, text: &mut String) -> Result<(), NoMemor
     }
 }
 
-/// Returns the explanation as plain text, which begins with an empty line. The only error is that memory was
-/// refused.
+/// Returns the explanation as plain text, which begins with an empty line.
 pub fn plain_text(alloc: Global, story: &Story) -> Result<String, NoMemory> {
     let title = story.title.as_str();
     let mut text = format!(in alloc; "\n{title}\n")?;

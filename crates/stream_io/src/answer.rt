@@ -22,8 +22,7 @@ impl Answer {
         }
     }
 
-    /// Returns the answer followed by a text. The only error is that memory was refused; the answer is then
-    /// dropped.
+    /// Returns the answer followed by a text. If memory is refused, the answer is dropped.
     pub fn followed_by(self, more: &[u8]) -> Result<Answer, NoMemory>
         ensures status { IfOk result (λ told. told.status ≡ self.status) }
         ensures text { IfOk result (λ told. told.text.items ≡ self.text.items ++ more.now) }

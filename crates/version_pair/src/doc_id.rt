@@ -67,7 +67,7 @@ impl<'t> IdText<'t> {
         self.text
     }
 
-    /// Returns the id with the same bytes, in memory of its own. The only error is that memory was refused.
+    /// Returns the id with the same bytes, in memory of its own.
     pub fn to_id(&self, alloc: Global) -> Result<DocId, NoMemory>
         ensures { IfOk result (λ id. id ≡ self.now) }
     {
