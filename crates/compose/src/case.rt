@@ -10,9 +10,10 @@ use std::marker::Model;
 
 /// A history for which no order was found.
 ///
-/// The type guarantees that no witnesses without a given pair cover the history. So it is not legal in
-/// response order; and if it is complete (settled), that is, if each write was answered (under Maybe, by a
-/// reply other than a conflict), no order of its calls explains it.
+/// Contracts see the history and the reading of conflicts. The type guarantees that no witnesses without a
+/// given pair cover the history. So it is not legal in response order; and if it is complete (settled), that
+/// is, if each write was answered (under Maybe, by a reply other than a conflict), no order of its calls
+/// explains it.
 #[derive(Debug, Drop)]
 pub struct Case {
     history: History,

@@ -11,8 +11,9 @@ use witness::DocWitness;
 
 /// A history with the witnesses of its documents.
 ///
-/// The type guarantees that the witnesses cover the history, each document once and no pair of a shard taken
-/// twice; so one order of all its calls explains it.
+/// Contracts see the history, the witnesses and the reading of conflicts. The type guarantees that the
+/// witnesses cover the history, each document once and no pair of a shard taken twice; so one order of all
+/// its calls explains it.
 #[derive(Debug, Drop)]
 pub struct Proof {
     history: History,

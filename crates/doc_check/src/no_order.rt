@@ -8,8 +8,8 @@ use version_pair::DocId;
 
 /// The calls of a document for which no order was found.
 ///
-/// The type guarantees that no places without a given pair are valid for its records in its reading of
-/// conflicts.
+/// Contracts see its id, its records and its reading of conflicts. The type guarantees that no places without
+/// a given pair are valid for its records in this reading.
 #[derive(Debug, Drop)]
 pub struct NoOrder {
     id: DocId,

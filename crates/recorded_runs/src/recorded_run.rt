@@ -138,9 +138,11 @@ fn record_in_turns(
 
 /// Returns the history that the clients of the setting's plan record against its group, in this manner.
 ///
-/// In turns the setting and the disturbance determine it. On threads nothing is known of the group but what
-/// its type guarantees, since it lies under a lock: that a run is of the setting's group, and invents no
-/// reply, is tested. For the errors, see `run_played_stream`.
+/// In turns the setting and the disturbance determine it, to the end: the plan of the seed, the group at its
+/// start, the words of the generator, the incidents of the schedule, and which client is visited when. So a
+/// run of another seed, another fault, other copies or another disturbance does not meet the contract. On
+/// threads nothing is known of the group but what its type guarantees, since it lies under a lock: that a run
+/// is of the setting's group, and invents no reply, is tested. For the errors, see `run_played_stream`.
 pub fn run_history<T: Threads + Wait + Sync>(
     rt: &T,
     alloc: Global,

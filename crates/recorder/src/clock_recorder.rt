@@ -26,7 +26,8 @@ use version_pair::{DocId, NoMemory};
 ///
 /// An event is recorded at one moment, in which its pen adds 1 to the word; the event's number is the
 /// previous value of the word. No call waits for another. Contracts see a recorder as the number of pens that
-/// it was started with, and its clock word.
+/// it was started with, and its clock word; and a pen as its list, whether `Full` was returned for it, and
+/// its clock word.
 #[derive(Drop)]
 pub struct ClockRecorder {
     pens: usize,

@@ -14,7 +14,8 @@ use version_pair::DocId;
 
 /// An order of the calls of one document that explains them.
 ///
-/// The type guarantees that its places are valid for its records in its reading of conflicts.
+/// Contracts see its id, its records, its places and its reading of conflicts. The type guarantees that its
+/// places are valid for its records in this reading.
 #[derive(Debug, Drop)]
 pub struct DocWitness {
     id: DocId,
@@ -41,11 +42,12 @@ impl Model for DocWitness {
 
 impl DocWitness {
     /// Returns the witness of these places if they are valid for the records. Otherwise returns the first
-    /// fault, with all that was passed in.
+    /// fault, with all that was passed in. So there is a witness exactly if the places are valid, unless
+    /// memory is refused.
     ///
     /// Errors: `NoMemory` before any other if memory was refused (which is tested, not proved). Then, place
     /// by place: `Stranger`, `Twice`, `PairMissing`, `PairGiven`, `Late`, `Illegal`. Last comes `Absent`,
-    /// with the least record. With every error the id, the records and the places come back.
+    /// with the least record.
     pub fn check(
         alloc: Global,
         id: DocId,

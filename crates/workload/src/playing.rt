@@ -53,7 +53,8 @@ fn visit_all<T: OwnedTarget>(
 ///
 /// A client does one thing at a visit: it begins its next turn, or polls its open call once, as under
 /// `run_in_turns`. A call that waits at its last poll is recorded as lost at that visit; if `turns` is 0, at
-/// the visit after the one that submitted it.
+/// the visit after the one that submitted it. If tickets and reports are such as a `Target` issues and gives,
+/// the events are such as `run_clients` records, by a lemma of the crate.
 ///
 /// Errors: the first that is met ends it: a fault of the history (`Event`) or of the target (`Target`);
 /// `NoMemory` also if the clients were refused memory. What an error leaves of the target is left open.

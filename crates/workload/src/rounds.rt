@@ -72,12 +72,13 @@ fn pens_of<P: Drop>(alloc: Global, seats: Vec<Seat<P>>) -> Result<Vec<P>, AllocE
 ///
 /// A client does one thing at a visit: it begins its next turn, or polls its open call once. A call that
 /// waits at its last poll is recorded as lost at that visit; if `turns` is 0, at the visit after the one that
-/// submitted it. The order of the visits, and how often a call is polled, is tested, not proved.
+/// submitted it. The order of the visits, how often a call is polled, and which fault is returned, is tested,
+/// not proved.
 ///
 /// Errors: the first fault that a client meets ends the run, of the recorder (`Record`) or of the target
 /// (`Target`), and the pens are dropped; `NoMemory` also if memory was refused while the clients were seated
-/// or the pens gathered. It returns if each call of the target and of the recorder does, and waits as they
-/// do.
+/// or the pens gathered. The rounds are bounded, so it returns if each call of the target and of the recorder
+/// does, and waits as they do.
 pub fn run_in_turns<R: Wait, T: Target, X: Recording>(
     rt: &R,
     alloc: Global,
