@@ -451,7 +451,7 @@ class Citations:
             for path, name in re.findall(r"`(\w+(?:::\w+)+)`, (?:clause )?`(\w+)`", line):
                 if path.split("::")[0] in self.crates:
                     self.claims.hold(self.is_behind(path, name), page, number, f"{path} has no clause {name}")
-            for link in re.findall(r"\]\(([^):]+)\)", line):
+            for link in re.findall(r"\]\(([^):]+)\)", line) + re.findall(r"^\[[^\]]+\]: ([^:\s]+)$", line):
                 self.claims.hold(self.is_linked(page, link), page, number, f"there is nothing behind the link {link}")
 
 
