@@ -27,7 +27,7 @@ from program import TOP
 from program_test import ProgramTest, run_tests
 
 sys.path.insert(0, str(TOP / "docs"))
-from making import proved  # noqa: E402 (it lies in docs)
+from making import contracts, proved  # noqa: E402 (they lie in docs)
 
 CRATES = TOP / "crates"
 STORES = [f"examples/stores/{it}README.md" for it in ("", "redis/", "postgresql/", "zookeeper/")]
@@ -342,16 +342,16 @@ class Proved:
 
     def hold_law(self, name, call):
         """Holds that the contract of a law is a definition, and nothing else."""
-        is_so = len(call.clauses) == 1 and not call.clauses[0].name and re.fullmatch(r"[A-Z]\w*", call.clauses[0].formula)
-        self.hold(is_so, f"{name} is no law")
+        contract = [(it.name, re.fullmatch(r"[A-Z]\w*", it.formula) is not None) for it in call.clauses]
+        self.hold(contract == [("", True)], f"{name} is no law")
 
     def hold_all(self):
         """Holds that the page is as the sources make it, and has each crate and each public call."""
         self.hold((TOP / self.page).read_text(encoding="utf-8") == proved.page(), "docs/make was not run")
         for name in self.sources.told:
             self.hold(f"## {name}" in self.headings, f"the crate {name} has no section")
-        for crate in (proved.Crate(name) for name in proved.ORDER):
-            for name, call in proved.calls_of(crate):
+        for crate in (contracts.Crate(name) for name in proved.ORDER):
+            for name, call in contracts.calls_of(crate):
                 self.hold_call(name, call)
                 if name.startswith("laws::"):
                     self.hold_law(name, call)
