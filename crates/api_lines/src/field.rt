@@ -32,7 +32,8 @@ pub enum Field<'v> {
 impl<'v> Field<'v> {
     /// Returns a number that may be absent. Errors: `Shape` for another kind.
     pub fn optional_number(self) -> Result<Option<Number>, TextCause>
-        // The error is `Shape`, exactly if the field is present and no number.
+        // It is the number of the field, or `None` if the field is absent; the error is `Shape`, exactly if
+        // the field is of another kind.
         ensures { result ≡ optional_number (value_of self.entry) }
     {
         match self {
@@ -45,7 +46,7 @@ impl<'v> Field<'v> {
 
     /// Returns a number, which must be present. Errors: `Shape` if it is not.
     pub fn required_number(self) -> Result<Number, TextCause>
-        // The error is `Shape`, exactly if the field is no number.
+        // It is the number of the field; the error is `Shape`, exactly if the field is no number.
         ensures { result ≡ required_number (value_of self.entry) }
     {
         match self {
@@ -59,7 +60,7 @@ impl<'v> Field<'v> {
 
     /// Returns a text, which must be present. Errors: `Shape` if it is not.
     pub fn required_text(self) -> Result<&'v str, TextCause>
-        // The error is `Shape`, exactly if the field is no text.
+        // It is the text of the field; the error is `Shape`, exactly if the field is no text.
         ensures { MatchResult result (λ text. required_text (value_of self.entry) ≡ Ok text.now) (λ cause. required_text (value_of self.entry) ≡ Err cause) }
     {
         match self {

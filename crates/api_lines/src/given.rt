@@ -53,7 +53,7 @@ fn is_given(number: u64, line: &[u8]) -> bool
 /// does, they are put in `fields`. Nothing is said of another line, nor of `fields` after it: it may be
 /// blank, or refused, or have a value of another form. For it, ask `given_unescaped_fields` or `given_line`.
 pub fn given_fields<'v>(number: u64, line: &'v [u8], fields: &mut LineFields<'v>) -> bool
-    // There are no fields yet.
+    // `fields` has none yet.
     requires { line_seen fields.old ≡ line_values null }
     // If the result is true, the line is taken with some value, and `fields` are the fields of this value.
     ensures { IsTrue result → ((v : Data)
@@ -77,7 +77,7 @@ pub fn given_unescaped_fields<'v>(
     room: &'v mut LineRoom,
     fields: &mut LineFields<'v>,
 ) -> bool
-    // There are no fields yet.
+    // `fields` has none yet.
     requires { line_seen fields.old ≡ line_values null }
     // If the result is true, the line is taken with some value, and `fields` are the fields of this value.
     ensures { IsTrue result → ((v : Data)

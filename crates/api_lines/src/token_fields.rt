@@ -203,7 +203,7 @@ fn take_line<'v, T: TokenReader<'v>>(tokens: &mut T, fields: &mut LineFields<'v>
 /// and its `error` are objects if they are present. Nothing is promised of `false`: neither that the line has
 /// another form, nor what is in `fields`.
 pub fn quick_fields<'v>(line: &'v str, fields: &mut LineFields<'v>) -> bool
-    // There are no fields yet.
+    // `fields` has none yet.
     requires { line_seen fields.old ≡ line_values null }
     // If the result is true, the text is JSON of some value, as `serde_json` reads it, and `fields` are the
     // fields of this value; of a repeated key the last one counts.
@@ -229,7 +229,7 @@ pub fn unescaped_fields<'v>(
     room: &'v mut LineRoom,
     fields: &mut LineFields<'v>,
 ) -> bool
-    // There are no fields yet.
+    // `fields` has none yet.
     requires { line_seen fields.old ≡ line_values null }
     // If the result is true, the text is JSON of some value, as `serde_json` reads it, and `fields` are the
     // fields of this value; of a repeated key the last one counts.
