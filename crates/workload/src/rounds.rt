@@ -70,10 +70,11 @@ fn pens_of<P: Drop>(alloc: Global, seats: Vec<Seat<P>>) -> Result<Vec<P>, AllocE
 /// Runs the clients of the plan on the caller's thread, in rounds: each round visits each client once, in
 /// their order, until all are done. The pens are theirs, in their order, and are returned in that order.
 ///
-/// A client does one thing at a visit: it begins its next turn, or polls its open call once. A call that
-/// waits at its last poll is recorded as lost at that visit; if `turns` is 0, at the visit after the one that
-/// submitted it. The order of the visits, how often a call is polled, and which fault is returned, is tested,
-/// not proved.
+/// A client does one thing at a visit: it begins its next turn, or polls its open call once. So it records
+/// what it would under `run_clients`, and against a target that always answers in the same way each run of a
+/// plan gives the same recording. A call that waits at its last poll is recorded as lost at that visit; if
+/// `turns` is 0, at the visit after the one that submitted it. The order of the visits, how often a call is
+/// polled, and which fault is returned, is tested, not proved.
 ///
 /// Errors: the first fault that a client meets ends the run, of the recorder (`Record`) or of the target
 /// (`Target`), and the pens are dropped; `NoMemory` also if memory was refused while the clients were seated
