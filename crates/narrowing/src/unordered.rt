@@ -132,9 +132,9 @@ fn front_to(history: &History, place: Option<usize>) -> Front<'_> {
 // each of these documents has an order of the events before that. For a history without a suspect it may be
 // `None`.
 //
-// Each of the documents is searched once, on the events before the index that the earlier ones gave. If it has
-// no order, its replies are searched by bisection, on windows of its calls; all windows together cost about
-// one more search. The only document of a history is searched by bisection at once.
+// Each of the documents is searched once, on the events before the index that the earlier ones gave. If it
+// has no order, its replies are searched by bisection, on windows of its calls; all windows together cost
+// about one more search. The only document of a history is searched by bisection at once.
 fn narrow(
     alloc: Global,
     history: &History,
