@@ -8,10 +8,8 @@ No program is run; one may be named, as for the other tests. What is held:
 - The pages that are made from the sources are what `docs/make` makes. Each file of definitions and each public
   definition has a comment; sources are of the known kinds, and names with a capital letter are there. Each law is the
   contract of a call.
-- docs/PROVED.md has a section for each crate. Each public call stands there in one row, which tells each of its clauses
-  and no others, and that something is owed where the call has a `requires`, and only there. Each law stands in a row
-  with its definition. Clauses in brackets are those of a call of their row, refusals are values of some type, and what
-  stands in brackets in a promise is a definition.
+- docs/PROVED.md is as docs/making/proved.py makes it. Each public call says what it does, by a `///`, and what it
+  requires, by a comment; the contract of each law is one definition.
 - docs/ARCHITECTURE.md has a row for each crate in "The rooms", with the libraries that crates.txt gives it; the table
   of the gate says how many edits must fail.
 - Files, links, modules of lemmas, `CRATE::NAME` and `Type::name` that a document names are there, and clauses behind
@@ -24,13 +22,13 @@ import fnmatch
 import re
 import subprocess
 import sys
-from collections import Counter
 from typing import NamedTuple
 
 from program import TOP
 from program_test import ProgramTest, run_tests
 
 sys.path.insert(0, str(TOP / "docs"))
+from making import contracts, proved  # noqa: E402
 from making import sources as making  # noqa: E402
 
 CRATES = TOP / "crates"
@@ -46,10 +44,8 @@ DOCUMENTS = [
 # The files of a folder of definitions that only name others.
 LISTS = {"Lib.antt", "aids.antt"}
 
-# Traits whose functions need no row: those of copies, what is shown of a value, and what makes one fault of another.
+# Traits whose functions need no heading: those of copies, what is shown of a value, and what makes one fault of another.
 OMITTED_TRAITS = {"Clone", "Copy", "Debug", "From"}
-# The traits that documents name by an operator, or by a word.
-SPELLED_TRAITS = {"==": "PartialEq", "hash": "Hash", "reader": "Read"}
 
 # Words that are files: such as begin with a folder of the checkout, and such as end so.
 FOLDERS = ("tests", "crates", "examples", "recording", "docs", "dist", ".ci")
@@ -230,12 +226,6 @@ class Crate:
         kind, _, own = name.partition("::")
         return {key: it for key, it in calls.items() if it.name == own and it.owner.startswith(f"{kind} as ")}
 
-    def needed(self):
-        """The public calls that need a row: not the laws, nor what is given to a trait that has a row of its own."""
-        for key, it in self.calls.items():
-            if it.module != "laws" and it.owner.partition(" as ")[2] not in OMITTED_TRAITS | self.traits:
-                yield key, it
-
 
 def exports(lib):
     """The names that a crate hands on, each with the module or the crate that it comes from."""
@@ -269,11 +259,6 @@ class Sources:
         self.definitions = {name for it in self.specs.values() for name in it.names}
         types = [it for crate in self.crates.values() for it in crate.types.values()]
         self.values = {value for values in types for value in values} | {"None"}
-
-    def fields_cited(self, functions):
-        """The fields of the records that the contracts of functions cite."""
-        names = {name for it in functions for name in re.findall(r"\b[A-Z]\w+", it.contract)}
-        return {field for it in self.specs.values() for name in names & set(it.fields) for field in it.fields[name]}
 
 
 # ---- MODEL.md
@@ -326,156 +311,45 @@ class Model:
 # ---- PROVED.md
 
 
-# Some names of clauses.
-NAMES = r"`\w+`(?:(?:, | and )`\w+`)*"
-
-
-def names_of_part(part, has):
-    """The names that a cell stands for. In a list the first name says of which type the next ones are, if it has
-    them."""
-    match = re.fullmatch(r"the trait `(\w+)`(?:: (.+))?", part)
-    if match:
-        return [f"{match[1]}::{it}" for it in quoted(match[2] or "")] or [match[1]]
-    match = re.fullmatch(r"`(\w+)`(?: as an? `(\w+)`|, as a (reader))", part)
-    if match:
-        return [f"{match[1]} as {match[2] or SPELLED_TRAITS[match[3]]}"]
-    match = re.fullmatch(r"`(==|hash)` of `(\w+)`", part)
-    if match:
-        return [f"{match[2]} as {SPELLED_TRAITS[match[1]]}"]
-    owner, names = "", []
-    for name in quoted(part):
-        if owner and "::" not in name and has(f"{owner}::{name}"):
-            name = f"{owner}::{name}"
-        owner = name.rpartition("::")[0] if "::" in name else owner
-        names.append(name)
-    return names
-
-
 class Proved:
-    """The page of contracts and refusals."""
+    """The page of contracts, which docs/making/proved.py makes of the sources."""
 
     page = "docs/PROVED.md"
 
     def __init__(self, sources, claims):
-        self.sources, self.crates, self.claims = sources, sources.crates, claims
-        self.headings = headings_of(self.page)
-        # The rows of the sections of crates, each with its crate.
-        named = ((re.match(r"## (\w+):", it.heading), it) for it in rows_of(self.page, claims))
-        self.rows = [(sources.described[match[1]], it) for match, it in named if match and match[1] in sources.described]
-        # In how many rows the calls stand, and which clauses are named, by the name of the crate and the call.
-        self.stands, self.named = Counter(), set()
+        self.sources, self.claims = sources, claims
+        self.headings = {line for _, line in headings_of(self.page)}
 
-    def hold(self, is_so, line, fault):
-        self.claims.hold(is_so, self.page, line, fault)
+    def hold(self, is_so, told):
+        self.claims.hold(is_so, self.page, 1, told)
 
-    def calls_named(self, row, crate):
-        """For each name of a row's first cell the functions that it stands for."""
-        named = names_of_part(row.cells[0], crate.found)
-        if not named:
-            self.hold(False, row.line, f"no call is named in {row.cells[0]}")
-        for name in named:
-            self.hold(crate.found(name), row.line, f"{crate.name} has no public call {name}")
-        return {name: crate.found(name) for name in named}
+    def hold_call(self, name, call):
+        """Holds that a call says what it does, and what it requires."""
+        self.hold(call.says, f"{name} has no `///`")
+        named = {it for clause in call.clauses for it in re.findall(r"`(\w+)`", clause.comment)}
+        for clause in (it for it in call.clauses if it.kind == "requires"):
+            self.hold(clause.comment or clause.name in named, f"no comment says what {name} requires: {clause.formula}")
 
-    def same_clauses(self, other, key):
-        """The clauses that a function's are said to be as: those of this name in its type, or of its name in this
-        type."""
-        owner, _, own = key.rpartition("::")
-        name = f"{owner}::{other}" if owner and other[0].islower() else other
-        return [it.ensures for crate in self.crates.values() for it in crate.found(name).values()]
-
-    def clauses_named(self, cell, key, it):
-        """The clauses that a promise names of a function, and whether it has them. Names with a colon behind them begin
-        what is said of these clauses; words without a name are those of a clause without one."""
-        promise = re.sub(r"^Owed: .*?\. ", "", cell)
-        if promise.startswith("promises nothing"):
-            return (), not it.ensures
-        alike = re.match(r"as those of `([\w:]+)`", promise)
-        if alike:
-            return it.ensures, it.ensures in self.same_clauses(alike[1], key)
-        names = [name for group in re.findall(rf"(?:^|[.;] )({NAMES}): ", promise) for name in quoted(group)]
-        return names or ("",), bool(promise) and set(names or ("",)) <= set(it.ensures)
-
-    def hold_promise(self, row, crate):
-        """Holds what a row promises of its calls, and what in brackets it says that with."""
-        named = self.calls_named(row, crate)
-        for key in {key for name, functions in named.items() for key in (name, *functions)}:
-            self.stands[crate.name, key] += 1
-        for key, it in ((key, it) for functions in named.values() for key, it in functions.items()):
-            names, is_so = self.clauses_named(row.cells[1], key, it)
-            has = ", ".join(clause or "one without a name" for clause in it.ensures) or "none"
-            self.hold(is_so, row.line, f"{key} hasn't the clauses that are named, {', '.join(names) or 'none'}; it has {has}")
-            self.named |= {(crate.name, key, clause) for clause in names}
-            is_owed = bool(re.search(r"\b[Oo]we[ds]\b", " ".join(row.cells)))
-            owed = "something is owed" if it.owes else "nothing is owed"
-            self.hold(is_owed == it.owes, row.line, f"{key} is described wrongly: {owed} by its caller")
-        for name in (name for _, names in in_brackets(row.cells[1]) for name in names):
-            self.hold(name in self.sources.definitions, row.line, f"in brackets: there is no definition {name}")
-        return [it for functions in named.values() for it in functions.values()]
-
-    def hold_law(self, row, crate):
-        """Holds a row of a law: its definition is the contract."""
-        for functions in self.calls_named(row, crate).values():
-            for key, it in functions.items():
-                self.stands[crate.name, key] += 1
-                names = quoted(row.cells[1])
-                is_so = it.module == "laws" and names and all(name in it.contract for name in names)
-                self.hold(is_so and it.ensures == ("",), row.line, f"{key} is no law {row.cells[1]}")
-                self.named.add((crate.name, key, ""))
-
-    def hold_refusals(self, row, cells, crate, own):
-        """Holds what cells name: the refusals, and in brackets clauses of a call of the row, of a record that its
-        contract cites, or of the function before them. A function may stand there alone."""
-        functions = crate.functions
-        alone = {clause for it in own for clause in it.ensures} | {it.key for it in functions}
-        alone |= self.sources.fields_cited(own)
-        for before, names in in_brackets(" ".join(cells)):
-            its = [it for it in functions if it.key in quoted(before)]
-            there = {clause for it in its for clause in it.ensures} if before else alone
-            for name in (it for it in names if re.match(r"[a-z]|\w+::", it)):
-                self.hold(name in there, row.line, f"in brackets: {before or row.cells[0]} has no clause {name}")
-        types = {name for crate in self.crates.values() for name in crate.types}
-        for name in re.findall(r"`([A-Z]\w+)`", cells[0]):
-            self.hold(name in self.sources.values | types, row.line, f"there is no refusal {name}")
-
-    def hold_rows(self):
-        """Holds the rows: of calls, of laws, of the parts of a program, and of its words."""
-        for crate, row in self.rows:
-            if row.head[0] == "law":
-                self.hold_law(row, crate)
-            elif row.head[0] == "words":
-                self.hold_refusals(row, row.cells[1:], crate, [])
-            else:
-                own = self.hold_promise(row, crate)
-                self.hold_refusals(row, row.cells[2:] or ("",), crate, own)
+    def hold_law(self, name, call):
+        """Holds that the contract of a law is a definition, and nothing else."""
+        contract = [(it.name, re.fullmatch(r"[A-Z]\w*", it.formula) is not None) for it in call.clauses]
+        self.hold(contract == [("", True)], f"{name} is no law")
 
     def hold_all(self):
-        """Holds that each crate has its section, in which each public call stands in one row, with all its clauses; and
-        so does each function of a program that stands there."""
-        sections = {line[3:].split(":")[0]: number for number, line in self.headings if re.match(r"## \w+:", line)}
-        for name, number in sections.items():
-            self.hold(name in self.sources.described, number, f"there is no crate {name}")
-        self.hold_rows()
+        """Holds that the page is as the sources make it, and has each crate and each public call."""
+        self.hold((TOP / self.page).read_text(encoding="utf-8") == proved.page(), "docs/make was not run")
+        for name in self.sources.described:
+            self.hold(f"## {name}" in self.headings, f"the crate {name} has no section")
+        for crate in (contracts.Crate(name) for name in proved.ORDER):
+            for name, call in contracts.calls_of(crate):
+                self.hold_call(name, call)
+                if name.startswith("laws::"):
+                    self.hold_law(name, call)
         for name, crate in self.sources.described.items():
-            self.hold(name in sections, 1, f"the crate {name} has no section")
-            line = sections.get(name, 1)
-            laws = [(key, it) for key, it in crate.calls.items() if it.module == "laws"]
-            for key, it in (*crate.needed(), *laws):
-                rows = sum(self.stands[name, own] for own in {key, it.owner})
-                self.hold(rows == 1, line, f"the call {key} of {name} stands in {rows or 'no'} rows")
-            own = {key for other, key in self.stands if other == name}
-            calls = crate.calls if crate.is_library else {it.key: it for it in crate.functions if it.key in own}
-            for key, clause in ((key, clause) for key, it in calls.items() for clause in it.ensures):
-                is_so = (name, key, clause) in self.named
-                self.hold(is_so, line, f"{key} of {name}: its clause {clause or 'without a name'} has no row")
-
-    def hold_headline(self):
-        """Holds the points that begin with calls and their clauses."""
-        for number, line in lines_of(self.page):
-            match = re.match(rf"- (`\w+`(?: and `\w+`)*), ({NAMES}):", line)
-            for name, clause in ((name, it) for name in quoted(match[1]) for it in quoted(match[2])) if match else ():
-                functions = [it for crate in self.sources.described.values() for it in crate.found(name).values()]
-                self.hold(any(clause in it.ensures for it in functions), number, f"{name} has no clause {clause}")
+            for key in (key for key, it in crate.calls.items() if it.owner.partition(" as ")[2] not in OMITTED_TRAITS):
+                owner = key.rpartition("::")[0].replace(" as ", "` as `")
+                is_so = any(f"{it} `{key}`" in self.headings for it in ("###", "####")) or f"### `{owner}`" in self.headings
+                self.hold(is_so, f"the call {key} of {name} has no heading")
 
 
 # ---- ARCHITECTURE.md
@@ -568,7 +442,7 @@ class Citations:
             for path, name in re.findall(r"`(\w+(?:::\w+)+)`, (?:clause )?`(\w+)`", line):
                 if path.split("::")[0] in self.crates:
                     self.claims.hold(self.is_behind(path, name), page, number, f"{path} has no clause {name}")
-            for link in re.findall(r"\]\(([^):]+)\)", line):
+            for link in re.findall(r"\]\(([^):]+)\)", line) + re.findall(r"^\[[^\]]+\]: ([^:\s]+)$", line):
                 self.claims.hold(self.is_linked(page, link), page, number, f"there is nothing behind the link {link}")
 
 
@@ -592,9 +466,7 @@ class Claims(ProgramTest):
         Model(self.sources, self).hold_all()
 
     def test_proved(self):
-        proved = Proved(self.sources, self)
-        proved.hold_headline()
-        proved.hold_all()
+        Proved(self.sources, self).hold_all()
 
     def test_architecture(self):
         page = "docs/ARCHITECTURE.md"

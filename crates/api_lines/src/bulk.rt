@@ -143,19 +143,21 @@ impl Bulk {
 /// Returns the items of the body of a bulk request, each the id of a document and an operation; or the first
 /// fault.
 ///
-/// The lines are taken in order, and blank ones are passed over. A line of more than 65,536 bytes, even a
-/// blank one, or one that is not JSON is `Syntax`.
+/// The lines are taken in order, and blank ones are passed over. An action's line is an object with the one
+/// key `index`, `delete` or `create`. The key holds an object whose `_id` is a document's id and whose
+/// `if_seq_no` and `if_primary_term` are numbers if they are present; on a create these two are passed over.
+/// After `index` and `create` a source line follows, an object with a whole number `k`.
 ///
-/// An action's line is an object with the one key `index`, `delete` or `create`. The key holds an object
-/// whose `_id` is a document's id and whose `if_seq_no` and `if_primary_term` are numbers if they are
-/// present; otherwise the fault is `Action`. Then `Half` and `Range` apply to these two. On a create they are
-/// passed over.
-///
-/// After `index` and `create` a source line follows, an object with a whole number `k`; otherwise the fault
-/// is `Source`, with the number after the last line if no line is left. `NoMemory` if memory was refused.
+/// Errors, in this order, line by line: `Syntax` for a line of more than 65,536 bytes, even a blank one, and
+/// for one that is not JSON; of an action's line `Action` if it has another form, then `Half` and `Range` of
+/// its two numbers; `Source` if a source line has another form, with the number after the last line if no
+/// line is left. `NoMemory` may come before any of them.
 pub fn read_bulk(alloc: Global, body: &[u8]) -> Result<Vec<(DocId, Op)>, BulkFault>
+    // The items are those that the definition gives.
     ensures ok { IfOk result (λ items. bulk_body body.now ≡ Ok items.items) }
+    // No item is a get.
     ensures writes { IfOk result (λ items. All (λ item. is_write item.1 ≡ true) items.items) }
+    // An error other than `NoMemory` is the first fault by the definition.
     ensures fault { IfErr result (λ fault. UnlessMemory fault (bulk_body body.now ≡ Err fault)) }
 {
     let mut bulk = Bulk::new(alloc);

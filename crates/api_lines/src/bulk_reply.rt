@@ -147,22 +147,24 @@ fn all_unknown(alloc: Global, calls: &[(DocId, Op)]) -> Result<Vec<Heard>, BulkF
 
 /// Returns what the reply to a bulk request says of each of its calls, in their order, or the first fault.
 ///
-/// With a status other than 200 the body isn't read, and the outcome of each call is unknown. Otherwise a
-/// body that is not JSON is `Syntax(1)`; one with no array `items`, or with a number of items other than that
-/// of the calls, is `Count`; then, item by item, one that isn't an object with the action's name as its one
-/// key, holding an object, is `Kind`.
-///
-/// That object is a body for the reply table, and has the status. A body that names another document is a
+/// With a status other than 200 the body isn't read, and the outcome of each call is unknown. Otherwise each
+/// item holds a body for the reply table, and has the status. A body that names another document is a
 /// `Stranger`, whatever its status, and an item with no whole status from 0 to 65,535 is `Unknown`.
-/// `NoMemory` if memory was refused.
+///
+/// Errors, in this order: `Syntax(1)` for a body that is not JSON; `Count` for one with no array `items`, or
+/// with a number of items other than that of the calls; then, item by item, `Kind` for one that isn't an
+/// object with the action's name as its one key, holding an object. `NoMemory` may come before any of them.
 pub fn read_bulk_reply(
     alloc: Global,
     calls: &[(DocId, Op)],
     status: u16,
     body: &[u8],
 ) -> Result<Vec<Heard>, BulkFault>
+    // No call is a get.
     requires { All (λ call. is_write call.1 ≡ true) calls.now }
+    // What is heard is what the definition gives.
     ensures ok { IfOk result (λ heard. bulk_reply calls.now status body.now ≡ Ok heard.items) }
+    // An error other than `NoMemory` is the first fault by the definition.
     ensures fault { IfErr result (λ fault. UnlessMemory fault (bulk_reply calls.now status body.now ≡ Err fault)) }
 {
     if status != 200 {

@@ -47,8 +47,10 @@ fn read_over<R: Read>(reader: &mut R, bytes: &mut Vec<u8>) -> Result<usize, Inpu
 }
 
 impl Chunk {
-    /// Returns the chunk for a reader that was not asked yet. It takes room for 32,768 bytes.
+    /// Returns the chunk for a reader that was not asked yet. It takes room for 32,768 bytes, unless memory
+    /// is refused.
     pub fn new(alloc: Global) -> Result<Chunk, AllocError>
+        // Nothing is at hand in it.
         ensures { IfOk result (λ chunk. chunk ≡ []) }
     {
         let mut bytes = Vec::with_capacity(alloc, CHUNK)?;

@@ -32,6 +32,8 @@ pub enum Field<'v> {
 impl<'v> Field<'v> {
     /// Returns a number that may be absent. Errors: `Shape` for another kind.
     pub fn optional_number(self) -> Result<Option<Number>, TextCause>
+        // It is the number of the field, or `None` if the field is absent; the error is `Shape`, exactly if
+        // the field is of another kind.
         ensures { result ≡ optional_number (value_of self.entry) }
     {
         match self {
@@ -44,6 +46,7 @@ impl<'v> Field<'v> {
 
     /// Returns a number, which must be present. Errors: `Shape` if it is not.
     pub fn required_number(self) -> Result<Number, TextCause>
+        // It is the number of the field; the error is `Shape`, exactly if the field is no number.
         ensures { result ≡ required_number (value_of self.entry) }
     {
         match self {
@@ -57,6 +60,7 @@ impl<'v> Field<'v> {
 
     /// Returns a text, which must be present. Errors: `Shape` if it is not.
     pub fn required_text(self) -> Result<&'v str, TextCause>
+        // It is the text of the field; the error is `Shape`, exactly if the field is no text.
         ensures { MatchResult result (λ text. required_text (value_of self.entry) ≡ Ok text.now) (λ cause. required_text (value_of self.entry) ≡ Err cause) }
     {
         match self {
@@ -88,6 +92,7 @@ impl<'v> Field<'v> {
 
     /// Returns the field for true or false.
     pub fn of_bool(truth: bool) -> Field<'v>
+        // The field is that of the truth value.
         ensures { value_of result ≡ field_value (Some (boolean truth)) }
     {
         if truth { Field::True } else { Field::False }
@@ -111,6 +116,7 @@ fn kind_of(value: &Value) -> Field<'_>
 
 /// Returns the field of a value with this key; absent if the value is not an object.
 pub fn field_of<'v>(value: &'v Value, key: &str) -> Field<'v>
+    // The field is that of the definition, which is the last one if a key is repeated.
     ensures { value_of result ≡ field key.now (view value.now) }
 {
     match value.get(key) {
@@ -121,6 +127,7 @@ pub fn field_of<'v>(value: &'v Value, key: &str) -> Field<'v>
 
 /// Returns the field with the key `key` of the field with the key `outer`; absent if that is not an object.
 pub fn inner_field_of<'v>(value: &'v Value, outer: &str, key: &str) -> Field<'v>
+    // The field is that of the definition.
     ensures { value_of result ≡ inner_field outer.now key.now (view value.now) }
 {
     match value.get(outer) {

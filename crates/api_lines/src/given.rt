@@ -15,8 +15,12 @@ use serde_json::Value;
 use std::alloc::Global;
 
 /// Returns what the line of a text with this number, from 1, gives: nothing if it is blank, otherwise its
-/// value. Causes in their order: `Lines`, `Long`, `Json`. `NoMemory` says nothing of the line.
+/// value.
+///
+/// Errors, in this order: `Lines` after line 4,194,304, `Long` for more than 65,536 bytes, `Json`. `NoMemory`
+/// may come before any of them, and says nothing of the line.
 pub fn given_line(alloc: Global, number: u64, line: &[u8]) -> Result<Option<Value>, LineFault>
+    // The result, unless it is `NoMemory`, is that of the definition, in both directions.
     ensures { MatchResult result
         (λ given. line_given number line.now ≡ Ok (option_map view given))
         (λ fault. IfTold fault (λ cause. line_given number line.now ≡ Err cause)) }
@@ -46,10 +50,12 @@ fn is_given(number: u64, line: &[u8]) -> bool
 }
 
 /// Returns whether `quick_fields` gives the fields of the line of a text with this number, from 1. If it
-/// does, they are put in `fields`, which must have none. Nothing is said of another line: it may be blank, or
-/// refused, or have a value of another form. For it, ask `given_unescaped_fields` or `given_line`.
+/// does, they are put in `fields`. Nothing is said of another line, nor of `fields` after it: it may be
+/// blank, or refused, or have a value of another form. For it, ask `given_unescaped_fields` or `given_line`.
 pub fn given_fields<'v>(number: u64, line: &'v [u8], fields: &mut LineFields<'v>) -> bool
+    // `fields` has none yet.
     requires { line_seen fields.old ≡ line_values null }
+    // If the result is true, the line is taken with some value, and `fields` are the fields of this value.
     ensures { IsTrue result → ((v : Data)
         × (line_given number line.now ≡ Ok (Some v))
         × (line_seen fields.new ≡ line_values v)) }
@@ -63,14 +69,17 @@ pub fn given_fields<'v>(number: u64, line: &'v [u8], fields: &mut LineFields<'v>
     }
 }
 
-/// The same by `unescaped_fields`, in a borrowed room.
+/// Does the same as `given_fields` by `unescaped_fields`, in a borrowed room. If memory is refused the result
+/// is false.
 pub fn given_unescaped_fields<'v>(
     number: u64,
     line: &'v [u8],
     room: &'v mut LineRoom,
     fields: &mut LineFields<'v>,
 ) -> bool
+    // `fields` has none yet.
     requires { line_seen fields.old ≡ line_values null }
+    // If the result is true, the line is taken with some value, and `fields` are the fields of this value.
     ensures { IsTrue result → ((v : Data)
         × (line_given number line.now ≡ Ok (Some v))
         × (line_seen fields.new ≡ line_values v)) }

@@ -125,9 +125,10 @@ fn status(number: Number) -> Result<u16, TextCause>
     }
 }
 
-/// Returns the call that a line gives. Causes in their order: `Shape` for all fields that count, `Id`,
+/// Returns the call that a line gives. Errors, in this order: `Shape` for all fields that count, `Id`,
 /// `Half`, `Range`.
 pub fn call_of<'l>(line: &LineFields<'l>) -> Result<LineSaid<'l>, TextCause>
+    // The call or the first cause is that of the definition.
     ensures { result ≡ call_told (line_seen line.now) }
 {
     let number = line.n.required_number()?;
@@ -141,8 +142,9 @@ pub fn call_of<'l>(line: &LineFields<'l>) -> Result<LineSaid<'l>, TextCause>
     Ok(LineSaid::Call { no, shard, id, op })
 }
 
-/// Returns the reply that a line gives. Causes in their order: `Shape`, `Range`.
+/// Returns the reply that a line gives. Errors, in this order: `Shape`, `Range`.
 pub fn reply_of<'l>(line: &LineFields<'l>) -> Result<LineSaid<'l>, TextCause>
+    // The reply or the first cause is that of the definition.
     ensures { result ≡ reply_told (line_seen line.now) }
 {
     let number = line.n.required_number()?;
@@ -152,8 +154,9 @@ pub fn reply_of<'l>(line: &LineFields<'l>) -> Result<LineSaid<'l>, TextCause>
     Ok(LineSaid::Reply { no, status })
 }
 
-/// Returns the end without a reply that a line gives. Causes in their order: `Shape`, `Range`.
+/// Returns the end without a reply that a line gives. Errors, in this order: `Shape`, `Range`.
 pub fn lost_of<'l>(line: &LineFields<'l>) -> Result<LineSaid<'l>, TextCause>
+    // The end or the first cause is that of the definition.
     ensures { result ≡ lost_told (line_seen line.now) }
 {
     let number = line.n.required_number()?;
@@ -161,9 +164,10 @@ pub fn lost_of<'l>(line: &LineFields<'l>) -> Result<LineSaid<'l>, TextCause>
     Ok(LineSaid::Lost { no })
 }
 
-/// Returns what a line of a history text says by itself. Causes in their order: `Shape` for all fields that
+/// Returns what a line of a history text says by itself. Errors, in this order: `Shape` for all fields that
 /// count, also for an unknown text as `e` or `op`; `Id`, `Half`, `Range`.
 pub fn line_said<'l>(line: &LineFields<'l>) -> Result<LineSaid<'l>, TextCause>
+    // What is said or the first cause is that of the definition.
     ensures { result ≡ line_told (line_seen line.now) }
 {
     match line.e.required_text()? {

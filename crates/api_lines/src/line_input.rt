@@ -83,22 +83,29 @@ fn take_part<R: Read>(
 /// place of what that had. Returns `false` at the end of their bytes. Of a line with more bytes than a line
 /// may have, only a prefix of 65,537 bytes is taken.
 ///
-/// Errors: `Read` for a fault of the reader of any kind, an interruption included; `NoMemory` if memory was
-/// refused. After either, `line` has the bytes of the line that were taken.
+/// Errors, whichever comes first: `Read` for a fault of the reader of any kind, an interruption included;
+/// `NoMemory`. After either, `line` has the bytes that were taken.
 pub fn next_line<R: Read>(
     reader: &mut R,
     chunk: &mut Chunk,
     line: &mut Vec<u8>,
 ) -> Result<bool, InputFault>
+    // The line has no line feed, also after an error.
     ensures unfed { HasNoLineFeed line.new.items }
+    // It has 65,537 bytes at most, also after an error.
     ensures few { length line.new.items ≤ most_held }
+    // After `true` the chunk and the reader lost the line, of at most 65,536 bytes, and its line feed; or
+    // just the line, which is the last one; or the first 65,537 bytes of a line that is too long.
     ensures more { result ≡ Ok true → EndsLine (prepend_known chunk.old (R.remaining reader.old))
         (prepend_known chunk.new (R.remaining reader.new)) line.new.items }
+    // After `false` nothing was left, and nothing was taken.
     ensures end { result ≡ Ok false → IsAtEnd (prepend_known chunk.old (R.remaining reader.old))
         × Keeps (prepend_known chunk.old (R.remaining reader.old))
         (prepend_known chunk.new (R.remaining reader.new)) }
+    // After an error `line` has just the bytes that the chunk and the reader lost.
     ensures err { OnErr result (Consumes (prepend_known chunk.old (R.remaining reader.old))
         (prepend_known chunk.new (R.remaining reader.new)) line.new.items) }
+    // At most 32,768 bytes are at hand in the chunk.
     ensures brought { length chunk.new ≤ most_brought }
 {
     line.clear();

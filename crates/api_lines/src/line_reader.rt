@@ -15,7 +15,7 @@ use memchr::memchr;
 use std::alloc::Global;
 use std::io::Read;
 
-/// A reader that takes a text line by line.
+/// A reader that takes a text line by line. What it makes of the lines each reader says for itself.
 pub trait LineReader {
     /// The state that lines build.
     ghost State: { Type 0 };
@@ -27,12 +27,16 @@ pub trait LineReader {
     /// The state after the lines that were taken, and the number of these lines.
     ghost reached: { Self → SoFar Self.State };
 
-    /// Takes the next line, without its line feed; or refuses it with its first cause. `NoMemory` if memory
-    /// was refused.
+    /// Takes the next line, without its line feed; or refuses it with its first cause. `NoMemory` may come
+    /// before any cause. What an error leaves each reader says for itself.
     fn line(&mut self, line: &[u8]) -> Result<(), ReadFault>
+        // The line has no line feed in it.
         requires { HasNoLineFeed line.now }
+        // A line that is taken leads to the state that the definition gives.
         ensures ok { OnOk result (after_next Self.takes (Self.reached self.old) line.now ≡ Ok (Self.reached self.new)) }
+        // After a line that is taken the lines are 4,194,304 at most.
         ensures within { OnOk result ((Self.reached self.new).lines ≤ most_lines) }
+        // An error other than `NoMemory` is that of the definition.
         ensures fault { IfErr result (λ fault. IfTextTold fault
             (λ told. after_next Self.takes (Self.reached self.old) line.now ≡ Err told)) };
 }
@@ -46,12 +50,15 @@ pub struct RefusedLine {
     pub line: Vec<u8>,
 }
 
-/// Has the reader, which must have taken no line yet, take the lines of a text to its end; or reports the
-/// first line that is refused, with its first cause.
+/// Has the reader take the lines of a text to its end; or returns the first line that is refused, with its
+/// first cause. `NoMemory` may come before any cause. Which lines are taken before an error is left open.
 pub fn take_text<L: LineReader>(reader: &mut L, text: &[u8]) -> Result<(), ReadFault>
+    // The reader has taken no line yet.
     requires { (L.reached reader.old).lines ≡ 0 }
+    // All lines are taken, and lead to the state that the definition gives.
     ensures ok { OnOk result (read_lines L.takes 1 (L.reached reader.old).state (lines_of text.now)
         ≡ Ok (L.reached reader.new).state) }
+    // An error other than `NoMemory` is that of the definition.
     ensures fault { IfErr result (λ fault. IfTextTold fault
         (λ told. read_lines L.takes 1 (L.reached reader.old).state (lines_of text.now) ≡ Err told)) }
 {
@@ -98,28 +105,32 @@ fn end_of_lines<R: Read>(
     Ok(Err(RefusedLine { fault, line }))
 }
 
-/// Has the reader, which must have taken no line yet, take the lines of an input's text to its end; or
-/// reports the first line that is refused.
+/// Has the reader take the lines of an input's text to its end; or returns the first line that is refused.
 ///
-/// The input is asked for 32,768 bytes at a time, and for none after a line that is refused: no bytes after
-/// that line are taken but those that the last read brought (`taken`). Of a line that is too long 65,537
-/// bytes are taken, and of the 4,194,305th line none.
+/// The input is asked for 32,768 bytes at a time, and for none after a line that is refused. Of a line that
+/// is too long 65,537 bytes are taken, and of the 4,194,305th line none. At most one line is held, and no
+/// more than 65,537 bytes of one.
 ///
-/// At most one line is held, and no more than 65,537 bytes of one.
-///
-/// Errors: `Read` if the input failed, `NoMemory` if memory was refused. In both cases the lines before the
-/// one at which it stopped are taken, and maybe a prefix of that one.
+/// Errors, whichever comes first: `Read` if the input failed, `NoMemory`, and inside `Ok` the refused line.
+/// The lines before the one at which it stopped are taken, and maybe a prefix of that one. Of the bytes that
+/// a `RefusedLine` holds nothing is promised.
 pub fn take_lines<L: LineReader, R: Read>(
     alloc: Global,
     reader: &mut L,
     input: &mut R,
 ) -> Result<Result<(), RefusedLine>, InputFault>
+    // The reader has taken no line yet.
     requires { (L.reached reader.old).lines ≡ 0 }
+    // If the input's bytes are known, the result is what the definition gives for the text of these bytes, as
+    // that of `take_text` is.
     ensures told { IfOk result (λ told. IfSome (R.remaining input.old) (λ text. MatchResult told
         (λ _. read_lines L.takes 1 (L.reached reader.old).state (lines_of text) ≡ Ok (L.reached reader.new).state)
         (λ refused. read_lines L.takes 1 (L.reached reader.old).state (lines_of text) ≡ Err refused.fault))) }
+    // Whatever the result, no bytes after the first refused line are taken but those that the last read
+    // returned, 32,768 at most; and of this line and all before it 4,194,304 times 65,537 bytes at most.
     ensures taken { IsTakenFor (λ text. read_lines L.takes 1 (L.reached reader.old).state (lines_of text))
         (R.remaining input.old) (R.remaining input.new) }
+    // If all lines are taken nothing is left.
     ensures end { IfOk result (λ told. OnOk told (OnSome (R.remaining input.old)
         (IsAtEnd (R.remaining input.new)))) }
 {

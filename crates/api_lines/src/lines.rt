@@ -31,11 +31,15 @@ pub fn is_blank(line: &[u8]) -> bool
     line.iter().all(|byte| is_space(*byte))
 }
 
-/// Returns the first line of a text that is not empty, without its line feed, and the text after it.
+/// Returns the first line of a text, without its line feed, and the text after it.
 pub fn first_line(text: &[u8]) -> (&[u8], &[u8])
+    // The text is not empty.
     requires { 0 < length text.now }
+    // The lines of the text are this one and those of the rest.
     ensures lines { lines_of text.now ≡ result.0.now ∷ lines_of result.1.now }
+    // The line has no line feed in it.
     ensures feed { HasNoLineFeed result.0.now }
+    // The rest is shorter than the text.
     ensures shorter { length result.1.now < length text.now }
 {
     match memchr(b'\n', text) {
@@ -44,8 +48,10 @@ pub fn first_line(text: &[u8]) -> (&[u8], &[u8])
     }
 }
 
-/// Returns the value that a line spells, or `Json`. `NoMemory` says nothing of the line.
+/// Returns the value that a line spells. Errors: `Json` if it spells none; `NoMemory`, which says nothing of
+/// the line.
 pub fn line_value(alloc: Global, line: &[u8]) -> Result<Value, LineFault>
+    // The value is that which the line spells; the error is `Json` only if it spells none.
     ensures { MatchResult result (λ value. json_value line.now ≡ Some (view value))
         (λ fault. IfTold fault (λ cause. (json_value line.now ≡ None) × (cause ≡ Json))) }
 {

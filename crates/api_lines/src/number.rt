@@ -14,7 +14,7 @@ pub enum Number {
 }
 
 impl Number {
-    /// Returns the whole number, or `Range`.
+    /// Returns the whole number. Errors: `Range` exactly if it is not whole.
     pub fn whole(self) -> Result<u64, TextCause>
         ensures { result ≡ whole_told self }
     {
@@ -35,6 +35,7 @@ pub fn pair_of(term: u64, seq: u64) -> Option<Pair>
 /// Returns the pair of a sequence number and a term, each of which may be absent: `None` if both are absent.
 /// Errors: `Half` if only one is present, `Range` if one is not whole or is outside its range.
 pub fn pair_of_numbers(seq: Option<Number>, term: Option<Number>) -> Result<Option<Pair>, TextCause>
+    // The pair or the error is that of the definition.
     ensures { result ≡ pair_told seq term }
 {
     let (seq, term) = match (seq, term) {

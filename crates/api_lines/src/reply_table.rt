@@ -136,6 +136,7 @@ pub fn is_stranger(id: &DocId, body: &BodyFields<'_>) -> bool
 /// names another document, whatever the status; otherwise the reply that the reply table gives, or `Unknown`
 /// if it gives none.
 pub fn heard_of(op: &Op, id: &DocId, status: u16, body: &BodyFields<'_>) -> Heard
+    // What is heard is what the definition gives for the fields.
     ensures { result ≡ heard op.now id.now status (body_seen body.now) }
 {
     if is_stranger(id, body) {
@@ -153,10 +154,14 @@ pub fn heard_of(op: &Op, id: &DocId, status: u16, body: &BodyFields<'_>) -> Hear
 /// status. Otherwise the reply table gives, row by row, the reply to the operation with this status and this
 /// body; what no row knows is `Unknown`.
 pub fn read_reply(op: &Op, id: &DocId, status: u16, body: &Value) -> Heard
+    // What is heard is what the definition gives for the body's fields.
     ensures fields { result ≡ heard op.now id.now status (body_values (view body.now)) }
+    // It is `Stranger` exactly if the body names another document.
     ensures stranger { (result ≡ Heard.Stranger) ↔ IsStranger id.now (view body.now) }
+    // It is a reply exactly if the body names no other document, and the reply table gives this reply.
     ensures reply { (r : Answer) → (result ≡ Heard.Reply r)
         ↔ ((¬ IsStranger id.now (view body.now)) × Tells op.now status (view body.now) r) }
+    // It is `Unknown` exactly if the body names no other document, and the reply table gives no reply.
     ensures unknown { (result ≡ Heard.Unknown)
         ↔ ((¬ IsStranger id.now (view body.now)) × IsUnknown op.now status (view body.now)) }
 {

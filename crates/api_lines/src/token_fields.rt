@@ -196,12 +196,17 @@ fn take_line<'v, T: TokenReader<'v>>(tokens: &mut T, fields: &mut LineFields<'v>
     if tokens.is_over() { Some(()) } else { None }
 }
 
-/// Returns whether the line is an object of this form: its texts have no escape and no byte outside ASCII,
-/// there is no space between a key and its colon, all its numbers are digits alone, at most 19, and its
-/// `body`, the body's `_source` and its `error` are objects if they are present. If it is, its fields are put
-/// in `fields`, which must have none. Of any other line nothing is said.
+/// Puts the fields of a line in `fields` if the line has the usual form, and returns whether it did.
+///
+/// The line is then an object whose texts have no escape and no byte outside ASCII, with no space between a
+/// key and its colon, whose numbers are all digits alone, at most 19, and whose `body`, the body's `_source`
+/// and its `error` are objects if they are present. Nothing is promised of `false`: neither that the line has
+/// another form, nor what is in `fields`.
 pub fn quick_fields<'v>(line: &'v str, fields: &mut LineFields<'v>) -> bool
+    // `fields` has none yet.
     requires { line_seen fields.old ≡ line_values null }
+    // If the result is true, the text is JSON of some value, as `serde_json` reads it, and `fields` are the
+    // fields of this value; of a repeated key the last one counts.
     ensures { IsTrue result → ((v : Data)
         × (read_text line.now ≡ Some v)
         × (line_seen fields.new ≡ line_values v)) }
@@ -213,16 +218,21 @@ pub fn quick_fields<'v>(line: &'v str, fields: &mut LineFields<'v>) -> bool
     }
 }
 
-/// Returns whether the line is an object of this form: all its numbers are digits alone and below 2^64, and
-/// its `body`, the body's `_source` and its `error` are objects if they are present. Texts with escapes and
-/// bytes outside ASCII are read too, in a borrowed room. If it is, its fields are put in `fields`, which must
-/// have none. Of any other line nothing is said, and of no line if memory was refused.
+/// Puts the fields of a line in `fields` if the line has the usual form but for its texts, and returns
+/// whether it did. Texts may have escapes, which are read in a borrowed room, and bytes outside ASCII.
+///
+/// The line is then an object whose numbers are all digits alone and below 2^64, and whose `body`, the body's
+/// `_source` and its `error` are objects if they are present. Nothing is promised of `false`, which is also
+/// returned if memory is refused.
 pub fn unescaped_fields<'v>(
     line: &'v str,
     room: &'v mut LineRoom,
     fields: &mut LineFields<'v>,
 ) -> bool
+    // `fields` has none yet.
     requires { line_seen fields.old ≡ line_values null }
+    // If the result is true, the text is JSON of some value, as `serde_json` reads it, and `fields` are the
+    // fields of this value; of a repeated key the last one counts.
     ensures { IsTrue result → ((v : Data)
         × (read_text line.now ≡ Some v)
         × (line_seen fields.new ≡ line_values v)) }

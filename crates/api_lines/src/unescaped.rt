@@ -23,7 +23,8 @@ pub struct LineRoom {
 }
 
 impl LineRoom {
-    /// Returns a room without memory yet. It allocates nothing.
+    /// Returns a room without memory yet. It allocates nothing. What the room holds has no meaning between
+    /// lines.
     pub fn new(alloc: Global) -> LineRoom {
         LineRoom {
             scratch: Scratch::new(alloc),

@@ -15,6 +15,7 @@ pub enum Source<F, I> {
 }
 
 impl<F: Read, I: Read> Read for Source<F, I> {
+    // The bytes that it will still give are those of its file, or of the input.
     ghost remaining = { remaining_of F.remaining I.remaining };
 
     fn read(&mut self, buf: &mut [u8]) -> io::Result<usize> {
@@ -36,6 +37,7 @@ pub fn tell_unopened(rt: &impl Eprint, path: &str, error: &io::Error) {
 /// Opens the file, to be read from its start. Errors: `Read` if it can't be opened; it is then named on
 /// standard error.
 pub fn open<R: Files + Eprint>(rt: &R, path: &str) -> Result<R::File, StreamFault>
+    // The only error is `Read`.
     ensures { IfErr result (λ fault. fault ≡ StreamFault.Read) }
 {
     match fs::open(rt, path) {
@@ -53,7 +55,9 @@ pub fn open_or<R: Files + Eprint, I: Drop>(
     path: Option<&str>,
     input: I,
 ) -> Result<Source<R::File, I>, StreamFault>
+    // If no file is named, it is the input itself.
     ensures input { path.entry ≡ None → result ≡ Ok (Input input) }
+    // The only error is `Read`.
     ensures err { IfErr result (λ fault. fault ≡ StreamFault.Read) }
 {
     match path {
@@ -63,12 +67,13 @@ pub fn open_or<R: Files + Eprint, I: Drop>(
 }
 
 /// Opens both files as by `open`, the first before the second. If the first can't be opened, the second isn't
-/// tried.
+/// tried; this order is tested, not proved.
 pub fn open_both<R: Files + Eprint>(
     rt: &R,
     first: &str,
     second: &str,
 ) -> Result<(R::File, R::File), StreamFault>
+    // The only error is `Read`.
     ensures { IfErr result (λ fault. fault ≡ StreamFault.Read) }
 {
     let first = open(rt, first)?;

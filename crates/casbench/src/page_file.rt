@@ -33,12 +33,13 @@ fn are_one_file(one: &Metadata, other: &Metadata) -> bool {
 }
 
 /// Refuses a page that is the history itself, whatever names they have. Errors: `Write`; it is reported on
-/// standard error, with the page's name.
+/// standard error, with the page's name. Which pages are refused is tested, not proved.
 pub fn refuse_history<R: Files + Eprint, I>(
     rt: &R,
     page: Option<&str>,
     source: &Source<R::File, I>,
 ) -> Result<(), StreamFault>
+    // The only error is `Write`.
     ensures { IfErr result (λ fault. fault ≡ StreamFault.Write) }
 {
     let Some(path) = page else {
@@ -116,13 +117,14 @@ impl<'p> ReadyPage<'p> {
     /// path names is no regular file, nothing is written yet.
     ///
     /// Errors: `Write` if it can't be written, and `NoMemory` if memory was refused. The new file is then
-    /// removed.
+    /// removed, which is tested, not proved.
     pub fn new<R: Files + Eprint>(
         rt: &R,
         alloc: Global,
         path: &'p str,
         page: &[u8],
     ) -> Result<ReadyPage<'p>, StreamFault>
+        // The only errors are `Write` and `NoMemory`.
         ensures { IfErr result (λ fault. (fault ≡ StreamFault.Write) ⊎ (fault ≡ StreamFault.NoMemory)) }
     {
         let target = match fs::metadata(rt, path) {
@@ -144,8 +146,9 @@ impl<'p> ReadyPage<'p> {
     }
 
     /// Puts the page in its place; in one step if a regular file is there, or nothing. If it can't, what is
-    /// there stays.
+    /// there stays, which is tested, not proved.
     pub fn keep<R: Files + Eprint>(self, rt: &R, page: &[u8]) -> Result<(), StreamFault>
+        // The only error is `Write`.
         ensures { IfErr result (λ fault. fault ≡ StreamFault.Write) }
     {
         match self {

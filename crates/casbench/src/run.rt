@@ -99,8 +99,15 @@ fn explain<F: Files + Eprint, T: Threads + Wait + Sync, R: Read, W: Write>(
 /// Does what the arguments ask for: opens the files in the order in which they were named, then reads, and
 /// writes the answer. Workers run on `threads`; ids and pairs are found by hashes with these keys.
 ///
-/// A file that can't be opened is named on standard error, and is a read fault: then nothing was read, and
-/// nothing was written to the writer.
+/// Errors, in this order: `Read` if a file can't be opened, which is then named on standard error: nothing
+/// was read then; for an `explain` with a page `Write` if the page is the history's own file; then those of
+/// the command's stream: `check_stream`, `witness_stream`, `verify_stream`, `bulk_stream`, `explain_stream`,
+/// `run_played_stream`, or `search_stream` with `--until`. An `explain` with a page has those of
+/// `explained_page`, then `Write` or `NoMemory` if a new page can't be written, `Write` of the writer, and
+/// `Write` if the page can't take its place. It waits as the stream of the command does.
+///
+/// Of a `verify` and a `bulk`, whose texts are files, only `kept` and `told` speak: that the files, and the
+/// reading of conflicts, are passed on to their streams is tested, not proved.
 pub fn run<R: Files + Eprint, T: Threads + Wait + Sync, I: Read + Drop, W: Write>(
     alloc: Global,
     keys: HashKeys,
@@ -138,8 +145,9 @@ pub fn run<R: Files + Eprint, T: Threads + Wait + Sync, I: Read + Drop, W: Write
     ensures searched { (seeds : Range) (setting : Setting) (way : Way) → words.entry ≡ Words.Search seeds setting way
         → IfOk result (IsSearched ⟦<DisturbedGroup as Target>⟧.issued ⟦<DisturbedGroup as Target>⟧.gave way setting
         seeds.first seeds.last (W.contents writer.old) (W.contents writer.new)) }
-    // After a write fault the writer holds a prefix of what the command answers, after what it held; of an
-    // `explain` it may hold no more than it held, since a page can fail before.
+    // `check_cut_off`, `witness_cut_off`, `explain_cut_off`: After `Write` the writer holds a prefix of what
+    // the command answers, after what it held; of an `explain` it may hold no more than it held, since a page
+    // can fail before.
     ensures check_cut_off { (conflicts : Reading) (workers : ℕ) (ruling : Ruling)
         → words.entry ≡ Words.Check None conflicts workers ruling → IsErrOf result StreamFault.Write
         → IsCutOff ruling conflicts (I.remaining input) (W.contents writer.old) (W.contents writer.new) }
@@ -151,6 +159,8 @@ pub fn run<R: Files + Eprint, T: Threads + Wait + Sync, I: Read + Drop, W: Write
         → words.entry ≡ Words.Explain None conflicts workers ruling page → IsErrOf result StreamFault.Write
         → HasFront (ExplainsInput ruling conflicts (I.remaining input)) (W.contents writer.old) (W.contents writer.new)
         ⊎ Keeps (W.contents writer.old) (W.contents writer.new) }
+    // `run_cut_off`, `search_cut_off`: After `Write` the writer holds a prefix of the text of such a run,
+    // after what it held.
     ensures run_cut_off { (setting : Setting) (manner : Going) → words.entry ≡ Words.Run setting manner
         → IsErrOf result StreamFault.Write
         → HasFront (λ _. IsRunText ⟦<DisturbedGroup as Target>⟧.issued ⟦<DisturbedGroup as Target>⟧.gave setting)
@@ -159,9 +169,10 @@ pub fn run<R: Files + Eprint, T: Threads + Wait + Sync, I: Read + Drop, W: Write
         → IsErrOf result StreamFault.Write
         → HasFront (λ _. IsFoundText ⟦<DisturbedGroup as Target>⟧.issued ⟦<DisturbedGroup as Target>⟧.gave way setting
         seeds.first seeds.last) (W.contents writer.old) (W.contents writer.new) }
+    // After any error but `Write`, and so if a file can't be opened, the writer holds what it held.
     ensures kept { IfErr result (λ fault. fault ≢ StreamFault.Write
         → Keeps (W.contents writer.old) (W.contents writer.new)) }
-    // Each command returns only its own faults.
+    // Each command returns the errors of its own stream alone.
     ensures told { IfErr result (MayFail words.entry) }
 {
     match words {

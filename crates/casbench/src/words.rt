@@ -222,11 +222,14 @@ fn unnamed_error(alloc: Global, matches: &ArgMatches<'_>) -> Result<Error, Alloc
 
 /// Returns what the arguments ask for. The first is the program's name.
 ///
-/// Errors: arguments that are refused, and those that ask for help or the version, with the text for the
-/// user.
+/// Errors, with the text for the user: first those of a parse of the arguments, among them those that ask for
+/// help or the version, and out of memory; then a reading of conflicts, a fault of a group or a disturbance
+/// that there isn't. Which of several is returned is tested, not proved.
 pub fn read_words<'a, S: AsStr>(alloc: Global, words: &'a [S]) -> Result<Words<'a>, Error>
+    // The arguments ask for just what is returned.
     ensures asked { IfOk result (λ asked. asked_on (map S.text words.entry.now)
         ≡ Some (asked_by asked)) }
+    // None of the errors of the definition applies to them.
     ensures taken { OnOk result (faults_on (map S.text words.entry.now) ≡ []) }
     // The arguments have that fault, or what they name is none of the commands with its files and a reading
     // of conflicts, or with its numbers, a fault and a disturbance, and a seed or several.

@@ -64,6 +64,7 @@ pub fn check_workers(workers: usize) -> Result<(), PoolFault>
     ensures ok { 0 < workers → workers ≤ 16 → IsOk result }
     ensures no_workers { IsErrOf result PoolFault.NoWorkers ↔ (workers ≡ 0) }
     ensures too_many { IsErrOf result PoolFault.TooMany ↔ (16 < workers) }
+    // The error names no job.
     ensures named { IfErr result (λ fault. (jobs : List Job) → NamesJob jobs fault) }
 {
     if workers == 0 {
@@ -78,13 +79,12 @@ pub fn check_workers(workers: usize) -> Result<(), PoolFault>
 /// Returns the answers of the jobs, in the order of the jobs. The search is done by at most this many
 /// workers, 1 to 16, each on a thread of its own if one can be made. Worker `w` takes the jobs whose number
 /// leaves `w` when divided by the number of workers, which is no greater than the number of jobs; it passes
-/// the gate before each.
-///
-/// A worker searches a copy of the job's records: what comes back is compared with the job itself.
+/// the gate before each. A worker searches a copy of the job's records: what comes back is compared with the
+/// job itself.
 ///
 /// Errors: first `NoWorkers` and `TooMany`; then `Stranger` and `Double`, as the messages of the workers
-/// come; `NoMemory` if memory was refused, also in a worker; last `Lost`, with the least number. It returns
-/// only if each call of the gate does.
+/// come; `NoMemory` if memory was refused, also in a worker; last `Lost`, with the least number. The jobs are
+/// then dropped. It waits for its threads and their messages, and returns only if each call of the gate does.
 pub fn answers<R: Threads + Wait + Sync, G: Gate + Sync>(
     rt: &R,
     alloc: Global,
@@ -92,11 +92,16 @@ pub fn answers<R: Threads + Wait + Sync, G: Gate + Sync>(
     workers: usize,
     gate: &G,
 ) -> Result<Vec<DocAnswer>, PoolFault>
+    // The number of each job is its index.
     requires { AreNumbered jobs.items }
+    // There is an answer for each job, in the order of the jobs, and it is what `doc_check::answer` promises
+    // for the id, the records and the reading of this job, whichever worker made it.
     ensures ok { IfOk result (λ answers. AreAnswers jobs.items answers.items) }
     ensures no_workers { IsErrOf result PoolFault.NoWorkers ↔ (workers ≡ 0) }
     ensures too_many { IsErrOf result PoolFault.TooMany ↔ (16 < workers) }
+    // A job that an error names, as lost, double or a stranger, is one of these.
     ensures named { IfErr result (NamesJob jobs.items) }
+    // Of no jobs there are no answers and no error, with 1 to 16 workers.
     ensures no_jobs { length jobs.items ≡ 0 → 0 < workers → workers ≤ 16 → IsOk result }
 {
     if let Err(fault) = check_workers(workers) {

@@ -184,8 +184,9 @@ fn found_chain(
 
 /// Returns an order that completes unanswered writes, by a search forward in time. It has room for an
 /// invented pair only if a number is left that none of the pairs in use has, and within the limits. Returns
-/// `None` if none is found in a number of steps in proportion to the records. The result is a guess that must
-/// be checked.
+/// `None` if none is found in a number of steps in proportion to the records.
+///
+/// The result is a guess that `DocWitness::check` must check.
 pub fn search_forward(
     alloc: Global,
     records: &[Rec],

@@ -10,9 +10,10 @@ use std::marker::Model;
 
 /// A history for which no order was found.
 ///
-/// The type guarantees that no witnesses without a given pair cover the history. So it is not legal in
-/// response order; and if it is complete (settled), that is, if each write was answered (under Maybe, by a
-/// reply other than a conflict), no order of its calls explains it.
+/// Contracts see the history and the reading of conflicts. The type guarantees that no witnesses without a
+/// given pair cover the history. So it is not legal in response order; and if it is complete (settled), that
+/// is, if each write was answered (under Maybe, by a reply other than a conflict), no order of its calls
+/// explains it.
 #[derive(Debug, Drop)]
 pub struct Case {
     history: History,
@@ -63,8 +64,12 @@ impl Case {
     /// Returns the history.
     #[tactic(auto, using(crate::proofs::VerdictLemmas::uncovered_has_none))]
     pub fn history(&self) -> &History
+        // It is the history of the case.
         ensures same { result.now ≡ self.now.events }
+        // It is a history, as its type guarantees.
         ensures history { IsHistory self.now.events }
+        // No entries without a given pair cover it. So it is not legal in response order, and if it is
+        // complete it is not linearizable.
         ensures none { HasNoOrderFound self.now.conflicts self.now.events }
     {
         // The access to a field makes the type's invariant known from here on.

@@ -149,7 +149,9 @@ fn certainty_without_evidence(
 /// and the offence.
 #[tactic(auto, using(crate::proofs::CertaintyLemmas::said_is_proved))]
 pub fn certainty_of(alloc: Global, case: &Case, failing: &Failing) -> Result<Certainty, NoMemory>
+    // The evidence, if there is any, holds in the history of the case.
     requires { IfSome failing.now.evidence (Holds case.now.conflicts case.now.events) }
+    // The result is what the definition says with this evidence, or without any by the call of the offence.
     ensures says { IfOk result
         (Says case.now.conflicts case.now.events failing.now.evidence failing.now.offence.call) }
     // All but `Undecided` say that no order explains the history.

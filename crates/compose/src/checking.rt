@@ -78,7 +78,10 @@ pub fn is_explained(
     history: &Front<'_>,
     conflicts: Conflicts,
 ) -> Result<bool, NoMemory>
+    // If the result is true, the events are linearizable.
     ensures found { IfOk result (λ found. found ≡ true → IsLinearizable conflicts history.now) }
+    // If the result is false, no entries without a given pair cover the events. So they are not legal in
+    // response order, and if they are complete they are not linearizable.
     ensures none { IfOk result (λ found. found ≡ false → HasNoOrderFound conflicts history.now) }
 {
     match looked_for(alloc, history, conflicts)? {
@@ -130,14 +133,20 @@ fn verdict_of(
 }
 
 /// Searches for one order of all calls, over all documents, that explains the history. Each document is
-/// searched by itself, and no pair of a shard may be taken twice. Errors: `NoMemory`, with the history.
+/// searched by itself, and no pair of a shard may be taken twice. The only error is `NoMemory`, with the
+/// history.
 pub fn check_alone(
     alloc: Global,
     history: History,
     conflicts: Conflicts,
 ) -> Result<Verdict, CheckFault>
+    // The verdict is on this very history: Yes with witnesses that cover it, so that it is linearizable; No
+    // only if no entries without a given pair cover it, so that it is not legal in response order, and not
+    // linearizable if it is complete.
     ensures verdict { IfOk result (IsVerdictOn conflicts history) }
+    // A history that is legal in response order gets Yes.
     ensures accepts { IfOk result (λ verdict. IsPlainlyRight history → IsYes verdict) }
+    // The only error is `NoMemory`, and the history comes back.
     ensures back { IfErr result (λ fault. fault ≡ Unchecked history) }
 {
     match answers_found(alloc, &history.whole(), conflicts) {
@@ -146,11 +155,12 @@ pub fn check_alone(
     }
 }
 
-/// Does the same with at most this many workers, 1 to 16, each on a thread of its own if one can be made.
-/// Each worker passes the gate before each document. With one document there is one worker.
+/// Does the same as `check_alone` with at most this many workers, 1 to 16, each on a thread of its own if one
+/// can be made. Each worker passes the gate before each document. With one document there is one worker.
 ///
 /// Errors: first `NoWorkers` and `TooMany`, for the number of workers; then the faults of the workers'
-/// messages, as `check_pool::answers` reports them, and `NoMemory`. Each error hands the history back.
+/// messages, as `check_pool::answers` reports them, and `NoMemory`. Each error hands the history back. It
+/// waits as `check_pool::answers` does.
 pub fn check<R: Threads + Wait + Sync, G: Gate + Sync>(
     rt: &R,
     alloc: Global,
@@ -159,11 +169,16 @@ pub fn check<R: Threads + Wait + Sync, G: Gate + Sync>(
     conflicts: Conflicts,
     gate: &G,
 ) -> Result<Verdict, CheckFault>
+    // The verdict is on this very history, as that of `check_alone` is, whichever worker searched which
+    // document.
     ensures verdict { IfOk result (IsVerdictOn conflicts history) }
+    // A history that is legal in response order gets Yes.
     ensures accepts { IfOk result (λ verdict. IsPlainlyRight history → IsYes verdict) }
     ensures no_workers { IsErrOf result (Unpooled PoolFault.NoWorkers history) ↔ (workers ≡ 0) }
     ensures too_many { IsErrOf result (Unpooled PoolFault.TooMany history) ↔ (16 < workers) }
+    // A document that an error names, as lost, double or a stranger, is one of the history's.
     ensures named { IfErr result (NamesDocument history) }
+    // Each error hands the history back; memory that was refused in a worker is `NoMemory`.
     ensures back { IfErr result (HandsBack history) }
 {
     if let Err(fault) = check_workers(workers) {

@@ -54,8 +54,10 @@ impl Counts {
     /// Returns the counts of a proof: the documents and calls of its history, and the calls that are in no
     /// place of its witnesses.
     pub fn of(proof: &Proof) -> Counts
+        // The counts are those of the history and of the places of its witnesses.
         ensures counts { AreCounts proof.now.events (map witness_places proof.now.witnesses) result.docs
             result.calls result.left_out }
+        // The history has an order with these counts.
         ensures order { HasOrder proof.now.conflicts proof.now.events result.docs result.calls result.left_out }
     {
         let history = proof.history();

@@ -34,8 +34,9 @@ pub fn faulty_are_no_cover()
     ensures { FaultyAreNoCover }
 {}
 
-/// Shows that a history is split into the parts of its shards, each of them a history, and that it is
-/// linearizable exactly if each of them is.
+/// Shows that each event of a history concerns just one shard, that the part of each shard is a history, and
+/// that a history is linearizable exactly if the part of each shard is, with pending calls and in both
+/// readings of conflicts.
 #[tactic(auto, using(crate::proofs::ShardLocality::local_by_shard))]
 pub fn local_by_shard()
     ensures { LocalByShard }

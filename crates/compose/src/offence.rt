@@ -17,7 +17,8 @@ const MOST_GUESSES: usize = 4;
 /// The reply at which the search for an order first fails.
 #[derive(Clone, Copy, Debug, PartialEq, Eq)]
 pub struct Offence {
-    /// The place of the reply, from 0: the events up to it, itself among them, have no order that the search finds.
+    /// The position of the reply, from 0: the events up to and including it have no order that the search
+    /// finds.
     pub event: usize,
     /// The number of the call that it answers.
     pub call: u64,
@@ -25,7 +26,7 @@ pub struct Offence {
     pub before_shown: bool,
 }
 
-// Adds the place of an event, where it is a reply.
+// Adds the position of an event, if it is a reply.
 fn note_reply(places: &mut Vec<usize>, event: &Event, place: usize) -> Result<(), NoMemory>
     ensures { OnOk result (places.new.items ≡ places_with event.now place places.old.items) }
 {
@@ -38,7 +39,7 @@ fn note_reply(places: &mut Vec<usize>, event: &Event, place: usize) -> Result<()
     }
 }
 
-// The places of the replies, in their order.
+// The positions of the replies, in their order.
 fn reply_places(alloc: Global, history: &History) -> Result<Vec<usize>, NoMemory>
     ensures { IfOk result (λ places. AreReplies history.now (length history.now) places.items) }
 {
@@ -49,7 +50,7 @@ fn reply_places(alloc: Global, history: &History) -> Result<Vec<usize>, NoMemory
     Ok(places)
 }
 
-// What the search finds of the events up to this place, itself among them.
+// What the search finds of the events up to and including this position.
 fn looked_to(
     alloc: Global,
     history: &History,
@@ -59,13 +60,14 @@ fn looked_to(
     requires { place < length history.now }
     ensures { IfOk result (IsWrongUnlessFound history.now place) }
 {
-    // A look at the history: that its places are small numbers is known from here on.
+    // A look at the history: that its positions are small numbers is known from here on.
     let _ = history.len();
     looked_for(alloc, &history.front(place + 1), conflicts)
 }
 
-// The reply that is tried next, of those from `low` to `high`, without the last: the one at the guessed place; if an order was found
-// there, one shortly after it, each time about four times as far; but at most the middle one, which it is without a guess.
+// The reply that is tried next, of those from `low` to `high`, without the last: the one at the guessed
+// position; if an order was found there, one shortly after it, each time about four times as far; but at most
+// the middle one, which it is without a guess.
 fn next_tried(places: &[usize], low: usize, high: usize, guessed: Option<usize>) -> usize
     requires order { low < high }
     ensures from { low ≤ result }
@@ -86,8 +88,8 @@ fn next_tried(places: &[usize], low: usize, high: usize, guessed: Option<usize>)
     low + half
 }
 
-// The guess after a reply at which the search fails, at this position: the one that this search gave, if it is earlier; else the reply
-// before, if it was the guess that failed; else the same as before.
+// The guess after a reply at which the search fails, at this position: the one that this search gave, if it
+// is earlier; otherwise the reply before, if it was the guess that failed; otherwise the same as before.
 fn guess_before(
     places: &[usize],
     at: usize,
@@ -107,8 +109,8 @@ fn guess_before(
     }
 }
 
-// Fewer of the replies from `low` to `high`, if the search fails at `high`: those up to one at which it fails, or those behind one at
-// which it finds an order. The guess is replaced by another one.
+// Fewer of the replies from `low` to `high`, if the search fails at `high`: those up to one at which it fails,
+// or those after one at which it finds an order. The guess is replaced by another one.
 fn narrower(
     alloc: Global,
     history: &History,
@@ -133,8 +135,9 @@ fn narrower(
     }
 }
 
-// Of the replies at these places the first at which the search fails, if it fails at the last: those that are left become fewer until one
-// is. The search fails at a reply if it finds no order of the events up to it.
+// The first of the replies at these positions at which the search fails, if it fails at the last: those that
+// are left become fewer until there is one. The search fails at a reply if it finds no order of the events up
+// to it.
 fn first_wrong(
     alloc: Global,
     history: &History,
@@ -186,8 +189,9 @@ fn offence_at(
     }
 }
 
-// The offence at this reply, if the search finds an order of all events before and fails there. If it fails on the events before,
-// `next` is another guess, if there is one; if it finds an order of the events up to the reply, `next` is the reply again.
+// The offence at this reply, if the search finds an order of all events before and fails there. If it fails
+// on the events before, `next` is another guess, if there is one; if it finds an order of the events up to
+// the reply, `next` is the reply again.
 fn offence_if(
     alloc: Global,
     history: &History,
@@ -237,12 +241,17 @@ fn first_guess(alloc: Global, case: &Case) -> Result<Option<usize>, NoMemory> {
     }
 }
 
-/// The reply at which the search first fails, its call, and whether the events before it have an order.
+/// Returns the reply at which the search first fails, its call, and whether the events before it have an
+/// order.
 ///
-/// First a reply is tried that is cheap to guess: if the search fails there, and not on the events before, it is that. Else the replies
-/// are halved: if the events up to the middle one have an order that the search finds, it is after that, else it is that or before. If
-/// it is numbers that are too few, the search gives a reply to try instead of the middle one.
+/// First a reply is tried that is cheap to guess: if the search fails there, and not on the events before, it
+/// is that. Else the replies are halved: if the events up to the middle one have an order that the search
+/// finds, it is after that, else it is that or before. If it is numbers that are too few, the search gives a
+/// reply to try instead of the middle one.
 pub fn first_offence(alloc: Global, case: &Case) -> Result<Offence, NoMemory>
+    // `event` is the position of a reply of the history, and `call` the number of the call that it answers.
+    // The events up to it are not legal in response order. If `before_shown` is true, those before it are
+    // linearizable; if it is false, no entries without a given pair cover them.
     ensures { IfOk result (IsOffence case.now.conflicts case.now.events) }
 {
     let history = case.history();

@@ -11,8 +11,9 @@ use witness::DocWitness;
 
 /// A history with the witnesses of its documents.
 ///
-/// The type guarantees that the witnesses cover the history, each document once and no pair of a shard taken
-/// twice; so one order of all its calls explains it.
+/// Contracts see the history, the witnesses and the reading of conflicts. The type guarantees that the
+/// witnesses cover the history, each document once and no pair of a shard taken twice; so one order of all
+/// its calls explains it.
 #[derive(Debug, Drop)]
 pub struct Proof {
     history: History,
@@ -56,8 +57,11 @@ impl Proof {
     /// Returns the history.
     #[tactic(auto, using(crate::proofs::VerdictLemmas::witnesses_explain))]
     pub fn history(&self) -> &History
+        // It is the history of the proof.
         ensures same { result.now ≡ self.now.events }
+        // It is a history, as its type guarantees.
         ensures history { IsHistory self.now.events }
+        // One order of all its calls explains it.
         ensures linearizable { IsLinearizable self.now.conflicts self.now.events }
     {
         // The access to a field makes the type's invariant known from here on.
@@ -67,7 +71,9 @@ impl Proof {
 
     /// Returns the witnesses of its documents.
     pub fn witnesses(&self) -> &[DocWitness]
+        // They are the witnesses of the proof.
         ensures same { result.now ≡ self.now.witnesses }
+        // They cover the history.
         ensures cover { AreWitnesses self.now.conflicts self.now.events self.now.witnesses }
     {
         // The access to a field makes the type's invariant known from here on.

@@ -10,7 +10,8 @@ use witness::DocWitness;
 pub struct Shortage {
     /// The gaps of all documents.
     pub gaps: Gaps,
-    /// Those that together want more numbers than are free between their ends, by their positions in the list.
+    /// Those that together need more numbers than are free between their ends, by their positions in the
+    /// list.
     pub tight: Vec<usize>,
 }
 
@@ -34,7 +35,7 @@ impl Stretch {
     }
 }
 
-// The place of the reply to the call, if the reply shows a pair of the stretch.
+// The position of the reply to the call, if the reply shows a pair of the stretch.
 fn shown_in(stretch: Stretch, found: Rec) -> Option<(Pair, usize)> {
     let (place, reply) = found.heard?;
     let pair = reply.pair()?;
@@ -45,15 +46,15 @@ fn shown_in(stretch: Stretch, found: Rec) -> Option<(Pair, usize)> {
     }
 }
 
-// The place of the reply to the call at a position of the witness.
+// The position of the reply to the call at this index of the witness.
 fn reply_at(witness: &DocWitness, position: usize) -> Option<usize> {
     let place = witness.places().get(position)?;
     let found = witness.records().get(place.rec)?;
     found.heard.map(|heard| heard.0)
 }
 
-// The place of the first reply that may ask for what is invented in the gap: of the calls behind it, up to the write with the next pair
-// that wasn't invented.
+// The position of the first reply that may ask for what is invented in the gap: of the calls after it, up to
+// the write with the next pair that wasn't invented.
 fn first_asking(gap: &Gap, witness: &DocWitness) -> Option<usize> {
     let mut first: Option<usize> = None;
     let start = *gap.places.first()?;
@@ -70,7 +71,7 @@ fn first_asking(gap: &Gap, witness: &DocWitness) -> Option<usize> {
 }
 
 impl Shortage {
-    // The place of the last of the replies that first ask for what is invented in one of these gaps.
+    // The position of the last of the replies that first ask for what is invented in one of these gaps.
     fn last_asking(&self, witnesses: &[DocWitness]) -> Option<usize> {
         let mut last = None;
         for number in 0..self.tight.len() {
@@ -83,7 +84,7 @@ impl Shortage {
         last
     }
 
-    // The gaps that want too many numbers.
+    // The gaps that need too many numbers.
     fn tight_gap(&self, number: usize) -> Option<&Gap> {
         self.gaps.list.get(*self.tight.get(number)?)
     }
@@ -104,8 +105,8 @@ impl Shortage {
         Some(stretch)
     }
 
-    /// The place of the reply with which the numbers seem to become too few: the last of those that are the first to show a pair of
-    /// these gaps. Nothing is promised of it.
+    /// Returns the position of the reply with which the numbers seem to become too few: the last of those
+    /// that are the first to show a pair of these gaps. Nothing is promised of it.
     pub fn reply(
         &self,
         alloc: Global,
@@ -130,7 +131,7 @@ impl Shortage {
     }
 }
 
-// The greatest place of those that stand first with their pair.
+// The greatest position of those that are the first with their pair.
 fn last_first(shown: &[(Pair, usize)]) -> Option<usize> {
     let mut last = None;
     for i in 0..shown.len() {

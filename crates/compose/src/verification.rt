@@ -189,25 +189,31 @@ fn witnesses_of(
     covering(alloc, history, verification, conflicts)
 }
 
-/// Returns the proof of a history that the entries of a witness text cover. Errors: the first fault, with the
-/// history.
+/// Returns the proof of a history that the entries of a witness text cover; otherwise the first fault, with
+/// the history. The entries are dropped.
 ///
-/// The faults come in this order: entry by entry `DocStranger`, `DocTwice`, `Broken`; then `DocMissing`, with
-/// the first document in the order of first calls; then `PairTwice`, with the least shard and then the least
-/// pair. `NoMemory` if memory was refused.
+/// Errors, in this order: entry by entry `DocStranger`, `DocTwice`, `Broken`; then `DocMissing`, with the
+/// first document in the order of first calls; then `PairTwice`, with the least shard and then the least
+/// pair. `NoMemory` may come before any of them.
 pub fn verify(
     alloc: Global,
     history: History,
     entries: Vec<(DocId, Vec<Place>)>,
     conflicts: Conflicts,
 ) -> Result<Proof, (VerifyFault, History)>
+    // The proof is of this history and this reading of conflicts, and its witnesses have just the places of
+    // the entries.
     ensures ok { IfOk result (λ proof. (proof.events ≡ history) × (proof.conflicts ≡ conflicts)
         × (map witness_places proof.witnesses ≡ map doc_places entries.items)) }
+    // If there is a proof, the entries cover the history.
     ensures cover { IsOk result → AreCover conflicts history (map doc_places entries.items) }
+    // An error other than `NoMemory` is the first fault of the entries.
     ensures fault { IfErr result (λ e. e.0 ≢ Unverified
         → IsFirstVerifyFault conflicts history (map doc_places entries.items) e.0) }
+    // With an error other than `NoMemory` the entries do not cover the history.
     ensures no_cover { IfErr result (λ e. e.0 ≢ Unverified
         → ¬ AreCover conflicts history (map doc_places entries.items)) }
+    // With every error the history comes back.
     ensures back { IfErr result (λ e. e.1 ≡ history) }
 {
     // Calling `len` makes it known from here on that this is a history.

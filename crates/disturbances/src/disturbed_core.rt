@@ -33,8 +33,8 @@ impl DisturbedCore {
     ghost use Rattle.disturbances.specs.Disturbed.{disturbed_from, with_schedule};
 
     /// Returns a group with that many copies, 1 to 5, at the start. Its steps are drawn from the seed, and so
-    /// is its schedule of that many incidents; no poll was counted. Errors: `Copies` for another number of
-    /// copies; last `NoMemory`.
+    /// is its schedule of that many incidents; no poll was counted. Errors, in this order: `Copies` for
+    /// another number of copies; `NoMemory`.
     pub fn new(
         alloc: Global,
         copies: u32,
@@ -43,7 +43,10 @@ impl DisturbedCore {
         disturbance: Disturbance,
         length: u32,
     ) -> Result<DisturbedCore, CoreFault>
+        // The group is at the start with these copies and this fault, has the generator of the seed and the
+        // schedule that the seed draws, and was not polled.
         ensures start { IfOk result (λ core. core ≡ disturbed_from fault copies seed disturbance length) }
+        // The error is `Copies` exactly outside 1 to 5.
         ensures copies { (result ≡ Err CoreFault.Copies) ↔ ((copies ≡ 0) ⊎ (5 < copies)) }
     {
         let counted = CountedCore::new(alloc, copies, fault, seed)?;
@@ -62,6 +65,7 @@ impl DisturbedCore {
     }
 }
 
+// Its errors are those of `submit_step` and `disturbed_poll_step`. What they leave is left open.
 impl OwnedTarget for DisturbedCore {
     ghost use Rattle.disturbances.specs.Disturbed.{SubmitsTicket, TellsProgress};
 
@@ -69,7 +73,7 @@ impl OwnedTarget for DisturbedCore {
     ghost takes = { SubmitsTicket };
 
     // A poll is the incident that the schedule has before it, followed by the step of the poll, and it is
-    // counted.
+    // counted modulo 2^64.
     ghost tells = { TellsProgress };
 
     fn submit(&mut self, id: &DocId, op: &Op) -> Result<Ticket, TargetFault> {

@@ -31,11 +31,16 @@ fn take(core: &mut Core, step: Step) -> Result<(), TargetFault>
 }
 
 /// Disturbs a group: it takes the steps of the incident, one after the other, whatever the answer to each. A
-/// group of one copy takes none. If a step is refused memory, those before it have been taken.
+/// group of one copy takes none. If a step is refused memory, those before it have been taken, which no
+/// clause says.
 pub fn disturb(core: &mut Core, incident: Incident) -> Result<(), TargetFault>
+    // The group is honest unless it has a fault.
     requires honest { IsHonestUnlessFaulty core.old }
+    // The group takes the steps of the incident, each as the table says.
     ensures disturbed { IfOk result (λ _. IsDisturbed core.old incident core.new) }
+    // The only error is `NoMemory`. What it leaves is a group that is honest unless it has a fault.
     ensures refused { IfErr result (λ fault. fault ≡ TargetFault.NoMemory) }
+    // The group stays honest unless it has a fault, whatever the result.
     ensures honest { IsHonestUnlessFaulty core.new }
 {
     let copies = core.copy_count();
@@ -58,7 +63,8 @@ pub fn disturb(core: &mut Core, incident: Incident) -> Result<(), TargetFault>
 }
 
 /// Does what the poll of that number does in one hold of a disturbed group's lock: the incident that the
-/// schedule has before it, followed by the step of the poll.
+/// schedule has before it, followed by the step of the poll. What an error leaves of the generator is left
+/// open.
 pub fn disturbed_poll_step(
     core: &mut Core,
     random: &mut Lcg64Xsh32,
@@ -66,10 +72,14 @@ pub fn disturbed_poll_step(
     number: u64,
     ticket: Ticket,
 ) -> Result<Progress, TargetFault>
+    // The group is honest unless it has a fault.
     requires honest { IsHonestUnlessFaulty core.old }
+    // The group takes the incident of the schedule, none left out, and then the step of the poll.
     ensures polls { IfOk result (λ _. PollsDisturbed schedule.now number core.old random.old ticket.0
         result core.new random.new) }
+    // The only error is `NoMemory`. What it leaves is a group that is honest unless it has a fault.
     ensures refused { IfErr result (λ fault. fault ≡ TargetFault.NoMemory) }
+    // The group stays honest unless it has a fault, whatever the result.
     ensures honest { IsHonestUnlessFaulty core.new }
 {
     disturb(core, schedule.before_poll(number))?;

@@ -17,7 +17,7 @@ pub const POLLS_APART: u64 = 16;
 /// What happens to a group while it is polled: one incident every 16 polls, and after the last incident the
 /// first one again.
 ///
-/// Contracts see the list of the incidents.
+/// Contracts see the list of the incidents. It is a function of the disturbance, the seed and the length.
 #[derive(Debug, Drop)]
 pub struct Schedule {
     incidents: Vec<Incident>,
@@ -59,6 +59,7 @@ impl Schedule {
         seed: u64,
         length: u32,
     ) -> Result<Schedule, AllocError>
+        // The schedule is the one that the seed draws.
         ensures { IfOk result (λ schedule. schedule ≡ schedule_drawn disturbance seed length) }
     {
         let incidents = match disturbance {

@@ -8,8 +8,8 @@ use version_pair::DocId;
 
 /// The calls of a document for which no order was found.
 ///
-/// The type guarantees that no places without a given pair are valid for its records in its reading of
-/// conflicts.
+/// Contracts see its id, its records and its reading of conflicts. The type guarantees that no places without
+/// a given pair are valid for its records in this reading.
 #[derive(Debug, Drop)]
 pub struct NoOrder {
     id: DocId,
@@ -57,7 +57,9 @@ impl NoOrder {
 
     /// Returns the document's calls, in their order in the history.
     pub fn records(&self) -> &[Rec]
+        // They are the records for which no order was found.
         ensures same { result.now ≡ self.now.records }
+        // No places without a given pair are valid for them.
         ensures none { HasNoOrder self.now.conflicts self.now.records }
     {
         // The access to a field makes the type's invariant known from here on.

@@ -179,7 +179,9 @@ fn answer_by_sweep(
 ///
 /// Response order is tried first; then the sweep, which finds an order of the answered calls alone if there
 /// is one; then the rules, which complete unanswered writes; and last the search forward in time, which
-/// completes them too. `NoMemory` gives up the id and the records.
+/// completes them too. So of a document each of whose writes has a reply (under Maybe one other than a
+/// conflict) an order is found exactly if there is one. That nearly all orders of honest recordings with lost
+/// writes are found is tested. If memory is refused, the id and the records are dropped.
 pub fn answer(
     alloc: Global,
     id: DocId,
@@ -187,8 +189,12 @@ pub fn answer(
     seen: Seen,
     conflicts: Conflicts,
 ) -> Result<DocAnswer, NoMemory>
+    // The answer is about the id, the records and the reading that were passed in: an order that is found is
+    // valid for them; if none is found, no places without a given pair are.
     ensures about { IfOk result (IsAbout id recs.items conflicts) }
+    // If the order of the replies is valid, it is the one that is found.
     ensures replies { IfOk result (FollowsReplies conflicts recs.items) }
+    // If any places without a given pair are valid, such places are found.
     ensures complete { IfOk result (FindsUnpaired conflicts recs.items) }
 {
     let places = reply_order(alloc, &recs)?;
@@ -200,9 +206,9 @@ pub fn answer(
 
 /// Returns an order of a document's calls that explains them, if the search forward in time finds one. This
 /// search knows which pairs the documents of the shard use, by rising pair; the document's own may be among
-/// them. It invents pairs only if one is left, and within the limits.
+/// them. It invents pairs only if one is left, and within the limits, of which no clause speaks.
 ///
-/// If nothing is found, this says nothing. `NoMemory` gives up the id and the records.
+/// If nothing is found, this says nothing. If memory is refused, the id and the records are dropped.
 pub fn answer_among(
     alloc: Global,
     id: DocId,
@@ -212,6 +218,8 @@ pub fn answer_among(
     used: &[Pair],
     limits: &[Limit],
 ) -> Result<Option<DocWitness>, NoMemory>
+    // An order that is found is of the id, the records and the reading that were passed in, and valid for
+    // them.
     ensures { IfOk result (λ found. IfSome found (λ w. (w.doc ≡ id) × (w.records ≡ recs.items)
         × (w.conflicts ≡ conflicts) × AreValid conflicts recs.items w.places)) }
 {

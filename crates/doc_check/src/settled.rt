@@ -4,9 +4,10 @@ ghost use Rattle.doc_check.specs.NoOrders.{AreSettled};
 use doc_register::Conflicts;
 use history::Rec;
 
-/// Returns whether each write has a reply that says whether it was performed. Under Maybe a conflict doesn't
-/// say it.
+/// Returns whether the records are complete: each write has a reply that says whether it was performed. Under
+/// Maybe a conflict doesn't say it.
 pub fn is_settled(records: &[Rec], conflicts: Conflicts) -> bool
+    // The result is true exactly if the records are complete.
     ensures { IsTrue result ↔ AreSettled conflicts records.now }
 {
     for found in records {

@@ -95,7 +95,7 @@ fn note_pair(used: &mut IndexSet<Pair>, pair: Pair)
 }
 
 impl DocMap {
-    /// Returns a map without documents. It allocates nothing.
+    /// Returns a map without documents. It allocates nothing; documents are added in this memory later.
     pub fn new(alloc: Global) -> DocMap
         ensures { result ≡ no_documents }
     {
@@ -141,14 +141,18 @@ impl DocMap {
     /// A get is answered with what the document shows, and a write that is not performed with a conflict.
     /// Both leave the documents as they were, use no pair and never fail.
     ///
-    /// Errors of a performed write: `PairUsed` if its pair is already used, by any document; `PairLow` if its
-    /// pair is not greater than that of the document's last change; `NoMemory` if memory was refused. An
-    /// error changes nothing.
+    /// Errors of a performed write, in this order: `PairUsed` if its pair is already used, by any document;
+    /// `PairLow` if its pair is not greater than that of the document's last change; `NoMemory`. An error
+    /// changes nothing.
     pub fn apply(&mut self, id: &DocId, op: &Op, pair: Pair) -> Result<Reply, MapFault>
+        // An accepted call is a step of its document with the reply, and the pair in the reply of a write is
+        // the one that was passed in.
         ensures accepted { IfOk result (λ reply. Accepts self.old id.now op.now pair reply self.new) }
         ensures used { (result ≡ Err MapFault.PairUsed) ↔ IsUsedTwice self.old id.now op.now pair }
         ensures low { (result ≡ Err MapFault.PairLow) ↔ IsTooLow self.old id.now op.now pair }
+        // An error leaves the documents as they were.
         ensures refused { OnErr result (self.new ≡ self.old) }
+        // Only a write that would be performed gets an error.
         ensures performed { OnErr result (IsPerformed (state_of self.old id.now) op.now) }
     {
         let state = self.state(id);

@@ -31,7 +31,10 @@ impl DocState {
     /// Returns a write without a condition, and its reply, that bring a document that was never written to
     /// this state; `None` if this document was never written.
     pub fn making(&self) -> Option<(Op, Reply)>
+        // The operation and its reply are a step from a document that was never written to this state, and
+        // hide no pair.
         ensures some { IfSome result (λ made. DocStep DocState.Never made.0 made.1 Nothing self.now) }
+        // There is no result only for a document that was never written.
         ensures none { IfNone result (self.now ≡ DocState.Never) }
     {
         match *self {

@@ -137,6 +137,7 @@ fn write(state: DocState, op: Op, reply: Reply, hidden: Option<Pair>) -> Option<
 /// reply.
 pub fn step(state: DocState, op: &Op, reply: &Reply, hidden: Option<Pair>) -> Option<DocState>
     ensures some { IfSome result (λ after. DocStep state op.now reply.now hidden after) }
+    // There is no result only if the definition allows no state after the step.
     ensures none { IfNone result ((after : State) → ¬ DocStep state op.now reply.now hidden after) }
 {
     match *op {

@@ -164,15 +164,17 @@ fn is_stale_swap(history: &History, one: u64, two: u64) -> bool
 /// history doesn't have is no evidence.
 ///
 /// Evidence of one or two calls takes at most one walk over the events, and no memory. Evidence that a
-/// document is ruled out takes a walk over the calls of each document up to that one, and sorts their pairs;
-/// only this can be out of memory.
+/// document is provably not linearizable (`RuledOut`) takes a walk over the calls of each document up to that
+/// one, and sorts their pairs; only for this memory can be refused, which is the only error.
 pub fn refutes(
     alloc: Global,
     history: &History,
     evidence: &Refuted,
     conflicts: Conflicts,
 ) -> Result<bool, NoMemory>
+    // The result is true exactly if the evidence holds in the history.
     ensures holds { IfOk result (λ holds. IsTrue holds ↔ Holds conflicts history.now evidence.now) }
+    // Of evidence of one or two calls there is no error.
     ensures succeeds { IsOfCalls evidence.now → IsOk result }
 {
     // Calling `len` makes it known from here on that this is a history.

@@ -26,15 +26,17 @@ fn ruled_out_call(
     ruled_out_at(alloc, &records, conflicts)
 }
 
-/// Returns whether the document of this number is ruled out, in this reading of conflicts. It takes one walk
-/// over its calls, and sorts their pairs.
+/// Returns whether the document of this number is provably not linearizable, in this reading of conflicts. It
+/// takes one walk over its calls, and sorts their pairs.
 pub fn is_document_ruled_out(
     alloc: Global,
     history: &History,
     doc: usize,
     conflicts: Conflicts,
 ) -> Result<bool, NoMemory>
+    // The document is one of the history.
     requires { doc < length (documents_of history.now) }
+    // The result is true exactly if the document is provably not linearizable.
     ensures { IfOk result (λ ruled_out. IsTrue ruled_out ↔ IsDocumentRuledOut conflicts history.now doc) }
 {
     // Calling `len` makes it known from here on that this is a history.

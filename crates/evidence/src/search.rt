@@ -49,13 +49,18 @@ fn confirm(
 
 /// Returns evidence that holds in the history, in this reading of conflicts. It is of the first kind that
 /// holds, in the order of `Refuted`, and of that kind it has the least call numbers, compared by the first
-/// number first. Returns `None` if no kind holds. Documents that are ruled out are not searched for.
+/// number first. Documents that are provably not linearizable are not searched for.
+///
+/// Which evidence is found, and that some is found if a kind holds, is tested, not proved: `None` says
+/// nothing.
 pub fn find_evidence(
     alloc: Global,
     history: &History,
     conflicts: Conflicts,
 ) -> Result<Option<Refuted>, NoMemory>
+    // Evidence that is found holds in the history.
     ensures holds { IfOk result (λ found. IfSome found (Holds conflicts history.now)) }
+    // It is of one or two calls.
     ensures of_calls { IfOk result (λ found. IfSome found IsOfCalls) }
 {
     let calls = AnsweredCalls::of(alloc, history)?;
@@ -75,19 +80,24 @@ pub fn find_evidence(
     confirm(alloc, history, swap, conflicts)
 }
 
-/// Returns the evidence that a document of the history is ruled out, in this reading of conflicts: the least
-/// call at which one is. Returns `None` if no document is. Only the documents of these numbers are checked,
-/// and no other document may be ruled out.
+/// Returns the evidence that a document of the history is provably not linearizable, in this reading of
+/// conflicts: the least call at which one is. Returns `None` if no document is. Only the documents of these
+/// numbers are checked.
 pub fn rule_out(
     alloc: Global,
     history: &History,
     conflicts: Conflicts,
     docs: &[usize],
 ) -> Result<Option<Refuted>, NoMemory>
+    // The numbers are those of documents of the history.
     requires within { AreDocuments history.now docs.now }
+    // Each document that is provably not linearizable is among them.
     requires listed { ListsRuledOut conflicts history.now docs.now }
+    // Evidence that is found holds in the history.
     ensures holds { IfOk result (λ found. IfSome found (Holds conflicts history.now)) }
+    // No document is provably not linearizable at a call with a lesser number.
     ensures least { IfOk result (λ found. IfSome found (IsReported RulingOut.On conflicts history.now)) }
+    // If none is found, no document of the history is provably not linearizable.
     ensures none { IfOk result (λ found. found ≡ Nothing → IsWithoutRuledOut conflicts history.now) }
 {
     // Calling `len` makes it known from here on that this is a history.

@@ -130,8 +130,9 @@ fn written_bulk(
 /// Returns the history text of a bulk request and its reply: the call lines of all items, numbered from
 /// `first` on shard 0, followed by a reply or a lost line for each.
 ///
-/// Errors, in this order: the faults of the body, those of the reply, `Kind` for the first item whose reply
-/// is a stranger's, and `Count` for a call number above 2^64-1. `NoMemory` if memory was refused.
+/// Errors, in this order: the faults of the body (`read_bulk`), those of the reply (`read_bulk_reply`),
+/// `Kind` for the first item whose reply is a stranger's, and `Count` for a call number above 2^64-1.
+/// `NoMemory` may come before any of them.
 pub fn bulk_text(
     alloc: Global,
     first: u64,
@@ -139,7 +140,9 @@ pub fn bulk_text(
     status: u16,
     reply: &[u8],
 ) -> Result<Vec<u8>, BulkFault>
+    // The lines are those that the definition gives.
     ensures ok { IfOk result (λ text. bulk_history first body.now status reply.now ≡ Ok text.items) }
+    // An error other than `NoMemory` is the first fault by the definition.
     ensures fault { IfErr result (λ fault. UnlessMemory fault
         (bulk_history first body.now status reply.now ≡ Err fault)) }
 {

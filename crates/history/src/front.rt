@@ -12,7 +12,8 @@ use std::marker::Model;
 use version_pair::{DocId, NoMemory};
 
 /// A prefix of a history, as a history of its own, without a copy of its events. A reply after its end is not
-/// heard, and a document whose first call is after its end is not one of its documents.
+/// heard, and a document whose first call is after its end is not one of its documents. Contracts see its
+/// events.
 #[derive(Debug, Drop)]
 pub struct Front<'h> {
     history: &'h History,
@@ -72,7 +73,7 @@ fn below(number: Option<usize>, bound: usize) -> Option<usize>
 }
 
 impl<'h> Front<'h> {
-    /// Returns the keys of the hashes by which documents are found.
+    /// Returns the keys of the hashes by which documents are found. Nothing is promised of them.
     pub fn keys(&self) -> HashKeys {
         self.history.keys()
     }
@@ -90,7 +91,9 @@ impl<'h> Front<'h> {
 
     /// Returns the event at a position, from 0.
     pub fn event(&self, place: usize) -> &'h Event
+        // The position is below the number of events.
         requires { place < length self.now }
+        // It is the event at this position.
         ensures { slice_get self.now place ≡ Some result.now }
     {
         self.history.event(place)
@@ -120,7 +123,9 @@ impl<'h> Front<'h> {
 
     /// Returns the id of a document. Documents are numbered from 0 in the order of their first calls.
     pub fn doc(&self, doc: usize) -> &'h DocId
+        // The document is one of the prefix.
         requires { doc < length (documents_of self.now) }
+        // It is the id of this document.
         ensures { option_map (λ d. d.0) (slice_get (documents_of self.now) doc) ≡ Some result.now }
     {
         self.history.doc(doc)
@@ -128,6 +133,8 @@ impl<'h> Front<'h> {
 
     /// Returns the number of the document with this id, if the prefix has a call on it.
     pub fn doc_of(&self, id: &DocId) -> Option<usize>
+        // It is the position of the id among the documents; there is none exactly if no call before the end
+        // is on the document.
         ensures { result ≡ position (λ d. is_same id.now d.0) (documents_of self.now) }
     {
         below(self.history.doc_of(id), self.docs)
@@ -135,7 +142,9 @@ impl<'h> Front<'h> {
 
     /// Returns the shard of a document, that of its first call: 0 to 1,023.
     pub fn shard(&self, doc: usize) -> u32
+        // The document is one of the prefix.
         requires { doc < length (documents_of self.now) }
+        // It is the shard of this document.
         ensures { option_map (λ d. d.1) (slice_get (documents_of self.now) doc) ≡ Some result }
     {
         self.history.shard(doc)

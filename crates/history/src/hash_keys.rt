@@ -26,7 +26,7 @@ impl HashKeys {
         HashKeys { start }
     }
 
-    /// Returns keys that everyone knows, for texts of whoever runs the program.
+    /// Returns keys that everyone knows, for texts of whoever runs the program: those of twice the number 0.
     pub fn fixed() -> HashKeys
         ensures { result.start ≡ hasher_of 0 0 }
     {
@@ -37,6 +37,7 @@ impl HashKeys {
 impl BuildHasher for HashKeys {
     type Hasher = DefaultHasher;
 
+    // Each hasher begins as the one to which the two numbers of the keys were written.
     ghost build_hasher = { λ keys. keys.start };
 
     fn build_hasher(&self) -> DefaultHasher {

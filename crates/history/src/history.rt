@@ -18,11 +18,11 @@ use version_pair::{DocId, IdText, NoMemory};
 /// The most events that a history has.
 pub const MOST_EVENTS: usize = 1_048_576;
 
-/// A history: events in the order in which they were recorded.
+/// A history: events in the order in which they were recorded. Contracts see the list of its events.
 ///
 /// The type guarantees that call numbers are distinct, that each call has at most one ending, which comes
 /// after it and is of a kind that fits its operation, and that all calls of a document name one shard, 0 to
-/// 1,023.
+/// 1,023. Documents have numbers from 0, in the order of their first calls.
 #[derive(Debug, Drop)]
 pub struct History {
     events: Vec<Event>,
@@ -51,7 +51,7 @@ impl Model for History {
 
 impl History {
     /// Returns the history without events. Its documents are found by hashes with fixed keys. It allocates
-    /// nothing.
+    /// nothing; events are added in this memory later.
     pub fn new(alloc: Global) -> History
         ensures empty { result ≡ [] }
         ensures history { IsHistory result }
@@ -59,8 +59,8 @@ impl History {
         History::with_keys(alloc, HashKeys::fixed())
     }
 
-    /// Returns the history without events. Its documents are found by hashes with these keys. It allocates
-    /// nothing.
+    /// Returns the history without events. Its documents are found by hashes with these keys, of which no
+    /// clause speaks: no answer depends on them. It allocates nothing; events are added in this memory later.
     pub fn with_keys(alloc: Global, keys: HashKeys) -> History
         ensures empty { result ≡ [] }
         ensures history { IsHistory result }
@@ -73,7 +73,7 @@ impl History {
         }
     }
 
-    /// Returns the keys of the hashes by which documents are found.
+    /// Returns the keys of the hashes by which documents are found. Nothing is promised of them.
     pub fn keys(&self) -> HashKeys {
         self.documents.keys()
     }
@@ -96,13 +96,15 @@ impl History {
 
     /// Returns the event at a position, from 0.
     pub fn event(&self, place: usize) -> &Event
+        // The position is below the number of events.
         requires { place < length self.now }
+        // It is the event at this position.
         ensures { slice_get self.now place ≡ Some result.now }
     {
         &self.events[place]
     }
 
-    /// Returns the position of the call with this number.
+    /// Returns the position of the call with this number, or `None` if there is none.
     pub fn call(&self, no: u64) -> Option<usize>
         ensures place { result ≡ place_of (is_call no) self.now }
         ensures within { IfSome result (λ place. place < length self.now) }
@@ -121,7 +123,7 @@ impl History {
     }
 
     /// Returns the position of the ending of the call with this number: its reply, or the event that it is
-    /// lost.
+    /// lost. `None` if there is none.
     pub fn ending(&self, no: u64) -> Option<usize>
         ensures place { result ≡ place_of (is_ending no) self.now }
         ensures within { IfSome result (λ place. place < length self.now) }
@@ -213,14 +215,20 @@ impl History {
         Ok(())
     }
 
-    /// Adds an event at the end, or refuses it with the first reason that holds. For a call these are
-    /// `SecondCall`, `ShardMoved`, `Full`; for a reply `NoCall`, `Ended`, `Kind`, `Full`; for a lost call
-    /// `NoCall`, `Ended`, `Full`; the last reason is `NoMemory`. A refusal leaves the history as it was. A
-    /// call must name one of the 1,024 shards.
+    /// Adds an event at the end, or refuses it with the first reason that holds.
+    ///
+    /// Errors, in this order: for a call `SecondCall`, `ShardMoved`, `Full`; for a reply `NoCall`, `Ended`,
+    /// `Kind`, `Full`; for a lost call `NoCall`, `Ended`, `Full`; last `NoMemory`. An error leaves the
+    /// history as it was; the event is dropped.
     pub fn push(&mut self, event: Event) -> Result<(), HistFault>
+        // The shard of a call is 0 to 1,023.
         requires { HasShard event }
+        // The event is added at the end.
         ensures ok { OnOk result (self.new ≡ self.old ++ event ∷ []) }
+        // An error leaves the events as they were.
         ensures err { OnErr result (self.new ≡ self.old) }
+        // The error is another one than `NoMemory` exactly if the definition gives a reason, and then it is
+        // that one, the first that holds.
         ensures reason { refusal_told result ≡ refusal_of self.old event }
         ensures history { IsHistory self.new }
         ensures within { length self.new ≤ limit }
@@ -249,7 +257,9 @@ impl History {
 
     /// Returns the id of a document. Documents are numbered from 0 in the order of their first calls.
     pub fn doc(&self, doc: usize) -> &DocId
+        // The document is one of the history.
         requires { doc < length (documents_of self.now) }
+        // It is the id of this document.
         ensures { option_map (λ d. d.0) (slice_get (documents_of self.now) doc) ≡ Some result.now }
     {
         match self.documents.get(doc) {
@@ -258,8 +268,10 @@ impl History {
         }
     }
 
-    /// Returns the number of the document with this id, if it was called.
+    /// Returns the number of the document with this id, or `None` if no call is on it.
     pub fn doc_of(&self, id: &DocId) -> Option<usize>
+        // It is the position of the id among the documents; there is none exactly if no call is on the
+        // document.
         ensures { result ≡ position (λ d. is_same id.now d.0) (documents_of self.now) }
     {
         self.doc_of_text(&id.text())
@@ -290,7 +302,9 @@ impl History {
 
     /// Returns the shard of a document, that of its first call: 0 to 1,023.
     pub fn shard(&self, doc: usize) -> u32
+        // The document is one of the history.
         requires { doc < length (documents_of self.now) }
+        // It is the shard of this document.
         ensures { option_map (λ d. d.1) (slice_get (documents_of self.now) doc) ≡ Some result }
     {
         match self.documents.get(doc) {

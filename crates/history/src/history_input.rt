@@ -14,25 +14,30 @@ use std::io::Read;
 /// Reads the text of a reader to its end, and returns its history; or the first line that is refused, with
 /// its first cause, as `read` reports them of the text.
 ///
-/// The reader is asked for 32,768 bytes at a time, and for none after the line that is refused: no bytes
-/// after that line are taken but those that the last read brought. Of a line that is too long 65,537 bytes
-/// are taken, and of the 4,194,305th line none.
+/// The reader is asked for 32,768 bytes at a time, and for none after the line that is refused. Of a line
+/// that is too long 65,537 bytes are taken, and of the 4,194,305th line none. The history has these keys. At
+/// most one line is held, and no more than 65,537 bytes of one.
 ///
-/// The history has these keys. At most one line is held, and no more than 65,537 bytes of one.
-///
-/// Errors: `Read` if the reader failed, an interruption included; `NoMemory` if memory was refused. In both
-/// cases the lines before the one at which it stopped are taken, and maybe a prefix of that one.
+/// Errors, whichever comes first: `Read` if the reader failed, an interruption included; `NoMemory`; and
+/// inside `Ok` those of `read`. The lines before the one at which it stopped are taken, and maybe a prefix of
+/// that one.
 pub fn read_from<R: Read>(
     alloc: Global,
     keys: HashKeys,
     input: &mut R,
 ) -> Result<Result<History, TextFault>, InputFault>
+    // If the reader's bytes are known, the result is what the definition gives for them, as that of `read`
+    // is.
     ensures told { IfOk result (λ told. IfSome (R.remaining input.old) (λ text. MatchResult told
         (λ history. history_text text ≡ Ok history)
         (λ fault. history_text text ≡ Err fault))) }
+    // A history is one that the reader's bytes to their end are a text of, if they are known.
     ensures text { IfOk result (λ told. IfSome (R.remaining input.old)
         (λ text. IfOk told (IsHistoryText text))) }
+    // No bytes after the first refused line are taken but those that the last read returned, 32,768 at most;
+    // of that line and all before it 4,194,304 times 65,537 bytes at most.
     ensures taken { IsTakenFor history_text (R.remaining input.old) (R.remaining input.new) }
+    // After a history nothing is left in the reader.
     ensures end { IfOk result (λ told. OnOk told (OnSome (R.remaining input.old)
         (IsAtEnd (R.remaining input.new)))) }
 {

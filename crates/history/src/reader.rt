@@ -118,14 +118,16 @@ impl Model for HistoryReader {
 }
 
 impl HistoryReader {
-    /// Returns a reader that has taken no line, for a history with fixed keys. It allocates nothing.
+    /// Returns a reader that has taken no line, for a history with fixed keys. It allocates nothing; events
+    /// are added in this memory later.
     pub fn new(alloc: Global) -> HistoryReader
         ensures { result ≡ so_far [] 0 }
     {
         HistoryReader::with_keys(alloc, HashKeys::fixed())
     }
 
-    /// Returns a reader that has taken no line, for a history with these keys. It allocates nothing.
+    /// Returns a reader that has taken no line, for a history with these keys. It allocates nothing; events
+    /// are added in this memory later.
     pub fn with_keys(alloc: Global, keys: HashKeys) -> HistoryReader
         ensures { result ≡ so_far [] 0 }
     {
@@ -136,14 +138,21 @@ impl HistoryReader {
         }
     }
 
-    /// Takes the next line, without its line feed; or refuses it with its first cause, in the order that
-    /// `read` names. `NoMemory` if memory was refused. A line that is refused leaves the reader as it was.
+    /// Takes the next line, without its line feed; or refuses it with its first cause.
+    ///
+    /// Errors: those of `read` for this line, in their order; `NoMemory` may come before any of them. A line
+    /// that is refused leaves the reader as it was.
     pub fn line(&mut self, line: &[u8]) -> Result<(), ReadFault>
+        // The line has no line feed in it.
         requires { HasNoLineFeed line.now }
+        // A line that is taken adds what the definition gives.
         ensures ok { OnOk result (next_line takes_value self.old line.now ≡ Ok self.new) }
+        // The lines that were taken are 4,194,304 at most.
         ensures within { self.new.lines ≤ most_lines }
+        // An error other than `NoMemory` is that of the definition.
         ensures fault { IfErr result (λ fault. IfTextTold fault
             (λ told. next_line takes_value self.old line.now ≡ Err told)) }
+        // An error leaves the reader as it was.
         ensures unchanged { OnErr result (self.new ≡ self.old) }
     {
         let number = self.lines + 1;
@@ -169,10 +178,13 @@ impl LineReader for HistoryReader {
     ghost use Rattle.std.specs.Prelude.{List};
     ghost use Rattle.history.specs.declared.event.Event.{Event};
 
+    // The state is the events so far.
     ghost State = { List Event };
 
+    // The value of a line adds the event that the line gives.
     ghost takes = { takes_value };
 
+    // The events and the number of lines are those of the reader.
     ghost reached = { λ reader. reader };
 
     fn line(&mut self, line: &[u8]) -> Result<(), ReadFault> {
@@ -180,14 +192,19 @@ impl LineReader for HistoryReader {
     }
 }
 
-/// Returns the history that a text spells, or the first line that is refused, with its first cause.
+/// Returns the history that a text spells, or the first line that is refused, with its first cause. So there
+/// is a history exactly if the bytes are a history text, unless memory is refused.
 ///
-/// Causes are reported in this order: `Lines` and `Long`, after which a blank line is passed over; `Json`,
+/// Errors of a line, in this order: `Lines` and `Long`, after which a blank line is passed over; `Json`,
 /// `Shape`, `Id`, `Half`, `Range`; for a call `SecondCall`, `ShardMoved`, `Full`; for a reply `NoCall`,
-/// `Ended`, `Stranger`, `Full`; for a lost line `NoCall`, `Ended`, `Full`. `NoMemory` if memory was refused.
+/// `Ended`, `Stranger`, `Full`; for a lost line `NoCall`, `Ended`, `Full`. `NoMemory` may come before any of
+/// them.
 pub fn read(alloc: Global, text: &[u8]) -> Result<History, ReadFault>
+    // The history is that which the definition gives for the bytes.
     ensures ok { IfOk result (λ history. history_text text.now ≡ Ok history) }
+    // The bytes are a history text of just this history.
     ensures text { IfOk result (IsHistoryText text.now) }
+    // An error other than `NoMemory` is the line and the cause that the definition gives.
     ensures fault { IfErr result (λ fault. IfTextTold fault (λ told. history_text text.now ≡ Err told)) }
 {
     let mut reader = HistoryReader::new(alloc);

@@ -41,9 +41,12 @@ impl Front<'_> {
         }
     }
 
-    /// Returns the calls of a document in their order, each with what was heard of it.
+    /// Returns the calls of a document in their order, each with what was heard of it before the end of the
+    /// prefix.
     pub fn records(&self, doc: usize) -> Result<Vec<Rec>, NoMemory>
+        // The document is one of the prefix.
         requires { doc < length (documents_of self.now) }
+        // The records are those of the document in the prefix.
         ensures { IfOk result (λ records. option_map (λ d. records_of self.now d.0)
             (slice_get (documents_of self.now) doc) ≡ Some records.items) }
     {
@@ -57,7 +60,8 @@ impl Front<'_> {
 }
 
 impl History {
-    /// Returns what was heard of the call with this number: the position of its reply, and the reply.
+    /// Returns what was heard of the call with this number: the position of its reply, and the reply. `None`
+    /// if there is no reply.
     pub fn heard(&self, no: u64) -> Option<(usize, Reply)>
         ensures { result ≡ heard_of self.now no }
     {
@@ -70,8 +74,9 @@ impl History {
         }
     }
 
-    /// Returns the call with this number as a record.
+    /// Returns the call with this number as a record, or `None` if there is none.
     pub fn record(&self, no: u64) -> Option<Rec>
+        // It is the record at the position of this call.
         ensures { result ≡ option_and_then (record_at self.now) (place_of (is_call no) self.now) }
     {
         match self.call(no) {
@@ -82,7 +87,9 @@ impl History {
 
     /// Returns the calls of a document in their order, each with what was heard of it.
     pub fn records(&self, doc: usize) -> Result<Vec<Rec>, NoMemory>
+        // The document is one of the history.
         requires { doc < length (documents_of self.now) }
+        // The records are those of the document.
         ensures { IfOk result (λ records. option_map (λ d. records_of self.now d.0)
             (slice_get (documents_of self.now) doc) ≡ Some records.items) }
     {

@@ -58,8 +58,11 @@ fn write_event(
 ///
 /// The result is a history text, and is read back as the same events.
 pub fn write(alloc: Global, history: &History) -> Result<Vec<u8>, NoMemory>
+    // The bytes are those that the definition gives for the events.
     ensures text { IfOk result (λ text. text.items ≡ written_text history.now) }
+    // They are a history text of just these events.
     ensures is_text { IfOk result (λ text. IsHistoryText text.items history.now) }
+    // They are read back as just these events.
     ensures reads_back { IfOk result (λ text. history_text text.items ≡ Ok history.now) }
 {
     let mut text = Vec::new(alloc);

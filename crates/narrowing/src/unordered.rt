@@ -132,9 +132,9 @@ fn front_to(history: &History, place: Option<usize>) -> Front<'_> {
 // each of these documents has an order of the events before that. For a history without a suspect it may be
 // `None`.
 //
-// Each of the documents is searched once, on the events before the index that the earlier ones gave. If it has
-// no order, its replies are searched by bisection, on windows of its calls; all windows together cost about
-// one more search. The only document of a history is searched by bisection at once.
+// Each of the documents is searched once, on the events before the index that the earlier ones gave. If it
+// has no order, its replies are searched by bisection, on windows of its calls; all windows together cost
+// about one more search. The only document of a history is searched by bisection at once.
 fn narrow(
     alloc: Global,
     history: &History,
@@ -163,8 +163,10 @@ fn narrow(
 /// Returns a guess at the first reply at which the search finds no order of the events up to it, as its
 /// index. It is a reply that contradicts an earlier one by the pairs that both show, or an earlier one to
 /// which bisection over the replies of a document by itself leads. The documents are those for which the
-/// search finds no order, by their numbers, rising. The guess may be `None`. It comes with no guarantee: what
-/// came before a window of calls is only summarised.
+/// search finds no order, by their numbers, rising. The guess may be `None`.
+///
+/// It comes with no guarantee, since what came before a window of calls is only summarised: the two searches
+/// of `compose::first_offence` decide.
 pub fn guess(
     alloc: Global,
     history: &History,

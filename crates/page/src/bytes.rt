@@ -25,7 +25,7 @@ fn add_piece(alloc: Global, bytes: &mut Vec<u8>, piece: &Piece) -> Result<(), Al
     }
 }
 
-/// Returns the bytes of a page: those of its pieces, one after the other.
+/// Returns the bytes of a page: those of its pieces, one after the other, each text among them escaped.
 pub fn page_bytes(alloc: Global, pieces: &[Piece]) -> Result<Vec<u8>, AllocError>
     ensures { IfOk result (λ bytes. bytes.items ≡ bytes_of pieces.now) }
 {

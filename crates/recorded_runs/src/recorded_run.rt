@@ -138,17 +138,26 @@ fn record_in_turns(
 
 /// Returns the history that the clients of the setting's plan record against its group, in this manner.
 ///
-/// In turns the setting and the disturbance determine it. For the faults, see `run_played_stream`.
+/// In turns the setting and the disturbance determine it, to the end: the plan of the seed, the group at its
+/// start, the words of the generator, the incidents of the schedule, and which client is visited when. So a
+/// run of another seed, another fault, other copies or another disturbance does not meet the contract. On
+/// threads nothing is known of the group but what its type guarantees, since it lies under a lock: that a run
+/// is of the setting's group, and invents no reply, is tested. For the errors, see `run_played_stream`.
 pub fn run_history<T: Threads + Wait + Sync>(
     rt: &T,
     alloc: Global,
     setting: &RunSetting,
     manner: &Manner,
 ) -> Result<History, StreamFault>
+    // Whatever the manner, the history is a recording of pens, one for each client of the plan, whose lists
+    // are the runs of these clients.
     ensures run { IfOk result (IsRunOf ⟦<DisturbedGroup as Target>⟧.issued ⟦<DisturbedGroup as Target>⟧.gave (plan_of setting.now)) }
+    // In turns it is exactly the run that the setting and the disturbance determine.
     ensures in_turns { manner.now.playing ≡ Playing.InTurns
         → IfOk result (IsRunInTurns setting.now manner.now.disturbance) }
+    // The error is `Setting` exactly if a number of the plan or of the group is refused.
     ensures setting { IsErrOf result StreamFault.Setting ↔ IsTrue (is_refused setting.now) }
+    // The only errors are `NoMemory`, `Recording` and `Setting`.
     ensures told { IfErr result IsOfRun }
 {
     let (plan, core) = plan_and_core(alloc, setting, manner.disturbance)?;
@@ -192,9 +201,11 @@ fn run_text<T: Threads + Wait + Sync>(
 /// the setting and the disturbance. If each runs on a thread of its own, that also holds for one client; with
 /// more clients it also depends on which thread was faster. A client polls a call at most 1,000 times.
 ///
-/// Errors: `Setting` if a number of the plan or of the group is refused, reported before anything else;
-/// `NoMemory` if memory was refused; `Recording` if an event or an operation was refused for another reason.
-/// Closing loses no recording.
+/// Errors: `Setting` if a number of the plan or of the group is refused, before any other; then, whichever
+/// comes first, `NoMemory`, and `Recording` if an event or an operation was refused for another reason; last
+/// `Write`, after which a prefix of the text is written. Closing loses no recording, and a recording and a
+/// group have room for all turns of a plan: that `Recording` is never returned is tested, not proved. It
+/// waits for its threads, and these for the group's lock.
 pub fn run_played_stream<T: Threads + Wait + Sync, W: Write>(
     rt: &T,
     alloc: Global,
@@ -210,13 +221,16 @@ pub fn run_played_stream<T: Threads + Wait + Sync, W: Write>(
     // In turns it is the text of exactly the run that the setting and the disturbance determine.
     ensures in_turns { manner.now.playing ≡ Playing.InTurns → IfOk result (λ _. HasAnswer (IsTextInTurns setting.now
         manner.now.disturbance) (W.contents writer.old) (W.contents writer.new)) }
-    // After a write fault a prefix of such a text is written, and after any other fault nothing is.
+    // After `Write` the writer holds a prefix of such a text after what it held.
     ensures cut_off { IsErrOf result StreamFault.Write → HasFront (λ _. IsRunText
         ⟦<DisturbedGroup as Target>⟧.issued ⟦<DisturbedGroup as Target>⟧.gave setting.now)
         (W.contents writer.old) (W.contents writer.new) }
+    // After any error but `Write` the writer holds what it held.
     ensures kept { IfErr result (λ fault. fault ≢ StreamFault.Write
         → Keeps (W.contents writer.old) (W.contents writer.new)) }
+    // The error is `Setting` exactly if a number of the plan or of the group is refused.
     ensures setting { IsErrOf result StreamFault.Setting ↔ IsTrue (is_refused setting.now) }
+    // The only errors are `Write`, `NoMemory`, `Recording` and `Setting`.
     ensures told { IfErr result IsRunFault }
 {
     match run_text(rt, alloc, setting, manner) {
@@ -229,15 +243,8 @@ pub fn run_played_stream<T: Threads + Wait + Sync, W: Write>(
 }
 
 /// Runs clients against a replication group that isn't disturbed, and writes the text of the history that
-/// they recorded.
-///
-/// The seed draws the plan of the clients and the steps of the group. Each client runs on a thread of its own
-/// if one can be made, and polls a call at most 1,000 times. With one client the text depends only on the
-/// setting; with more it also depends on which thread was faster.
-///
-/// Errors: `Setting` if a number of the plan or of the group is refused, reported before anything else;
-/// `NoMemory` if memory was refused; `Recording` if an event or an operation was refused for another reason.
-/// Closing loses no recording.
+/// they recorded: `run_played_stream` with the clients on threads. Its errors are those of
+/// `run_played_stream`.
 pub fn run_stream<T: Threads + Wait + Sync, W: Write>(
     rt: &T,
     alloc: Global,
@@ -249,13 +256,16 @@ pub fn run_stream<T: Threads + Wait + Sync, W: Write>(
     ensures written { IfOk result (λ status. (status ≡ Status.Yes) × HasAnswer (IsRunText
         ⟦<DisturbedGroup as Target>⟧.issued ⟦<DisturbedGroup as Target>⟧.gave setting.now)
         (W.contents writer.old) (W.contents writer.new)) }
-    // After a write fault a prefix of such a text is written, and after any other fault nothing is.
+    // After `Write` the writer holds a prefix of such a text after what it held.
     ensures cut_off { IsErrOf result StreamFault.Write → HasFront (λ _. IsRunText
         ⟦<DisturbedGroup as Target>⟧.issued ⟦<DisturbedGroup as Target>⟧.gave setting.now)
         (W.contents writer.old) (W.contents writer.new) }
+    // After any error but `Write` the writer holds what it held.
     ensures kept { IfErr result (λ fault. fault ≢ StreamFault.Write
         → Keeps (W.contents writer.old) (W.contents writer.new)) }
+    // The error is `Setting` exactly if a number of the plan or of the group is refused.
     ensures setting { IsErrOf result StreamFault.Setting ↔ IsTrue (is_refused setting.now) }
+    // The only errors are `Write`, `NoMemory`, `Recording` and `Setting`.
     ensures told { IfErr result IsRunFault }
 {
     let manner = Manner {

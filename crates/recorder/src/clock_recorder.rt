@@ -26,7 +26,8 @@ use version_pair::{DocId, NoMemory};
 ///
 /// An event is recorded at one moment, in which its pen adds 1 to the word; the event's number is the
 /// previous value of the word. No call waits for another. Contracts see a recorder as the number of pens that
-/// it was started with, and its clock word.
+/// it was started with, and its clock word; and a pen as its list, whether `Full` was returned for it, and
+/// its clock word.
 #[derive(Drop)]
 pub struct ClockRecorder {
     pens: usize,
@@ -47,9 +48,10 @@ impl Model for ClockRecorder {
 }
 
 impl ClockRecorder {
-    /// Returns a recorder with this many pens, 1 to 8, through which nothing was recorded. Errors: `Count`
-    /// for another number of pens; last `NoMemory`.
+    /// Returns a recorder with this many pens, 1 to 8, through which nothing was recorded. Errors, in this
+    /// order: `Count` for another number of pens; `NoMemory`.
     pub fn start(alloc: Global, pens: usize) -> Result<(ClockRecorder, Vec<ClockPen>), StartFault>
+        // There are that many pens, each new and of the recorder's clock word.
         ensures ok { IfOk result (λ started. (started.0.pens ≡ pens)
             × (started.1.items ≡ replicate pens (new_clock_pen started.0.clock))) }
         ensures count { (result ≡ Err StartFault.Count) ↔ ((pens ≡ 0) ⊎ (8 < pens)) }
@@ -71,27 +73,37 @@ impl ClockRecorder {
     }
 
     /// Records that an operation on a document is called, and returns the event's number, which is the
-    /// call's.
+    /// call's. It waits for nobody.
     ///
-    /// Errors, in this order: `Full` if it was returned for the pen before, `NoMemory` for the pen's list,
-    /// `Full`. An error leaves the pen's list as it was. After `Full` was returned for a pen, it is returned
-    /// for that pen from then on, and the pen draws no number.
+    /// Errors: `Full` if it was returned for the pen before; then `NoMemory` for the pen's list, and `Full`,
+    /// in an order that is left open. An error leaves the pen's list as it was. After `Full` was returned for
+    /// a pen, it is returned for that pen from then on, and the pen draws no number.
     pub fn call(&self, pen: &mut ClockPen, id: DocId, op: Op) -> Result<u64, RecFault>
+        // The pen is of the recorder's clock word.
         requires { pen.old.clock ≡ self.now.clock }
+        // The result and the pen after it are as the definition says, for the call with the number of its
+        // event.
         ensures records { Records pen.old.pen None (λ n. Call 0 n id op) result pen.new.pen }
+        // The pen stays one of this clock word.
         ensures clock { pen.new.clock ≡ pen.old.clock }
+        // The error is never `Rewound`.
         ensures forward { (n : ℕ) → result ≢ Err (recording.Rewound n) }
     {
         pen.record(&self.clock, Unnumbered::Call { id, op })
     }
 
     /// Records the reply to the call numbered `no` of this pen, and returns the event's number. Errors, in
-    /// this order: `NotMine`, `Ended`, `Kind`, then those of `call`.
+    /// this order: `NotMine`, `Ended`, `Kind`, then those of `call`, with the same effect on the pen.
     pub fn reply(&self, pen: &mut ClockPen, no: u64, reply: Reply) -> Result<u64, RecFault>
+        // The pen is of the recorder's clock word.
         requires { pen.old.clock ≡ self.now.clock }
+        // The result and the pen after it are as the definition says; first comes what the pen's list
+        // refuses.
         ensures records { Records pen.old.pen (refusal_of pen.old.pen.list (Answered no reply))
             (λ _. Answered no reply) result pen.new.pen }
+        // The pen stays one of this clock word.
         ensures clock { pen.new.clock ≡ pen.old.clock }
+        // The error is never `Rewound`.
         ensures forward { (n : ℕ) → result ≢ Err (recording.Rewound n) }
     {
         if let Some(fault) = pen.notes.reply_refusal(no, &reply) {
@@ -101,12 +113,18 @@ impl ClockRecorder {
     }
 
     /// Records that the outcome of the call numbered `no` of this pen will never be known, and returns the
-    /// event's number. Errors, in this order: `NotMine`, `Ended`, then those of `call`.
+    /// event's number. Errors, in this order: `NotMine`, `Ended`, then those of `call`, with the same effect
+    /// on the pen.
     pub fn lost(&self, pen: &mut ClockPen, no: u64) -> Result<u64, RecFault>
+        // The pen is of the recorder's clock word.
         requires { pen.old.clock ≡ self.now.clock }
+        // The result and the pen after it are as the definition says; first comes what the pen's list
+        // refuses.
         ensures records { Records pen.old.pen (refusal_of pen.old.pen.list (Missed no)) (λ _. Missed no) result
             pen.new.pen }
+        // The pen stays one of this clock word.
         ensures clock { pen.new.clock ≡ pen.old.clock }
+        // The error is never `Rewound`.
         ensures forward { (n : ℕ) → result ≢ Err (recording.Rewound n) }
     {
         if let Some(fault) = pen.notes.lost_refusal(no) {
@@ -141,15 +159,23 @@ impl ClockRecorder {
         Ok(strands)
     }
 
-    /// Returns the history that the pens recorded together. Errors: `PenMissing`, with both handed back, if
-    /// fewer pens come than were started; `NoMemory`, after which the recording is lost.
+    /// Returns the history that the pens recorded together.
+    ///
+    /// Errors, in this order: `PenMissing`, with both handed back, if fewer pens come than were started;
+    /// `NoMemory`, after which the recording is lost.
     pub fn close(self, pens: Vec<ClockPen>) -> Result<History, CloseFault<ClockRecorder, ClockPen>>
+        // All pens are of the recorder's clock word.
         requires { All (λ pen. pen.clock ≡ self.clock) pens.items }
+        // The history is the recording of these pens: every event that was recorded through any of them,
+        // once, at the number that was returned for it, and nothing else.
         ensures recording { IfOk result (λ history. IsRecordingOf (lists_of (pens_of pens.items)) history) }
+        // The error is `PenMissing` exactly if fewer pens come than were started.
         ensures missing { IsPenMissing result ↔ (vec_len pens < self.pens) }
+        // With `PenMissing` the recorder and the pens come back.
         ensures handed_back { IsPenMissing result → result ≡ Err (CloseFault.PenMissing self pens) }
+        // The error is never `Mismatch`.
         ensures agreed { result ≢ Err CloseFault.Mismatch }
-        // `Full` is returned for a pen only if that many events are recorded.
+        // If `Full` was returned for one of the pens, a history has 1,048,576 events.
         ensures full { has_full (pens_of pens.items) ≡ true → IfOk result (λ history. length history ≡ most_events) }
     {
         if pens.len() < self.pens {

@@ -75,8 +75,12 @@ pub struct Group {
 
 impl Group {
     /// Returns a group with that many copies, 1 to 5, at the start. Its steps are drawn from the seed.
-    /// Errors: `Copies` for another number of copies; last `NoMemory`.
+    /// Errors, in this order: `Copies` for another number of copies; `NoMemory`.
+    ///
+    /// What lies under the lock no public clause can name: that it is the core of these copies and this
+    /// fault, and the generator of the seed, is promised by its private maker, and tested.
     pub fn new(alloc: Global, copies: u32, fault: Fault, seed: u64) -> Result<Group, CoreFault>
+        // The error is `Copies` exactly outside 1 to 5.
         ensures { (result ≡ Err CoreFault.Copies) ↔ ((copies ≡ 0) ⊎ (5 < copies)) }
     {
         let locked = Locked::new(alloc, copies, fault, seed)?;
@@ -86,18 +90,21 @@ impl Group {
     }
 }
 
+// Its errors, and what they leave under the lock, are those of `submit_step` and `poll_step`.
 impl Target for Group {
     ghost use Rattle.std.specs.Prelude.{◌<◌};
     ghost use Rattle.repl_group.specs.Group.{most_tickets};
     ghost use Rattle.repl_group.specs.Polling.{IsKnown};
 
-    // Only tickets that a group has are issued.
+    // A ticket that is issued is below 524,288. Of which operation it is no clause says: a lock says of the
+    // core under it no more than its type does.
     ghost issued = { λ ticket _ _. ticket.0 < most_tickets };
 
     // Through its lock nothing is known of a group that has given all its tickets.
     ghost all_given = { Unit {0} };
 
-    // A group never reports that an outcome is unknown.
+    // A report is never that an outcome is unknown. That it is one to which steps of the group lead no clause
+    // says.
     ghost gave = { λ _ progress. IsKnown progress };
 
     fn submit<R: Wait>(&self, rt: &R, id: &DocId, op: &Op) -> Result<Ticket, TargetFault> {

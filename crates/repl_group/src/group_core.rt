@@ -17,6 +17,10 @@ pub const MOST_COPIES: u32 = 5;
 /// The core of a replication group: a state machine that takes one step at a time.
 ///
 /// Contracts see it as a `GroupState`: what it does wrong, its term and primary, its tickets and its copies.
+/// The type guarantees that a group without a fault is honest: no pair is given to two tickets, and each copy
+/// in sync holds each write that is answered `Indexed` or `Deleted`. (What the copies hold is kept in one
+/// log, in which each copy has a position; the lists of the `GroupState` are just what is held at these
+/// positions.)
 #[derive(Debug, Drop)]
 pub struct Core {
     machine: Machine,
@@ -36,11 +40,12 @@ impl Model for Core {
 
 impl Core {
     /// Returns the core of a group with that many copies, 1 to 5, at the start: term 1, copy 0 the primary,
-    /// all copies in sync, none cut off, nothing submitted. Errors: `Copies` for another number of copies;
-    /// last `NoMemory`.
+    /// all copies in sync, none cut off, nothing submitted. Errors, in this order: `Copies` for another
+    /// number of copies; `NoMemory`.
     pub fn new(alloc: Global, copies: u32, fault: Fault) -> Result<Core, CoreFault>
         ensures ok { IfOk result (λ core. core ≡ start fault copies) }
         ensures copies { (result ≡ Err CoreFault.Copies) ↔ ((copies ≡ 0) ⊎ (5 < copies)) }
+        // The group is honest unless it has a fault.
         ensures honest { IfOk result IsHonestUnlessFaulty }
     {
         if copies == 0 || copies > MOST_COPIES {
@@ -52,8 +57,7 @@ impl Core {
         }
     }
 
-    /// Takes one step, and returns its answer. It fails only if memory is refused, and only at a step that
-    /// the table lets the group take.
+    /// Takes one step, and returns its answer. It fails only if memory is refused; the step is then dropped.
     ///
     /// Every answer but `Ticket` and `Done` leaves the group as it was, and so does an error. A step takes
     /// the time of looking up its documents, tickets and copies, and at most a time proportional to the
@@ -62,9 +66,14 @@ impl Core {
     /// number of documents, for each copy that takes them. No step takes longer because of the writes and the
     /// tickets that the group has had.
     pub fn step(&mut self, step: Step) -> Result<Answer, NoMemory>
+        // The answer and the group after it are those of the table, which gives each step just one answer: so
+        // each answer comes exactly if the table has it, for each fault.
         ensures ok { IfOk result (λ answer. Takes self.old step answer self.new) }
+        // An error leaves the group as it was.
         ensures err { OnErr result (self.new ≡ self.old) }
+        // It fails only at a step that the table lets the group take.
         ensures due { OnErr result (MayTake self.old step) }
+        // The group stays honest unless it has a fault.
         ensures honest { IsHonestUnlessFaulty self.new }
     {
         self.machine.step(step)
@@ -73,6 +82,7 @@ impl Core {
     /// Returns the reply to a ticket, if it is answered; `None` also if there is no such ticket.
     pub fn result(&self, ticket: u64) -> Option<Reply>
         ensures reply { result ≡ result_of self.now ticket }
+        // The group is honest unless it has a fault.
         ensures honest { IsHonestUnlessFaulty self.now }
     {
         self.machine.result(ticket)

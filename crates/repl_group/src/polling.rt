@@ -68,10 +68,12 @@ fn progress(core: &Core, ticket: u64) -> Progress
     }
 }
 
-/// Does what a submission does in one hold of the group's lock: the step `Submit`. `Full` is reported before
-/// `NoMemory`.
+/// Does what a submission does in one hold of the group's lock: the step `Submit`. Errors, in this order:
+/// `Full` if 524,288 tickets are given, `NoMemory`. An error leaves the core as it was.
 pub fn submit_step(core: &mut Core, id: &DocId, op: &Op) -> Result<Ticket, TargetFault>
+    // The result and the core after it are those of a submission, in both directions.
     ensures submits { Submits core.old id.now op.now result core.new }
+    // The group stays honest unless it has a fault.
     ensures honest { IsHonestUnlessFaulty core.new }
 {
     if core.is_full() {
@@ -98,8 +100,12 @@ pub fn poll_step(
     random: &mut Lcg64Xsh32,
     ticket: Ticket,
 ) -> Result<Progress, TargetFault>
+    // The result, the core and the generator after it are those of a poll, in both directions. It fails only
+    // at a step that the table lets the group take.
     ensures polls { Polls core.old random.old ticket.0 result core.new random.new }
+    // The only error is `NoMemory`.
     ensures refused { IfErr result (λ fault. fault ≡ TargetFault.NoMemory) }
+    // The group stays honest unless it has a fault.
     ensures honest { IsHonestUnlessFaulty core.new }
 {
     if let Some(reply) = core.result(ticket.0) {

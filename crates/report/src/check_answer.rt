@@ -133,7 +133,8 @@ fn verdict_by<R: Threads + Wait + Sync>(
 /// Returns the answer to a text that was read as this history, which is the line that `check_stream` writes
 /// for it; and what was found of the history.
 ///
-/// Errors: `NoMemory` if memory was refused; `Worker` if a worker was lost, which one worker never is.
+/// Errors, whichever comes first: `NoMemory`; `Worker` if a worker was lost, which one worker never is. The
+/// history is then dropped. With more than one worker it waits as `check_pool::answers` does.
 pub fn history_answer<R: Threads + Wait + Sync>(
     rt: &R,
     alloc: Global,
@@ -142,17 +143,23 @@ pub fn history_answer<R: Threads + Wait + Sync>(
     conflicts: Conflicts,
     ruling_out: RulingOut,
 ) -> Result<(Answer, Finding), StreamFault>
+    // `some`, `few`: There are 1 to 16 workers.
     requires some { 1 ≤ workers }
     requires few { workers ≤ 16 }
+    // The answer is one to each text of the history, as `check_stream` promises it.
     ensures answer { IfOk result (λ made. (input : List ℕ) → IsHistoryText input history
         → IsAnswer ruling_out conflicts input made.0.status made.0.text.items) }
-    // What was found is what the line says.
+    // What was found is of this history and this reading of conflicts, and is what the line says: `Explained`
+    // with `yes`, or the evidence and the offence of the line, the evidence being one that holds and may be
+    // reported.
     ensures found { IfOk result (λ made. IsFindingOf ruling_out conflicts history made.0.status made.0.text.items
         made.1) }
+    // `told`, `unread`: The only errors are `NoMemory` and `Worker`: nothing is read.
     ensures told { IfErr result IsCheckFault }
-    // Nothing is read, and one worker is the caller's thread, which isn't lost.
     ensures unread { IfErr result (λ fault. fault ≢ StreamFault.Read) }
+    // With one worker, the caller's thread, the only error is `NoMemory`.
     ensures alone { workers ≡ 1 → IfErr result (λ fault. fault ≡ StreamFault.NoMemory) }
+    // A document that a `Worker` names is one of the history's.
     ensures named { IfErr result (HasDocument history) }
 {
     match verdict_by(rt, alloc, history, workers, conflicts)? {

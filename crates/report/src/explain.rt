@@ -155,6 +155,8 @@ pub fn explained_text<T: Threads + Wait + Sync, R: Read>(
 
 /// Reads a history text to its end. Returns the answer that `explain_stream` writes for it, and the
 /// explanation as a page of HTML, with a drawing of the calls. It writes nothing.
+///
+/// Errors, whichever comes first: `Read`, `NoMemory`, `Worker`. It waits as `check_stream` does.
 pub fn explained_page<T: Threads + Wait + Sync, R: Read>(
     rt: &T,
     alloc: Global,
@@ -164,6 +166,7 @@ pub fn explained_page<T: Threads + Wait + Sync, R: Read>(
     conflicts: Conflicts,
     ruling_out: RulingOut,
 ) -> Result<(Answer, Vec<u8>), StreamFault>
+    // `some`, `few`: There are 1 to 16 workers.
     requires some { 1 ≤ workers }
     requires few { workers ≤ 16 }
     // The text of the answer begins with a line that answers the bytes of the reader as the line of
@@ -172,9 +175,14 @@ pub fn explained_page<T: Threads + Wait + Sync, R: Read>(
         made.0.text.items) }
     // The page is made of markup of the crate `page`, numbers, and escaped texts.
     ensures page { IfOk result (λ made. IsPage made.1.items) }
+    // The only errors are `Read`, `NoMemory` and `Worker`.
     ensures told { IfErr result IsCheckFault }
+    // With one worker, the caller's thread, the error is never `Worker`.
     ensures alone { workers ≡ 1 → IfErr result IsReadingFault }
+    // A document that a `Worker` names is one of the history whose text the reader had.
     ensures named { IfErr result (NamesOwnDocument (R.remaining reader.old)) }
+    // No bytes after the first refused line are taken but those that the last read returned, as by
+    // `check_stream`.
     ensures taken { TakesHistory (R.remaining reader.old) (R.remaining reader.new) }
 {
     let (answer, story) = explain(rt, alloc, keys, reader, workers, conflicts, ruling_out)?;

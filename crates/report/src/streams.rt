@@ -22,10 +22,13 @@ use std::sync::Wait;
 use std::thread::Threads;
 use stream_io::{Status, StreamFault, read_all, write_answer};
 
-/// Reads a history text to its end and writes one line: `yes docs=D calls=C left_out=L` if one order of its
-/// calls, over all documents, explains it; `no event=E call=N before=shown` (or `unshown`) if none was found;
-/// `refuted kind=NAME calls=A,B event=E call=N before=shown` if none was found and there is evidence that
-/// there is none; `refused line=L cause=NAME` if it is no history text.
+/// Reads a history text to its end, and writes one line:
+///
+/// - `yes docs=D calls=C left_out=L` if one order of its calls, over all documents, explains it;
+/// - `no event=E call=N before=shown` (or `unshown`) if none was found;
+/// - `refuted kind=NAME calls=A,B event=E call=N before=shown` if none was found and there is evidence that
+///   there is none;
+/// - `refused line=L cause=NAME` if it is no history text.
 ///
 /// Each document is searched for an order of its answered calls, and, if they have none, for one that
 /// completes unanswered writes; and no pair of a shard may be taken twice. If each write was answered (under
@@ -38,6 +41,10 @@ use stream_io::{Status, StreamFault, read_all, write_answer};
 /// write, and `stale-swap` of two writes, with the numbers of these calls in this order; and, if that is
 /// asked for and no other evidence is found, `ruled-out` of the answered call at which a document is provably
 /// not linearizable (ruled out).
+///
+/// Errors: `Read`, `NoMemory` and `Worker`, whichever comes first, after which the writer holds what it held;
+/// then `Write`, after which it holds a prefix of the line. With more than one worker it waits as
+/// `check_pool::answers` does.
 pub fn check_stream<T: Threads + Wait + Sync, R: Read, W: Write>(
     rt: &T,
     alloc: Global,
@@ -48,6 +55,7 @@ pub fn check_stream<T: Threads + Wait + Sync, R: Read, W: Write>(
     conflicts: Conflicts,
     ruling_out: RulingOut,
 ) -> Result<Status, StreamFault>
+    // `some_workers`, `few_workers`: There are 1 to 16 workers.
     requires some_workers { 1 ≤ workers }
     requires few_workers { workers ≤ 16 }
     // If it answers yes, the bytes of the reader to its end are a text of a history that an order of calls
@@ -60,21 +68,22 @@ pub fn check_stream<T: Threads + Wait + Sync, R: Read, W: Write>(
     // is refused.
     ensures answered { IfOk result (IsAnswered ruling_out conflicts (R.remaining reader.old)
         (W.contents writer.old) (W.contents writer.new)) }
-    // After a write fault a prefix of such a line is written.
+    // After `Write` the writer holds a prefix of such a line after what it held.
     ensures cut_off { IsErrOf result StreamFault.Write
         → IsCutOff ruling_out conflicts (R.remaining reader.old) (W.contents writer.old)
         (W.contents writer.new) }
-    // After any other fault nothing is written.
+    // After any other error the writer holds what it held.
     ensures kept { IfErr result (λ fault. fault ≢ StreamFault.Write
         → Keeps (W.contents writer.old) (W.contents writer.new)) }
+    // The only errors are `Read`, `Write`, `NoMemory` and `Worker`.
     ensures told { IfErr result IsWorkedFault }
-    // One worker is the caller's thread, which isn't lost.
+    // With one worker, the caller's thread, the error is never `Worker`.
     ensures alone { workers ≡ 1 → IfErr result IsStreamFault }
-    // A document that a fault names is one of the history whose text the reader had.
+    // A document that a `Worker` names is one of the history whose text the reader had.
     ensures named { IfErr result (NamesOwnDocument (R.remaining reader.old)) }
-    // No line after the first that is refused is taken of the bytes of the reader, and no bytes after that
-    // line but those that the last read brought, at most 32,768; and no more than the limits allow. The same
-    // holds for the three streams below, for each of their readers.
+    // Whatever the result, no line after the first refused one is taken of the reader's bytes, if they are
+    // known; of that line and those before it at most 4,194,304 times 65,537 bytes; and after it nothing but
+    // what the last read returned, 32,768 bytes at most.
     ensures taken { TakesHistory (R.remaining reader.old) (R.remaining reader.new) }
 {
     let answer = check_answer(rt, alloc, keys, reader, workers, conflicts, ruling_out)?;
@@ -85,6 +94,10 @@ pub fn check_stream<T: Threads + Wait + Sync, R: Read, W: Write>(
 /// explanation of what was found, for people. If no order was found: the calls that matter, why no order
 /// explains the reply, and the order before it. If one was found: what became of the calls of unknown outcome
 /// (indeterminate). If the text was refused: its line.
+///
+/// The explanation is of the history, the evidence and the reading of the answer, and how much the answer
+/// says is what `compose::certainty_of` returns; more is not proved of it. Errors and waiting are those of
+/// `check_stream`.
 pub fn explain_stream<T: Threads + Wait + Sync, R: Read, W: Write>(
     rt: &T,
     alloc: Global,
@@ -95,23 +108,28 @@ pub fn explain_stream<T: Threads + Wait + Sync, R: Read, W: Write>(
     conflicts: Conflicts,
     ruling_out: RulingOut,
 ) -> Result<Status, StreamFault>
+    // `some_workers`, `few_workers`: There are 1 to 16 workers.
     requires some_workers { 1 ≤ workers }
     requires few_workers { workers ≤ 16 }
     // What it writes begins with a line that answers the bytes of the reader as the line of `check_stream`
     // does.
     ensures answered { IfOk result (λ status. HasAnswer (ExplainsInput ruling_out conflicts (R.remaining reader.old) status)
         (W.contents writer.old) (W.contents writer.new)) }
-    // After a write fault a prefix of such a text is written, and after any other fault nothing is.
+    // After `Write` the writer holds a prefix of such a text after what it held.
     ensures cut_off { IsErrOf result StreamFault.Write
         → HasFront (ExplainsInput ruling_out conflicts (R.remaining reader.old)) (W.contents writer.old)
         (W.contents writer.new) }
+    // After any other error the writer holds what it held.
     ensures kept { IfErr result (λ fault. fault ≢ StreamFault.Write
         → Keeps (W.contents writer.old) (W.contents writer.new)) }
+    // The only errors are `Read`, `Write`, `NoMemory` and `Worker`.
     ensures told { IfErr result IsWorkedFault }
-    // One worker is the caller's thread, which isn't lost.
+    // With one worker, the caller's thread, the error is never `Worker`.
     ensures alone { workers ≡ 1 → IfErr result IsStreamFault }
-    // A document that a fault names is one of the history whose text the reader had.
+    // A document that a `Worker` names is one of the history whose text the reader had.
     ensures named { IfErr result (NamesOwnDocument (R.remaining reader.old)) }
+    // No bytes after the first refused line are taken but those that the last read returned, as by
+    // `check_stream`.
     ensures taken { TakesHistory (R.remaining reader.old) (R.remaining reader.new) }
 {
     let answer = explained_text(rt, alloc, keys, reader, workers, conflicts, ruling_out)?;
@@ -120,6 +138,9 @@ pub fn explain_stream<T: Threads + Wait + Sync, R: Read, W: Write>(
 
 /// Reads a history text to its end and writes the text of its witness if `check_stream` says yes, and the
 /// line of `check_stream` if it does not.
+///
+/// Errors: `Read` and `NoMemory`, whichever comes first, after which the writer holds what it held; then
+/// `Write`, after which it holds a prefix of the text.
 pub fn witness_stream<R: Read, W: Write>(
     alloc: Global,
     keys: HashKeys,
@@ -128,29 +149,39 @@ pub fn witness_stream<R: Read, W: Write>(
     conflicts: Conflicts,
     ruling_out: RulingOut,
 ) -> Result<Status, StreamFault>
-    // If it answers yes, what it wrote reads as entries that cover the history that the bytes are a text of,
-    // each document once, so that an order explains it. Otherwise it wrote the line of a check, which says
-    // what it says above.
+    // If it returns yes, what it wrote reads as entries that cover the history that the bytes are a text of,
+    // each document once, so that an order explains it. Otherwise it wrote the line of a check, as
+    // `check_stream` does.
     ensures answered { IfOk result (λ status. HasAnswer (WitnessesInput ruling_out conflicts
         (R.remaining reader.old) status)
         (W.contents writer.old) (W.contents writer.new)) }
-    // After a write fault a prefix of such a text is written, and after any other fault nothing is.
+    // After `Write` the writer holds a prefix of such a text after what it held.
     ensures cut_off { IsErrOf result StreamFault.Write
         → HasFront (WitnessesInput ruling_out conflicts (R.remaining reader.old)) (W.contents writer.old)
         (W.contents writer.new) }
+    // After any other error the writer holds what it held.
     ensures kept { IfErr result (λ fault. fault ≢ StreamFault.Write
         → Keeps (W.contents writer.old) (W.contents writer.new)) }
+    // The only errors are `Read`, `Write` and `NoMemory`.
     ensures told { IfErr result IsStreamFault }
+    // No bytes after the first refused line are taken but those that the last read returned, as by
+    // `check_stream`.
     ensures taken { TakesHistory (R.remaining reader.old) (R.remaining reader.new) }
 {
     let answer = witness_answer(alloc, keys, reader, conflicts, ruling_out)?;
     write_answer(writer, &answer)
 }
 
-/// Reads a history text and then a witness text, each to its end, and writes one line: `verified docs=D
-/// calls=C left_out=L` if the witness covers the history; `broken` with the first fault if it does not;
-/// `refused file=history` or `refused file=witness` with the line and the cause if one of them is no such
-/// text. The witness is not read if the history text is refused.
+/// Reads a history text and then a witness text, each to its end, and writes one line:
+///
+/// - `verified docs=D calls=C left_out=L` if the witness covers the history;
+/// - `broken` with the first fault if it does not;
+/// - `refused file=history` or `refused file=witness` with the line and the cause if one of them is no such
+///   text.
+///
+/// Errors: `Read` and `NoMemory`, whichever comes first, of the history before the witness is read (which is
+/// tested, not proved), after which the writer holds what it held; then `Write`, after which it holds a
+/// prefix of the line.
 pub fn verify_stream<R: Read, Q: Read, W: Write>(
     alloc: Global,
     keys: HashKeys,
@@ -166,14 +197,19 @@ pub fn verify_stream<R: Read, Q: Read, W: Write>(
     ensures answered { IfOk result (λ status. HasAnswer (VerifiesInputs conflicts
         (R.remaining history.old) (Q.remaining witness.old) status)
         (W.contents writer.old) (W.contents writer.new)) }
-    // After a write fault a prefix of such a line is written, and after any other fault nothing is.
+    // After `Write` the writer holds a prefix of such a line after what it held.
     ensures cut_off { IsErrOf result StreamFault.Write
         → HasFront (VerifiesInputs conflicts (R.remaining history.old) (Q.remaining witness.old))
         (W.contents writer.old) (W.contents writer.new) }
+    // After any other error the writer holds what it held.
     ensures kept { IfErr result (λ fault. fault ≢ StreamFault.Write
         → Keeps (W.contents writer.old) (W.contents writer.new)) }
+    // The only errors are `Read`, `Write` and `NoMemory`.
     ensures told { IfErr result IsStreamFault }
+    // No bytes after the first refused line of the history are taken but those that the last read returned,
+    // as by `check_stream`.
     ensures taken { TakesHistory (R.remaining history.old) (R.remaining history.new) }
+    // The same holds of the witness.
     ensures witness_taken { TakesWitness (Q.remaining witness.old) (Q.remaining witness.new) }
     // Nothing of the witness is taken if the history text is refused.
     ensures unread { LeavesUnread (R.remaining history.old) (Q.remaining witness.old) (Q.remaining witness.new) }
@@ -187,7 +223,10 @@ pub fn verify_stream<R: Read, Q: Read, W: Write>(
 /// refused, it writes one line with the first fault: `refused line=L cause=NAME`, `refused cause=count` or
 /// `refused item=I cause=kind`.
 ///
-/// The status of the reply is taken to be 200. Both are read before either is judged.
+/// The status of the reply is taken to be 200. Both are read before either is judged. Errors: `Read` and
+/// `NoMemory`, whichever comes first, of the body before the reply is read (which is tested, not proved),
+/// after which the writer holds what it held; then `Write`, after which it holds a prefix of the text. How
+/// far the two were read if there is an error is left open.
 pub fn bulk_stream<R: Read, Q: Read, W: Write>(
     alloc: Global,
     first: u64,
@@ -200,13 +239,16 @@ pub fn bulk_stream<R: Read, Q: Read, W: Write>(
     ensures answered { IfOk result (λ status. HasAnswer (AnswersBulk first
         (R.remaining body.old) (Q.remaining reply.old) status)
         (W.contents writer.old) (W.contents writer.new)) }
+    // After `Write` the writer holds a prefix of such a text after what it held.
     ensures cut_off { IsErrOf result StreamFault.Write
         → HasFront (AnswersBulk first (R.remaining body.old) (Q.remaining reply.old))
         (W.contents writer.old) (W.contents writer.new) }
+    // After any other error the writer holds what it held.
     ensures kept { IfErr result (λ fault. fault ≢ StreamFault.Write
         → Keeps (W.contents writer.old) (W.contents writer.new)) }
+    // The only errors are `Read`, `Write` and `NoMemory`.
     ensures told { IfErr result IsStreamFault }
-    // If it answers, nothing is left of either.
+    // If there is no error, both were read to their ends.
     ensures end { OnOk result (OnSome (R.remaining body.old) (IsAtEnd (R.remaining body.new))
         × OnSome (Q.remaining reply.old) (IsAtEnd (Q.remaining reply.new))) }
 {

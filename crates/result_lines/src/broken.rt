@@ -59,7 +59,7 @@ fn pair_line(alloc: Global, shard: u32, pair: Pair) -> Result<String, NoMemory>
     format!(in alloc; "broken term={term} seq={seq} cause=pair-twice{end}")
 }
 
-/// Returns the line of a fault of a witness.
+/// Returns the line of a fault of a witness. A fault that is `NoMemory` has no line.
 pub fn broken_line(alloc: Global, fault: VerifyFault) -> Result<String, NoMemory>
     ensures { IfOk result (λ line. string_bytes line ≡ told_line fault) }
 {

@@ -12,7 +12,7 @@ fn refused_line(alloc: Global, line: u64, cause: &str) -> Result<String, NoMemor
     format!(in alloc; "refused line={line} cause={cause}\n")
 }
 
-/// Returns the line of a fault of a bulk request or its reply.
+/// Returns the line of a fault of a bulk request or its reply. A fault that is `NoMemory` has no line.
 pub fn bulk_fault_line(alloc: Global, fault: BulkFault) -> Result<String, NoMemory>
     ensures { IfOk result (λ text. string_bytes text ≡ told_line fault) }
 {

@@ -30,7 +30,7 @@ pub fn refused_history_line(alloc: Global, fault: TextFault) -> Result<String, N
     format!(in alloc; "refused file=history line={number} cause={cause}\n")
 }
 
-/// Returns the line of a witness text that is refused.
+/// Returns the line of a witness text that is refused, for commands that read two texts.
 pub fn refused_witness_line(alloc: Global, fault: TextFault) -> Result<String, NoMemory>
     ensures { IfOk result (λ line. string_bytes line
         ≡ refused_file_line (codes "witness") fault.line fault.cause) }

@@ -54,7 +54,10 @@ pub fn ruled_out_at(
     records: &[Rec],
     conflicts: Conflicts,
 ) -> Result<Option<u64>, NoMemory>
+    // The records are in order, as those of a document of a history are.
     requires { AreInOrder (told conflicts records.now) }
+    // The document is provably not linearizable at the call that is returned; if none is returned, at no
+    // call.
     ensures { IfOk result (IsRuledOutAt (told conflicts records.now)) }
 {
     match conflicts {

@@ -3,18 +3,20 @@
 ghost use Rattle.ruled_out.specs.Laws.{ExplainedHavePlacings, OrderedAreNotRuledOut, RuledOutHaveNoOrder};
 ghost use Rattle.ruled_out.specs.Worked.{WorkedRulings};
 
-/// Shows that each document of a history that an order explains has a placing of all its answered calls.
+/// Shows that each document of a history that an order explains has a placing of all its answered calls, in
+/// both readings of conflicts.
 pub fn explained_have_placings()
     ensures { ExplainedHavePlacings }
 {}
 
-/// Shows that a document is not ruled out if an order of its calls explains it.
+/// Shows that a document that an order of its calls explains, with calls on other documents in it or without,
+/// is not ruled out.
 pub fn ordered_are_not_ruled_out()
     ensures { OrderedAreNotRuledOut }
 {}
 
 /// Shows that a history with a document that is ruled out is not linearizable, however its pending calls are
-/// completed.
+/// completed, in both readings of conflicts.
 pub fn ruled_out_have_no_order()
     ensures { RuledOutHaveNoOrder }
 {}

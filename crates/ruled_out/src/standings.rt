@@ -12,8 +12,8 @@ use version_pair::{NoMemory, Pair};
 /// The earliest positions of the answered calls of a document, and why the walk over them stops, if it does:
 /// what `ruled_out_at` goes by, kept for explanations to people.
 ///
-/// No contract covers what is reported here. That a document is ruled out is what the contract of
-/// `ruled_out_at` says.
+/// No contract covers what is reported here. That a document is provably not linearizable is what the
+/// contract of `ruled_out_at` says.
 #[derive(Drop)]
 pub struct Standings {
     told: Vec<Rec>,

@@ -81,10 +81,11 @@ fn tell_tried<H: Watch>(watch: &H, others: u64, last: u64) {
 }
 
 /// Returns the first run of these seeds for whose history no order is found. The clients are played in turns,
-/// and documents are checked for being ruled out. The watch is called after each hundredth seed.
+/// and documents are examined for being provably not linearizable. The watch is called after each hundredth
+/// seed.
 ///
-/// Errors: `Setting` if a number of the plan or of the group is refused; `NoMemory` if memory was refused;
-/// `Recording` as in `run_played_stream`.
+/// Errors: `Setting` if a number of the plan or of the group is refused, before any other; then, whichever
+/// comes first, `NoMemory`, and `Recording` as in `recorded_runs::run_played_stream`.
 pub fn first_found<T: Threads + Wait + Sync, H: Watch>(
     rt: &T,
     alloc: Global,
@@ -93,12 +94,18 @@ pub fn first_found<T: Threads + Wait + Sync, H: Watch>(
     disturbance: Disturbance,
     watch: &H,
 ) -> Result<Option<FoundRun>, StreamFault>
+    // The seed of a run that is found is one of the range; its text is that of the run in turns of the
+    // setting with this seed, disturbed as asked for; a check of it returns another status than yes; and the
+    // runs with all seeds before it get yes.
     ensures found { IfOk result (λ found. IfSome found (λ run. IsFoundRun ⟦<DisturbedGroup as Target>⟧.issued
         ⟦<DisturbedGroup as Target>⟧.gave disturbance setting.now seeds.first seeds.last run.seed run.text.items
         run.answer.status run.answer.text.items)) }
+    // If none is found, the runs with all seeds get yes.
     ensures none { IfOk result (λ found. IfNone found (AreCleared ⟦<DisturbedGroup as Target>⟧.issued
         ⟦<DisturbedGroup as Target>⟧.gave disturbance setting.now seeds.first (seeds.last + 1))) }
+    // The error is `Setting` exactly if a number of the plan or of the group is refused.
     ensures setting { IsErrOf result StreamFault.Setting ↔ IsTrue (is_refused setting.now) }
+    // The only errors are `NoMemory`, `Recording` and `Setting`.
     ensures told { IfErr result IsOfRun }
 {
     let first = seeds.first();
@@ -115,7 +122,7 @@ pub fn first_found<T: Threads + Wait + Sync, H: Watch>(
 /// that history. The watch is called with what was found, and its seed.
 ///
 /// Returns Yes if a run is found; No if none is, and then nothing is written. Errors: those of `first_found`,
-/// and `Write`.
+/// after which the writer holds what it held; then `Write`, after which it holds a prefix of the text.
 pub fn search_stream<T: Threads + Wait + Sync, H: Watch, W: Write>(
     rt: &T,
     alloc: Global,
@@ -125,19 +132,23 @@ pub fn search_stream<T: Threads + Wait + Sync, H: Watch, W: Write>(
     watch: &H,
     writer: &mut W,
 ) -> Result<Status, StreamFault>
-    // If it answers yes, what it wrote is the text of the first run that is found, and the runs with the
-    // seeds before it have orders. If it answers no, the runs with all seeds have orders.
+    // If the result is yes, the writer holds the text of the first run that is found after what it held, and
+    // the runs with the seeds before it get yes. If it is no, the writer holds what it held, and the runs
+    // with all seeds get yes.
     ensures searched { IfOk result (IsSearched ⟦<DisturbedGroup as Target>⟧.issued
         ⟦<DisturbedGroup as Target>⟧.gave disturbance setting.now seeds.first seeds.last (W.contents writer.old)
         (W.contents writer.new)) }
-    // After a write fault a prefix of such a text is written, and after any other fault nothing is.
+    // After `Write` the writer holds a prefix of such a text after what it held.
     ensures cut_off { IsErrOf result StreamFault.Write
         → HasFront (λ _. IsFoundText ⟦<DisturbedGroup as Target>⟧.issued
         ⟦<DisturbedGroup as Target>⟧.gave disturbance setting.now seeds.first seeds.last) (W.contents writer.old)
         (W.contents writer.new) }
+    // After any other error the writer holds what it held.
     ensures kept { IfErr result (λ fault. fault ≢ StreamFault.Write
         → Keeps (W.contents writer.old) (W.contents writer.new)) }
+    // The error is `Setting` exactly if a number of the plan or of the group is refused.
     ensures setting { IsErrOf result StreamFault.Setting ↔ IsTrue (is_refused setting.now) }
+    // The only errors are `Write`, `NoMemory`, `Recording` and `Setting`.
     ensures told { IfErr result IsRunFault }
 {
     match first_found(rt, alloc, seeds, setting, disturbance, watch) {

@@ -12,6 +12,7 @@ pub struct Seeds {
 impl Seeds {
     /// Returns the seeds from the first to the last; `None` if the last is below the first.
     pub fn new(first: u64, last: u64) -> Option<Seeds>
+        // They go from the first to the last; there are none exactly if the last is below the first.
         ensures { option_map (λ seeds. (seeds.first, seeds.last)) result ≡ seeds_between first last }
     {
         if first <= last {

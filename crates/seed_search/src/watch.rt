@@ -1,7 +1,7 @@
 use crate::found_run::FoundRun;
 use crate::seeds::Seeds;
 
-/// An observer of a search through seeds.
+/// An observer of a search through seeds. What it is called with is tested, not proved.
 pub trait Watch {
     /// Called after each hundredth seed, with the number of hundreds of seeds that were tried, and the last
     /// seed tried.

@@ -5,7 +5,8 @@ use jiff::Timestamp;
 use std::alloc::Global;
 use version_pair::NoMemory;
 
-/// The lines of a text that its events are on, and when these lines were written, if they say so.
+/// The lines of a text that its events are on, and when these lines were written, if they say so. Nothing is
+/// promised of them: explanations look at them, and some of these are tested.
 #[derive(Debug, Drop)]
 pub struct EventLines {
     alloc: Global,

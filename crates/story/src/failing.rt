@@ -109,7 +109,8 @@ fn order_of(
     }
 }
 
-/// Returns the explanation of a history for which no order was found.
+/// Returns the explanation of a history for which no order was found. How much the answer says is an
+/// argument; the explanation has one sentence for each value, which is tested, not proved.
 pub fn failing_story(
     alloc: Global,
     unexplained: &Unexplained<'_>,

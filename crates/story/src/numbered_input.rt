@@ -36,18 +36,25 @@ impl LineReader for NumberedReader {
 }
 
 /// Reads the history text of the input to its end, and returns its history, with these keys, and the lines
-/// that its events are on; or the first line that is refused. No bytes after that line are taken but those
-/// that the last read brought, which is asked for 32,768 bytes. A fault of the input of any kind ends the
-/// reading.
+/// that its events are on; or the first line that is refused. The input is asked for 32,768 bytes at a time.
+///
+/// Errors, whichever comes first: `Read` for a fault of the input of any kind, an interruption included;
+/// `NoMemory`; and inside `Ok` those of `history::read`. The lines before the one at which it stopped are
+/// taken, and maybe a prefix of that one. Of the lines of the events nothing is promised.
 pub fn read_numbered_from<R: Read>(
     alloc: Global,
     keys: HashKeys,
     input: &mut R,
 ) -> Result<Result<(History, EventLines), RefusedLine>, InputFault>
+    // If the input's bytes are known, the history, or the line and the cause, is what the definition gives
+    // for them, as that of `history::read` is.
     ensures told { IfOk result (λ told. IfSome (R.remaining input.old) (λ text. MatchResult told
         (λ read. history_text text ≡ Ok read.0)
         (λ refused. history_text text ≡ Err refused.fault))) }
+    // No bytes after the first refused line are taken but those that the last read returned, 32,768 at most;
+    // of that line and all before it 4,194,304 times 65,537 bytes at most.
     ensures taken { IsTakenFor history_text (R.remaining input.old) (R.remaining input.new) }
+    // If all lines are taken nothing is left in the input.
     ensures end { IfOk result (λ told. OnOk told (OnSome (R.remaining input.old)
         (IsAtEnd (R.remaining input.new)))) }
 {

@@ -261,6 +261,7 @@ fn pieces_of(alloc: Global, line: &str, story: &Story) -> Result<Vec<Piece>, NoM
 
 /// Returns the page of an explanation, with the line of the check at its head.
 pub fn page_of(alloc: Global, line: &str, story: &Story) -> Result<Vec<u8>, NoMemory>
+    // The bytes are those of a page: pieces of markup, numbers, and escaped texts.
     ensures { IfOk result (λ page. IsPage page.items) }
 {
     let pieces = pieces_of(alloc, line, story)?;

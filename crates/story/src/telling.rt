@@ -52,7 +52,7 @@ fn completed_calls(
     Ok((count, told))
 }
 
-/// Returns the explanation of a history that an order explains.
+/// Returns the explanation of a history that an order explains. Nothing is promised of its sentences.
 pub fn explained_story(
     alloc: Global,
     explained: &Explained<'_>,
@@ -75,7 +75,7 @@ pub fn explained_story(
     })
 }
 
-/// Returns the explanation of a text that was refused.
+/// Returns the explanation of a text that was refused. Nothing is promised of its sentences.
 pub fn refused_story(alloc: Global, refused: &RefusedLine) -> Result<Story, NoMemory> {
     let line = refused.fault.line;
     let shown = line_shown(alloc, &refused.line)?;

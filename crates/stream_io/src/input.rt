@@ -14,19 +14,28 @@ use version_pair::DocId;
 use witness::{Place, read_witness_from};
 
 /// Reads the text of the reader to its end, and returns its history, with these keys; or the first line that
-/// is refused. No bytes after that line are taken but those that the last read brought, which is asked for
-/// 32,768 bytes. A fault of the reader of any kind, an interruption included, ends the reading.
+/// is refused. The reader is asked for 32,768 bytes at a time.
+///
+/// Errors, whichever comes first: `Read` for a fault of the reader of any kind, an interruption included;
+/// `NoMemory`; and inside `Ok` those of `history::read`. The lines before the one at which it stopped are
+/// taken, maybe some bytes of that one, and what the last read returned.
 pub fn read_history<R: Read>(
     alloc: Global,
     keys: HashKeys,
     reader: &mut R,
 ) -> Result<Result<History, TextFault>, InputFault>
+    // A history is one that the reader's bytes to their end are a text of, if they are known.
     ensures text { IfOk result (λ told. IfSome (R.remaining reader.old)
         (λ text. IfOk told (IsHistoryText text))) }
+    // If the reader's bytes are known, the result is what the definition gives for them, as that of
+    // `history::read` is.
     ensures told { IfOk result (λ told. IfSome (R.remaining reader.old) (λ text. MatchResult told
         (λ history. history_text text ≡ Ok history)
         (λ fault. history_text text ≡ Err fault))) }
+    // Whatever the result, no bytes after the first refused line are taken but those that the last read
+    // returned, 32,768 at most.
     ensures taken { TakesHistory (R.remaining reader.old) (R.remaining reader.new) }
+    // After a history nothing is left in the reader.
     ensures end { IfOk result (λ told. OnOk told (OnSome (R.remaining reader.old)
         (IsAtEnd (R.remaining reader.new)))) }
 {
@@ -34,27 +43,40 @@ pub fn read_history<R: Read>(
 }
 
 /// Reads the witness text of the reader to its end, and returns its entries; or the first line that is
-/// refused. No bytes after that line are taken but those that the last read brought, which is asked for
-/// 32,768 bytes. A fault of the reader of any kind, an interruption included, ends the reading.
+/// refused. The reader is asked for 32,768 bytes at a time.
+///
+/// Errors, whichever comes first: `Read` for a fault of the reader of any kind, an interruption included;
+/// `NoMemory`; and inside `Ok` those of `witness::read_witness`. The lines before the one at which it stopped
+/// are taken, maybe some bytes of that one, and what the last read returned.
 pub fn read_entries<R: Read>(
     alloc: Global,
     reader: &mut R,
 ) -> Result<Result<Vec<(DocId, Vec<Place>)>, TextFault>, InputFault>
+    // If the reader's bytes are known, the result is what the definition gives for them, as that of
+    // `witness::read_witness` is.
     ensures told { IfOk result (λ told. IfSome (R.remaining reader.old) (λ text. MatchResult told
         (λ entries. witness_text text ≡ Ok (map doc_places entries.items))
         (λ fault. witness_text text ≡ Err fault))) }
+    // Whatever the result, no bytes after the first refused line are taken but those that the last read
+    // returned, 32,768 at most.
     ensures taken { TakesWitness (R.remaining reader.old) (R.remaining reader.new) }
+    // If all lines are taken nothing is left in the reader.
     ensures end { IfOk result (λ told. OnOk told (OnSome (R.remaining reader.old)
         (IsAtEnd (R.remaining reader.new)))) }
 {
     read_witness_from(alloc, reader)
 }
 
-/// Returns all bytes of the reader to its end. It asks for 32,768 bytes at once. A fault of the reader of any
-/// kind, an interruption included, ends the reading; some prefix of the bytes is then taken.
+/// Returns all bytes of the reader to its end. It asks for 32,768 bytes at once.
+///
+/// Errors, whichever comes first: `Read` for a fault of the reader of any kind, an interruption included;
+/// `NoMemory`. Some prefix of the bytes is then taken.
 pub fn read_all<R: Read>(alloc: Global, reader: &mut R) -> Result<Vec<u8>, InputFault>
+    // If the reader's bytes are known, they are these, to their end.
     ensures all { IfOk result (λ bytes. IfSome (R.remaining reader.old) (λ input. bytes.items ≡ input)) }
+    // If it succeeds nothing is left in the reader.
     ensures end { OnOk result (OnSome (R.remaining reader.old) (IsAtEnd (R.remaining reader.new))) }
+    // After an error some prefix of the reader's bytes is taken.
     ensures left { OnErr result ((front : List ℕ) × Consumes (R.remaining reader.old) (R.remaining reader.new) front) }
 {
     let mut chunk = [0u8; CHUNK];

@@ -22,9 +22,12 @@ fn write_some<W: Write>(writer: &mut W, text: &[u8]) -> Option<usize>
 
 /// Writes the text. Errors: `Write` if the writer fails or takes no byte; it then holds a prefix of the text.
 pub fn write_text<W: Write>(writer: &mut W, text: &[u8]) -> Result<(), StreamFault>
+    // The writer holds the text after what it held.
     ensures ok { OnOk result (Appends (W.contents writer.old) (W.contents writer.new) text.now) }
+    // After an error the writer holds a prefix of the text after what it held.
     ensures err { OnErr result ((n : ℕ) × Appends (W.contents writer.old) (W.contents writer.new)
         (take n text.now)) }
+    // The only error is `Write`.
     ensures fault { IfErr result (λ fault. fault ≡ StreamFault.Write) }
 {
     let mut rest = text;
@@ -37,8 +40,11 @@ pub fn write_text<W: Write>(writer: &mut W, text: &[u8]) -> Result<(), StreamFau
     Ok(())
 }
 
-/// Writes the answer, and returns its status. After a write fault a prefix of its text is written.
+/// Writes the answer, and returns its status. Errors: `Write` if the writer fails or takes no byte; it then
+/// holds a prefix of the text.
 pub fn write_answer<W: Write>(writer: &mut W, answer: &Answer) -> Result<Status, StreamFault>
+    // The status is that of the answer, and the writer holds the text after what it held; or the error is
+    // `Write`, and the writer holds a prefix of the text after what it held.
     ensures { MatchResult result
         (λ status. (status ≡ answer.now.status) × Appends (W.contents writer.old)
         (W.contents writer.new) answer.now.text.items)

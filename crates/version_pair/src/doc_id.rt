@@ -92,8 +92,10 @@ impl Model for DocId {
 }
 
 impl DocId {
-    /// Returns the id with the bytes of the text. Errors: `Empty` for the empty text, `TooLong` for a text of
-    /// more than 512 bytes, `NoMemory` if memory was refused.
+    /// Returns the id with the bytes of the text.
+    ///
+    /// Errors, in this order: `Empty` for the empty text, `TooLong` for a text of more than 512 bytes,
+    /// `NoMemory`.
     pub fn new(alloc: Global, text: &str) -> Result<DocId, IdFault>
         ensures ok { IfOk result (λ id. (id ≡ text.now) × IsIdLength (length text.now)) }
         ensures empty { IsErrOf result IdFault.Empty ↔ (length text.now ≡ 0) }
@@ -126,7 +128,9 @@ impl DocId {
         self.text.as_str()
     }
 
-    /// Returns another id with the same bytes.
+    /// Returns another id with the same bytes, whose text it shares.
+    ///
+    /// No memory is allocated: the error is returned only if there are more copies than can be counted.
     pub fn copy(&self) -> Result<DocId, NoMemory>
         ensures { IfOk result (λ id. id ≡ self.now) }
     {
@@ -137,6 +141,7 @@ impl DocId {
 }
 
 impl PartialEq for DocId {
+    // Two ids are equal exactly if their bytes are.
     ghost eq = { λ a b. pointwise ◌==◌ a b };
 
     ghost laws = { partial_equiv_from_equiv nat_list_eq_equiv };
@@ -151,6 +156,7 @@ impl Eq for DocId {
 }
 
 impl Hash for DocId {
+    // The hash is that of the bytes, so equal ids have equal hashes.
     ghost hash_input = { λ d. fed.str d };
 
     ghost respects_eq = { Prim.search (hashing, rules) };

@@ -14,7 +14,8 @@ use version_pair::DocId;
 
 /// An order of the calls of one document that explains them.
 ///
-/// The type guarantees that its places are valid for its records in its reading of conflicts.
+/// Contracts see its id, its records, its places and its reading of conflicts. The type guarantees that its
+/// places are valid for its records in this reading.
 #[derive(Debug, Drop)]
 pub struct DocWitness {
     id: DocId,
@@ -41,10 +42,12 @@ impl Model for DocWitness {
 
 impl DocWitness {
     /// Returns the witness of these places if they are valid for the records. Otherwise returns the first
-    /// fault, with all that was handed in.
+    /// fault, with all that was passed in. So there is a witness exactly if the places are valid, unless
+    /// memory is refused.
     ///
-    /// `NoMemory` is reported first, if memory was refused. Then, place by place: `Stranger`, `Twice`,
-    /// `PairMissing`, `PairGiven`, `Late`, `Illegal`. Last comes `Absent`, with the least record.
+    /// Errors: `NoMemory` before any other if memory was refused (which is tested, not proved). Then, place
+    /// by place: `Stranger`, `Twice`, `PairMissing`, `PairGiven`, `Late`, `Illegal`. Last comes `Absent`,
+    /// with the least record.
     pub fn check(
         alloc: Global,
         id: DocId,
@@ -52,6 +55,8 @@ impl DocWitness {
         places: Vec<Place>,
         conflicts: Conflicts,
     ) -> Result<DocWitness, (Broken, DocId, Vec<Rec>, Vec<Place>)>
+        // The witness has just the id, the records, the places and the reading of conflicts that were passed
+        // in.
         ensures ok { IfOk result
             (λ w. w ≡ record {
               doc = id;
@@ -59,11 +64,15 @@ impl DocWitness {
               places = places.items;
               conflicts = conflicts;
             }) }
+        // If there is a witness, the places are valid.
         ensures valid { IsOk result → AreValid conflicts records.items places.items }
+        // An error other than `NoMemory` is the first fault of the places.
         ensures fault { IfErr result
             (λ e. e.0 ≢ Unchecked → IsFirstFault conflicts records.items places.items e.0) }
+        // With an error other than `NoMemory` the places are not valid.
         ensures invalid { IfErr result
             (λ e. e.0 ≢ Unchecked → ¬ AreValid conflicts records.items places.items) }
+        // With every error, also `NoMemory`, the id, the records and the places come back.
         ensures given_back { IfErr result
             (λ e. (e.1 ≡ id) × (e.2.items ≡ records.items) × (e.3.items ≡ places.items)) }
     {

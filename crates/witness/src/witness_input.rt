@@ -14,22 +14,26 @@ use version_pair::DocId;
 /// Reads the witness text of a reader to its end, and returns its documents, each with its places; or the
 /// first line that is refused, with its first cause, as `read_witness` reports them of the text.
 ///
-/// The reader is asked for 32,768 bytes at a time, and for none after the line that is refused: no bytes
-/// after that line are taken but those that the last read brought. Of a line that is too long 65,537 bytes
-/// are taken, and of the 4,194,305th line none.
+/// The reader is asked for 32,768 bytes at a time, and for none after the line that is refused. Of a line
+/// that is too long 65,537 bytes are taken, and of the 4,194,305th line none. At most one line is held, and
+/// no more than 65,537 bytes of one.
 ///
-/// At most one line is held, and no more than 65,537 bytes of one.
-///
-/// Errors: `Read` if the reader failed, an interruption included; `NoMemory` if memory was refused. In both
-/// cases the lines before the one at which it stopped are taken, and maybe a prefix of that one.
+/// Errors, whichever comes first: `Read` if the reader failed, an interruption included; `NoMemory`; and
+/// inside `Ok` those of `read_witness`. The lines before the one at which it stopped are taken, and maybe a
+/// prefix of that one.
 pub fn read_witness_from<R: Read>(
     alloc: Global,
     input: &mut R,
 ) -> Result<Result<Vec<(DocId, Vec<Place>)>, TextFault>, InputFault>
+    // If the reader's bytes are known, the result is what the definition gives for them, as that of
+    // `read_witness` is.
     ensures told { IfOk result (λ told. IfSome (R.remaining input.old) (λ text. MatchResult told
         (λ documents. witness_text text ≡ Ok (map doc_places documents.items))
         (λ fault. witness_text text ≡ Err fault))) }
+    // No bytes after the first refused line are taken but those that the last read returned, 32,768 at most;
+    // of that line and all before it 4,194,304 times 65,537 bytes at most.
     ensures taken { IsTakenFor witness_text (R.remaining input.old) (R.remaining input.new) }
+    // If all lines are taken nothing is left in the reader.
     ensures end { IfOk result (λ told. OnOk told (OnSome (R.remaining input.old)
         (IsAtEnd (R.remaining input.new)))) }
 {

@@ -36,7 +36,8 @@ impl Model for WitnessReader {
 }
 
 impl WitnessReader {
-    /// Returns a reader that has taken no line. It allocates nothing.
+    /// Returns a reader that has taken no line. It allocates nothing; documents are added in this memory
+    /// later.
     pub fn new(alloc: Global) -> WitnessReader
         ensures { result ≡ so_far [] 0 }
     {
@@ -46,15 +47,21 @@ impl WitnessReader {
         }
     }
 
-    /// Takes the next line, without its line feed; or refuses it with its first cause, in the order that
-    /// `read_witness` names. `NoMemory` if memory was refused. A line that is refused leaves the reader as it
-    /// was.
+    /// Takes the next line, without its line feed; or refuses it with its first cause.
+    ///
+    /// Errors: those of `read_witness` for this line, in their order; `NoMemory` may come before any of them.
+    /// A line that is refused leaves the reader as it was.
     pub fn line(&mut self, line: &[u8]) -> Result<(), ReadFault>
+        // The line has no line feed in it.
         requires { HasNoLineFeed line.now }
+        // A line that is taken adds what the definition gives.
         ensures ok { OnOk result (next_line takes_value self.old line.now ≡ Ok self.new) }
+        // The lines that were taken are 4,194,304 at most.
         ensures within { self.new.lines ≤ most_lines }
+        // An error other than `NoMemory` is that of the definition.
         ensures fault { IfErr result (λ fault. IfTextTold fault
             (λ told. next_line takes_value self.old line.now ≡ Err told)) }
+        // An error leaves the reader as it was.
         ensures unchanged { OnErr result (self.new ≡ self.old) }
     {
         let number = self.lines + 1;
@@ -80,10 +87,13 @@ impl LineReader for WitnessReader {
     ghost use Rattle.std.specs.Prelude.{List};
     ghost use Rattle.witness.specs.Text.{DocPlaces};
 
+    // The state is the documents so far, each with its places.
     ghost State = { List DocPlaces };
 
+    // The value of a line adds the document or the place that the line gives.
     ghost takes = { takes_value };
 
+    // The documents and the number of lines are those of the reader.
     ghost reached = { λ reader. reader };
 
     fn line(&mut self, line: &[u8]) -> Result<(), ReadFault> {
@@ -92,17 +102,19 @@ impl LineReader for WitnessReader {
 }
 
 /// Returns the documents of a witness text, each with its places; or the first line that is refused, with its
-/// first cause.
+/// first cause. So there are documents exactly if the bytes are a witness text, unless memory is refused.
 ///
 /// A line `{"doc":"d"}` begins a document. Each line `{"rec":0}` after it is a place of the document, or,
 /// with a pair, `{"rec":1,"seq":2,"term":3}`.
 ///
-/// Causes are reported in this order: `Lines` and `Long`, after which a blank line is passed over; `Json`;
+/// Errors of a line, in this order: `Lines` and `Long`, after which a blank line is passed over; `Json`;
 /// `Shape`, also for a place before any document; `Id`; `Half`, if only one of `seq` and `term` is given;
-/// `Range`; `Full`, after 2,097,152 documents and places. `NoMemory` if memory was refused.
+/// `Range`; `Full`, after 2,097,152 documents and places. `NoMemory` may come before any of them.
 pub fn read_witness(alloc: Global, text: &[u8]) -> Result<Vec<(DocId, Vec<Place>)>, ReadFault>
+    // The documents are those that the definition gives for the bytes.
     ensures ok { IfOk result
         (λ documents. witness_text text.now ≡ Ok (map doc_places documents.items)) }
+    // An error other than `NoMemory` is the line and the cause that the definition gives.
     ensures fault { IfErr result
         (λ fault. IfTextTold fault (λ told. witness_text text.now ≡ Err told)) }
 {

@@ -99,8 +99,10 @@ fn write_one(alloc: Global, witness: &DocWitness, text: &mut Vec<u8>) -> Result<
 /// The text is read back as the same witnesses if there are at most 2,097,152 documents and places, and
 /// record numbers are below 2^32.
 pub fn write_witness(alloc: Global, witnesses: &[DocWitness]) -> Result<Vec<u8>, NoMemory>
+    // The bytes are the lines of the witnesses, in their order.
     ensures text { IfOk result
         (λ bytes. bytes.items ≡ written (said_by (map witness_places witnesses.now))) }
+    // They are read back as just these documents and places, within the limits.
     ensures reads_back { IfOk result (λ bytes. AreWithinLimits (map witness_places witnesses.now)
         → witness_text bytes.items ≡ Ok (map witness_places witnesses.now)) }
 {

@@ -93,12 +93,17 @@ fn is_large(clients: &[Vec<Turn>]) -> bool
 }
 
 impl Plan {
-    /// Returns the plan of these turns, each list being those of one client. Errors: `Zero` if there is no
-    /// client or a client without turns; `TooMany` if there are more than 8 clients, more than 524,288 turns
-    /// in all, or a document number of 1,024 or more.
+    /// Returns the plan of these turns, each list being those of one client. It allocates nothing.
+    ///
+    /// Errors: `Zero` if there is no client or a client without turns; `TooMany` if there are more than 8
+    /// clients, more than 524,288 turns in all, or a document number of 1,024 or more. The lists are then
+    /// dropped.
     pub fn of(clients: Vec<Vec<Turn>>) -> Result<Plan, PlanFault>
+        // The error is `Zero` or `TooMany` exactly if the definition gives it.
         ensures refused { refusal_told result ≡ refusal_of (map (λ turns. turns.items) clients.items) }
+        // The plan has just these lists.
         ensures plan { IfOk result (λ plan. plan ≡ map (λ turns. turns.items) clients.items) }
+        // The error is never `NoMemory`.
         ensures memory { result ≢ Err PlanFault.NoMemory }
     {
         if is_lacking(&clients) {
@@ -111,11 +116,13 @@ impl Plan {
     }
 
     /// Returns the plan that is drawn from the seed, with that many clients, 1 to 8, that many calls of each,
-    /// and that many documents, 1 to 1,024. Errors: `Zero` if a number is 0, `TooMany` if one is greater or
-    /// the calls are more than 524,288 in all; last `NoMemory`.
+    /// and that many documents, 1 to 1,024.
     ///
     /// One seed draws one plan: two words of a generator, 32 bits each, make a turn, client by client and
     /// turn by turn.
+    ///
+    /// Errors, in this order: `Zero` if a number is 0, `TooMany` if one is greater or the calls are more than
+    /// 524,288 in all; `NoMemory`.
     pub fn draw(
         alloc: Global,
         seed: u64,
@@ -123,7 +130,9 @@ impl Plan {
         calls: u32,
         docs: u32,
     ) -> Result<Plan, PlanFault>
+        // The error is `Zero` or `TooMany` exactly if the definition gives it.
         ensures refused { refusal_told result ≡ draw_refusal clients calls docs }
+        // The plan is the one that the seed draws.
         ensures plan { IfOk result (λ plan. plan ≡ plan_drawn seed clients calls docs) }
     {
         if clients == 0 || calls == 0 || docs == 0 {

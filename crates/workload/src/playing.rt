@@ -53,15 +53,20 @@ fn visit_all<T: OwnedTarget>(
 ///
 /// A client does one thing at a visit: it begins its next turn, or polls its open call once, as under
 /// `run_in_turns`. A call that waits at its last poll is recorded as lost at that visit; if `turns` is 0, at
-/// the visit after the one that submitted it.
+/// the visit after the one that submitted it. If tickets and reports are such as a `Target` issues and gives,
+/// the events are such as `run_clients` records, by a lemma of the crate.
 ///
-/// Errors: the first fault that is met ends it; `NoMemory` also if the clients were refused memory.
+/// Errors: the first that is met ends it: a fault of the history (`Event`) or of the target (`Target`);
+/// `NoMemory` also if the clients were refused memory. What an error leaves of the target is left open.
 pub fn play_in_turns<T: OwnedTarget>(
     alloc: Global,
     plan: &Plan,
     target: &mut T,
     turns: u32,
 ) -> Result<History, PlayFault>
+    // The events are what the clients of the plan record if they are played in turns against the target, from
+    // its state before to its state after: which client is visited when, which call is recorded and
+    // submitted, how often one is polled, and when it is lost.
     ensures { IfOk result (λ history. ArePlayed T.takes T.tells turns plan.now target.old target.new history) }
 {
     let mut history = History::new(alloc);

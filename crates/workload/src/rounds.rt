@@ -73,11 +73,13 @@ fn pens_of<P: Drop>(alloc: Global, seats: Vec<Seat<P>>) -> Result<Vec<P>, AllocE
 /// A client does one thing at a visit: it begins its next turn, or polls its open call once. So it records
 /// what it would under `run_clients`, and against a target that always answers in the same way each run of a
 /// plan gives the same recording. A call that waits at its last poll is recorded as lost at that visit; if
-/// `turns` is 0, at the visit after the one that submitted it.
+/// `turns` is 0, at the visit after the one that submitted it. The order of the visits, how often a call is
+/// polled, and which fault is returned, is tested, not proved.
 ///
-/// Errors: the first fault that a client meets ends the run, and the pens are given up; `NoMemory` also if
-/// memory was refused while the clients were seated or the pens gathered. It returns if each call of the
-/// target and of the recorder does.
+/// Errors: the first fault that a client meets ends the run, of the recorder (`Record`) or of the target
+/// (`Target`), and the pens are dropped; `NoMemory` also if memory was refused while the clients were seated
+/// or the pens gathered. The rounds are bounded, so it returns if each call of the target and of the recorder
+/// does, and waits as they do.
 pub fn run_in_turns<R: Wait, T: Target, X: Recording>(
     rt: &R,
     alloc: Global,
@@ -89,16 +91,20 @@ pub fn run_in_turns<R: Wait, T: Target, X: Recording>(
 ) -> Result<Vec<X::Pen>, RunFault>
 where
     X::Pen: Drop,
+    // There is one pen for each client of the plan.
     requires count { length pens.items ≡ length plan.now }
+    // The pens are the recorder's.
     requires pens { All (X.has_pen recorder.now) pens.items }
+    // The list of each pen is longer by a run of its client; in a run the numbers of the events rise.
     ensures runs { IfOk result (λ done. AreLongerByRuns T.issued T.gave turns plan.now
         (map X.pen_state pens.items) (map X.pen_state done.items)) }
     // If the pens are new, the lists are the runs of the clients, and nothing else.
     ensures of_new_pens { map X.pen_state pens.items ≡ replicate (length plan.now) new_pen
         → IfOk result (λ done. AreClientRuns T.issued T.gave turns plan.now
         (lists_of (map X.pen_state done.items))) }
+    // The pens stay the recorder's.
     ensures keeps { IfOk result (λ done. All (X.has_pen recorder.now) done.items) }
-    // As for `run_clients`.
+    // Each error has its cause, as under `run_clients`.
     ensures cause { IfErr result (HasCause (IsMisfit T.issued T.gave) T.all_given (X.may_rewind recorder.now)
         X.pen_state (X.has_pen recorder.now)) }
 {

@@ -111,11 +111,17 @@ where
 /// A client takes its turns one after the other. At a turn it asks for an operation on a document, under the
 /// condition of the pair last reported to it if the turn says so. Each call is recorded before it is
 /// submitted, and its reply after it was polled. A call that waits after `turns` polls, or whose outcome is
-/// unknown, is recorded as lost.
+/// unknown, is recorded as lost. That clients run at the same time is tested, not proved.
 ///
 /// Errors: `NoMemory` if memory was refused while the pens were gathered; otherwise the fault of the client
-/// with the least number that met one. The threads have then ended, and the pens are given up. It returns
-/// only if each call of the target and of the recorder does.
+/// with the least number that met one: of the recorder (`Record`) or of the target (`Target`). The threads
+/// have then ended, and the pens are dropped. It waits for its threads, and returns only if each call of the
+/// target and of the recorder does.
+///
+/// What a caller learns from `cause` depends on what its target and its recorder say of themselves. Of a
+/// `Recorder`, a `ClockRecorder` and a `Group` of the crate `repl_group` it is that `NotMine` and `Ended` are
+/// never returned, and of a `ClockRecorder` that `Rewound` is not either: otherwise these count pens and
+/// replies of any value as their own.
 pub fn run_clients<R: Threads + Wait + Sync, T: Target + Sync, X: Recording + Sync>(
     rt: &R,
     alloc: Global,
@@ -127,17 +133,23 @@ pub fn run_clients<R: Threads + Wait + Sync, T: Target + Sync, X: Recording + Sy
 ) -> Result<Vec<X::Pen>, RunFault>
 where
     X::Pen: Send + Drop,
+    // There is one pen for each client of the plan.
     requires count { length pens.items ≡ length plan.now }
+    // The pens are the recorder's.
     requires pens { All (X.has_pen recorder.now) pens.items }
+    // The list of each pen is longer by a run of its client; in a run the numbers of the events rise.
     ensures runs { IfOk result (λ done. AreLongerByRuns T.issued T.gave turns plan.now
         (map X.pen_state pens.items) (map X.pen_state done.items)) }
     // If the pens are new, the lists are the runs of the clients, and nothing else.
     ensures of_new_pens { map X.pen_state pens.items ≡ replicate (length plan.now) new_pen
         → IfOk result (λ done. AreClientRuns T.issued T.gave turns plan.now
         (lists_of (map X.pen_state done.items))) }
+    // The pens stay the recorder's.
     ensures keeps { IfOk result (λ done. All (X.has_pen recorder.now) done.items) }
-    // No event is refused as a stranger's or as one of an ended call. One is refused as misfitting only if
-    // the target gave such a reply, and as too many only if a pen of the recorder is full.
+    // Each error has its cause. `NotMine` and `Ended` are never returned; `Kind` only if, by its relations,
+    // the target may give to a ticket a reply that the ticket's operation doesn't have; `Full` of the
+    // recorder only if a pen of its own is full; `Rewound` only by a recorder that may return it; `Full` of
+    // the target only if its `all_given` holds.
     ensures cause { IfErr result (HasCause (IsMisfit T.issued T.gave) T.all_given (X.may_rewind recorder.now)
         X.pen_state (X.has_pen recorder.now)) }
 {

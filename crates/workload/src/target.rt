@@ -29,7 +29,8 @@ pub enum TargetFault {
     NoMemory,
 }
 
-/// A target, to which clients submit operations and which they poll for the outcomes, from any thread.
+/// A target, to which clients submit operations and which they poll for the outcomes, from any thread. Which
+/// relations its tickets and reports stand in, and when it returns an error, each target says for itself.
 pub trait Target {
     ghost use Rattle.std.specs.Prelude.{List, ℕ};
     ghost use Rattle.doc_register.specs.declared.op.Op.{Op};
@@ -49,11 +50,15 @@ pub trait Target {
 
     /// Submits an operation on a document, and returns its ticket. It may wait. Errors: `Full`, `NoMemory`.
     fn submit<R: Wait>(&self, rt: &R, id: &DocId, op: &Op) -> Result<Ticket, TargetFault>
+        // A ticket is one that this target may issue for the document and the operation.
         ensures ticket { IfOk result (λ ticket. issued ticket id.now op.now) }
+        // The error is `Full` only if what this target says of it holds.
         ensures full { result ≡ Err TargetFault.Full → all_given };
 
     /// Returns what has become of a submitted operation, or that memory was refused. It may wait.
     fn poll<R: Wait>(&self, rt: &R, ticket: Ticket) -> Result<Progress, TargetFault>
+        // What is reported is what this target may report of the ticket.
         ensures progress { IfOk result (λ progress. gave ticket progress) }
+        // The only error is `NoMemory`.
         ensures refused { IfErr result (λ fault. fault ≡ TargetFault.NoMemory) };
 }

@@ -23,6 +23,7 @@ fn performed_by_pair(alloc: Global, records: &[Rec]) -> Result<Vec<(Pair, usize)
 
 /// Returns the chain of a document: its performed answered writes, sorted by pair.
 pub fn chain_of(alloc: Global, records: &[Rec]) -> Result<Vec<(Pair, usize)>, NoMemory>
+    // The chain has the performed answered writes of the records, each once, by pair and then by number.
     ensures { IfOk result (λ chain. IsChain records.now chain.items) }
 {
     let mut links = performed_by_pair(alloc, records)?;
@@ -75,6 +76,8 @@ pub fn states_of(
     records: &[Rec],
     chain: &[(Pair, usize)],
 ) -> Result<Vec<DocState>, NoMemory>
+    // The first state is that of a document that was never written, and then comes one after each write of
+    // the chain.
     ensures { IfOk result
         (λ states. states.items ≡ Never ∷ map (after_link records.now) chain.now) }
 {

@@ -23,7 +23,9 @@ fn sink<T: Ord>(items: &mut Vec<T>, place: usize, steps: usize) -> usize
 /// Each item is moved down step by step, with a total of a few steps per item; then the general sort takes
 /// the list, which is already sorted unless that was too few.
 pub fn sort_nearly_ordered<T: Ord>(items: &mut Vec<T>)
+    // The list has the items that it had.
     ensures permutation { IsPermutation items.old.items items.new.items }
+    // They are in their order.
     ensures sorted { IsSorted T.cmp items.new.items }
 {
     let mut left = items.len().saturating_mul(STEPS);
