@@ -25,8 +25,8 @@ STATS = {"indices": {"carts": {"shards": {"0": [{"seq_no": {"max_seq_no": -1}}]}
 def request_of(method, target, body=None, *fields):
     """The bytes of a request."""
     target = target if isinstance(target, bytes) else target.encode()
-    told = [] if body is None else [b"Content-Length: %d" % len(body)]
-    return b"\r\n".join([method.encode() + b" " + target + b" HTTP/1.1", b"Host: x", *fields, *told, b"", b""]) + (body or b"")
+    length = [] if body is None else [b"Content-Length: %d" % len(body)]
+    return b"\r\n".join([method.encode() + b" " + target + b" HTTP/1.1", b"Host: x", *fields, *length, b"", b""]) + (body or b"")
 
 
 def answer_of(status, body, *fields):
@@ -115,7 +115,7 @@ class Cluster:
                 count += len(more)
             data = b"".join(pieces)
             body, data = data[: int(length[1])] if length else b"", data[int(length[1]) if length else 0 :]
-            answer = self.own(head) or self.told(head, body)
+            answer = self.own(head) or self.passed_on(head, body)
             if answer is None:
                 return
             connection.sendall(answer)
@@ -129,7 +129,7 @@ class Cluster:
             return answer_of(200, {"carts": {**INDEX, "aliases": self.aliases}} if target == b"/carts" else STATS)
         return None
 
-    def told(self, head, body):
+    def passed_on(self, head, body):
         """The answer to a request that was passed on."""
         self.seen.append(head)
         return self.answer(head, body)

@@ -4,9 +4,9 @@
     python3 tests/measure_proxy.py [--clients 100] [--seconds 10] [--times 1] [--part N] [--rate N] [--apart] [PROGRAM]
 
 Starts the stand-in, and has so many clients ask it, each on a connection of its own and its next request after each answer:
-three gets, an index and an index under the condition of the last pair that it was told, in turn, each client on a document of its own
+three gets, an index and an index under the condition of the last pair that it was shown, in turn, each client on a document of its own
 and on one that all share. Then the same through the proxy, and what the program says of the history. With a rate the clients
-together ask so many times a second and no more, evenly, so that the times tell what the proxy adds to each request. What each takes of a
+together ask so many times a second and no more, evenly, so that the times show what the proxy adds to each request. What each takes of a
 processor is reported too, since the times of the clock say little where other work is done beside; and how much memory the proxy takes, after
 each of several times. With a part the recording has no end: each part has so many calls.
 """
@@ -54,7 +54,7 @@ class Client:
         self.socket.sendall(request.encode())
 
     def hears(self):
-        """Takes what came; tells whether the answer is whole."""
+        """Takes what came; returns whether the answer is whole."""
         more = self.socket.recv(1 << 16)
         if not more:
             raise ConnectionResetError
@@ -71,7 +71,7 @@ class Client:
 
 
 def run_clients(port, setting):
-    """Runs the clients; tells how many answers a second came, and the times, in milliseconds, that they took, in order."""
+    """Runs the clients; returns how many answers a second came, and the times, in milliseconds, that they took, in order."""
     with contextlib.ExitStack() as opened, selectors.DefaultSelector() as selector:
         clients = [Client(it, port) for it in range(setting.clients)]
         for it in clients:

@@ -94,10 +94,10 @@ def seconds(program, path, runs):
     least = None
     for _ in range(runs):
         before = resource.getrusage(resource.RUSAGE_CHILDREN).ru_utime
-        told = subprocess.run([program, "check", path], capture_output=True, text=True, check=False).stdout
+        answer = subprocess.run([program, "check", path], capture_output=True, text=True, check=False).stdout
         took = resource.getrusage(resource.RUSAGE_CHILDREN).ru_utime - before
-        if not told.startswith("yes "):
-            sys.exit(f"{path}: {told}")
+        if not answer.startswith("yes "):
+            sys.exit(f"{path}: {answer}")
         least = took if least is None else min(least, took)
     return least
 
@@ -112,9 +112,9 @@ def main():
     print("| text | bytes | seconds a gigabyte | times the plain |\n|---|---|---|---|")
     with tempfile.TemporaryDirectory() as folder:
         plain = None
-        for name, told in kinds(given.megabytes << 20):
+        for name, text in kinds(given.megabytes << 20):
             path = Path(folder, "text.ndjson")
-            path.write_text(told, encoding="utf-8")
+            path.write_text(text, encoding="utf-8")
             size = path.stat().st_size
             cost = seconds(given.program, path, given.runs) / size * 1e9
             plain = plain or cost

@@ -33,11 +33,12 @@ class ProgramTest(unittest.TestCase):
         for."""
 
     def run_subtests(self, check, rows, executor=ThreadPoolExecutor, workers=None, chunksize=1, not_counted=()):
-        """Runs a subtest for each row, several at a time. A row is a name and the arguments of the check, which raises
-        an exception if the subtest fails. Processes need a check that is a function of a module. A row isn't counted as
-        a subtest if the check returns one of the values that are not counted. Returns what each check returned, None if
-        it failed."""
+        """Runs a subtest for each row, several at a time; there is one at least. A row is a name and the arguments of
+        the check, which raises an exception if the subtest fails. Processes need a check that is a function of a
+        module. A row isn't counted as a subtest if the check returns one of the values that are not counted. Returns
+        what each check returned, None if it failed."""
         rows = list(rows)
+        self.assertNotEqual(rows, [])
         with executor(workers) as pool:
             try:
                 outcomes = list(pool.map(outcome_of, repeat(check), [row[1:] for row in rows], chunksize=chunksize))

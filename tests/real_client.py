@@ -66,8 +66,8 @@ class Turns:
 
     def m(self):
         """Gets several."""
-        told = self.client.mget(index="carts", body={"ids": ["d", "b1", "nowhere"]})
-        return [it["found"] for it in told["docs"]]
+        answer = self.client.mget(index="carts", body={"ids": ["d", "b1", "nowhere"]})
+        return [it["found"] for it in answer["docs"]]
 
     def n(self):
         """Indexes a document without an id, and gets it."""

@@ -73,8 +73,8 @@ class Honest(Cluster):
         except BadMessage:
             return None
         with self.lock:
-            status, told = self.server.act(read_request(request, body))
-        answer = answer_of(status, json.dumps(told).encode())
+            status, given = self.server.act(read_request(request, body))
+        answer = answer_of(status, json.dumps(given).encode())
         return answer.partition(b"\r\n\r\n")[0] + b"\r\n\r\n" if request.method == "HEAD" else answer
 
 
@@ -157,7 +157,7 @@ class Drawn:
             self.pairs[found[1].decode()] = (int(found[3]), int(found[2]))
 
     def run(self, count):
-        """Makes so many exchanges, as long as there is a proxy; tells how many it made."""
+        """Makes so many exchanges, as long as there is a proxy; returns how many it made."""
         try:
             for done in range(count):
                 self.turn()
@@ -191,7 +191,7 @@ class Attacked(AttackTest):
                 left = self.left(proxy, before)
             seconds, taken, status = end_of(proxy)
             said = proxy.process.stderr.read()
-        # (what can't be told of a request that is made up may end the recording, which is said)
+        # (what isn't known of a request that is made up may end the recording, which is said)
         self.assertEqual(status, 3 if "the recording ended early: " in said else 0)
         self.assertLess(taken, 1.0)
         return self.check() if os.path.exists(self.file) else "no call was made", left, seconds
@@ -205,9 +205,9 @@ class Attacked(AttackTest):
             time.sleep(0.1)
         return left
 
-    def hold(self, told, wanted):
+    def hold(self, answers, wanted):
         """Holds what runs came to."""
-        for answer, left, seconds in told:
+        for answer, left, seconds in answers:
             self.assertRegex(answer, wanted)
             self.assertLess(seconds, 3.0)
             if left is not None:
@@ -215,7 +215,7 @@ class Attacked(AttackTest):
                 self.assertLessEqual(left[0], 1)
                 self.assertLessEqual(left[1], 1)
                 self.assertLess(left[2], 40)
-        self.assertLess(sorted(seconds for _, _, seconds in told)[len(told) // 2], 1.0)
+        self.assertLess(sorted(seconds for _, _, seconds in answers)[len(answers) // 2], 1.0)
 
     def test_clients_that_attack_an_honest_cluster(self):
         plans = [(f"honest-{it}", Honest(), [0, 0.02, 0.3][it % 3], 175, it % 4 == 3) for it in range(12)]

@@ -34,7 +34,7 @@ def performed(id="d", seq=0):
 
 
 class Told(AttackTest):
-    """What the proxy tells, and who doesn't read it."""
+    """What the proxy reports, and who doesn't read it."""
 
     def test_a_thousand_interim_answers_in_one_packet(self):
         with Cluster(lambda *_: CONTINUE * 1000 + answer_of(200, found(0, {}))) as cluster, self.proxy(cluster.url) as proxy:
@@ -81,14 +81,14 @@ class Told(AttackTest):
         raise AssertionError("the proxy doesn't listen")
 
     def answers_after_interim(self, proxy, cluster):
-        """Whether the proxy goes on and ends soon, after interim answers and after something that it tells."""
+        """Whether the proxy goes on and ends soon, after interim answers and after something that it reports."""
         with self.client(proxy, timeout=20) as client:
             client.send(request_of("PUT", "/carts/_doc/d", b"{}"))
             while b"HTTP/1.1 201" not in client.data:
                 more = client.more()
                 self.assertNotEqual(more, b"", "the answer never came")
                 client.data += more
-        os.remove(self.file)  # (of that the proxy tells)
+        os.remove(self.file)  # (which the proxy reports)
         time.sleep(1.5)
         with self.client(proxy, timeout=20) as client:
             client.send(OTHER)
@@ -178,8 +178,8 @@ class Large(AttackTest):
             if not head.startswith(b"POST"):
                 return answer_of(200, {})
             item = b'{"index":{"_index":"carts","_id":"d%d","_version":1,"result":"%s","_seq_no":%d,"_primary_term":1,"status":%d}}'
-            told = ((it, (b"created", 201) if it < 1000 else (b"updated", 200)) for it in range(count))
-            items = b",".join(item % (it % 1000, result, it, status) for it, (result, status) in told)
+            results = ((it, (b"created", 201) if it < 1000 else (b"updated", 200)) for it in range(count))
+            items = b",".join(item % (it % 1000, result, it, status) for it, (result, status) in results)
             return answer_of(200, b'{"took":5,"errors":false,"items":[%s]}' % items)
 
         with Cluster(answer) as cluster, self.proxy(cluster.url) as proxy:

@@ -46,7 +46,7 @@ class Lines(AttackTest):
         self.assertEqual(self.check(), "yes docs=1 calls=1 left_out=1")
 
 
-# Writes of which the proxy can't tell what they write: a request, the answer, and the document that it wrote.
+# Writes of which the proxy can't know what they write: a request, the answer, and the document that it wrote.
 UNSEEN = [
     (request_of("POST", "/carts/_doc?id=5", b"{}"), {"_index": "carts", "_id": "5", "result": "updated"}, "5"),
     (request_of("POST", "/other/_bulk//", b'{"index":{"_index":"carts","_id":"d"}}\n{"a":1}\n'), {}, "d"),
@@ -66,12 +66,12 @@ UNSEEN = [
 class Unseen(AttackTest):
     """No write goes past the proxy unseen: a get that shows it accuses nobody."""
 
-    def run_of(self, request, told, id):
+    def run_of(self, request, given, id):
         """What is made of a write and of a get that shows it."""
         shown = found(7, {"a": 1}, _id=id if id[0] != "%" else {"%C3%83%C2%A9": "\xc3\xa9", "%EF%BF%BD": "\ufffd"}[id])
 
         def answer(head, body):
-            return answer_of(200, shown if head.startswith(b"GET") else told)
+            return answer_of(200, shown if head.startswith(b"GET") else given)
 
         with Cluster(answer) as cluster, self.proxy(cluster.url) as proxy:
             with self.client(proxy) as client:
@@ -79,11 +79,11 @@ class Unseen(AttackTest):
                 self.assertEqual(client.ask(request_of("GET", f"/carts/_doc/{id}"))[0], 200)
             return proxy.ended()
 
-    def test_writes_that_can_not_be_told(self):
-        for request, told, id in UNSEEN:
+    def test_writes_that_can_not_be_known(self):
+        for request, given, id in UNSEEN:
             with self.subTest(request=request[:60]):
                 self.tidy()
-                said = self.run_of(request, told, id)
+                said = self.run_of(request, given, id)
                 answer = self.check() if os.path.exists(self.file) else "no call was made"
                 self.assertRegex(answer + said, "^yes |the recording ended early|not judged, from")
                 self.assertNotIn("refuted", answer)
@@ -188,13 +188,13 @@ class Late(AttackTest):
         there = ssl.SSLContext(ssl.PROTOCOL_TLS_SERVER)
         there.load_cert_chain(CERTIFICATE)
         body = json.dumps(found(0, {})).encode()
-        for is_told in (False, True):
+        for is_known in (False, True):
 
             def answer(connection):
                 with there.wrap_socket(connection, server_side=True) as server:
                     server.recv(65_536)
                     server.sendall(b"HTTP/1.1 200 OK\r\n\r\n" + body)
-                    if is_told:
+                    if is_known:
                         server.unwrap()
 
             with Cluster(answer, is_raw=True, trust=there) as cluster, self.proxy(cluster.url, "--ca-file", CERTIFICATE) as proxy:
@@ -202,7 +202,7 @@ class Late(AttackTest):
                     client.send(request_of("GET", "/carts/_doc/d"))
                     client.all()
                 proxy.ended()
-            self.assertEqual([it["e"] for it in self.lines()], ["call", "reply" if is_told else "lost"])
+            self.assertEqual([it["e"] for it in self.lines()], ["call", "reply" if is_known else "lost"])
             self.tidy()
 
     def test_more_than_an_answer_is_none_to_the_next_request(self):

@@ -78,10 +78,10 @@ class LoopTest(unittest.TestCase):
 
     def make(self, what):
         """Does something on the loop's thread; gives what comes of it."""
-        told, is_done = [], threading.Event()
-        self.loop.call(lambda: (told.append(what()), is_done.set()))
+        returned, is_done = [], threading.Event()
+        self.loop.call(lambda: (returned.append(what()), is_done.set()))
         self.assertTrue(is_done.wait(30))
-        return told[0]
+        return returned[0]
 
     def until(self, holds):
         """Waits until something holds, half a minute at most."""
@@ -172,8 +172,8 @@ class Streams(LoopTest):
             self.loop.call(lambda: 1 // 0)
             another.sendall(b"y")
             self.until(lambda: second.data == b"y")
-        told = [call.args[0] for call in tell.call_args_list]
-        self.assertRegex("".join(told), "^[^\n]*a fault of the test\n[^\n]*ZeroDivisionError[^\n]*\n$")
+        printed = [call.args[0] for call in tell.call_args_list]
+        self.assertRegex("".join(printed), "^[^\n]*a fault of the test\n[^\n]*ZeroDivisionError[^\n]*\n$")
 
 
 class Listening(LoopTest):
@@ -250,7 +250,7 @@ class Encrypted(LoopTest):
     """Connections over TLS."""
 
     def connection(self, host="127.0.0.1"):
-        """An encrypted connection of the loop with who uses it, what it told of its beginning, and the other end of it."""
+        """An encrypted connection of the loop with who uses it, what it reported of its beginning, and the other end of it."""
         here, there = ssl.create_default_context(cafile=CERTIFICATE), ssl.SSLContext(ssl.PROTOCOL_TLS_SERVER)
         there.load_cert_chain(CERTIFICATE)
         ours, other = socket.socketpair()
@@ -345,7 +345,7 @@ class Pieces(FolderTest):
         return client, client.cluster, judge
 
     def body(self, text):
-        """The fields that tell the length of a body, and the body, in one of the ways to tell it."""
+        """The fields that give the length of a body, and the body, in one of the ways to give it."""
         if self.draw.random() < 0.6:
             return b"Content-Length: %d\r\n" % len(text), text
         cuts = sorted(self.draw.randrange(len(text) + 1) for _ in range(3))
@@ -474,18 +474,18 @@ class Short(unittest.TestCase):
 
     def hold(self, op, status, content):
         """Holds what is read in short against what the JSON says."""
-        told, wanted = read_reply(op, status, content), object_of(content)
-        if told is None:
+        read, wanted = read_reply(op, status, content), object_of(content)
+        if read is None:
             return
-        self.read["written" if op == "index" else "found" if told["found"] else "missing"] += 1
+        self.read["written" if op == "index" else "found" if read["found"] else "missing"] += 1
         self.assertIsNotNone(wanted, content)
         members = ("_index", "_id", "result", "found", "_seq_no", "_primary_term", "error")
-        self.assertEqual({it: told.get(it) for it in members}, {it: wanted.get(it) for it in members}, content)
-        self.assertEqual([type(told[it]) for it in members if it in told], [type(wanted[it]) for it in members if it in told], content)
-        if "_source" in told or "_source" in wanted:
-            self.assertEqual((told.get("_source"), status, told.get("found")), (digest_of(wanted["_source"]), 200, True), content)
+        self.assertEqual({it: read.get(it) for it in members}, {it: wanted.get(it) for it in members}, content)
+        self.assertEqual([type(read[it]) for it in members if it in read], [type(wanted[it]) for it in members if it in read], content)
+        if "_source" in read or "_source" in wanted:
+            self.assertEqual((read.get("_source"), status, read.get("found")), (digest_of(wanted["_source"]), 200, True), content)
         else:
-            self.assertEqual(json.dumps(counting_members(told)), json.dumps(counting_members(wanted)), content)
+            self.assertEqual(json.dumps(counting_members(read)), json.dumps(counting_members(wanted)), content)
 
     def test_drawn_replies_say_what_their_json_says(self):
         for _ in range(20_000):

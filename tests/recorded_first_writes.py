@@ -60,8 +60,8 @@ class FirstWrites(AttackTest):
                 condition = f"?if_seq_no={pair[0]}&if_primary_term={pair[1]}" if pair and turn % 3 == 2 else ""
                 method, body = ("GET", None) if turn % 3 == 1 else ("PUT", json.dumps({"number": number, "turn": turn}))
                 connection.request(method, f"/carts/_doc/d{(number + turn // 3) % 5}{condition}", body, {"Content-Type": "application/json"})
-                told = json.loads(connection.getresponse().read())
-                pair = (told["_seq_no"], told["_primary_term"]) if "_seq_no" in told else None
+                answer = json.loads(connection.getresponse().read())
+                pair = (answer["_seq_no"], answer["_primary_term"]) if "_seq_no" in answer else None
             connection.close()
 
         with ThreadPoolExecutor(8) as pool:
@@ -115,8 +115,8 @@ class FirstWrites(AttackTest):
 
     def test_where_the_first_answer_is_lost_only_its_document_is_not_judged(self):
         def answer(head, body):
-            told = cluster.performed(head.split(b" ")[1].decode().rpartition("/")[2])
-            return None if b"/first" in head else answer_of(201, told)
+            given = cluster.performed(head.split(b" ")[1].decode().rpartition("/")[2])
+            return None if b"/first" in head else answer_of(201, given)
 
         with Made(answer) as cluster, self.proxy(cluster.url) as proxy:
             statuses = []

@@ -1,5 +1,5 @@
 #!/usr/bin/env python3
-"""Tests what docs/RECORDING.md tells whoever writes a harness: which reply a call gets in which state, by the program; the example of a
+"""Tests what docs/RECORDING.md says to whoever writes a harness: which reply a call gets in which state, by the program; the example of a
 dictionary; and the connection that asks each thing once.
 
     python3 tests/recorded_harness.py [PROGRAM]

@@ -66,12 +66,12 @@ class NodeSession(Session):
         return [None if call.operation.op == "delete" else self.outcome(call) for call in calls]
 
     def outcome(self, call):
-        told = super().outcome(call)
+        outcome = super().outcome(call)
         if self.store.faults.get(self.node) == "silent":
             self.has_failed = True
             raise NoOutcome("silent")
         self.is_open = self.store.faults.get(self.node) != "closes"
-        return told
+        return outcome
 
     def close(self):
         with self.store.guard:
@@ -167,7 +167,7 @@ class LoadTest(FolderTest):
             self.assertEqual([it.calls for it in load.clients], [7] * 4)
             self.assertEqual(load.history.calls, 28)
 
-    def test_it_ends_when_it_is_told_to(self):
+    def test_it_ends_on_request(self):
         with History(self.file) as history:
             load = Load(history, seed=3, has_ended=lambda: history.calls >= 50)
             load.add_clients(4, Nodes(1, pause=0.001), MANY)

@@ -57,8 +57,8 @@ class Long(FolderTest):
             self.assertFalse(os.path.exists(again[2]))
         counts = []
         for part in sorted(parts.iterdir()):
-            told = re.fullmatch(r"yes docs=8 calls=(\d+) left_out=0", judged(self.program, part))
-            counts.append(int(told[1]))
+            answer = re.fullmatch(r"yes docs=8 calls=(\d+) left_out=0", judged(self.program, part))
+            counts.append(int(answer[1]))
         self.assertEqual([it.name for it in sorted(parts.iterdir())], [f"part-{it:06}.ndjson" for it in range(1, len(counts) + 1)])
         # (2,000 calls are seven parts of 300, with those that come before a document moves; and a document begins with one more)
         self.assertTrue(len(counts) in (6, 7) and 2000 <= sum(counts) <= 2000 + 8 * 6, counts)
@@ -90,10 +90,10 @@ class Long(FolderTest):
         with Continuing(os.path.join(self.folder, "parts"), MOST_EVENTS // 2) as history:
             for turn in range(rounds + more):
                 calls = history.call_all([Operation("index", it, turn) for it in documents])
-                told = (200, "updated") if turn else (201, "created")
+                result = (200, "updated") if turn else (201, "created")
                 pairs = [Pair(1, turn * len(documents) + it) for it in range(len(documents))]
-                texts = [text_of_write(it, told[1], pair) for it, pair in zip(documents, pairs)]
-                history.end_all([(call, (told[0], text)) for call, text in zip(calls, texts)])
+                texts = [text_of_write(it, result[1], pair) for it, pair in zip(documents, pairs)]
+                history.end_all([(call, (result[0], text)) for call, text in zip(calls, texts)])
         answers = [judged(self.program, os.path.join(history.path, f"part-{it:06}.ndjson")) for it in (1, 2)]
         # (each document begins the second part with one call)
         counts = [len(documents) * it for it in (rounds, 1 + more)]
@@ -157,9 +157,9 @@ class Split(FolderTest):
         self.assertEqual(os.listdir(self.folder), ["carts.ndjson"])
         with open(self.file, "a", encoding="utf-8") as history:
             history.write("{}\n")
-        status, told = self.split()
+        status, printed = self.split()
         self.assertEqual((status, os.listdir(self.folder)), (1, ["carts.ndjson"]))
-        self.assertIn("line 5 can't be given to a shard", told)
+        self.assertIn("line 5 can't be given to a shard", printed)
 
     def test_an_interruption(self):
         os.remove(self.file)
@@ -225,8 +225,8 @@ class SideBySide(FolderTest):
         self.assertEqual(self.ended("GNU parallel", RIGHT, WRONG, NO_TEXT), (2, sorted([f"{it}\t{YES}" for it in names] + wrong)))
 
     def test_by_an_array(self):
-        told = [self.ended("an array of a batch queue", RIGHT, WRONG, SLURM_ARRAY_TASK_ID=str(it)) for it in range(1, 5)]
-        self.assertEqual(told, [(0, [YES])] * 3 + [(1, [REFUTED])])
+        ends = [self.ended("an array of a batch queue", RIGHT, WRONG, SLURM_ARRAY_TASK_ID=str(it)) for it in range(1, 5)]
+        self.assertEqual(ends, [(0, [YES])] * 3 + [(1, [REFUTED])])
 
 
 if __name__ == "__main__":

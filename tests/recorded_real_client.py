@@ -117,7 +117,7 @@ class RealClient(ClientTest):
         calls += ["get d 200", "get d 200", "get now 404", "index d 200", "index b0 201", "index b1 201", "index b2 201", "delete b0 200"]
         calls += ["index AAA 201", "get d 200", "get b1 200", "get now 404", "index AAA 201", "get AAA 200", "delete d 200", "get d 404"]
         self.assertEqual(self.calls(), [*calls, "index d 201"])
-        # (a HEAD that found the document tells no version)
+        # (a HEAD that found the document shows no version)
         self.assertEqual(self.check(), "yes docs=8 calls=25 left_out=1")
         self.assertIn("0 of them without a reply", self.said)
 

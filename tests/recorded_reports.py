@@ -1,5 +1,5 @@
 #!/usr/bin/env python3
-"""Tests what the operator of a recording is told: an early end at once, clients that go around the proxy, wrong arguments, counts.
+"""Tests what the operator of a recording is shown: an early end at once, clients that go around the proxy, wrong arguments, counts.
 
     python3 tests/recorded_reports.py [PROGRAM]
 
@@ -60,7 +60,7 @@ class ReportTest(FolderTest):
         answer.read()
         return answer.status
 
-    def told(self, proxy):
+    def reported(self, proxy):
         """The next line on standard error, if there is one within some seconds; else nothing."""
         return proxy.process.stderr.readline().strip() if select.select([proxy.process.stderr], [], [], 10)[0] else ""
 
@@ -72,7 +72,7 @@ class EarlyEnds(ReportTest):
         proxy = self.proxy()
         self.assertEqual(self.ask(proxy, "PUT", "/carts/_doc/d", "{}"), 201)
         self.ask(proxy, "DELETE", "/carts")
-        self.assertRegex(self.told(proxy), f"^{ENDED}DELETE /carts; requests are still passed on, and no longer recorded: end the proxy")
+        self.assertRegex(self.reported(proxy), f"^{ENDED}DELETE /carts; requests are still passed on, and no longer recorded: end the proxy")
         self.assertEqual(self.ask(proxy, "PUT", "/other/_doc/d", "{}"), 201)
         self.assertIn("\nthe recording ended early: DELETE /carts", proxy.ended())
         self.assertEqual(proxy.process.returncode, 3)
@@ -81,7 +81,7 @@ class EarlyEnds(ReportTest):
         proxy = self.proxy(start=limited("proxy", 6))
         statuses = [self.ask(proxy, "PUT", f"/carts/_doc/d{it}", "{}") for it in range(4)]
         self.assertEqual(statuses, [201] * 4)
-        self.assertRegex(self.told(proxy), f"^{ENDED}.*carts.ndjson is full; ")
+        self.assertRegex(self.reported(proxy), f"^{ENDED}.*carts.ndjson is full; ")
         proxy.ended()
         self.assertEqual(proxy.process.returncode, 3)
         self.assertEqual(self.check(), "yes docs=3 calls=3 left_out=0")
@@ -92,7 +92,7 @@ class EarlyEnds(ReportTest):
         with contextlib.suppress(http.client.HTTPException, OSError):
             self.ask(proxy, "DELETE", "/carts")
         self.assertEqual(proxy.process.wait(30), 3)
-        self.assertEqual(self.told(proxy), f"{ENDED}DELETE /carts; the proxy ends")
+        self.assertEqual(self.reported(proxy), f"{ENDED}DELETE /carts; the proxy ends")
 
     def test_a_recording_at_its_time_has_status_0(self):
         proxy = self.proxy("--stop-when-ended")

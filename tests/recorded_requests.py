@@ -76,19 +76,19 @@ class JudgeTest(FolderTest):
             content = b"".join(json.dumps(it).encode() + b"\n" for it in lines)
         return judge.ask(judge.route(method, target.encode()), method, content)
 
-    def answer(self, judge, asked, told, length=None):
+    def answer(self, judge, asked, answer, length=None):
         """Hands in the answer to it, or that there is none."""
         if asked is None:
             return
-        if told is LOST:
+        if answer is LOST:
             judge.lost(asked)
         else:
-            judge.answered(asked, told[0], json.dumps(told[1]).encode(), length)
+            judge.answered(asked, answer[0], json.dumps(answer[1]).encode(), length)
 
     def talk(self, judge, *turns):
         """Hands in requests, each with its answer behind it: a method with a target, a source or not, the answer."""
-        for request, source, told in turns:
-            self.answer(judge, self.ask(judge, *request.split(), source), told)
+        for request, source, answer in turns:
+            self.answer(judge, self.ask(judge, *request.split(), source), answer)
 
     def ended(self, judge):
         """Ends the recording; its lines in short, as `index 2 if 1/0` and `201 created 1/0` with the numbers of their calls."""
@@ -108,8 +108,8 @@ class JudgeTest(FolderTest):
         if not os.path.exists(path):
             return {}
         with open(path, encoding="utf-8") as lines:
-            told = [json.loads(it) for it in lines]
-        return {it.get("id", "ended"): it["why"] for it in told if "why" in it}
+            rows = [json.loads(it) for it in lines]
+        return {it.get("id", "ended"): it["why"] for it in rows if "why" in it}
 
 
 def short(line):
@@ -241,8 +241,8 @@ class Calls(JudgeTest):
         for seq, source in enumerate(sources):
             self.answer(judge, self.ask(judge, "PUT", "/carts/_doc/d", source), written(seq, "updated" if seq else "created"))
         self.talk(judge, ("PUT /carts/_doc/e", {"a": 1}, written(4, id="e")))
-        told = [it for it in self.ended(judge) if "index" in it]
-        self.assertEqual(told, ["0 index d k=2", "1 index d k=2", "2 index d k=3", "3 index d k=4", "4 index e k=2"])
+        calls = [it for it in self.ended(judge) if "index" in it]
+        self.assertEqual(calls, ["0 index d k=2", "1 index d k=2", "2 index d k=3", "3 index d k=4", "4 index e k=2"])
 
     def test_a_source_that_nobody_wrote_is_seen(self):
         judge = self.judge()
@@ -250,13 +250,13 @@ class Calls(JudgeTest):
         self.ended(judge)
         self.assertRegex(self.check(), "^refuted kind=no-writer calls=1 ")
 
-    def test_what_can_not_be_told_exactly_is_lost(self):
+    def test_what_is_not_known_exactly_is_lost(self):
         half, wrong = {"result": "created", "_seq_no": 0}, {"result": "created", "_seq_no": 0, "_primary_term": 1}
         answers = [LOST, (502, "no upstream"), (200, "what"), (200, {}), (503, {"error": "x"}), NOT_THERE, (404, {}), (201, half)]
         answers += [written(0, _index="other"), (200, wrong), (429, {}), (400, {"error": {"type": "x"}})]
         judge = self.judge()
-        for at, told in enumerate(answers):
-            self.talk(judge, (f"PUT /carts/_doc/{at}", {}, told), (f"GET /carts/_doc/{at}", None, (told or LOST) and told))
+        for at, answer in enumerate(answers):
+            self.talk(judge, (f"PUT /carts/_doc/{at}", {}, answer), (f"GET /carts/_doc/{at}", None, (answer or LOST) and answer))
         self.ended(judge)
         count = 2 * len(answers)
         self.assertEqual(self.check(), f"yes docs={len(answers)} calls={count} left_out={count}")
@@ -283,7 +283,7 @@ class Calls(JudgeTest):
         self.talk(judge, ("GET /carts/_doc/d?_source=false", None, missing()))
         self.talk(judge, ("GET /carts/_doc/d?_source=false", None, found(7, None)))
         lines = self.ended(judge)
-        # the pair tells which version it is; one that no answer told stays untold
+        # the pair shows which version it is; one that no answer shows stays unknown
         self.assertEqual([it[2:] for it in lines if " 200 1/" in it], ["200 1/0 k=2"] * len(ways))
         self.assertEqual(lines[-4:], ["8 get d", "8 404", "9 get d", "9 lost"])
 
@@ -295,8 +295,8 @@ class Calls(JudgeTest):
 
     def test_heads_tell_a_document_that_is_missing_by_its_length(self):
         judge, length = self.judge(), len('{"_index":"carts","_id":"é","found":false}'.encode())
-        for status, told in ((404, length), (404, length + len(',"_type":"_doc"')), (404, length + 1), (404, None), (200, length)):
-            judge.answered(self.ask(judge, "HEAD", "/carts/_doc/%C3%A9"), status, b"", told)
+        for status, length_of_head in ((404, length), (404, length + len(',"_type":"_doc"')), (404, length + 1), (404, None), (200, length)):
+            judge.answered(self.ask(judge, "HEAD", "/carts/_doc/%C3%A9"), status, b"", length_of_head)
         self.ended(judge)
         bodies = [it.get("body") for it in self.lines() if it["e"] == "reply"]
         self.assertEqual(bodies, [{"found": False}] * 2 + [{}] * 3)
@@ -311,7 +311,7 @@ class Calls(JudgeTest):
         self.assertEqual(len(self.ended(judge)), 4)
         self.assertEqual(self.names(), {})
 
-    def test_conditions_that_can_not_be_told(self):
+    def test_conditions_that_can_not_be_known(self):
         ways = ["version=3&version_type=external", "version_type=external_gte&version=1", "if_seq_no=3", "if_seq_no=-1&if_primary_term=1"]
         ways += ["if_seq_no=1&if_primary_term=0", "if_seq_no=1&if_primary_term=99999999999999999999", "version=3"]
         judge = self.judge()
@@ -371,7 +371,7 @@ class UnknownSources(JudgeTest):
         self.assertEqual(lines[2:], [*wanted, "7 get d", "7 200 1/2 k=1", "8 index e k=1", "8 201 created 1/3"])
         self.assertEqual(self.check(), "yes docs=2 calls=9 left_out=2")
 
-    def test_what_a_lost_update_may_have_written_is_not_told(self):
+    def test_what_a_lost_update_may_have_written_is_not_known(self):
         judge = self.judge()
         self.talk(
             judge,
@@ -396,7 +396,7 @@ class UnknownSources(JudgeTest):
         self.ended(judge)
         self.assertRegex(self.check(), "^refuted kind=no-writer calls=2 ")
 
-    def test_an_update_that_is_open_is_not_told_either(self):
+    def test_an_update_that_is_open_is_not_known_either(self):
         judge = self.judge()
         self.talk(judge, ("PUT /carts/_doc/d", {"a": 1}, written(0)))
         update = self.ask(judge, "POST", "/carts/_update/d", {"doc": {"a": 2}})
@@ -434,9 +434,9 @@ class Several(JudgeTest):
         lines = [{"index": {"_id": "d"}}, {"a": 1}, {"create": {"_id": "e", "_index": "shop"}}, {"a": 2}, {"delete": {"_id": "f"}}]
         lines += [{"index": {"_id": "d", "if_seq_no": 0, "if_primary_term": 1}}, {"a": 3}, {"update": {"_id": "d"}}, {"doc": {"a": 4}}]
         lines += [{"index": {"_id": "d", "_index": "other"}}, {"a": 5}, {"index": {}}, {"a": 6}]
-        told = [{"index": written(0)}, {"create": CONFLICT}, {"delete": written(1, "not_found", "f")}, {"index": written(2, "updated")}]
-        told += [{"update": written(3, "updated")}, {"index": written(0)}, {"index": written(4, id=MADE + "x")}]
-        items = [{op: {**body, "_id": body.get("_id", "e"), "status": status}} for it in told for op, (status, body) in it.items()]
+        results = [{"index": written(0)}, {"create": CONFLICT}, {"delete": written(1, "not_found", "f")}, {"index": written(2, "updated")}]
+        results += [{"update": written(3, "updated")}, {"index": written(0)}, {"index": written(4, id=MADE + "x")}]
+        items = [{op: {**body, "_id": body.get("_id", "e"), "status": status}} for it in results for op, (status, body) in it.items()]
         for target in ("/_bulk", "/carts/_bulk?refresh=true", "/other/_bulk"):
             judge = self.judge()
             named = [it if {"a", "doc"} & set(it) else {op: {"_index": "carts", **it[op]} for op in it} for it in lines]
@@ -454,11 +454,11 @@ class Several(JudgeTest):
         item = {"index": {**written(0)[1], "status": 201}}
         other = {"index": {**written(0, id="e")[1], "status": 201}}
         odd = [{"index": {**written(0)[1], "status": it}} for it in (-1, "201", None)]
-        for told in [LOST, (500, {}), (200, {}), (200, {"items": []}), (200, {"items": [item, item]}), (200, {"items": [5]})] + [
+        for answer in [LOST, (500, {}), (200, {}), (200, {"items": []}), (200, {"items": [item, item]}), (200, {"items": [5]})] + [
             (200, {"items": [it]}) for it in (other, *odd, {"index": {"status": 201}}, {})
         ]:
             judge = self.judge()
-            self.talk(judge, ("POST /carts/_bulk", [{"index": {"_id": "d"}}, {"a": 1}], told))
+            self.talk(judge, ("POST /carts/_bulk", [{"index": {"_id": "d"}}, {"a": 1}], answer))
             self.ended(judge)
             self.assertEqual(self.check(), "yes docs=1 calls=1 left_out=1")
             self.tidy()
@@ -476,7 +476,7 @@ class Several(JudgeTest):
             self.assertEqual(self.ended(judge), ["0 get d", "0 lost"])
             self.tidy()
 
-    def test_items_that_can_not_be_told(self):
+    def test_items_that_can_not_be_known(self):
         judge = self.judge()
         self.talk(judge, ("PUT /carts/_doc/d", {"a": 1}, written(0)))
         lines = [{"index": {"_id": "e"}}, {}, {"update": {"_id": "d"}}, {"script": "x"}, {"index": {"_id": "f", "unheard": 1}}, {}]
@@ -513,8 +513,8 @@ class Several(JudgeTest):
             self.tidy()
 
     def test_such_a_request_that_may_go_on(self):
-        told = (200, {"task": "x:1"}), (200, {"timed_out": True}), (504, {}), LOST
-        turns = [("/carts/_delete_by_query", it) for it in told]
+        answers = (200, {"task": "x:1"}), (200, {"timed_out": True}), (504, {}), LOST
+        turns = [("/carts/_delete_by_query", it) for it in answers]
         turns += [("/carts/_delete_by_query?wait_for_completion=false", (200, {})), ("/ca*/_delete_by_query", (200, {}))]
         for target, answer in turns:
             judge = self.judge()
@@ -525,7 +525,7 @@ class Several(JudgeTest):
 
 
 class NewIds(JudgeTest):
-    """Writes of documents whose ids the answer tells."""
+    """Writes of documents whose ids the answer shows."""
 
     def test_the_answer_tells_the_document(self):
         judge, id = self.judge(), MADE + "x"
@@ -542,9 +542,9 @@ class NewIds(JudgeTest):
         self.assertEqual(list(self.names()), [id])
 
     def test_an_answer_that_is_lost(self):
-        for told in (LOST, (503, {}), (201, {"_id": MADE + "x"}), CONFLICT):
+        for answer in (LOST, (503, {}), (201, {"_id": MADE + "x"}), CONFLICT):
             judge = self.judge()
-            self.talk(judge, ("POST /carts/_doc", {"a": 1}, told))
+            self.talk(judge, ("POST /carts/_doc", {"a": 1}, answer))
             self.talk(judge, (f"GET /carts/_doc/{MADE}x", None, found(0, {"a": 1}, MADE + "x")))
             self.talk(judge, ("PUT /carts/_doc/d", {}, written(1)), ("POST /carts/_doc", {}, written(2, id=MADE + "y")))
             self.assertEqual([it for it in self.ended(judge) if "index" in it], ["0 index d k=2", f"1 index {MADE}y k=2"])
@@ -563,7 +563,7 @@ class NewIds(JudgeTest):
 class NotJudged(JudgeTest):
     """What ends the judgement of a document, or the recording."""
 
-    def test_writes_that_can_not_be_told(self):
+    def test_writes_that_can_not_be_known(self):
         writes = ["PUT /carts/_doc/d?op_type=x", "PUT /carts/_doc/d?unheard=of", "POST /carts/kind/d", "DELETE /carts/kind/d"]
         writes += ["PATCH /carts/_doc/d", "PUT /%3Ccarts-%7Bnow%7D%3E/_doc/d", "PUT /carts,other/_doc/d", "POST /carts/kind/d/_update"]
         for write in writes:
@@ -645,8 +645,8 @@ class NotJudged(JudgeTest):
         judge = self.judge()
         self.ask(judge, "POST", "/carts/_update/d", {"script": "x"})
         lines = [{"delete": {"_id": "d"}}, {"delete": {"_id": "e"}}, {"index": {}}, {"a": 1}]
-        told = [it and it.id for it in self.ask(judge, "POST", "/carts/_bulk", lines).parts]
-        self.assertEqual(told, [None, "e", ""])
+        ids = [it and it.id for it in self.ask(judge, "POST", "/carts/_bulk", lines).parts]
+        self.assertEqual(ids, [None, "e", ""])
         bulk = judge.ask_in_pieces(judge.route("POST", b"/carts/_bulk"))
         judge.take_items(bulk, b'{"index":{}}\n{"a":1}\n{"delete":{"_id":"e"}}\n', True, has_room=False)
         self.assertEqual([it and it.id for it in bulk.parts], [None, "e"])
@@ -676,7 +676,7 @@ class Shards(JudgeTest):
         self.assertEqual([it for it in self.ended(judge) if "index" in it], [f"0 index {ids[0]} k=2", f"1 index {ids[1]} k=2 shard 1"])
         self.assertEqual(self.check(), "yes docs=2 calls=2 left_out=0")
 
-    def test_a_routing_is_told_apart_where_there_are_several(self):
+    def test_a_routing_is_distinguished_if_there_are_several(self):
         for shards, routed in ((1, False), (2, True)):
             judge = self.judge(shards=shards)
             self.talk(
@@ -786,10 +786,10 @@ class NotEmpty(JudgeTest):
 
 
 class Answers:
-    """A connection that gives the answers of an index of the stand-in, and some that are told."""
+    """A connection that gives the answers of an index of the stand-in, and some that are given."""
 
-    def __init__(self, asked, told=()):
-        self.index, self.told = Index("carts", Faults("none", 1), asked), dict(told)
+    def __init__(self, asked, given=()):
+        self.index, self.given = Index("carts", Faults("none", 1), asked), dict(given)
 
     def open(self, patience):
         pass
@@ -797,23 +797,23 @@ class Answers:
     def ask(self, method, path):
         name = path.partition("?")[0]
         index = self.index
-        told = {
+        given = {
             "/carts": {"carts": index.described()},
             "/shop": {"carts": index.described()},
             "/carts/_stats": {"indices": {"carts": index.stats()}},
             "/_cluster/state/metadata/carts": {"metadata": {"indices": {"carts": {"routing_num_shards": index.routing_shards}}}},
-            **self.told,
+            **self.given,
         }
-        if name == "/carts/_search_shards" and name not in told:
-            told[name] = {"shards": [[{"shard": index.shard_number(path.partition("routing=")[2])}]]}
-        return Answer(200, json.dumps(told[name]).encode()) if name in told else Answer(404, b"{}")
+        if name == "/carts/_search_shards" and name not in given:
+            given[name] = {"shards": [[{"shard": index.shard_number(path.partition("routing=")[2])}]]}
+        return Answer(200, json.dumps(given[name]).encode()) if name in given else Answer(404, b"{}")
 
 
 class Inspections(JudgeTest):
     """What is asked of an index before it is recorded."""
 
-    def inspect(self, asked, told=(), name="carts"):
-        return Inspector(Answers(asked, told)).look(name)
+    def inspect(self, asked, given=(), name="carts"):
+        return Inspector(Answers(asked, given)).look(name)
 
     def test_the_names_and_shards_of_an_index(self):
         shape = self.inspect({"settings": {"number_of_shards": 3}, "aliases": {"shop": {"index_routing": "x"}, "old": {}}})
@@ -830,8 +830,8 @@ class Inspections(JudgeTest):
         refused += [({"aliases": {"shop": {"filter": {"x": 1}}}}, (), "filter"), ({}, [("/carts", {"a": {}, "b": {}})], "names 2 indexes")]
         wrong = [("/carts/_search_shards", {"shards": [[{"shard": 7}]]})]
         refused += [({"settings": {"number_of_shards": 2}}, wrong, "are not reckoned"), ({}, [("/carts", {"carts": {}})], "not what OpenSearch tells")]
-        for asked, told, why in refused:
-            self.assertRaisesRegex(ClusterError, why, self.inspect, asked, told)
+        for asked, given, why in refused:
+            self.assertRaisesRegex(ClusterError, why, self.inspect, asked, given)
 
     def test_an_index_that_was_written_to(self):
         stats = {"indices": {"carts": {"shards": {"0": [{"seq_no": {"max_seq_no": 0}}]}}}}

@@ -19,6 +19,7 @@ import signal
 import subprocess
 import sys
 import tempfile
+import threading
 import time
 
 from program import TOP
@@ -49,9 +50,11 @@ MOST_LINES = 150
 # How many seconds anything may take. A machine that has too much to do starts a node in minutes.
 MOST_SECONDS = 600
 
-# How many recordings are made at once, and the commands that run now.
+# How many recordings are made at once, the commands that run now, and whether the tests are interrupted, so that nothing is
+# waited for.
 AT_ONCE = 3
 RUNNING = set()
+IS_INTERRUPTED = threading.Event()
 
 
 @contextlib.contextmanager
@@ -112,7 +115,7 @@ def wait_until(holds, why):
     """Waits until it holds."""
     last = time.monotonic() + MOST_SECONDS
     while not holds():
-        if time.monotonic() > last:
+        if time.monotonic() > last or IS_INTERRUPTED.is_set():
             raise AssertionError(why)
         time.sleep(0.05)
 
@@ -290,6 +293,7 @@ class Recordings(ProgramTest):
     """Recordings of the stores that are installed, several at once."""
 
     def interrupt(self):
+        IS_INTERRUPTED.set()
         for child in list(RUNNING):
             child.terminate()
 
@@ -337,6 +341,8 @@ class Recordings(ProgramTest):
             print(f"SKIPPED: {store} isn't installed here ({package}), so nothing was recorded of it")
         with reachable_folder("casbench-stores-test-") as folder:
             rows = [row for store in installed for row in self.rows(store, pathlib.Path(folder))]
+            if not rows:
+                self.skipTest("no store is installed")
             self.run_subtests(lambda check, *arguments: check(*arguments), rows, workers=AT_ONCE)
 
 

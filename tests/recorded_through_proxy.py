@@ -386,13 +386,13 @@ class Broken(ProxyTest):
         askers = [self.asker(proxy) for _ in range(4)]
         self.assertEqual(askers[0].ask("PUT", "/carts/_doc/d", {})[0], 201)
         with ThreadPoolExecutor() as pool:
-            told = [pool.submit(askers[0].ask, "PUT", "/carts/_doc/d", {"a": 1})]
+            answers = [pool.submit(askers[0].ask, "PUT", "/carts/_doc/d", {"a": 1})]
             while len(self.lines()) < 3:
                 time.sleep(0.01)
             other.process.kill()
             # until it is gone its port may still take connections
             other.process.wait()
-            self.assertEqual(told[0].result()[0], 502)
+            self.assertEqual(answers[0].result()[0], 502)
         for it in askers[1:]:
             self.assertEqual(it.ask("PUT", "/carts/_doc/d", {})[0], 502)
         self.assertIn("recorded 2 calls", proxy.ended())
@@ -408,8 +408,8 @@ class Broken(ProxyTest):
         # (a client that is gone looks as one that sends no more, and the answer comes all the same)
         wait_for_lines(self.file, 6)
         proxy.ended()
-        told = [(it["e"], it["n"]) for it in self.lines()]
-        self.assertEqual(told, [("call", 0), ("reply", 0), ("call", 1), ("call", 2), ("reply", 2), ("reply", 1)])
+        events = [(it["e"], it["n"]) for it in self.lines()]
+        self.assertEqual(events, [("call", 0), ("reply", 0), ("call", 1), ("call", 2), ("reply", 2), ("reply", 1)])
         self.assertEqual(self.check(), "yes docs=1 calls=3 left_out=0")
 
     def test_a_proxy_that_is_ended(self):
@@ -443,7 +443,7 @@ class Broken(ProxyTest):
 
 
 class Begun(ProxyTest):
-    """How a recording begins, and what it tells."""
+    """How a recording begins, and what it reports."""
 
     def test_an_index_that_is_made_through_the_proxy(self):
         other = self.started("stand_in", "--port", "0")
@@ -496,7 +496,7 @@ class Begun(ProxyTest):
             self.assertEqual(proxy.ended(), "no call was made, so there is no file")
         self.assertEqual(os.listdir(self.folder), [])
 
-    def test_what_is_not_judged_is_told_at_the_end(self):
+    def test_what_is_not_judged_is_reported_at_the_end(self):
         with self.stand_in() as other, self.proxy(other.url) as proxy:
             asker = self.asker(proxy)
             for at in range(30):
@@ -576,7 +576,7 @@ class Drawn:
     def __init__(self, seed, kinds, index, port, timeout):
         self.draw, self.kinds, self.index, self.count = random.Random(seed), kinds.split(), index, 0
         self.asker = Asker(port, timeout)
-        # of each document the pairs that were told
+        # of each document the pairs that were shown
         self.pairs = {}
 
     def __enter__(self):
@@ -593,11 +593,11 @@ class Drawn:
     def turn(self):
         """Makes one request; after a conflict it reads the document again."""
         kind, id = self.draw.choice(self.kinds), f"d{self.draw.randrange(3)}"
-        status, told = getattr(self, kind.replace("-", "_"))(id)
+        status, content = getattr(self, kind.replace("-", "_"))(id)
         if status == 409:
             self.get(id)
-        if isinstance(told, dict) and "_seq_no" in told:
-            self.pairs.setdefault(told["_id"], []).append((told["_primary_term"], told["_seq_no"]))
+        if isinstance(content, dict) and "_seq_no" in content:
+            self.pairs.setdefault(content["_id"], []).append((content["_primary_term"], content["_seq_no"]))
 
     def get(self, id):
         return self.asker.ask("GET", f"/{self.index}/_doc/{id}")
@@ -687,13 +687,13 @@ class Meeting(ProxyTest):
 
     def test_nobody_is_accused(self):
         with ThreadPoolExecutor(2) as pool:
-            told = list(pool.map(self.run_of, range(12)))
-        for seed, (answer, judge) in enumerate(told):
+            results = list(pool.map(self.run_of, range(12)))
+        for seed, (answer, judge) in enumerate(results):
             with self.subTest(seed=seed):
                 self.assertRegex(answer, "^(yes|no) ")
                 self.assertEqual(judge.unjudged.ended, [])
-        self.assertGreater(sum(judge.history.replies for _, judge in told), 400)
-        self.assertGreater(sum(len(judge.unjudged.reasons) for _, judge in told), 10)
+        self.assertGreater(sum(judge.history.replies for _, judge in results), 400)
+        self.assertGreater(sum(len(judge.unjudged.reasons) for _, judge in results), 10)
 
 
 class Table(ProxyTest):
@@ -702,9 +702,9 @@ class Table(ProxyTest):
     SEEDS = range(20)
 
     def runs(self, fault):
-        """Makes the runs with a fault, each on an index of its own; tells of each what check says."""
+        """Makes the runs with a fault, each on an index of its own; returns of each what check says."""
         _, words, kinds = SAID[fault]
-        told = []
+        answers = []
         with Started("stand_in", "--port", "0", "--fault", fault, *words) as other:
             for seed in self.SEEDS:
                 index = f"carts-{seed}"
@@ -714,17 +714,17 @@ class Table(ProxyTest):
                     with Drawn(seed, kinds, index, proxy.port, 0.15 if fault == "late" else 30) as drawn:
                         for _ in range(50):
                             drawn.turn()
-                told.append([judged(self.program, file)])
+                answers.append([judged(self.program, file)])
                 if fault == "false-conflict":
-                    told[-1].append(judged(self.program, file, "--conflicts", "maybe"))
-        return told
+                    answers[-1].append(judged(self.program, file, "--conflicts", "maybe"))
+        return answers
 
     def test_each_fault(self):
         self.assertEqual(set(SAID), set(FAULTS))
         with ThreadPoolExecutor(4) as pool:
-            all_told = dict(zip(SAID, pool.map(self.runs, SAID)))
-        for fault, told in all_told.items():
-            for seed, (plain, *maybe) in enumerate(told):
+            all_runs = dict(zip(SAID, pool.map(self.runs, SAID)))
+        for fault, runs in all_runs.items():
+            for seed, (plain, *maybe) in enumerate(runs):
                 with self.subTest(fault=fault, seed=seed):
                     self.assertRegex(plain, SAID[fault][0])
                     self.assertRegex("".join(maybe), "^(yes .*|)$")

@@ -83,8 +83,8 @@ class WatchTest(FolderTest):
         """How it ends, after a signal if one is sent: its status, and what it writes on both outputs."""
         if sent is not None:
             child.send_signal(sent)
-        told, fault = child.communicate(timeout=SECONDS)
-        return child.returncode, told, fault
+        printed, fault = child.communicate(timeout=SECONDS)
+        return child.returncode, printed, fault
 
     def wait_for(self, is_so):
         """Waits until something is so."""
@@ -103,10 +103,10 @@ class OneHistory(WatchTest):
         child = self.watched("--every", "0.1", "--", sys.executable, "-c", f"open({mark!r}, 'x'); raise SystemExit(3)")
         time.sleep(0.5)
         self.append(STALE)
-        status, told, fault = self.ended(child)
+        status, printed, fault = self.ended(child)
         self.assertEqual(status, 1, fault)
-        self.assertRegex(told, r"\Arefuted kind=stale-get calls=2,1 event=5 call=2 before=shown\n\n?.*\n")
-        self.assertGreater(told.count("\n"), 5)
+        self.assertRegex(printed, r"\Arefuted kind=stale-get calls=2,1 event=5 call=2 before=shown\n\n?.*\n")
+        self.assertGreater(printed.count("\n"), 5)
         self.assertTrue(os.path.exists(mark))
         self.assertRegex(fault, r"\Acasbench_recording\.watch: .* ended with status 3\n\Z")
 
@@ -129,7 +129,7 @@ class OneHistory(WatchTest):
         self.assertEqual(self.ended(child)[0], 1)
 
     def test_the_end(self):
-        for text, status, told in (
+        for text, status, wanted in (
             (RIGHT, 0, "yes docs=1 calls=2 left_out=0\n"),
             (NONE, 2, "refused line=1 cause=shape\n"),
             ("", 2, ""),
@@ -140,7 +140,7 @@ class OneHistory(WatchTest):
                 self.wait_for(lambda child=child: heeds_signals(child))
                 pathlib.Path(self.file).write_text(text)
                 ended = self.ended(child, sent)
-                self.assertEqual(ended[:2], (status, told), ended[2])
+                self.assertEqual(ended[:2], (status, wanted), ended[2])
                 self.assertEqual("there is nothing to check" in ended[2], not text)
 
     def test_what_is_not_judged(self):
@@ -151,13 +151,13 @@ class OneHistory(WatchTest):
             self.append(last, "carts.ndjson.not-judged")
             child = self.watched()
             self.wait_for(lambda: heeds_signals(child))
-            told = f"yes docs=1 calls=2 left_out=0\nnot judged: {count}, listed in {self.file}.not-judged\n"
-            told += "the recording ended early: the disk\\x1b is full\n"
-            self.assertEqual(self.ended(child, signal.SIGTERM)[:2], (0, told))
+            wanted = f"yes docs=1 calls=2 left_out=0\nnot judged: {count}, listed in {self.file}.not-judged\n"
+            wanted += "the recording ended early: the disk\\x1b is full\n"
+            self.assertEqual(self.ended(child, signal.SIGTERM)[:2], (0, wanted))
 
     def test_a_term_that_starts_too_low(self):
         """It is reported with the last answer, which is yes all the same."""
-        for text, told in ((ACKNOWLEDGED + GOES_ON, ""), (ACKNOWLEDGED + STARTS_LOW, HINT)):
+        for text, hint in ((ACKNOWLEDGED + GOES_ON, ""), (ACKNOWLEDGED + STARTS_LOW, HINT)):
             pathlib.Path(self.file).write_text(ACKNOWLEDGED)
             log = os.path.join(self.folder, "log")
             child = self.watched("--every", "0.1", "--", "touch", log)
@@ -165,7 +165,7 @@ class OneHistory(WatchTest):
             time.sleep(0.3)
             pathlib.Path(self.file).write_text(text)
             status, printed, fault = self.ended(child, signal.SIGTERM)
-            self.assertEqual((status, printed), (0, f"yes docs=3 calls=4 left_out=0\n{told}"), fault)
+            self.assertEqual((status, printed), (0, f"yes docs=3 calls=4 left_out=0\n{hint}"), fault)
             # (the command is for what is proved)
             self.assertFalse(os.path.exists(log))
 
@@ -181,13 +181,13 @@ class OneHistory(WatchTest):
         self.append(RIGHT + STALE)
         child.stdin.close()
         child.stdin = None
-        status, told, _ = self.ended(child)
-        self.assertEqual((status, told.partition(" ")[0]), (1, "refuted"))
+        status, printed, _ = self.ended(child)
+        self.assertEqual((status, printed.partition(" ")[0]), (1, "refuted"))
 
     def test_a_program_that_is_not_there(self):
         self.append(RIGHT)
-        status, told, fault = self.ended(self.watched(program="/dev/null/casbench"))
-        self.assertEqual((status, told), (4, ""))
+        status, printed, fault = self.ended(self.watched(program="/dev/null/casbench"))
+        self.assertEqual((status, printed), (4, ""))
         self.assertIn("Not a directory: '/dev/null/casbench'", fault)
 
     def test_checks_take_a_tenth_of_a_processor(self):
@@ -251,10 +251,10 @@ class Directory(WatchTest):
         child = self.watched("--every", "0.1", "--delete-parts")
         self.wait_for(lambda: not os.path.exists(os.path.join(self.folder, self.part)))
         self.append(RIGHT + STALE, "parts/part-000002.ndjson.growing")
-        status, told, _ = self.ended(child)
+        status, printed, _ = self.ended(child)
         self.assertEqual(status, 1)
         path = os.path.join(self.file, "part-000002.ndjson.growing")
-        self.assertTrue(told.startswith(f"{path}:\nrefuted kind=stale-get calls=2,1 "), told)
+        self.assertTrue(printed.startswith(f"{path}:\nrefuted kind=stale-get calls=2,1 "), printed)
         self.assertTrue(os.path.exists(path))
 
     def test_a_term_that_starts_too_low_in_a_later_part(self):
@@ -275,8 +275,8 @@ class Directory(WatchTest):
         self.append(NONE, self.part)
         child = self.watched("--every", "0.1", "--delete-parts")
         self.wait_for(lambda: heeds_signals(child))
-        told = "1 part: 0 yes, 0 no, 1 refused\nrefused line=1 cause=shape\n"
-        self.assertEqual(self.ended(child, signal.SIGTERM)[:2], (2, told))
+        wanted = "1 part: 0 yes, 0 no, 1 refused\nrefused line=1 cause=shape\n"
+        self.assertEqual(self.ended(child, signal.SIGTERM)[:2], (2, wanted))
         self.assertEqual(os.listdir(self.file), ["part-000001.ndjson"])
 
 
@@ -304,9 +304,9 @@ class TermsOfShards(unittest.TestCase):
         self.assertEqual(self.hints((1, 7, 3), (2, 7, 3)), ["shard 3, term 2 starts at 7, but 1/7 was acknowledged"])
 
     def test_a_loss_is_hinted_at_once(self):
-        told = ["term 2 starts at 50, but 1/100 was acknowledged"]
-        self.assertEqual(self.hints((1, 100), (2, 50), (2, 60), (3, 61)), told)
-        self.assertEqual(self.hints((1, 100), (2, 50), (2, 60), (3, 60)), [*told, "term 3 starts at 60, but 2/60 was acknowledged"])
+        wanted = ["term 2 starts at 50, but 1/100 was acknowledged"]
+        self.assertEqual(self.hints((1, 100), (2, 50), (2, 60), (3, 61)), wanted)
+        self.assertEqual(self.hints((1, 100), (2, 50), (2, 60), (3, 60)), [*wanted, "term 3 starts at 60, but 2/60 was acknowledged"])
         # a term of which nothing was acknowledged hides none
         self.assertEqual(self.hints((1, 100), (2, 101, 0, READ), (3, 90)), ["term 3 starts at 90, but 1/100 was acknowledged"])
 
@@ -343,30 +343,30 @@ class Beside(WatchTest):
     def test_it_stops_the_load_at_the_first_fault(self):
         period = 3
         with Started("stand_in", "--port", "0", "--fault", "stale-get") as store:
-            status, told, fault = self.ended(self.recorder(store, "--seconds", "600", "--every", str(period)))
+            status, printed, fault = self.ended(self.recorder(store, "--seconds", "600", "--every", str(period)))
         self.assertEqual(status, 1, fault)
-        refuted = re.match(r"refuted kind=stale-get calls=\d+,\d+ event=(\d+) ", told)
-        self.assertRegex(told, r"\nrecorded \d+ calls in .*\n\Z")
+        refuted = re.match(r"refuted kind=stale-get calls=\d+,\d+ event=(\d+) ", printed)
+        self.assertRegex(printed, r"\nrecorded \d+ calls in .*\n\Z")
         lines = self.lines()
         self.assertLess(lines[-1]["t"] - lines[int(refuted[1])]["t"], 2 * period * 1000)
         self.assertEqual(self.check("--rule-out").partition(" ")[0], "refuted")
 
     def test_the_last_check_has_the_last_line(self):
         with Started("stand_in", "--port", "0") as store:
-            status, told, fault = self.ended(self.recorder(store, "--calls", "100", "--every", "60"))
+            status, printed, fault = self.ended(self.recorder(store, "--calls", "100", "--every", "60"))
         self.assertEqual((status, fault), (0, ""))
-        self.assertEqual(told, f"yes docs=8 calls=400 left_out=0\nrecorded 400 calls in {self.file}, 0 of them without a reply\n")
+        self.assertEqual(printed, f"yes docs=8 calls=400 left_out=0\nrecorded 400 calls in {self.file}, 0 of them without a reply\n")
 
     def test_an_interruption_of_the_whole_group(self):
         with Started("stand_in", "--port", "0") as store:
             child = self.recorder(store, "--seconds", "600", "--every", "0.2")
             self.wait_for(lambda: os.path.exists(self.file) and os.path.getsize(self.file) > 100_000)
             os.killpg(child.pid, signal.SIGINT)
-            status, told, fault = self.ended(child)
+            status, printed, fault = self.ended(child)
         self.assertEqual((status, fault), (130, ""))
-        calls = re.fullmatch(r"yes docs=8 calls=(\d+) left_out=0\nrecorded (\d+) calls in .*\n", told)
+        calls = re.fullmatch(r"yes docs=8 calls=(\d+) left_out=0\nrecorded (\d+) calls in .*\n", printed)
         self.assertEqual(calls[1], calls[2])
-        self.assertEqual(self.check(), told.partition("\n")[0])
+        self.assertEqual(self.check(), printed.partition("\n")[0])
 
     def test_a_recorder_that_is_killed_leaves_no_watch(self):
         with Started("stand_in", "--port", "0") as store:
@@ -379,10 +379,10 @@ class Beside(WatchTest):
     def test_a_watch_that_can_not_check(self):
         with Started("stand_in", "--port", "0") as store:
             child = self.recorder(store, "--seconds", "600", "--program", "/dev/null/casbench", "--every", "0.2")
-            status, told, fault = self.ended(child)
+            status, printed, fault = self.ended(child)
         self.assertEqual(status, 4, fault)
         self.assertIn("Not a directory: '/dev/null/casbench'", fault)
-        self.assertTrue(judged(self.program, self.file).startswith("yes "), told)
+        self.assertTrue(judged(self.program, self.file).startswith("yes "), printed)
 
     def test_a_proxy_that_stops_the_load(self):
         """The load can't connect any more, so it ends too."""
@@ -393,11 +393,11 @@ class Beside(WatchTest):
                 words = ["--seconds", "600", "--patience", "0", proxy.url, "carts", self.file]
                 load = [sys.executable, "-m", "casbench_recording.record", *words]
                 ran = subprocess.run(load, capture_output=True, text=True, env=environment(), timeout=SECONDS)
-                told, fault = proxy.process.communicate(timeout=SECONDS)
+                printed, fault = proxy.process.communicate(timeout=SECONDS)
         self.assertEqual((ran.returncode, proxy.process.returncode), (1, 1), ran.stderr)
         self.assertIn("Connection refused", ran.stderr)
-        self.assertRegex(told, r"\A.*/parts/part-\d+\.ndjson(\.growing)?:\nrefuted kind=")
-        self.assertRegex(told, r"\nrecorded \d+ calls in .*\njudged: 8 documents, .*\n\Z")
+        self.assertRegex(printed, r"\A.*/parts/part-\d+\.ndjson(\.growing)?:\nrefuted kind=")
+        self.assertRegex(printed, r"\nrecorded \d+ calls in .*\njudged: 8 documents, .*\n\Z")
 
 
 if __name__ == "__main__":

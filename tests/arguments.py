@@ -1,7 +1,7 @@
 #!/usr/bin/env python3
 """Runs the built program with arguments of all kinds: accepted ones, refused ones, and such as name files that fail.
 
-    python3 tests/words.py [PROGRAM]
+    python3 tests/arguments.py [PROGRAM]
 
 PROGRAM is the built casbench; if it isn't named, the one that ./casbench would run. Each row is run in a new folder
 that has the files below; if a row names no standard input, that is empty.
@@ -309,7 +309,7 @@ TURNS = [
     in_turn("bulk", "bulk", "body", "reply", "stdout"),
 ]
 
-class Words(ProgramTest):
+class Arguments(ProgramTest):
     """Rows of arguments, each in a folder of its own."""
 
     def ran(self, arguments, folder, given=""):
