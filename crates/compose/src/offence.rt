@@ -232,12 +232,7 @@ fn offence_if(
 fn first_guess(alloc: Global, case: &Case) -> Result<Option<usize>, NoMemory> {
     match case.short_at() {
         Some(place) => Ok(Some(place)),
-        None => guess(
-            alloc,
-            case.history(),
-            case.conflicts(),
-            case.unordered(),
-        ),
+        None => guess(alloc, case.history(), case.conflicts(), case.unordered()),
     }
 }
 
