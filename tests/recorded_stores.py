@@ -166,7 +166,7 @@ def folder_of_nodes():
 A_SHELL = ["sh", "-c", '"$@"; exit', "sh"]
 
 class Table(ProgramTest):
-    """The table of README, and the mappings of the stores."""
+    """The table of docs/BENCHMARKS.md, which README folds, and the mappings of the stores."""
 
     def check_row(self, row, happens, count, answers, by_log):
         """The row is that of a scenario, of ten recordings or more, none of which was answered against the store's
@@ -180,14 +180,22 @@ class Table(ProgramTest):
         self.assertTrue(answers.keys() == {"yes"} or not row.is_survived)
 
     def test_table(self):
-        readme = (TOP / "README.md").read_text(encoding="utf-8")
+        page = (TOP / "docs" / "BENCHMARKS.md").read_text(encoding="utf-8")
         names = "|".join(NAMES.values())
-        rows = re.findall(rf"^\| ({names}) \| (.*) \| (\d+) \| (.*) \| (.*) \|$", readme, re.MULTILINE)
+        rows = re.findall(rf"^\| ({names}) \| (.*) \| (\d+) \| .* \| .* \| (.*) \| .* \| (.*) \|$", page, re.MULTILINE)
         with self.subTest("the stores of the rows"):
             self.assertEqual([it[0] for it in rows], [NAMES[it.store] for it in ROWS])
         for row, (store, *cells) in zip(ROWS, rows):
             with self.subTest(f"{store}, {row.happens}"):
                 self.check_row(row, *cells)
+
+    def test_folded_table(self):
+        """The rows of a store in README have as many recordings as there are of it."""
+        readme = (TOP / "README.md").read_text(encoding="utf-8")
+        for store, name in NAMES.items():
+            with self.subTest(name):
+                counts = re.findall(rf"^\| {name} \| .* \| (\d+) \|", readme, re.MULTILINE)
+                self.assertEqual(sum(map(int, counts)), 10 * sum(it.store == store for it in ROWS))
 
     def test_lengths_of_mappings(self):
         for store in PACKAGES:

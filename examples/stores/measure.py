@@ -6,7 +6,7 @@
 FOLDER is made. Two tables are printed, with a row for each fault of a store. The first has how many recordings there are, with the seeds 1
 and on; how many calls had no answer, the least, the middle and the most of a recording; how many of these took effect by the log; what
 `check --rule-out` answers, and in how many seconds of a processor; and what `verify` says of the witness by the log. The second has
-what README shows of it. A recording is kept there unless it gets `yes` and its witness is valid.
+what README shows of it, folded. A recording is kept there unless it gets `yes` and its witness is valid.
 
 The exit status is 1 if a store that keeps its promise was accused, or a recording got `yes` that its log contradicts: what nobody read
 is to be looked for there by hand.
@@ -158,7 +158,7 @@ def full_line(row: Row, found: Sequence[Measured]) -> str:
 
 
 def short_line(row: Row, found: Sequence[Measured]) -> str:
-    """The line of a row in the table that README shows."""
+    """The line of a row in the table that README folds."""
     return line_of(*heads_of(row, found), counted([it.answer for it in found]), counted([it.by_log for it in found]))
 
 
