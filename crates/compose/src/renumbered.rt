@@ -113,6 +113,8 @@ pub enum Numbers {
     Given(Vec<Change>),
     /// Too few numbers are free for these gaps, by their positions in the list.
     Short(Vec<usize>),
+    /// Two answered writes have one pair, whatever numbers the others get.
+    Spent,
 }
 
 // Numbers for all gaps, the one with the least upper end first: as each takes the least numbers that are free and that it may
@@ -150,6 +152,9 @@ pub fn numbers_of(
     gaps: &Gaps,
     used: &UsedPairs,
 ) -> Result<Numbers, NoMemory> {
+    if used.has_twice() {
+        return Ok(Numbers::Spent);
+    }
     let names = Names::of(alloc, keys, witnesses, gaps, used)?;
     let mut numbers = Numbers::Short(Vec::new(alloc));
     for avoids in [true, false] {
