@@ -97,6 +97,7 @@ pub fn renumbered(
     match numbers_of(alloc, history.keys(), &witnesses, &gaps, used)? {
         Numbers::Given(changes) => join_changed(alloc, history, witnesses, &changes),
         Numbers::Short(tight) => Ok(Joined::Short(witnesses, Shortage { gaps, tight })),
+        Numbers::Spent => Ok(Joined::Spent),
     }
 }
 

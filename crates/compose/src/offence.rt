@@ -11,7 +11,7 @@ use narrowing::guess;
 use std::alloc::Global;
 use version_pair::NoMemory;
 
-// How many replies are guessed before they are halved.
+// The greatest number of guesses before the bisection.
 const MOST_GUESSES: usize = 4;
 
 /// The reply at which the search for an order first fails.
@@ -65,9 +65,9 @@ fn looked_to(
     looked_for(alloc, &history.front(place + 1), conflicts)
 }
 
-// The reply that is tried next, of those from `low` to `high`, without the last: the one at the guessed
-// position; if an order was found there, one shortly after it, each time about four times as far; but at most
-// the middle one, which it is without a guess.
+// The index of the reply to try next, in `low..high`: the guess, if it is among them; if it is before them,
+// `low` and about three times the distance from the guess; never beyond the middle, which it is without a
+// guess.
 fn next_tried(places: &[usize], low: usize, high: usize, guessed: Option<usize>) -> usize
     requires order { low < high }
     ensures from { low ≤ result }
@@ -88,24 +88,18 @@ fn next_tried(places: &[usize], low: usize, high: usize, guessed: Option<usize>)
     low + half
 }
 
-// The guess after a reply at which the search fails, at this position: the one that this search gave, if it
-// is earlier; otherwise the reply before, if it was the guess that failed; otherwise the same as before.
-fn guess_before(
+// The guess after a failure at the reply of this index: the one that this search gave, if it is earlier; else
+// the same as before, unless it was the guess that failed.
+fn guess_after_failure(
     places: &[usize],
     at: usize,
     guessed: Option<usize>,
     found: Option<usize>,
 ) -> Option<usize> {
-    let place = places.get(at).copied()?;
+    let place = places.get(at).copied();
     match found {
-        Some(earlier) if earlier < place => Some(earlier),
-        _ => {
-            if found.is_some() || guessed == Some(place) {
-                places.get(at.checked_sub(1)?).copied()
-            } else {
-                guessed
-            }
-        }
+        Some(earlier) if Some(earlier) < place => Some(earlier),
+        _ => { if guessed == place { None } else { guessed } }
     }
 }
 
@@ -129,7 +123,7 @@ fn narrower(
     match looked_to(alloc, history, conflicts, places[at])? {
         Looked::Found => Ok((at + 1, high)),
         Looked::NotFound(found) => {
-            *guessed = guess_before(places, at, *guessed, found);
+            *guessed = guess_after_failure(places, at, *guessed, found);
             Ok((low, at))
         }
     }
@@ -239,10 +233,10 @@ fn first_guess(alloc: Global, case: &Case) -> Result<Option<usize>, NoMemory> {
 /// Returns the reply at which the search first fails, its call, and whether the events before it have an
 /// order.
 ///
-/// First a reply is tried that is cheap to guess: if the search fails there, and not on the events before, it
-/// is that. Else the replies are halved: if the events up to the middle one have an order that the search
-/// finds, it is after that, else it is that or before. If it is numbers that are too few, the search gives a
-/// reply to try instead of the middle one.
+/// At most four guesses come first: a guess is right if the search finds an order of the events before the
+/// reply and none with it. Else the replies are bisected. After a guess that was too early, replies shortly
+/// after it are tried; a failure for lack of numbers gives another guess, which is tried instead of the
+/// middle.
 pub fn first_offence(alloc: Global, case: &Case) -> Result<Offence, NoMemory>
     // `event` is the position of a reply of the history, and `call` the number of the call that it answers.
     // The events up to it are not legal in response order. If `before_shown` is true, those before it are

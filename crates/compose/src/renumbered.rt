@@ -113,6 +113,8 @@ pub enum Numbers {
     Given(Vec<Change>),
     /// Too few numbers are free for these gaps, by their indices in the list.
     Short(Vec<usize>),
+    /// Two answered writes have one pair, whatever numbers the others get.
+    Spent,
 }
 
 // Returns numbers for all gaps, the one with the least upper end first. Each takes the least numbers that are
@@ -151,6 +153,9 @@ pub fn numbers_of(
     gaps: &Gaps,
     used: &UsedPairs,
 ) -> Result<Numbers, NoMemory> {
+    if used.has_twice() {
+        return Ok(Numbers::Spent);
+    }
     let names = Names::of(alloc, keys, witnesses, gaps, used)?;
     let mut numbers = Numbers::Short(Vec::new(alloc));
     for avoids in [true, false] {

@@ -53,11 +53,11 @@ fn reply_at(witness: &DocWitness, position: usize) -> Option<usize> {
     found.heard.map(|heard| heard.0)
 }
 
-// The position of the first reply that may ask for what is invented in the gap: of the calls after it, up to
-// the write with the next pair that wasn't invented.
+// The index of the first reply that may ask for what is invented in the gap: of the calls after the last
+// invented write, up to and with the write with the next pair that wasn't invented.
 fn first_asking(gap: &Gap, witness: &DocWitness) -> Option<usize> {
     let mut first: Option<usize> = None;
-    let start = *gap.places.first()?;
+    let start = gap.places.last()?.saturating_add(1);
     for position in start..witness.places().len() {
         if let Some(place) = reply_at(witness, position) {
             first = Some(first.map_or(place, |other| other.min(place)));
@@ -71,7 +71,7 @@ fn first_asking(gap: &Gap, witness: &DocWitness) -> Option<usize> {
 }
 
 impl Shortage {
-    // The position of the last of the replies that first ask for what is invented in one of these gaps.
+    // The latest, over these gaps, of the first reply that may ask for what is invented there.
     fn last_asking(&self, witnesses: &[DocWitness]) -> Option<usize> {
         let mut last = None;
         for number in 0..self.tight.len() {
@@ -105,8 +105,9 @@ impl Shortage {
         Some(stretch)
     }
 
-    /// Returns the position of the reply with which the numbers seem to become too few: the last of those
-    /// that are the first to show a pair of these gaps. Nothing is promised of it.
+    /// A guess at the reply with which the numbers become too few, the later of two: the last reply that is
+    /// the first to show some pair from the end below these gaps to the end above; and the latest of the
+    /// first replies that may ask for their invented writes.
     pub fn reply(
         &self,
         alloc: Global,

@@ -10,6 +10,8 @@ use witness::DocWitness;
 pub struct UsedPairs {
     // The lists of the shards, by their numbers, each rising.
     shards: Vec<Vec<Pair>>,
+    // Whether two answered writes of a shard have one pair.
+    has_twice: bool,
 }
 
 // Adds the pairs that a call shows to be in use: the one that its reply shows, and, if it was performed, that
@@ -36,6 +38,7 @@ impl UsedPairs {
     ) -> Result<UsedPairs, NoMemory> {
         let mut used = UsedPairs {
             shards: Vec::new(alloc),
+            has_twice: false,
         };
         for answer in answers {
             if let Some(list) = used.list(alloc, shard_of(history, answer.id()))? {
@@ -57,6 +60,7 @@ impl UsedPairs {
     ) -> Result<UsedPairs, NoMemory> {
         let mut used = UsedPairs {
             shards: Vec::new(alloc),
+            has_twice: false,
         };
         for witness in witnesses {
             if let Some(list) = used.list(alloc, shard_of(history, witness.id()))? {
@@ -67,6 +71,7 @@ impl UsedPairs {
                 }
             }
         }
+        used.note_twice();
         for (shard, pair) in others {
             if let Some(list) = used.list(alloc, Some(*shard))? {
                 list.push(*pair)?;
@@ -89,6 +94,21 @@ impl UsedPairs {
             self.shards.push(Vec::new(alloc))?;
         }
         Ok(self.shards.get_mut(shard))
+    }
+
+    // Notes whether a pair is in its list twice.
+    fn note_twice(&mut self) {
+        for list in &mut self.shards {
+            list.sort_unstable();
+            for i in 1..list.len() {
+                self.has_twice = self.has_twice || list[i] == list[i - 1];
+            }
+        }
+    }
+
+    /// Whether two answered writes of a shard have one pair, as far as these are given by witnesses.
+    pub fn has_twice(&self) -> bool {
+        self.has_twice
     }
 
     // Sorts the lists. A pair that was added twice stays once.
