@@ -45,7 +45,7 @@ pub record AreMoments (records : List Rec) (moments : List Moment) : Type 0 wher
 
 -- ---- the order to be found
 
--- the number of performed writes among the first i places
+-- 1 if there is a pair, else 0
 abbrev pub link_count : Option Pair → ℕ
 link_count None = 0
 link_count (Some q) = 1
@@ -54,6 +54,7 @@ abbrev pub pair_at : Option Rec → Option Pair
 pair_at None = None
 pair_at (Some r) = pair_of r.heard
 
+-- the number of performed writes among the first i places
 abbrev pub level : List Rec → List Place → ℕ → ℕ
 level records [] i = 0
 level records (p ∷ ps) zero = 0
