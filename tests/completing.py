@@ -23,8 +23,9 @@ import unittest
 from typing import Dict, List, NamedTuple, Sequence, Tuple
 
 from program import TOP
-from recordings import FolderTest, run_tests
-from running import SECONDS, run_words
+from program_test import run_tests
+from recordings import FolderTest
+from running import SECONDS, run_arguments
 
 DIST = TOP / "dist"
 PROGRAM = DIST / "x86_64-linux" / "casbench"
@@ -207,7 +208,7 @@ class Made(FolderTest):
                 self.assertTrue(is_same, f"dist/share/{name} isn't what dist/make-share makes, which renews it")
 
     def test_named_values_are_those_that_the_program_has(self):
-        needed = {"verify": ["h", "w"], "run": run_words().split()[1:]}
+        needed = {"verify": ["h", "w"], "run": run_arguments().split()[1:]}
         count = 0
         for command in program_help(str(PROGRAM)).commands:
             for option in (it for it in command.options if it.values):

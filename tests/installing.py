@@ -17,7 +17,8 @@ import unittest
 from typing import NamedTuple
 
 from program import TOP
-from recordings import PACKAGE, FolderTest, environment, run_tests
+from program_test import run_tests
+from recordings import PACKAGE, FolderTest, environment
 from running import SECONDS
 
 DIST = TOP / "dist"

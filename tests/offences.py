@@ -11,19 +11,22 @@ half of them no call is lost, and there the event must not stand before the chan
 
 Of long recordings the reply is mostly guessed, so that it isn't looked for by some twenty searches more: in nine of ten
 the check takes less than six times the processor time of the check of the recording before the change. So it is if each
-document has an order by itself, and a number is missing for a lost delete; and if several numbers are missing that lost
-calls took, then at most eight times.
+document has an order by itself, and a number is missing for a lost delete; and of some recordings of which several
+numbers are missing that lost writes took.
 """
 
 import bisect
+import json
 import os
+import random
+import re
 import subprocess
 import sys
 import tempfile
 from concurrent.futures import ProcessPoolExecutor
 
 from drawing import CONFLICT, MISSING, Call, Draws, Ending, Op, Reply, lines, pair_taken, performed
-from evidence import is_reply
+from honest import Recording
 from program_test import ProgramTest, run_tests
 from running import run, said
 from texts import OFFENCE, no, status_of
@@ -39,9 +42,9 @@ ORDER = "an order"
 # right.
 LONG_CALLS, LONG_SEED, MOST_TIMES = 60_000, 7, 6
 
-# How many numbers are taken out of a long recording of which several are missing, the seeds of these recordings, how
-# many of them must have no order, and how many times the processor time a check may take.
-MISSING_NUMBERS, SHORT_SEEDS, LEAST_SHORT, MOST_TIMES_SHORT = 5, range(1, 9, 2), 8, 8
+# How many numbers are taken out of a long recording of which several are missing; its clients, and its part of lost
+# calls; and the documents and the seeds of these recordings.
+MISSING_NUMBERS, SHORT_CLIENTS, SHORT_LOSS, SHORT_RECORDINGS = 5, 32, 0.05, ((2, 4), (4, 7), (4, 8))
 
 
 class Clients:
@@ -201,13 +204,14 @@ def is_explained(program, rows):
     return answer(program, rows).startswith("yes ")
 
 
-def check_offence(program, events, line):
+def check_offence(program, text, line):
     """Checks that the line names the event with which the search first fails; returns its place."""
     offence = OFFENCE.fullmatch(line)
     if not offence:
         raise AssertionError(f"{line} names no event")
-    event, text = int(offence["event"]), list(lines(events, lambda doc: 0))
-    if not is_reply(events, event, int(offence["call"])):
+    event = int(offence["event"])
+    named = json.loads(text[event])
+    if (named["e"], named["n"]) != ("reply", int(offence["call"])):
         raise AssertionError(f"{line}: the event is no reply to the call")
     if is_explained(program, text[: event + 1]):
         raise AssertionError(f"{line}: the events up to it have an order")
@@ -222,21 +226,26 @@ def judged(program, change, docs, seed):
     place = changed(events, change)
     if place is None:
         return ORDER
-    text = list(lines(events, lambda doc: 0))
+    text = rows_of(events)
     line = answer(program, text)
     if line.startswith("yes "):
         return ORDER
-    event = check_offence(program, events, line)
+    event = check_offence(program, text, line)
     if seed % 2 == 0 and event < place:
         raise AssertionError(f"{line}: the changed reply is later, at {place}")
     return line
 
 
-def seconds_of(program, events):
-    """The processor time of a check of the events, the lesser one of two, and its answer."""
+def rows_of(events):
+    """The lines of a history of these events, on one shard."""
+    return list(lines(events, lambda doc: 0))
+
+
+def seconds_of(program, text):
+    """The processor time of a check of these lines, the lesser one of two, and its answer."""
     times = []
     with tempfile.NamedTemporaryFile("w", suffix=".ndjson") as file:
-        file.writelines(lines(events, lambda doc: 0))
+        file.writelines(text)
         file.flush()
         for _ in range(2):
             ran = subprocess.Popen([program, "check", file.name], stdout=subprocess.PIPE, text=True)
@@ -253,10 +262,10 @@ def times_longer(program, change, docs):
     clients = Clients(LONG_SEED, docs)
     clients.calls = LONG_CALLS
     events = clients.recorded()
-    before, line = seconds_of(program, events)
+    before, line = seconds_of(program, rows_of(events))
     if not line.startswith("yes ") or changed(events, change) is None:
         return None
-    after, line = seconds_of(program, events)
+    after, line = seconds_of(program, rows_of(events))
     return None if line.startswith("yes ") else after / before
 
 
@@ -264,9 +273,9 @@ def check_scarce(program, docs):
     """Checks the answer to a long recording that lacks a number, and the time that it takes."""
     honest, clients = Clients(LONG_SEED, docs), ScarceClients(LONG_SEED, docs)
     honest.calls = clients.calls = LONG_CALLS
-    before, _ = seconds_of(program, honest.recorded())
+    before, _ = seconds_of(program, rows_of(honest.recorded()))
     events = clients.recorded()
-    after, line = seconds_of(program, events)
+    after, line = seconds_of(program, rows_of(events))
     last = LONG_CALLS + 3
     wanted = no(events.index(Ending(last, Reply("indexed", (1, clients.missing + 1), True))), last)
     if line.strip() != wanted.strip():
@@ -275,38 +284,31 @@ def check_scarce(program, docs):
         raise AssertionError(f"it takes {after:.2f} s, and the honest recording {before:.2f}")
 
 
-def shifted(pair, gone):
-    """The pair, its number being less by as many as are gone below it."""
-    return pair and (pair[0], pair[1] - bisect.bisect_left(gone, pair[1]))
-
-
-def without_numbers(events, draws):
-    """The events, some numbers being taken out that no reply and no condition shows: lost writes took them."""
-    shown = {it.op.condition[1] for it in events if isinstance(it, Call) and it.op.condition}
-    shown |= {it.reply.pair[1] for it in events if isinstance(it, Ending) and it.reply and it.reply.pair}
+def without_numbers(text, seed):
+    """The lines of a history, some sequence numbers being taken out that no reply and no condition shows: lost writes
+    took them."""
+    numbered = re.compile(r'("(?:_seq_no|if_seq_no)":)(\d+)')
+    shown = {int(it[2]) for line in text for it in numbered.finditer(line)}
     hidden = [it for it in range(max(shown)) if it not in shown]
-    gone = sorted({hidden[draws.below(len(hidden))] for _ in range(MISSING_NUMBERS)})
-    for it in events:
-        if isinstance(it, Call):
-            yield it._replace(op=it.op._replace(condition=shifted(it.op.condition, gone)))
-        else:
-            yield it._replace(reply=it.reply and it.reply._replace(pair=shifted(it.reply.pair, gone)))
+    gone = sorted(random.Random(seed).sample(hidden, MISSING_NUMBERS))
+
+    def less(match):
+        return f"{match[1]}{int(match[2]) - bisect.bisect_left(gone, int(match[2]))}"
+
+    return [numbered.sub(less, line) for line in text]
 
 
 def check_short(program, docs, seed):
-    """Checks the answer to a long recording of which some numbers are missing, and the time that it takes."""
-    clients = Clients(seed, docs)
-    clients.calls = LONG_CALLS
-    events = clients.recorded()
-    before, _ = seconds_of(program, events)
-    events = list(without_numbers(events, Draws(seed)))
-    after, line = seconds_of(program, events)
-    if line.startswith("yes "):
-        return ORDER
-    check_offence(program, events, line)
-    if after >= before * MOST_TIMES_SHORT:
+    """Checks the answer to a long recording of which several numbers are missing, and the time that it takes."""
+    text = "".join(Recording(seed, docs, SHORT_CLIENTS, LONG_CALLS, SHORT_LOSS).lines()).splitlines(keepends=True)
+    before, line = seconds_of(program, text)
+    if not line.startswith("yes "):
+        raise AssertionError(f"{line}, and not yes, with all numbers")
+    text = without_numbers(text, seed)
+    after, line = seconds_of(program, text)
+    check_offence(program, text, line)
+    if after >= before * MOST_TIMES:
         raise AssertionError(f"it takes {after:.2f} s, and the honest recording {before:.2f}")
-    return line
 
 
 class Offences(ProgramTest):
@@ -348,10 +350,8 @@ class Offences(ProgramTest):
 
     def test_missing_numbers(self):
         """If several numbers are missing, the right reply is named in time."""
-        rows = [(f"{docs} documents, seed {it}", self.program, docs, it) for docs in (2, 4, 8) for it in SHORT_SEEDS]
-        returned = self.run_subtests(check_short, rows, ProcessPoolExecutor, not_counted=(ORDER,))
-        with self.subTest("how many have no order"):
-            self.assertGreaterEqual(len(rows) - returned.count(ORDER), LEAST_SHORT)
+        rows = [(f"{docs} documents, seed {seed}", self.program, docs, seed) for docs, seed in SHORT_RECORDINGS]
+        self.run_subtests(check_short, rows, ProcessPoolExecutor)
 
 
 if __name__ == "__main__":
