@@ -232,7 +232,8 @@ class Disturbed(LinesTest):
         self.assertRegex(out, "^recorded ")
         os.remove(self.file)
         proxy = self.proxy("--disturb", plan)
-        self.assertIn("the disturbance failed: ", proxy.process.stderr.readline())
+        # (the plan begins at once: its line may come before that of the address)
+        self.assertIn("the disturbance failed: ", proxy.url + proxy.process.stderr.readline())
         with Ask(proxy) as client:
             client.ask("PUT", "/carts/_doc/d", "{}")
         proxy.ended()
