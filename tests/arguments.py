@@ -9,6 +9,7 @@ that has the files below; if a row names no standard input, that is empty.
 
 import errno
 import fcntl
+import gzip
 import os
 import pathlib
 import re
@@ -23,18 +24,20 @@ import time
 from case_files import case_text
 from program import TOP
 from program_test import ProgramTest, run_tests
-from running import ended, run, run_arguments, search_arguments, started
+from running import SECONDS, ended, run, run_arguments, search_arguments, started
 from texts import READ_FAULT, SETTING_FAULT, WRITE_FAULT, no, refuted, status_of, verified, yes
 
 EXAMPLES = TOP / "examples"
 
-# The files of the folder; `broken` is a folder, which opens but can't be read. All of the odd names have one text.
+# The files of the folder; `broken` is a directory, which opens but can't be read, and `packed.gz` is compressed. All of
+# the odd names have one text.
 FILES = {
     "empty": b"",
     "other": b"",
     "verify": b"",
     "story": (EXAMPLES / "stale-get.ndjson").read_bytes(),
     "hidden": case_text("hidden-conflict").encode(),
+    "packed.gz": gzip.compress(case_text("index-then-get").encode()),
     **dict.fromkeys(["check", "help", "-", "a b", "--help"], case_text("index-then-get").encode()),
 }
 
@@ -47,11 +50,19 @@ def absent(name, fault):
     return f"casbench: {name}: no such file\n{fault}"
 
 
+DIRECTORY = f"casbench: broken: is a directory\n{READ_FAULT}"
+TWO_INPUTS = f"casbench: standard input is named twice\n{READ_FAULT}"
+TERMINAL = "casbench: reads from the terminal until Ctrl-D on a line of its own; for help: casbench --help\n"
+PACKED = "casbench: packed.gz is compressed; try: zcat packed.gz | casbench check\n"
+
+
+VERSION = "casbench 0.1.0\n"
+
 # Arguments, and the status, standard output and standard error that they get.
-ACCEPTED = [
+ANSWERED = [
     ("check check", 0, ANSWER, ""),
     ("check help", 0, ANSWER, ""),
-    ("check -", 0, ANSWER, ""),
+    ("check ./-", 0, ANSWER, ""),
     ("check 'a b'", 0, ANSWER, ""),
     ("check ''", 4, "", absent("", READ_FAULT)),
     ("check --rule-out check", 0, ANSWER, ""),
@@ -59,32 +70,45 @@ ACCEPTED = [
     ("check -- --rule-out", 4, "", absent("--rule-out", READ_FAULT)),
     ("witness -- --help", 0, case_text("index-then-get-witness", "stdout"), ""),
     ("verify verify verify", 0, VERIFIED_NOTHING, ""),
-    ("--version", 0, "casbench 0.1.0\n", ""),
-    ("-V", 0, "casbench 0.1.0\n", ""),
-    ([b"check", b"\xff"], 64, "", "casbench: a word is not UTF-8\n"),
+    ("--version", 0, VERSION, ""),
+    ("-V", 0, VERSION, ""),
+    ([b"check", b"\xff"], 64, "", "casbench: an argument is not UTF-8\n"),
     # the files of a check
     ("check", 0, NOTHING, ""),
     ("check empty", 0, NOTHING, ""),
-    ("check broken", 4, "", READ_FAULT),
+    ("check broken", 4, "", DIRECTORY),
     ("check absent", 4, "", absent("absent", READ_FAULT)),
+    # standard input, named as a file
+    ("check -", 0, NOTHING, ""),
+    ("witness -", 0, "", ""),
+    ("explain -", 0, STORY_OF_NOTHING, ""),
+    ("verify - empty", 0, VERIFIED_NOTHING, ""),
+    ("verify empty -", 0, VERIFIED_NOTHING, ""),
+    ("verify - absent", 4, "", absent("absent", READ_FAULT)),
+    ("verify - -", 4, "", TWO_INPUTS),
+    ("bulk empty -", 2, "refused line=1 cause=syntax\n", ""),
+    ("bulk - -", 4, "", TWO_INPUTS),
+    # a compressed file
+    ("check packed.gz", 2, "refused line=1 cause=json\n", PACKED),
+    ("verify empty packed.gz", 2, "refused file=witness line=1 cause=json\n", PACKED),
     # the files of a witness
     ("witness", 0, "", ""),
     ("witness empty", 0, "", ""),
-    ("witness broken", 4, "", READ_FAULT),
+    ("witness broken", 4, "", DIRECTORY),
     ("witness absent", 4, "", absent("absent", READ_FAULT)),
     # the files of a verification, of which both are opened before one is read
     ("verify empty other", 0, VERIFIED_NOTHING, ""),
-    ("verify broken other", 4, "", READ_FAULT),
-    ("verify empty broken", 4, "", READ_FAULT),
+    ("verify broken other", 4, "", DIRECTORY),
+    ("verify empty broken", 4, "", DIRECTORY),
     ("verify absent other", 4, "", absent("absent", READ_FAULT)),
     ("verify empty absent", 4, "", absent("absent", READ_FAULT)),
     ("verify other lost", 4, "", absent("lost", READ_FAULT)),
     ("verify absent lost", 4, "", absent("absent", READ_FAULT)),
-    ("verify broken absent", 4, "", absent("absent", READ_FAULT)),
+    ("verify broken absent", 4, "", DIRECTORY),
     # the files of a bulk, of which both are read before either is judged; an empty reply is no JSON
     ("bulk empty other", 2, "refused line=1 cause=syntax\n", ""),
-    ("bulk empty broken", 4, "", READ_FAULT),
-    ("bulk hidden broken", 4, "", READ_FAULT),
+    ("bulk empty broken", 4, "", DIRECTORY),
+    ("bulk hidden broken", 4, "", DIRECTORY),
     ("bulk absent other", 4, "", absent("absent", READ_FAULT)),
     # the files of a story; a page that can't be written fails behind the story
     ("explain", 0, STORY_OF_NOTHING, ""),
@@ -230,6 +254,7 @@ HELP = [(form, example) for form in ("help", "--help", "-h") for example in EXAM
 FORMS = ("help {}", "{} --help", "{} -h")
 HELP += [(form.format(name), example) for form in FORMS for name, example in EXAMPLE.items()]
 HELP += [(form.format(name), "\n      --rule-out ") for form in FORMS for name in RULING_OUT]
+HELP += [("--help", "\nExit status:\n  0   yes")]
 
 # Arguments that ask for a story with a page, the page's name, how the story begins, and the page if it is known.
 STORIES = [
@@ -309,6 +334,7 @@ TURNS = [
     in_turn("bulk", "bulk", "body", "reply", "stdout"),
 ]
 
+
 class Arguments(ProgramTest):
     """Rows of arguments, each in a folder of its own."""
 
@@ -324,14 +350,14 @@ class Arguments(ProgramTest):
         """Runs a subtest for each row, in a new folder that has the files."""
         self.run_subtests(self.in_folder, [(str(row[0]), check, *row) for row in rows])
 
-    def check_accepted(self, folder, arguments, *wanted):
+    def check_answered(self, folder, arguments, *wanted):
         self.assertEqual(self.ran(arguments, folder), wanted)
         kept = {it.name: it.read_bytes() for it in folder.iterdir() if it.is_file()}
         self.assertEqual(kept, FILES)
 
-    def test_accepted(self):
+    def test_answered(self):
         """The arguments get what is wanted, and no file is made or changed."""
-        self.run_rows(self.check_accepted, ACCEPTED)
+        self.run_rows(self.check_answered, ANSWERED)
 
     def check_refused(self, folder, arguments, wanted):
         status, out, why = self.ran(arguments, folder)
@@ -339,6 +365,32 @@ class Arguments(ProgramTest):
 
     def test_refused(self):
         self.run_rows(self.check_refused, REFUSED)
+
+    def test_suggestion(self):
+        """Arguments that begin with a file get the command by which it is checked."""
+        status, _, why = run(self.program, ["h.ndjson"])
+        self.assertEqual((status, why.splitlines()[-1]), (64, "To check a history text: casbench check FILE"))
+
+    def test_closed_pipe(self):
+        """If the reader of its output is gone, the program ends without a message."""
+        reader, writer = os.pipe()
+        os.close(reader)
+        how = {"stdin": subprocess.DEVNULL, "stdout": writer, "stderr": subprocess.PIPE, "timeout": SECONDS}
+        child = subprocess.run([self.program, "check"], **how, check=False)
+        os.close(writer)
+        self.assertEqual((child.returncode, child.stderr), (4, b""))
+
+    def test_terminal(self):
+        """At a terminal the program says that it reads from there, and how the text is ended."""
+        leader, follower = os.openpty()
+        how = {"stdin": follower, "stdout": subprocess.PIPE, "stderr": subprocess.PIPE, "text": True}
+        with subprocess.Popen([self.program, "check"], **how) as child:
+            os.close(follower)
+            self.assertEqual(child.stderr.readline(), TERMINAL)
+            os.write(leader, b"\x04")
+            self.assertEqual(child.communicate(timeout=SECONDS), (NOTHING, ""))
+            self.assertEqual(child.returncode, 0)
+        os.close(leader)
 
     def check_help(self, folder, arguments, example):
         status, out, why = self.ran(arguments, folder)
@@ -393,11 +445,13 @@ class Arguments(ProgramTest):
         self.run_rows(self.check_turn, TURNS)
 
     def test_page_is_made_last(self):
-        """No page is there before the history was read to its end, and one afterwards."""
+        """No page is there while the history is read, and one afterwards."""
         with tempfile.TemporaryDirectory() as folder:
             history, page = Pipe(pathlib.Path(folder) / "history"), pathlib.Path(folder) / "page"
             with started([self.program, "explain", history.path, "--html", page], stdin=subprocess.DEVNULL) as child:
                 self.assertTrue(history.open())
+                os.write(history.end, b"\n")
+                self.assertTrue(comes(lambda: history.unread() == 0))
                 self.assertFalse(page.exists())
                 os.close(history.end)
                 self.assertEqual(ended(child), (0, STORY_OF_NOTHING, ""))

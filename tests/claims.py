@@ -10,7 +10,7 @@ No program is run; one may be named, as for the other tests. What is held:
   contract of a call.
 - docs/PROVED.md is as docs/making/proved.py makes it. Each public call says what it does, by a `///`, and what it
   requires, by a comment; the contract of each law is one definition.
-- docs/ARCHITECTURE.md has a row for each crate in "The rooms", with the libraries that crates.txt gives it; the table
+- docs/ARCHITECTURE.md has a row for each crate in "The crates", with the libraries that crates.txt gives it; the table
   of the gate says how many edits must fail.
 - Files, links, modules of lemmas, `CRATE::NAME` and `Type::name` that a document names are there, and clauses behind
   these.
@@ -341,7 +341,7 @@ class Proved:
         for name in self.sources.described:
             self.hold(f"## {name}" in self.headings, f"the crate {name} has no section")
         for crate in (contracts.Crate(name) for name in proved.ORDER):
-            for name, call in contracts.calls_of(crate):
+            for name, call, _ in contracts.calls_of(crate):
                 self.hold_call(name, call)
                 if name.startswith("laws::"):
                     self.hold_law(name, call)

@@ -43,6 +43,12 @@ TOOLS = {
     "man": "the man page was not shown by it",
 }
 
+
+def needs(tool):
+    """Skips a test if one of these isn't installed."""
+    return unittest.skipUnless(shutil.which(tool), f"{tool} isn't installed here, so {TOOLS[tool]}")
+
+
 # What stands in a row for the files of the folder.
 FILES = "(files)"
 
@@ -445,7 +451,7 @@ class Shells(FolderTest):
     def test_bash_completes_what_is_typed(self):
         self.type_all("bash")
 
-    @unittest.skipUnless(shutil.which("zsh"), "there is no zsh here")
+    @needs("zsh")
     def test_zsh_completes_what_is_typed(self):
         self.type_all("zsh")
 
@@ -459,7 +465,7 @@ class Shells(FolderTest):
                 with self.subTest(line=line):
                     self.assertEqual(terminal.completed(line), wanted)
 
-    @unittest.skipUnless(shutil.which("fish"), "there is no fish here")
+    @needs("fish")
     def test_fish_offers(self):
         (pathlib.Path(self.folder) / "file").touch()
         for row in (it for it in ROWS if ">" not in it.words):
@@ -477,7 +483,7 @@ class ManPage(FolderTest):
     page = SHARE / "man" / "man1" / "casbench.1"
 
     def test_it_has_all_that_the_help_has(self):
-        text = re.sub(r"\\f[BIR]", "", self.page.read_text()).replace("\\-", "-")
+        text = re.sub(r"\\f[BIR]", "", self.page.read_text()).replace("\\-", "-").replace("\\(aq", "'")
         self.assertTrue(text.isascii())
         for command in ("", *commands()):
             help_text = ran(PROGRAM, "help", *([command] if command else [])).stdout
@@ -490,21 +496,18 @@ class ManPage(FolderTest):
         wanted = {"NAME", "SYNOPSIS", "DESCRIPTION", "COMMANDS", "OPTIONS", "EXAMPLES", "EXIT STATUS", "SEE ALSO"}
         self.assertLessEqual(wanted, set(headings))
 
-    @unittest.skipUnless(shutil.which("groff"), "there is no groff here")
+    @needs("groff")
     def test_groff_has_no_warning(self):
         end = ran("groff", "-man", "-ww", "-z", self.page)
         self.assertEqual((end.returncode, end.stdout, end.stderr), (0, "", ""))
 
-    @unittest.skipUnless(shutil.which("man"), "there is no man here")
+    @needs("man")
     def test_man_shows_it(self):
         environment = {"PATH": os.environ["PATH"], "HOME": self.folder, "LC_ALL": "C.UTF-8", "MANWIDTH": "100"}
         end = ran("man", "--warnings", "-l", self.page, env=environment)
         self.assertEqual((end.returncode, end.stderr), (0, ""))
-        self.assertIn("casbench - tells whether a recorded history", end.stdout.replace("\n              ", " "))
+        self.assertIn("casbench - checks whether a recorded history", end.stdout.replace("\n              ", " "))
 
 
 if __name__ == "__main__":
-    for tool, undone in TOOLS.items():
-        if not shutil.which(tool):
-            print(f"SKIPPED: {tool} isn't installed here, so {undone}")
     sys.exit(run_tests())

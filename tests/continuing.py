@@ -26,11 +26,11 @@ from typing import NamedTuple
 
 from drawing import Draws, lines
 from evidence import known_calls
-from exact import has_order, one_shard
+from exact import has_order
 from program import TOP
 from program_test import ProgramTest, run_tests
 from ruled_out import FAULTS, Cluster, Due, events_of
-from small_drawing import CHANGES, own_shard, with_drawn_pairs, with_few_numbers
+from small_drawing import changed
 from texts import READINGS, condition, conflict, created, found, get, index, lost
 
 sys.path.insert(0, str(TOP / "recording"))
@@ -65,12 +65,7 @@ def drawn_history(draws, seed):
     cluster.calls, cluster.lost = draws.below(7) + 6, draws.one_of((0, 0, 10, 20, 30))
     for _ in range(draws.one_of((0, 0, 1, 2))):
         cluster.faults.append(Due(draws.below(cluster.calls), draws.one_of(FAULTS)))
-    events = with_drawn_pairs(draws, cluster.recorded())
-    if draws.below(3) == 0:
-        events = list(with_few_numbers(events))
-    for _ in range(draws.one_of((0, 0, 0, 1, 1, 2))):
-        draws.one_of(CHANGES)(draws, events)
-    return events, draws.one_of((one_shard, own_shard))
+    return changed(draws, cluster.recorded())
 
 
 # Fixed histories of one document, each with the reading of a conflict in which it has an order: a conflict that hides a

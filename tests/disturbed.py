@@ -5,8 +5,9 @@
 
 PROGRAM is the built casbench; if it isn't named, the one that ./casbench would run. The counts of the seeds from 1 on
 are compared with those of examples/README.md if there are 1,000 seeds, else with those below, which are of 20. Drawn
-arguments are run twice, and write the same bytes; if the group is honest the history gets `yes`. A search through seeds
-finds the first of them that gets no `yes`, reports how to play it again, and writes what that writes.
+arguments are run twice, and write the same bytes; if the group is honest the history gets `yes`. One client alone
+records the same on a thread as in turns. A search through seeds finds the first of them that gets no `yes`, reports how
+to play it again, and writes what that writes.
 """
 
 import argparse
@@ -122,6 +123,23 @@ class Disturbed(ProgramTest):
     def test_drawn(self):
         """A run that is made twice writes the same, and an honest group a history that gets `yes`."""
         self.run_subtests(self.check_drawn, [(f"seed {seed}", seed) for seed in range(DRAWN)])
+
+    def check_one_client(self, fault, seed):
+        arguments = run_arguments(seed=seed, calls=20, docs=2, copies=3, fault=fault).split()
+        recorded = run(self.program, arguments)
+        self.assertEqual((recorded[0], recorded[2]), (0, ""))
+        self.assertTrue(recorded == run(self.program, [*arguments, "--in-turns"]))
+
+    def test_one_client(self):
+        """One client alone records the same on a thread of its own as in turns."""
+        rows = [(f"{fault}, seed {seed}", fault, seed) for fault in FAULTS for seed in range(1, 11)]
+        self.run_subtests(self.check_one_client, rows)
+
+    def test_one_call(self):
+        """One call is a call line and its reply, which an order explains."""
+        status, text, why = run(self.program, run_arguments().split())
+        self.assertEqual((status, text.count("\n"), why), (0, 2, ""))
+        self.assertEqual(run(self.program, ["check"], text), (0, "yes docs=1 calls=1 left_out=0\n", ""))
 
     def check_counts(self, pool, fault, disturbance, wanted):
         runs = [in_turns(disturbance, seed=seed, fault=fault, **SETTING) for seed in range(1, self.seeds + 1)]

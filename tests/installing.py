@@ -273,7 +273,7 @@ class Renew(FolderTest):
         self.assertRegex(sources, r"^toolchain toolchain\nsources \w{64}\nprogram \w{64}\n$")
 
 
-@unittest.skipUnless(importlib.util.find_spec("pip"), "this Python has no pip")
+@unittest.skipUnless(importlib.util.find_spec("pip"), "this Python has no pip, so the package's commands were not installed")
 class Commands(unittest.TestCase):
     """The commands that pip installs, in a folder that all tests have in common."""
 
@@ -321,6 +321,4 @@ class Commands(unittest.TestCase):
 
 
 if __name__ == "__main__":
-    if not importlib.util.find_spec("pip"):
-        print("SKIPPED: this Python has no pip, so the package's commands were not installed")
     sys.exit(run_tests())

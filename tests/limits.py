@@ -11,10 +11,11 @@ import subprocess
 import sys
 import tempfile
 
-from program_test import ProgramTest, run_tests
-from running import run, run_on_files, run_arguments
+from answers import AnswersTest
+from program_test import run_tests
+from running import run_arguments
 from texts import DEPTH, EVENTS, ID_BYTES, LINE_BYTES, LINES, READ_FAULT, SETTING_FAULT, WRITE_FAULT
-from texts import answer_of, broken, condition, conflict, created, delete, found, get, index, lost, nested, refused
+from texts import broken, condition, conflict, created, delete, found, get, index, lost, nested, refused
 from texts import refuted, updated, verified, witness_of, written_call, yes
 
 # As many calls as a history may have.
@@ -150,27 +151,21 @@ FAULTS = [
 ]
 
 
-class Limits(ProgramTest):
+class Limits(AnswersTest):
     """Texts at their limits, and failing files."""
 
-    def check_text(self, text, wanted):
-        self.assertEqual(run(self.program, ["check"], text), answer_of(wanted))
-
     def test_texts(self):
-        self.run_subtests(self.check_text, TEXTS)
-
-    def check_place(self, command, texts, wanted):
-        self.assertEqual(run_on_files(self.program, command, texts), answer_of(wanted))
+        self.run_subtests(self.check_input, TEXTS)
 
     def test_places(self):
         """What stands in the place of each @."""
-        self.run_subtests(self.check_place, place_rows())
+        self.run_subtests(self.check_files, place_rows())
 
     def check_long(self, versions, count):
         rows, calls = versions(count)
         text = "".join(rows) + index(calls) + conflict(calls)
         wanted = refuted("ruled-out", calls, text.count("\n") - 1, calls)
-        self.assertEqual(run(self.program, ["check", "--rule-out"], text), answer_of(wanted))
+        self.check_input(text, wanted, "--rule-out")
 
     def test_long(self):
         """A document of many versions is ruled out, in the time that a run has, by an unconditional index that is

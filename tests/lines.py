@@ -22,14 +22,15 @@ import sys
 import tempfile
 from collections import Counter
 
+from answers import AnswersTest
 from case_files import case_text
 from drawing import CONFLICT, MISSING, Call, Draws, Ending, Op, Reply, lines
 from growths import NO_MEMORY, Growths
 from offences import CHANGES, Clients, changed
-from program_test import ProgramTest, run_tests
-from running import needs_compiler, run, run_by_parts, run_on_files, said
+from program_test import run_tests
+from running import needs_compiler, run, said
 from texts import LINE_BYTES, LINES, MOST_NUMBER, MOST_OF_PAIR, OFFENCE, REFUSED_COUNT
-from texts import answer_of, call, condition, created, delete, doc_missing, found, get, index, lost, missing, nested, no
+from texts import call, condition, created, delete, doc_missing, found, get, index, lost, missing, nested, no
 from texts import no_writer, not_found, refused, refused_item, status_of, updated, witness_of, written_call, yes
 
 # An index of "d" on shard 3 that was answered, a get of "d" that is open, and a get of "e" on shard 4 that is lost.
@@ -401,14 +402,11 @@ def judged_when_cut(program, events):
     return "order" if order else "no order"
 
 
-class Lines(ProgramTest):
+class Lines(AnswersTest):
     """How lines are read."""
 
-    def check_text(self, text, wanted):
-        self.assertEqual(run(self.program, ["check"], text), answer_of(wanted))
-
     def test_texts(self):
-        self.run_subtests(self.check_text, TEXTS)
+        self.run_subtests(self.check_input, TEXTS)
 
     def check_story(self, text, line, parts):
         status, story = answer(self.program, "explain", text)
@@ -419,9 +417,6 @@ class Lines(ProgramTest):
     def test_stories(self):
         """A story begins with the line and has the parts."""
         self.run_subtests(self.check_story, STORIES)
-
-    def check_files(self, command, texts, wanted, *options):
-        self.assertEqual(run_on_files(self.program, command, texts, options), answer_of(wanted))
 
     def test_witnesses(self):
         """The document that a witness lacks is named by its number."""
@@ -436,9 +431,6 @@ class Lines(ProgramTest):
         for name, first, body, reply, wanted in BULKS:
             rows.append((name, "bulk", (body, reply), wanted, "--first", str(first)))
         self.run_subtests(self.check_files, rows)
-
-    def check_parts(self, command, text, count, wanted):
-        self.assertEqual(run_by_parts(self.program, command, text, count), answer_of(wanted))
 
     def test_few_bytes_at_hand(self):
         rows = [

@@ -89,12 +89,15 @@ class CountingRunner(unittest.TextTestRunner):
 
 
 def run_tests(arguments=None, needs_program=True):
-    """Runs the tests of the script, and prints in the last line how many passed and failed; returns the exit status.
-    The first argument is the program unless it is an option, and the others are those of unittest."""
+    """Runs the tests of the script, and prints why some were skipped and, in the last line, how many passed and failed;
+    returns the exit status. The first argument is the program unless it is an option, and the others are those of
+    unittest."""
     arguments = sys.argv[1:] if arguments is None else arguments
     has_program = bool(arguments) and not arguments[0].startswith("-")
     if needs_program:
         ProgramTest.program = built_program(arguments[:1] if has_program else [])
     result = unittest.main(argv=[sys.argv[0], *arguments[has_program:]], testRunner=CountingRunner, exit=False).result
+    for why in dict.fromkeys(why for _, why in result.skipped):
+        print(f"SKIPPED: {why}")
     print(f"{result.passed} passed, {result.failed} failed")
     return 0 if result.wasSuccessful() and (result.passed or result.skipped) else 1

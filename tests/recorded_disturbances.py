@@ -11,6 +11,7 @@ import http.client
 import json
 import os
 import signal
+import socket
 import subprocess
 import sys
 import time
@@ -23,6 +24,16 @@ from recordings import FolderTest, Started, environment
 from casbench_recording.disturb import Disturbance, PlanError, fault_of, plan_of
 from casbench_recording.history import CallError, History
 
+# A proxy that takes half a second to report an address.
+LATE = """
+import time
+from casbench_recording import proxy
+
+tell = proxy.tell
+proxy.tell = lambda *arguments, **more: time.sleep(0.5) or tell(*arguments, **more)
+proxy.main()
+"""
+
 
 class LinesTest(FolderTest):
     """A test of what lines carry beside what counts."""
@@ -33,11 +44,12 @@ class LinesTest(FolderTest):
         self.addCleanup(command.__exit__)
         return command
 
-    def proxy(self, *words):
+    def proxy(self, *words, **more):
         """A proxy that records the index carts of a stand-in."""
         other = self.started("stand_in", "--port", "0")
         other.make("carts")
-        return self.started("proxy", "--listen", "127.0.0.1:0", "--cluster", other.url, "--index", "carts", *words, self.file)
+        words = ["--listen", "127.0.0.1:0", "--cluster", other.url, "--index", "carts", *words, self.file]
+        return self.started("proxy", *words, **more)
 
     def plan(self, text):
         """A file with a plan."""
@@ -50,13 +62,13 @@ class LinesTest(FolderTest):
         """A file that a plan makes and removes."""
         return os.path.join(self.folder, name)
 
-    def wait_for(self, path, is_there):
-        """Waits until a file is there, or is gone."""
+    def wait_for(self, path, least=0):
+        """Waits until a file is there, and has at least so many bytes."""
         for _ in range(3000):
-            if os.path.exists(path) == is_there:
+            if os.path.exists(path) and os.path.getsize(path) >= least:
                 return
             time.sleep(0.01)
-        self.fail(f"{path} is {'not ' * is_there}there")
+        self.fail(f"{path} isn't there with {least} bytes")
 
 
 class Ask:
@@ -209,14 +221,15 @@ class Disturbed(LinesTest):
         mark = self.path("mark")
         plan = self.plan(f"after 0 s: touch {mark}\nfor 1000 s: rm {mark}\n")
         proxy = self.proxy("--disturb", plan)
-        self.wait_for(mark, True)
+        self.wait_for(mark)
         proxy.ended()
         self.assertEqual((os.path.exists(mark), proxy.process.returncode), (False, 0))
         for sent, status in ((None, 0), (signal.SIGINT, 130), (signal.SIGTERM, 130)):
-            process = self.record(plan, "--seconds", "2" if sent is None else "1000")
-            self.wait_for(mark, True)
+            # (by calls, and not by seconds, of which a machine with much to do may need all before the first call)
+            process = self.record(plan, "--calls", "100" if sent is None else "1000000", "--seconds", "1000")
+            self.wait_for(mark)
             # (an interruption before the first call leaves no file)
-            self.wait_for(self.file, True)
+            self.wait_for(self.file, least=1)
             if sent is not None:
                 process.send_signal(sent)
             said = "".join(process.communicate(timeout=60))
@@ -225,21 +238,35 @@ class Disturbed(LinesTest):
 
     def test_a_command_that_fails_is_reported_and_not_tried_again(self):
         plan = self.plan("after 0 s: echo no such node >&2; exit 7\nevery 0.1 s\n")
-        process = self.record(plan, "--seconds", "1")
+        process = self.record(plan, "--calls", "60")
         out, err = process.communicate(timeout=60)
         self.assertEqual(process.returncode, 1)
         self.assertEqual(err, "record.py: the disturbance failed: echo no such node >&2; exit 7: status 7: no such node\n")
         self.assertRegex(out, "^recorded ")
         os.remove(self.file)
         proxy = self.proxy("--disturb", plan)
-        # (the plan begins at once: its line may come before that of the address)
-        self.assertIn("the disturbance failed: ", proxy.url + proxy.process.stderr.readline())
+        self.assertIn("the disturbance failed: ", proxy.process.stderr.readline())
         with Ask(proxy) as client:
             client.ask("PUT", "/carts/_doc/d", "{}")
         proxy.ended()
         self.assertEqual(proxy.process.returncode, 1)
         command = "echo no such node >&2; exit 7"
         self.assertEqual(self.lines()[0]["note"], f"begins: {command}; failed: {command}; ended: {command}")
+
+    def test_a_proxy_disturbs_nothing_before_it_has_reported_its_address(self):
+        proxy = self.proxy("--disturb", self.plan("after 0 s: exit 7\n"), start=(sys.executable, "-c", LATE))
+        said = [proxy.url, proxy.process.stderr.readline().strip()]
+        self.assertRegex(said[0], r"^http://127\.0\.0\.1:\d+$")
+        self.assertEqual(said[1], "casbench_recording.proxy: the disturbance failed: exit 7: status 7")
+
+    def test_a_proxy_that_cannot_listen_disturbs_nothing(self):
+        mark = self.path("mark")
+        with socket.create_server(("127.0.0.1", 0)) as taken:
+            address = "127.0.0.1:{1}".format(*taken.getsockname())
+            proxy = self.proxy("--listen", address, "--disturb", self.plan(f"after 0 s: touch {mark}\n"))
+            status = proxy.process.wait(60)
+        self.assertIn("Address already in use", proxy.url)
+        self.assertEqual((status, os.path.exists(mark)), (1, False))
 
     def test_a_plan_that_is_none(self):
         words = ["record", "http://127.0.0.1:9", "carts", self.file, "--disturb", self.plan("after 1 s")]

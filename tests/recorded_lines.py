@@ -269,7 +269,7 @@ class InParts(FolderTest):
         self.assertRaisesRegex(HistoryError, "File exists", Parts, folder)
 
 
-@unittest.skipUnless(importlib.util.find_spec("pip"), "this Python has no pip")
+@unittest.skipUnless(importlib.util.find_spec("pip"), "this Python has no pip, so the package was not installed")
 class Installed(FolderTest):
     """The package as pip installs it."""
 

@@ -141,8 +141,10 @@ class LoadTest(FolderTest):
         store = Nodes(2, {0: "closes", 1: "closes"})
         load = self.run_load(store)
         self.assertEqual((store.after_a_fault, load.history.lost), (0, 0))
-        # (each client stays where it is; one that connected as the history became full sent nothing)
-        self.assertIn(store.connected[0] - store.sent[0], range(5))
+        # (each of two clients stays with its node; one that connected as the history became full sent nothing)
+        for node in (0, 1):
+            self.assertIn(store.connected[node] - store.sent[node], range(3))
+        self.assertEqual(store.connected, store.closed)
         self.assertGreater(min(store.sent[0], store.sent[1]), 50)
 
     def test_several_calls_are_made_by_one_request(self):

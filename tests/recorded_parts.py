@@ -216,7 +216,7 @@ class SideBySide(FolderTest):
         self.assertEqual(self.ended("xargs", RIGHT), (0, [YES] * 3))
         self.assertEqual(self.ended("xargs", RIGHT, WRONG, NO_TEXT), (123, [REFUSED, REFUTED] + [YES] * 3))
 
-    @unittest.skipUnless(is_gnu_parallel(), "there is no GNU parallel here")
+    @unittest.skipUnless(is_gnu_parallel(), "GNU parallel isn't installed here, so no folder was checked by it")
     def test_by_gnu_parallel(self):
         names = [f"out/parts/{it}" for it in sorted(RIGHT)]
         self.assertEqual(self.ended("GNU parallel", RIGHT), (0, [f"{it}\t{YES}" for it in names]))
@@ -230,6 +230,4 @@ class SideBySide(FolderTest):
 
 
 if __name__ == "__main__":
-    if not is_gnu_parallel():
-        print("SKIPPED: GNU parallel isn't installed here, so no folder was checked by it")
     sys.exit(run_tests())

@@ -46,6 +46,11 @@ RUBY = is_there("/usr/bin/ruby", "-e", 'require "elasticsearch"')
 PERL = is_there("/usr/bin/perl", "-MSearch::Elasticsearch", "-e", "1")
 
 
+def needs_client(is_there, name):
+    """Skips tests if their client isn't there."""
+    return unittest.skipUnless(is_there, f"the client of {name} isn't installed here, so the proxy was not tried with it")
+
+
 class ClientTest(FolderTest):
     """A test of a client that asks through the proxy."""
 
@@ -79,7 +84,7 @@ class OthersTest(ClientTest):
             self.assertIn("lost", [it["e"] for it in self.lines()])
 
 
-@unittest.skipUnless(RUBY, "the client of ruby-elasticsearch isn't installed")
+@needs_client(RUBY, "ruby-elasticsearch")
 class RubyClient(OthersTest):
     """The client of ruby-elasticsearch."""
 
@@ -87,7 +92,7 @@ class RubyClient(OthersTest):
         self.hold(["/usr/bin/ruby", TOP / "tests" / "real_client.rb", "URL"], "NotFound")
 
 
-@unittest.skipUnless(PERL, "the client of libsearch-elasticsearch-perl isn't installed")
+@needs_client(PERL, "libsearch-elasticsearch-perl")
 class PerlClient(OthersTest):
     """The client of libsearch-elasticsearch-perl."""
 
@@ -95,7 +100,7 @@ class PerlClient(OthersTest):
         self.hold(["/usr/bin/perl", TOP / "tests" / "real_client.pl", "URL"], "Missing")
 
 
-@unittest.skipUnless(PYTHON, "the client of python3-elasticsearch 7.17 isn't installed")
+@needs_client(PYTHON, "python3-elasticsearch 7.17")
 class RealClient(ClientTest):
     """The client of python3-elasticsearch."""
 
@@ -141,7 +146,4 @@ class RealClient(ClientTest):
 
 
 if __name__ == "__main__":
-    for name, has_client in (("python3-elasticsearch 7.17", PYTHON), ("ruby-elasticsearch", RUBY), ("libsearch-elasticsearch-perl", PERL)):
-        if not has_client:
-            print(f"SKIPPED: the client of {name} isn't installed here, so the proxy was not tried with it")
     sys.exit(run_tests())

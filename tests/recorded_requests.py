@@ -109,7 +109,10 @@ class JudgeTest(FolderTest):
             return {}
         with open(path, encoding="utf-8") as lines:
             rows = [json.loads(it) for it in lines]
-        return {it.get("id", "ended"): it["why"] for it in rows if "why" in it}
+        # (the last line may have how many calls were left out)
+        if rows and rows[-1].keys() == {"calls"}:
+            rows.pop()
+        return {it.get("id", "ended"): it["why"] for it in rows}
 
 
 def short(line):

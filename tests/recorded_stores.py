@@ -345,13 +345,13 @@ class Recordings(ProgramTest):
     def test_stores(self):
         installed = [it for it, (programs, _) in PACKAGES.items() if are_installed(programs)]
         for store in sorted(PACKAGES.keys() - installed):
-            package = f"Debian's package {PACKAGES[store][1]}"
-            print(f"SKIPPED: {store} isn't installed here ({package}), so nothing was recorded of it")
+            with self.subTest(store):
+                package = f"Debian's package {PACKAGES[store][1]}"
+                self.skipTest(f"{store} isn't installed here ({package}), so nothing was recorded of it")
         with reachable_folder("casbench-stores-test-") as folder:
             rows = [row for store in installed for row in self.rows(store, pathlib.Path(folder))]
-            if not rows:
-                self.skipTest("no store is installed")
-            self.run_subtests(lambda check, *arguments: check(*arguments), rows, workers=AT_ONCE)
+            if rows:
+                self.run_subtests(lambda check, *arguments: check(*arguments), rows, workers=AT_ONCE)
 
 
 if __name__ == "__main__":

@@ -14,7 +14,6 @@ import http.client
 import json
 import os
 import pty
-import queue
 import random
 import re
 import signal
@@ -553,21 +552,23 @@ SAID = {
 
 
 class Here:
-    """A proxy that runs on a thread of this process until the block ends."""
+    """A proxy that runs on a thread of this process until the block ends, which fails if the proxy does."""
 
     def __init__(self, *words):
         self.proxy = proxy_of(words_of(words))
-        self.addresses = queue.Queue()
-        self.thread = threading.Thread(target=self.proxy.serve, args=(self.addresses.put,))
+        self.threads = ThreadPoolExecutor(1)
 
     def __enter__(self):
-        self.thread.start()
-        self.port = int(self.addresses.get(timeout=60).rpartition(":")[2])
+        addresses = []
+        self.proxy.listen(addresses.append)
+        self.port = int(addresses[0].rpartition(":")[2])
+        self.served = self.threads.submit(self.proxy.serve)
         return self
 
     def __exit__(self, *_):
         self.proxy.loop.stop()
-        self.thread.join()
+        self.threads.shutdown()
+        self.served.result()
 
 
 class Drawn:
@@ -714,6 +715,7 @@ class Table(ProxyTest):
                     with Drawn(seed, kinds, index, proxy.port, 0.15 if fault == "late" else 30) as drawn:
                         for _ in range(50):
                             drawn.turn()
+                self.assertGreater(proxy.proxy.judge.history.replies, 25)
                 answers.append([judged(self.program, file)])
                 if fault == "false-conflict":
                     answers[-1].append(judged(self.program, file, "--conflicts", "maybe"))

@@ -18,12 +18,13 @@ import json
 import sys
 import tempfile
 
+from answers import AnswersTest
 from case_files import case_text
 from growths import NO_MEMORY, Growths
-from program_test import ProgramTest, run_tests
-from running import needs_compiler, run_by_parts, run_on_files, text_of_run
+from program_test import run_tests
+from running import needs_compiler, run_by_parts, text_of_run
 from texts import DEPTH, LINE_BYTES, MOST_NUMBER, MOST_OF_PAIR, REFUSED_COUNT
-from texts import answer_of, broken, call, condition, conflict, created, delete, deleted, found, get, index, lost, missing, nested, no
+from texts import broken, call, condition, conflict, created, delete, deleted, found, get, index, lost, missing, nested, no
 from texts import no_writer, not_found, pair_of, pair_twice, refused, refused_item, reply, updated, verified, witness_of
 from texts import written_call, written_reply, yes
 
@@ -600,22 +601,17 @@ def text_rows():
     yield from (written_row(*row) for row in WRITTEN)
 
 
-class Replies(ProgramTest):
+class Replies(AnswersTest):
     """How texts are read, and what is written."""
-
-    def check_text(self, command, texts, wanted):
-        self.assertEqual(run_on_files(self.program, command, texts), answer_of(wanted))
 
     def test_texts(self):
         rows = [(f"{command} {texts}", command, texts, wanted) for command, texts, wanted in text_rows()]
-        self.run_subtests(self.check_text, rows)
-
-    def check_parts(self, text, size, wanted):
-        self.assertEqual(run_by_parts(self.program, "check", text, size), answer_of(wanted))
+        self.run_subtests(self.check_files, rows)
 
     def test_parts(self):
         """Texts that are read so many bytes at a time."""
-        self.run_subtests(self.check_parts, [(f"{text} by {size}", text, size, wanted) for text, size, wanted in PARTS])
+        rows = [(f"{text} by {size}", "check", text, size, wanted) for text, size, wanted in PARTS]
+        self.run_subtests(self.check_parts, rows)
 
     def check_shown(self, text, size, wanted, line):
         status, out, err = run_by_parts(self.program, "explain", text, size)
@@ -632,8 +628,7 @@ class Replies(ProgramTest):
         """A line that is too long is refused before its end comes."""
         for size in (4_096, 32_768):
             with self.subTest(size=size):
-                ended = run_by_parts(self.program, "check", " " * (LINE_BYTES + 1), size, False)
-                self.assertEqual(ended, answer_of(refused(1, "long")))
+                self.check_parts("check", " " * (LINE_BYTES + 1), size, refused(1, "long"), is_ended=False)
 
     def test_run(self):
         """What a run writes of gets, and how it is read back: what was found, and nothing else."""
@@ -645,12 +640,12 @@ class Replies(ProgramTest):
         with self.subTest("the kinds of replies to them"):
             self.assertEqual({json.loads(wanted)["status"] for _, wanted in gets}, {200, 404})
         with self.subTest("the run as it is"):
-            self.check_text("check", [text], yes(RUN_CALLS, docs=RUN_DOCS))
+            self.check_files("check", [text], yes(RUN_CALLS, docs=RUN_DOCS))
         at, line = next((at, line) for at, line in gets if '"found":true' in line)
         for name in ("k", "_seq_no", "_primary_term"):
             other = "".join([*lines[:at], line.replace(f'"{name}":', f'"{name}":9'), *lines[at + 1 :]])
             with self.subTest(f"another {name}"):
-                self.check_text("check", [other], no_writer(at, json.loads(line)["n"]))
+                self.check_files("check", [other], no_writer(at, json.loads(line)["n"]))
 
     def check_growths(self, growths, few, line, cause, is_quick):
         wanted = ((2, refused(1, cause).encode(), b""), False) if is_quick else (NO_MEMORY, True)

@@ -131,7 +131,7 @@ def free_ports(count):
 
 
 # Tests that need a C compiler, cc, are skipped if there is none.
-needs_compiler = unittest.skipUnless(shutil.which("cc"), "there is no C compiler here, cc")
+needs_compiler = unittest.skipUnless(shutil.which("cc"), "there is no C compiler here, cc, so no library was preloaded")
 
 
 def library_in(folder, name):

@@ -132,12 +132,17 @@ def change_places(draws, events):
 CHANGES = (change_reply, change_reply, change_pair, change_places)
 
 
-def small_history(seed):
-    """The small history of this seed."""
-    draws = Draws(seed)
-    events = with_drawn_pairs(draws, recorded(draws, seed))
+def changed(draws, events):
+    """What was recorded, with other pairs, maybe with few numbers, and with up to two changes, on one shard or two."""
+    events = with_drawn_pairs(draws, events)
     if draws.below(3) == 0:
         events = list(with_few_numbers(events))
     for _ in range(draws.one_of((0, 0, 0, 1, 1, 2))):
         draws.one_of(CHANGES)(draws, events)
     return Small(events, draws.one_of((one_shard, own_shard)))
+
+
+def small_history(seed):
+    """The small history of this seed."""
+    draws = Draws(seed)
+    return changed(draws, recorded(draws, seed))

@@ -82,9 +82,9 @@ TEXTS = [
         OPEN_CALLS,
         no_writer(1_001, 1_000),
         [
-            "Earlier calls that are not told: 961.",
+            "Earlier calls left out: 961.",
             "  line 962, call 961: index k=1 -> no reply (open at the same time: 962, 963, 964, 965, 966, 967, 968, 969 and 31 more)\n",
-            "Earlier ones: 960.",
+            "Left out: 960.",
         ],
         {'<g class="bar': [12 + 200], '<g class="bar lost">': [11 + 199]},
     ),
@@ -95,7 +95,7 @@ TEXTS = [
         [
             "\n  line 1, call 0: index k=0 -> line 2: created as 1/0\n* line 3, call 1: index k=1 -> line 4: updated as 1/1\n! line 201,",
             "\n\nThe other calls, in the order of their events:\n  line 127, call 63: index k=63 -> line 128: updated as 1/63\n",
-            "\nEarlier calls that are not told: 61.\n",
+            "\nEarlier calls left out: 61.\n",
             "\nEarlier calls in it: 60.\n  call 60: index k=60 -> 1/60 k=60\n",
             "\n  call 99: index k=99 -> 1/99 k=99\n",
         ],
@@ -150,7 +150,7 @@ TEXTS += [
         "a line that was written late",
         LATE_LINE,
         no_writer(1, 1),
-        ["\nWas a line written late? The reply to call 1 on line 2 shows what call 0 (index k=1) writes, and the line of call 0 stands only behind it, on line 3."],
+        ["\nWas a line written late? The reply to call 1 on line 2 shows what call 0 (index k=1) writes, and the line of call 0 comes only after it, on line 3."],
         {},
     ),
     (
@@ -187,7 +187,7 @@ RULED_OUT = [
         (9, 4, 4),
         [
             "\nCall 1 (index k=2 if at 1/0) was answered with the version 1/3 (line 4), so the document had reached it by then. "
-            "Call 4 (index k=4 if at 1/3) was made after that (line 9), so it stands after it. "
+            "Call 4 (index k=4 if at 1/3) was made after that (line 9), so it comes after it. "
             "It was answered with a conflict on 1/3 (line 10). So something must have replaced 1/3 before line 10.",
             "\n  line 5, call 2: index k=3 if at 1/0 -> no reply: it asks for another version, 1/0\n",
             "\n  line 11, call 5: index k=5 -> no reply: it was called only after the reply to call 4 (line 10)\n",
@@ -222,7 +222,7 @@ RULED_OUT = [
         (17, 8, 8),
         [
             "\nCall 0 (index k=1) was answered with the version 1/0 (line 2), so the document had reached it by then. "
-            "Call 8 (get) was made after that (line 17), so it stands after it. It was answered \"not found\" (line 18). "
+            "Call 8 (get) was made after that (line 17), so it comes after it. It was answered \"not found\" (line 18). "
             "So something must have deleted the document before line 18. But with 1/0 the document was there,",
             "\nNo write without a reply can have done it:\n  line 15, call 7: index k=8 -> no reply: it writes, and a delete is needed\n",
             "\nAnd 2 more.\n",
@@ -236,7 +236,7 @@ RULED_OUT = [
         [
             "\nCall 0 (index k=1) was answered with the version 1/0 (line 2), so the document had reached it by then. "
             "Call 2 (get) was made after that (line 5) and was answered \"not found\" (line 6), so the document had been deleted by then: ",
-            "Call 3 (create k=7) was made after that (line 7), so it stands after it. It was answered with a conflict (line 8). "
+            "Call 3 (create k=7) was made after that (line 7), so it comes after it. It was answered with a conflict (line 8). "
             "So something must have written the document before line 8.",
             "\n  line 3, call 1: delete -> no reply: it deletes, and a write of a number is needed\n",
         ],
@@ -256,7 +256,7 @@ RULED_OUT = [
         [
             "\nCall 0 (index k=1) was answered with the version 1/0 (line 2), so the document had reached it by then. "
             "Call 1 (index k=2 if at 1/0) was made after that (line 3) and was answered with a conflict on 1/0 (line 4), so the document was not at 1/0 by then: it had reached 1/1, at least. "
-            "Call 2 (index k=3 if at 1/0) was made after that (line 5), so it stands after it.",
+            "Call 2 (index k=3 if at 1/0) was made after that (line 5), so it comes after it.",
         ],
         {'<tr class="evidence">': [2]},
     ),
@@ -265,7 +265,7 @@ RULED_OUT = [
         index(0) + created(0, 1, 0) + delete(1) + lost(1) + index(2, condition(1, 2), k=2) + updated(2, 1, 3),
         (5, 2, 2),
         [
-            "So the document must have had the version 1/2 by then. But no reply tells which write made 1/2.",
+            "So the document must have had the version 1/2 by then. But no reply shows which write made 1/2.",
             "\n  line 3, call 1: delete -> no reply: it deletes, and a write of a number is needed\n",
         ],
         {},
@@ -276,7 +276,7 @@ RULED_OUT = [
         + get(4) + found(4, 1, 1, k=9) + index(5, k=9) + lost(5),
         (9, 4, 4),
         [
-            "So the document must have had the version 1/1 by then. But no reply tells which write made 1/1.\n"
+            "So the document must have had the version 1/1 by then. But no reply shows which write made 1/1.\n"
             "No write without a reply can have done it:\n"
             "  line 7, call 3: delete -> no reply: it deletes, and a write of a number is needed\n"
             "  line 5, call 2: index k=8 -> no reply: it writes another number than was found\n"
@@ -291,7 +291,7 @@ RULED_OUT = [
         index(0) + created(0, 1, 0) + get(1) + index(2, k=2) + updated(2, 1, 5) + index(3, k=9) + lost(3) + found(1, 1, 1, k=9),
         (7, 1, 2),
         [
-            "So the document must have had the version 1/1 (call 1, line 8) by then. But no reply tells which write made 1/1.\n"
+            "So the document must have had the version 1/1 (call 1, line 8) by then. But no reply shows which write made 1/1.\n"
             "No write without a reply can have done it:\n"
             "  line 6, call 3: index k=9 -> no reply: it was called only after the reply to call 2 (line 5)\nSo no order ",
         ],
@@ -384,14 +384,14 @@ RULED_OUT = [
         "a write under a condition that created its document",
         index(0) + created(0, 1, 0) + index(1, condition(1, 0), k=3) + created(1, 1, 5),
         (3, 1, 1),
-        ["It was to be performed only where the document is there at 1/0, and its reply says that the document was not there. It can't be both.\nSo no order "],
+        ["It was to be performed only if the document is there at 1/0, and its reply says that the document was not there. It can't be both.\nSo no order "],
         {},
     ),
     (
         "a write under a version above its own",
         index(0) + created(0, 1, 5) + index(1, condition(1, 7), k=3) + updated(1, 1, 6),
         (3, 1, 1),
-        ["It was to be performed only where the document is at 1/7, and a write that replaces 1/7 gets a newer version than it. This one got none that is newer."],
+        ["It was to be performed only if the document is at 1/7, and a write that replaces 1/7 gets a newer version than it. This one got none that is newer."],
         {},
     ),
     (
@@ -406,7 +406,7 @@ RULED_OUT = [
         index(0) + created(0, 1, 0) + delete(1) + lost(1) + get(2) + missing(2) + index(3, condition(1, 0), k=3) + updated(3, 1, 9),
         (7, 3, 3),
         [
-            "It was to be performed only where the document is still at 1/0. "
+            "It was to be performed only if the document is still at 1/0. "
             "But the document had been changed after 1/0 by a write of unknown outcome before the call was made.",
         ],
         {},

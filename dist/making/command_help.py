@@ -170,7 +170,7 @@ def values_of(value: str, lines: Sequence[str]) -> Tuple[str, ...]:
     found = re.search(r"\[possible values: ([^\]]+)\]", text)
     if found:
         return tuple(found[1].split(", "))
-    text = re.sub(r" *\[[a-z ]+: [^\]]*\]", "", text)
+    text = re.sub(r" *(\[[a-z ]+: [^\]]*\]|\([^)]*\))", "", text)
     behind_colon = re.search(r": ([^:;]+ or [^:;]+?)(?:;|\.?$)", text)
     found = behind_colon or re.search(rf"\b{re.escape(value)} is ([^:;]+?)(?:;|\.?$)", text)
     return list_of_names(found[1]) if found else ()

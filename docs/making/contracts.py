@@ -7,7 +7,7 @@ from typing import NamedTuple
 CRATES = Path(__file__).resolve().parent.parent.parent / "crates"
 
 # The modules of the program whose functions are shown. A program has no callers, so these are its own parts.
-PROGRAM_PARTS = ("exit", "files", "page_file", "run", "words")
+PROGRAM_PARTS = ("exit", "files", "notes", "output", "page_file", "run")
 
 # The beginnings of a function, a clause and a ghost item.
 FUNCTION = r"\s*(pub )?(?:const |unsafe )*fn (\w+)"
@@ -201,7 +201,8 @@ def source_of(module, text):
 
 
 class Crate:
-    """A crate: what it says first of itself, its files by their modules, and the names that it hands on."""
+    """A crate: what it says first of itself, its files by their modules, as texts and as what they declare, and the
+    names that it hands on."""
 
     def __init__(self, name):
         self.name, folder = name, CRATES / name / "src"
@@ -211,7 +212,8 @@ class Crate:
         self.says = said[: said.index("")] if "" in said else said
         files = [(str(it.relative_to(folder).with_suffix("")), it) for it in sorted(folder.rglob("*.rt"))]
         files = [(module, it) for module, it in files if not {"tests", "testing"} & set(module.split("/"))]
-        self.sources = [source_of(module, unaliased(it.read_text(encoding="utf-8"))) for module, it in files]
+        self.texts = [(module, it.read_text(encoding="utf-8")) for module, it in files]
+        self.sources = [source_of(module, unaliased(text)) for module, text in self.texts]
         self.sources.sort(key=lambda it: it.module == "laws")
         self.exported = {}
         for path, names in re.findall(r"^pub use (\w+(?:::\w+)*)::(\w+|\{[^}]*\});", self.main, re.MULTILINE):
@@ -236,12 +238,17 @@ def is_shown(crate, call):
 
 
 def calls_of(crate):
-    """The public calls of a crate, by the names that the page has for them."""
+    """The public calls of a crate: the names that the page has for them, the calls, and their files."""
     for source in crate.sources:
         for block in source.blocks:
             shown = crate.shown_name(source, block)
             if shown and block.kind == "fn" and is_shown(crate, block.calls[0]):
-                yield shown, block.calls[0]
+                yield shown, block.calls[0], source
             elif shown and block.kind != "fn" and not block.trait:
                 calls = block.calls if block.kind == "trait" else [it for it in block.calls if is_shown(crate, it)]
-                yield from ((f"{shown}::{it.name}", it) for it in calls)
+                yield from ((f"{shown}::{it.name}", it, source) for it in calls)
+
+
+def names_cited(clause, imports):
+    """The imported definitions that a clause cites, each once."""
+    return list(dict.fromkeys(it for it in re.findall(r"[^\s(){},;⟦⟧.]+", clause.formula) if it in imports))

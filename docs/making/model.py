@@ -6,9 +6,10 @@ The order of the sections and of the files in them is given here; the words are 
 import re
 import textwrap
 
-from . import sources
+from . import contracts, proved, sources
 from .sections import SECTIONS
 from .sources import Definition
+from .users import Users, listed
 
 HEADER = sources.TOP / "docs" / "making" / "header_model.md"
 COLUMNS = 110
@@ -40,6 +41,7 @@ class Page:
 
     def __init__(self):
         self.files, self.laws = sources.spec_files(), sources.laws()
+        self.users = Users(self.files, [contracts.Crate(it) for it in proved.ORDER])
         self.order = [path for _, _, paths in SECTIONS for path in paths]
         self.check_order()
         self.owners = {}
@@ -119,20 +121,28 @@ class Page:
         return lines
 
     def definition_lines(self, it, file):
-        """The lines of a definition: its name and its arguments, its comment and its source, and its fields."""
+        """The lines of a definition: its name and its arguments, its comment and its notes, and its fields."""
         name = f"- `{' '.join((it.name, *it.arguments))}`"
         has_first = it.blocks and not it.blocks[0].startswith(("- ", "|"))
         first, others = (it.blocks[0], it.blocks[1:]) if has_first else ("", it.blocks)
-        law = self.laws.get((file.crate, it.name))
-        notes = [f"A law: the contract of `{law}`."] if law else []
-        source = " ".join(notes + [f"*Source: {it.source}.*"] if it.source else notes)
-        told = f"{name}: {self.linked(ended(first), file)}" if first else name
-        lines = wrapped(told if others else f"{told} {self.linked(source, file)}".strip(), "", "  ")
+        said = f"{name}: {self.linked(ended(first), file)}" if first else name
+        notes = self.notes_of(it, file)
+        lines = wrapped(said if others else f"{said} {notes}".strip(), "", "  ")
         if others:
             lines += ["", *self.blocks_lines(others, file, "  ")]
-            lines += ["", *wrapped(self.linked(source, file), "  ")] if source else []
+            lines += ["", *wrapped(notes, "  ")] if notes else []
             lines += [""] if it.fields else []
         return lines + self.field_lines(it.fields, file)
+
+    def notes_of(self, it, file):
+        """What is noted of a definition: of which law it is the contract, its source, and its users."""
+        law = self.laws.get((file.crate, it.name))
+        notes = [f"A law: the contract of `{law}`."] if law else []
+        notes += [self.linked(f"*Source: {it.source}.*", file)] if it.source else []
+        users = [] if law else self.users.by_definition[file.path, it.name]
+        places = ((f"`{name}`", "" if path in ("", file.path) else f"#{anchor_of(path)}") for path, name in users)
+        named = listed([f"[{name}]({place})" if place else name for name, place in places])
+        return " ".join(notes + [f"*Used by* {named}."] if users else notes)
 
     def field_lines(self, fields, file):
         """The lines of fields: first those that have a comment, then the names of the others."""

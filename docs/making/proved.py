@@ -18,7 +18,7 @@ from pathlib import Path
 DOCS = Path(__file__).resolve().parent.parent
 
 sys.path.insert(0, str(DOCS))
-from making import contracts  # noqa: E402 (it lies beside this file)
+from making import contracts, users  # noqa: E402 (they lie beside this file)
 
 PAGE = DOCS / "PROVED.md"
 HEADER = DOCS / "making" / "header_proved.md"
@@ -27,9 +27,9 @@ WIDTH = 110
 
 # The crates in the order of the page.
 ORDER = (
-    "version_pair doc_register api_lines history recorder workload repl_group disturbances witness write_chain "
-    "completing doc_check check_pool evidence ruled_out narrowing compose page story stream_io result_lines "
-    "recorded_runs report seed_search casbench"
+    "version_pair doc_register events api_lines history recorder workload repl_group disturbances places witness "
+    "write_chain completing doc_check check_pool evidence ruled_out narrowing compose page story stream_io "
+    "result_lines recorded_runs command_line report seed_search casbench"
 ).split()
 
 # Traits whose impls are not shown: those of views, of copies, of what is shown of a value, and of errors.
@@ -80,16 +80,11 @@ def paragraphs_of(says, link):
     return lines
 
 
-def names_cited(clause, imports):
-    """The imported definitions that a clause cites, each once."""
-    return list(dict.fromkeys(it for it in re.findall(r"[^\s(){},;⟦⟧.]+", clause.formula) if it in imports))
-
-
 class Section:
     """The lines of the page that are about a crate, and the files of definitions that they link to."""
 
-    def __init__(self, crate):
-        self.crate, self.lines, self.files = crate, [], set()
+    def __init__(self, crate, importers):
+        self.crate, self.importers, self.lines, self.files = crate, importers, [], set()
         self.lines += [f"## {crate.name}", "", *paragraphs_of(crate.says, str), ""]
         for source in crate.sources:
             self.add_source(source)
@@ -114,7 +109,7 @@ class Section:
 
     def clause_lines(self, clause, names, imports):
         """The lines about a clause, or about those that its comment names."""
-        cited = names_cited(clause, imports)
+        cited = contracts.names_cited(clause, imports)
         self.citable = set(cited)
         said = self.linked(" ".join(clause.comment.split()), imports, cited)
         links = ", ".join(self.link_to(it, imports[it]) for it in cited)
@@ -145,13 +140,18 @@ class Section:
 
     def call_lines(self, name, call, imports, level="###"):
         """The lines about a call."""
-        self.citable = {it for clause in call.clauses for it in names_cited(clause, imports) if it[0].isupper()}
+        self.citable = {it for clause in call.clauses for it in contracts.names_cited(clause, imports) if it[0].isupper()}
         lines = [f"{level} `{name}`", "", *paragraphs_of(call.says, lambda it: self.linked(it, imports, [])), ""]
         if not name.startswith("laws::"):
-            lines += ["```rust", call.signature, "```", ""]
+            lines += ["```rust", call.signature, "```", "", *self.user_lines(name)]
         for title, kind in (("Requires", "requires"), ("Promises", "ensures")):
             lines += self.clauses_lines(title, [it for it in call.clauses if it.kind == kind], imports)
         return lines
+
+    def user_lines(self, name):
+        """The line about the files that import a function or a type; none of a method."""
+        files = self.importers.get((self.crate.name, name), [])
+        return [*wrapped(f"*Used in* {users.listed(files)}."), ""] if files else []
 
     def add_block(self, title, block, imports):
         """Adds what a type, a trait or an impl of a trait says of itself, and what is given to the trait."""
@@ -187,7 +187,8 @@ class Section:
             self.add_impl(shown, impl, own)
         if any(it.startswith(f"#### `{shown}::") for it in self.lines[start:]):
             said = paragraphs_of(block.says, str)
-            self.lines[start:start] = [f"### `{shown}`", "", *said, *([""] if said else [])]
+            lines = [f"### `{shown}`", "", *said, *([""] if said else []), *self.user_lines(shown)]
+            self.lines[start:start] = lines
 
     def add_impl(self, shown, block, source):
         """Adds the methods of an impl, or what it gives to a trait."""
@@ -219,7 +220,9 @@ def formula_lines(formula):
 
 def page():
     """The text of the page."""
-    sections = [Section(contracts.Crate(name)) for name in ORDER]
+    crates = [contracts.Crate(name) for name in ORDER]
+    importers = users.importing_files(crates)
+    sections = [Section(crate, importers) for crate in crates]
     header = HEADER.read_text(encoding="utf-8")
     before, _, after = header.partition(MARK)
     files = {it for section in sections for it in section.files}

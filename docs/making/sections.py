@@ -34,9 +34,9 @@ SECTIONS = (
         "and each call is a process of its own: any number of calls may be open at the same time, and no order "
         "between them is demanded except that of their events.",
         (
-            "history/specs/Order.antt",
-            "history/specs/Events.antt",
-            "history/specs/Heard.antt",
+            "events/specs/Order.antt",
+            "events/specs/Events.antt",
+            "events/specs/Heard.antt",
             "doc_register/specs/Run.antt",
             "doc_register/specs/Register.antt",
             "version_pair/specs/PairOrder.antt",
@@ -53,6 +53,7 @@ SECTIONS = (
             "api_lines/specs/Json.antt",
             "api_lines/specs/ReplyTable.antt",
             "version_pair/specs/Id.antt",
+            "version_pair/specs/Shards.antt",
         ),
     ),
     (
@@ -62,7 +63,7 @@ SECTIONS = (
         (
             "history/specs/Reading.antt",
             "api_lines/specs/Texts.antt",
-            "history/specs/Refusal.antt",
+            "events/specs/Refusal.antt",
             "history/specs/Faults.antt",
             "api_lines/specs/HistoryLines.antt",
             "api_lines/specs/Fields.antt",
@@ -77,11 +78,11 @@ SECTIONS = (
         "A witness of a document is an order of its calls, given so that it can be checked by itself. Its records "
         "are those of the document, numbered from 0 in the order of their calls (`records_of`).",
         (
-            "witness/specs/Places.antt",
-            "witness/specs/Witness.antt",
+            "places/specs/Places.antt",
+            "places/specs/Witness.antt",
             "compose/specs/Covers.antt",
             "compose/specs/VerifyFaults.antt",
-            "witness/specs/Faults.antt",
+            "places/specs/Faults.antt",
             "write_chain/specs/Chain.antt",
             "doc_check/specs/ReplyOrder.antt",
             "doc_check/specs/NoOrders.antt",
@@ -89,7 +90,7 @@ SECTIONS = (
             "check_pool/specs/Answers.antt",
             "check_pool/specs/Faults.antt",
             "witness/specs/Text.antt",
-            "witness/specs/Documents.antt",
+            "places/specs/Documents.antt",
         ),
     ),
     (
@@ -107,7 +108,7 @@ SECTIONS = (
         "order explains the document, and none the history. That is a law (`RuledOutHaveNoOrder`): if you trust "
         "it, you need none of these definitions, which only say when it applies.",
         (
-            "ruled_out/specs/Told.antt",
+            "ruled_out/specs/Reported.antt",
             "ruled_out/specs/Positions.antt",
             "ruled_out/specs/Placings.antt",
             "ruled_out/specs/Laws.antt",
@@ -119,9 +120,9 @@ SECTIONS = (
         "",
         (
             "api_lines/specs/Written.antt",
-            "history/specs/Keys.antt",
+            "events/specs/Keys.antt",
             "history/specs/Written.antt",
-            "history/specs/Seen.antt",
+            "events/specs/Seen.antt",
             "api_lines/specs/Bulk.antt",
             "api_lines/specs/BulkReply.antt",
             "history/specs/BulkText.antt",
@@ -181,17 +182,17 @@ SECTIONS = (
         "A search through seeds",
         "Runs with the seeds of a range are tried until one of them has no order.",
         (
-            "seed_search/specs/Range.antt",
+            "recorded_runs/specs/Range.antt",
             "seed_search/specs/Found.antt",
         ),
     ),
     (
-        "The program's words",
+        "The program's arguments",
         "What the arguments of the command line ask for. How they are parsed is defined by the crate `clap`: "
         "`App` is a command with its arguments and subcommands, `Rule` an argument, `Row` what an argument was "
         "given, and `Kinds` the kinds of error that may be reported.",
         (
-            "casbench/specs/Asked.antt",
+            "command_line/specs/Asked.antt",
             "casbench/specs/Exit.antt",
             "casbench/specs/Faults.antt",
         ),
@@ -206,7 +207,9 @@ SECTIONS = (
             "doc_register/specs/Laws.antt",
             "doc_register/specs/WorkedSteps.antt",
             "api_lines/specs/Laws.antt",
+            "events/specs/Laws.antt",
             "history/specs/Laws.antt",
+            "places/specs/Laws.antt",
             "witness/specs/Laws.antt",
             "recorder/specs/Laws.antt",
             "compose/specs/Laws.antt",

@@ -49,14 +49,16 @@ class Field(NamedTuple):
 
 
 class Definition(NamedTuple):
-    """A public definition: its name, the names of its arguments, the blocks of its comment, its source, and its
-    fields."""
+    """A public definition: its name, the names of its arguments, the blocks of its comment, its source, its fields, the
+    line of the file on which it begins, and the words of its equations or fields."""
 
     name: str
     arguments: tuple
     blocks: tuple
     source: str
     fields: tuple
+    start: int
+    words: frozenset = frozenset()
 
 
 class Note(NamedTuple):
@@ -254,6 +256,7 @@ class Reader:
         if not match:
             return False
         indent, kind, name, rest = match.groups()
+        start = self.place
         self.place += 1
         fields = self.take_fields(indent, kind == "data") if kind else ()
         if kind:
@@ -261,7 +264,7 @@ class Reader:
         else:
             signature = " ".join([rest.strip().removeprefix(":"), *self.more_signature(indent)])
             arguments = arguments_of(signature, self.equations(indent, name), self.small)
-        self.parts.append(Definition(name, arguments, *commented(comment), fields))
+        self.parts.append(Definition(name, arguments, *commented(comment), fields, start))
         return True
 
     def more_signature(self, indent):
@@ -303,7 +306,17 @@ class Reader:
             elif not self.take_definition(line, []):
                 self.take_import(line)
                 self.place += 1
-        return SpecFile(self.path, blocks_of(top), tuple(self.parts), self.imports, tuple(self.types))
+        return SpecFile(self.path, blocks_of(top), self.parts_with_words(), self.imports, tuple(self.types))
+
+    def parts_with_words(self):
+        """The parts, each definition with the words between its first line and the next definition."""
+        parts, end = [], len(self.lines)
+        for part in reversed(self.parts):
+            if isinstance(part, Definition):
+                code = " ".join(it for it in self.lines[part.start : end] if not it.lstrip().startswith("--"))
+                part, end = part._replace(words=frozenset(re.findall(r"[^\s(){},;⟦⟧.]+(?![^\s(){},;⟦⟧])", code))), part.start
+            parts.insert(0, part)
+        return tuple(parts)
 
 
 def spec_files():

@@ -94,7 +94,8 @@ def read_plan(path: str) -> List[Disturbance]:
 
 
 class Disturber:
-    """Follows a plan while its block runs, on a thread of its own. What was begun is ended with the block, however that ends."""
+    """Follows a plan while its block runs, on a thread of its own if anything is planned. What was begun is ended with the
+    block, however that ends."""
 
     def __init__(self, plan: List[Disturbance], note: Report, report: Report) -> None:
         self._plan = plan
@@ -108,12 +109,14 @@ class Disturber:
         self._thread = threading.Thread(target=self._follow, daemon=True)
 
     def __enter__(self) -> "Disturber":
-        self._thread.start()
+        if self._plan:
+            self._thread.start()
         return self
 
     def __exit__(self, *_: object) -> None:
         self._is_over.set()
-        self._thread.join()
+        if self._thread.ident is not None:
+            self._thread.join()
         while self._begun:
             self._end(self._begun[0])
 

@@ -113,6 +113,7 @@ class Proxy:
         self.judge = judge
         self.clients: Set[ClientConnection] = set()
         self.loop = Loop()
+        self._listeners: List[Listener] = []
         # (None once the index was found, or the recording ended)
         self.finding: Optional[Finding] = None if judge.shape is not None else Finding(self.loop, inspector, setting.index, judge)
         # how many bytes of messages are kept
@@ -200,17 +201,18 @@ class Proxy:
         if damage is not None:
             self.judge.end(damage)
 
-    def serve(self, tell_address: Callable[[str], object]) -> None:
-        """Serves until the loop is stopped; reports its address first, that of each node. What is open then is lost, and every
-        connection is closed."""
-        listeners: List[Listener] = []
+    def listen(self, tell_address: Callable[[str], object]) -> None:
+        """Listens for the clients of each node, and reports the address."""
         for node in self.nodes:
             own = self.loop.listen(node.host, node.port, functools.partial(self.accept, node))
             shown = f"[{node.host}]" if ":" in node.host else node.host
             tell_address(f"http://{shown}:{own[0].port}")
-            listeners += own
+            self._listeners += own
+
+    def serve(self) -> None:
+        """Serves until the loop is stopped. What is open then is lost, and every connection is closed."""
         self.loop.run()
-        for it in listeners:
+        for it in self._listeners:
             it.close()
         self._tick(self.loop.now)
         self.judge.close()
@@ -218,12 +220,6 @@ class Proxy:
             client.stream.abort()
         self.loop.close()
         self.inspector.connection.close()
-
-
-def serve_until_signalled(proxy: Proxy) -> None:
-    """Serves until somebody sends a signal that asks for the end."""
-    proxy.loop.stop_at(signal.SIGINT, signal.SIGTERM)
-    proxy.serve(lambda address: tell(f"{address}\n", seconds=1.0))
 
 
 # The words
@@ -345,8 +341,11 @@ def run(arguments: Sequence[str]) -> int:
             # (before the watch ends, so that its last check has the last line)
             stack.callback(proxy.judge.close)
             stack.enter_context(Progress(lambda: counts_of(proxy.judge), remark=lambda: remark_of(proxy.judge)))
+            proxy.loop.stop_at(signal.SIGINT, signal.SIGTERM)
+            proxy.listen(lambda address: tell(f"{address}\n", seconds=1.0))
+            # (a failure is reported after the addresses, and a signal undoes what was begun)
             disturber = stack.enter_context(Disturber(setting.disturb, proxy.judge.note, tell_line))
-            serve_until_signalled(proxy)
+            proxy.serve()
     except (ClusterError, HistoryError, OSError) as fault:
         tell_last([f"casbench_recording.proxy: {fault}"])
         return 1

@@ -6,7 +6,7 @@ use Rattle.std.proofs.lemmas.List.Elements.{All-nil, All-push}
 use Rattle.version_pair.proofs.TruthLemmas.{err_is_not_ok, same_ok}
 use Rattle.doc_register.specs.declared.op.Op.{Op}
 use Rattle.serde_json.specs.Data.{Data}
-use Rattle.api_lines.specs.Bulk.{SoFar, action_told, action_values, begun, bulk_body, ended, item_of, sourced, taken_json, taken_line, taken_lines, taken_value}
+use Rattle.api_lines.specs.Bulk.{SoFar, action_parsed, action_values, begun, bulk_body, ended, item_of, sourced, taken_json, taken_line, taken_lines, taken_value}
 use Rattle.api_lines.specs.BulkReply.{is_write}
 use Rattle.api_lines.specs.Faults.{◌>>=◌}
 use Rattle.api_lines.specs.Json.{FieldValue, absent, whole, not_whole, text, truth, other, json_value}
@@ -43,7 +43,7 @@ sourced_writes n items a (truth b) next all is = err_is_not_ok _ next is
 sourced_writes n items a other next all is = err_is_not_ok _ next is
 
 value_writes : (n : ℕ) (items : List (List ℕ × Op)) (a : Option Awaited) (v : Data) (next : SoFar) → AreWrites items → taken_value n items a v ≡ Ok next → AreWrites next.items
-value_writes n items None v next all is = begun_writes n items (action_told (action_values v)) next all is
+value_writes n items None v next all is = begun_writes n items (action_parsed (action_values v)) next all is
 value_writes n items (Some a) v next all is = sourced_writes n items a _ next all is
 
 json_writes : (n : ℕ) (s : SoFar) (v : Option Data) (next : SoFar) → AreWrites s.items → taken_json n s v ≡ Ok next → AreWrites next.items

@@ -58,13 +58,13 @@ items_list-view (v ∷ vs) = ap (λ ds. view v ∷ ds) (items_list-view vs)
 pub viewed : (vs : List Value) (ds : Items) → Some (items_view vs) ≡ Some ds → Some (items_list ds) ≡ Some (map view vs)
 viewed vs ds is = ap (λ es. Some (items_list es)) (sym (same_Some (items_view vs) ds is)) ∙ ap (λ xs. Some xs) (items_list-view vs)
 
--- a fault of the definition is told
-pub always_told : (fault : BulkFault) (P : Type 0) → P → UnlessMemory fault P
-always_told (Syntax n) P p = p
-always_told (Action n) P p = p
-always_told (Source n) P p = p
-always_told (Half n) P p = p
-always_told (Range n) P p = p
-always_told Count P p = p
-always_told (Kind i) P p = p
-always_told NoMemory P p = tt
+-- a fault of the definition is reported
+pub always_reported : (fault : BulkFault) (P : Type 0) → P → UnlessMemory fault P
+always_reported (Syntax n) P p = p
+always_reported (Action n) P p = p
+always_reported (Source n) P p = p
+always_reported (Half n) P p = p
+always_reported (Range n) P p = p
+always_reported Count P p = p
+always_reported (Kind i) P p = p
+always_reported NoMemory P p = tt

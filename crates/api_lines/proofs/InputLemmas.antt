@@ -5,7 +5,7 @@ use Rattle.std.specs.Io.KnownBytes.{Consumes, IsAtEnd, Keeps, prepend_known}
 use Rattle.std.proofs.KnownBytes.{Consumes-kept, Consumes-nil, Keeps-refl, prepend_known-nil, prepend_known-read}
 use Rattle.memchr.specs.Find.{Nowhere, Passes, is_byte}
 use Rattle.serde_json.specs.Data.{Data}
-use Rattle.api_lines.specs.Faults.{IfTextTold}
+use Rattle.api_lines.specs.Faults.{IfTextReported}
 use Rattle.api_lines.specs.Lines.{HasNoLineFeed, lines_of, longest_line, most_lines}
 use Rattle.api_lines.specs.Sources.{AreOfOneLine, EndsLine, IsTakenFor, most_brought, most_held}
 use Rattle.api_lines.specs.Texts.{SoFar, after_line, line_given, next_line, read_line, read_lines, so_far, taken}
@@ -114,45 +114,45 @@ on_more takes start (Some text) (Some ys) (Some zs) line r q before unfed (inr (
     absurd (omega (arith, long, short))
 
 -- one line more, refused
-on_told : {S : Type 0} (takes : S → Data → Result S TextCause) (start : S) (input old new : Option (List ℕ)) (line : List ℕ) (r : SoFar S) (told : TextFault)
+on_reported : {S : Type 0} (takes : S → Data → Result S TextCause) (start : S) (input old new : Option (List ℕ)) (line : List ℕ) (r : SoFar S) (reported : TextFault)
     → IsReadOn takes start input old r → HasNoLineFeed line → EndsLine old new line
-    → next_line takes r line ≡ Err told → IfSome input (λ text. read_lines takes 1 start (lines_of text) ≡ Err told)
+    → next_line takes r line ≡ Err reported → IfSome input (λ text. read_lines takes 1 start (lines_of text) ≡ Err reported)
 unfolding IsReadOn
-on_told takes start None old new line r told before unfed ends stop = tt
-on_told takes start (Some text) None new line r told before unfed ends stop = absurd before
-on_told takes start (Some text) (Some ys) None line r told before unfed (inl took) stop = absurd took.0
-on_told takes start (Some text) (Some ys) (Some zs) line r told before unfed (inl (took, short)) stop =
-    taken_until takes start text ys zs line r (refusal.Text told) before.0 (line_taken ys zs line unfed took) stop
-on_told takes start (Some text) (Some ys) None line r told before unfed (inr rest) stop = absurd rest.0
-on_told takes start (Some text) (Some ys) (Some zs) line r told before unfed (inr (took, inl (end, some))) stop =
-    taken_until takes start text ys zs line r (refusal.Text told) before.0 (end_taken ys zs line unfed took end some) stop
-on_told {S} takes start (Some text) (Some ys) (Some zs) line r told before unfed (inr (took, inr long)) stop =
+on_reported takes start None old new line r reported before unfed ends stop = tt
+on_reported takes start (Some text) None new line r reported before unfed ends stop = absurd before
+on_reported takes start (Some text) (Some ys) None line r reported before unfed (inl took) stop = absurd took.0
+on_reported takes start (Some text) (Some ys) (Some zs) line r reported before unfed (inl (took, short)) stop =
+    taken_until takes start text ys zs line r (refusal.Text reported) before.0 (line_taken ys zs line unfed took) stop
+on_reported takes start (Some text) (Some ys) None line r reported before unfed (inr rest) stop = absurd rest.0
+on_reported takes start (Some text) (Some ys) (Some zs) line r reported before unfed (inr (took, inl (end, some))) stop =
+    taken_until takes start text ys zs line r (refusal.Text reported) before.0 (end_taken ys zs line unfed took end some) stop
+on_reported {S} takes start (Some text) (Some ys) (Some zs) line r reported before unfed (inr (took, inr long)) stop =
     by_line (read_line takes (r.lines + 1) r.state line) refl stop
   where
-    by_line : (o : Result S TextCause) → read_line takes (r.lines + 1) r.state line ≡ o → after_line (r.lines + 1) o ≡ Err told
-        → read_lines takes 1 start (lines_of text) ≡ Err told
+    by_line : (o : Result S TextCause) → read_line takes (r.lines + 1) r.state line ≡ o → after_line (r.lines + 1) o ≡ Err reported
+        → read_lines takes 1 start (lines_of text) ≡ Err reported
     by_line (Ok t) is next = absurd (cc)
     by_line (Err cause) is next =
         let on = open_line line zs unfed (omega (arith, long)) in
-        let same : record { line = r.lines + 1; cause = cause } ≡ told = cc in
+        let same : record { line = r.lines + 1; cause = cause } ≡ reported = cc in
         read_refused takes start text ys (line ++ on.0) on.1 r.lines r.state cause before.0 (ap lines_of took ∙ on.2)
         (long_refused takes (r.lines + 1) r.state line on.0 cause long is) ∙ ap (λ f. Err f) same
 
 pub on_stop : {S : Type 0} (takes : S → Data → Result S TextCause) (start : S) (input old new : Option (List ℕ)) (line : List ℕ) (r : SoFar S) (fault : ReadFault)
     → IsReadOn takes start input old r → HasNoLineFeed line → EndsLine old new line
-    → IfTextTold fault (λ told. next_line takes r line ≡ Err told)
-    → IfTextTold fault (λ told. IfSome input (λ text. read_lines takes 1 start (lines_of text) ≡ Err told))
-on_stop takes start input old new line r (refusal.Text told) before unfed ends stop = on_told takes start input old new line r told before unfed ends stop
+    → IfTextReported fault (λ reported. next_line takes r line ≡ Err reported)
+    → IfTextReported fault (λ reported. IfSome input (λ text. read_lines takes 1 start (lines_of text) ≡ Err reported))
+on_stop takes start input old new line r (refusal.Text reported) before unfed ends stop = on_reported takes start input old new line r reported before unfed ends stop
 on_stop takes start input old new line r refusal.NoMemory before unfed ends stop = tt
 
 -- behind the most lines there is none that is taken
-pub on_past_last : {S : Type 0} (takes : S → Data → Result S TextCause) (start : S) (input old : Option (List ℕ)) (r : SoFar S) (told : TextFault)
-    → IsReadOn takes start input old r → r.lines ≡ most_lines → told ≡ record { line = 4194305; cause = Lines } → IfSome old (λ bytes. 0 < length bytes)
-    → IfSome input (λ text. read_lines takes 1 start (lines_of text) ≡ Err told)
+pub on_past_last : {S : Type 0} (takes : S → Data → Result S TextCause) (start : S) (input old : Option (List ℕ)) (r : SoFar S) (reported : TextFault)
+    → IsReadOn takes start input old r → r.lines ≡ most_lines → reported ≡ record { line = 4194305; cause = Lines } → IfSome old (λ bytes. 0 < length bytes)
+    → IfSome input (λ text. read_lines takes 1 start (lines_of text) ≡ Err reported)
 unfolding IsReadOn
-on_past_last takes start None old r told before all is more = tt
-on_past_last takes start (Some text) None r told before all is more = absurd before
-on_past_last takes start (Some text) (Some ys) r told before all is more =
+on_past_last takes start None old r reported before all is more = tt
+on_past_last takes start (Some text) None r reported before all is more = absurd before
+on_past_last takes start (Some text) (Some ys) r reported before all is more =
     read_past_last takes start text ys r.state (subst (λ n. IsReadUpTo takes start text ys n r.state) all before.0) more ∙ ap (λ f. Err f) (sym is)
 
 -- ---- where it stops
@@ -171,9 +171,9 @@ on_stopped {S} takes start (Some text) (Some ys) (Some zs) at_hand bytes r befor
     let stop = front_stops text ys bytes at_hand zs r.lines before.1 few of_line short more brought took in
     (stop.0, stop.1, by_read (read_lines takes 1 start (lines_of text)) stop.0 stop.2 (read_later takes start text ys r.lines r.state before.0))
   where
-    by_read : (o : Result S TextFault) (number : ℕ) → number ≤ r.lines + 1 → IfErr o (λ told. suc r.lines ≤ told.line) → IfErr o (λ told. number ≤ told.line)
+    by_read : (o : Result S TextFault) (number : ℕ) → number ≤ r.lines + 1 → IfErr o (λ reported. suc r.lines ≤ reported.line) → IfErr o (λ reported. number ≤ reported.line)
     by_read (Ok s) number least later = tt
-    by_read (Err told) number least later = omega (arith, least, later)
+    by_read (Err reported) number least later = omega (arith, least, later)
 
 -- nothing of the next line was taken
 pub on_kept : {S : Type 0} (takes : S → Data → Result S TextCause) (start : S) (input old rest : Option (List ℕ)) (at_hand : List ℕ) (r : SoFar S)

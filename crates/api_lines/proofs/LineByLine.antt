@@ -5,9 +5,9 @@ use Rattle.std.proofs.lemmas.Bool.{lt-ltb, or_parts}
 use Rattle.serde_json.specs.Data.{Data}
 use Rattle.api_lines.specs.Lines.{AreWholeLines, HasNoLineFeed, has_line_feed, lines_of, longest_line, most_lines, onto_first}
 use Rattle.api_lines.specs.Texts.{IsReadTo, ReadsLineByLine, SoFar, after_line, next_line, read_line, read_lines, read_on, so_far, state_of}
-use Rattle.api_lines.specs.Faults.{IfTextTold, IfTold, text_fault}
+use Rattle.api_lines.specs.Faults.{IfTextReported, IfReported, text_fault}
 use Rattle.api_lines.specs.declared.text_fault.LineFault.{LineFault}
-use Rattle.api_lines.specs.declared.text_fault.LineFault.TheVariants.{Told, NoMemory}
+use Rattle.api_lines.specs.declared.text_fault.LineFault.TheVariants.{Reported, NoMemory}
 use Rattle.api_lines.specs.declared.text_fault.ReadFault.{ReadFault}
 use Rattle.api_lines.specs.declared.text_fault.ReadFault.TheVariants as refusal
 use Rattle.api_lines.specs.declared.text_fault.TextCause.{TextCause}
@@ -121,11 +121,11 @@ one_read {S} takes r line = by_line (read_line takes (r.lines + 1) r.state line)
   by_line (Err cause) = refl
 
 -- a line that is refused, and more lines
-stops_there : {S : Type 0} (takes : S → Data → Result S TextCause) (r : SoFar S) (line : List ℕ) (lines : List (List ℕ)) (told : TextFault)
-    → next_line takes r line ≡ Err told → read_lines takes (r.lines + 1) r.state (line ∷ lines) ≡ Err told
-stops_there {S} takes r line lines told = by_line (read_line takes (r.lines + 1) r.state line) where
-  by_line : (o : Result S TextCause) → after_line (r.lines + 1) o ≡ Err told
-      → read_on (r.lines + 1) o (λ t. read_lines takes (suc (r.lines + 1)) t lines) ≡ Err told
+stops_there : {S : Type 0} (takes : S → Data → Result S TextCause) (r : SoFar S) (line : List ℕ) (lines : List (List ℕ)) (reported : TextFault)
+    → next_line takes r line ≡ Err reported → read_lines takes (r.lines + 1) r.state (line ∷ lines) ≡ Err reported
+stops_there {S} takes r line lines reported = by_line (read_line takes (r.lines + 1) r.state line) where
+  by_line : (o : Result S TextCause) → after_line (r.lines + 1) o ≡ Err reported
+      → read_on (r.lines + 1) o (λ t. read_lines takes (suc (r.lines + 1)) t lines) ≡ Err reported
   by_line (Ok t) is = absurd (cc)
   by_line (Err cause) is = cc
 
@@ -162,21 +162,21 @@ goes_on {S} takes start text line r q before none next = by_line (read_line take
 -- a line that is too long, where it may go on
 stops_early : {S : Type 0} (takes : S → Data → Result S TextCause) (start : S) (text line : List ℕ) (r : SoFar S) → IsReadTo takes start text r → HasNoLineFeed line
     → longest_line < length line
-    → (told : TextFault) × (next_line takes r line ≡ Err told) × ((rest : List ℕ) → read_lines takes 1 start (lines_of (text ++ (line ++ rest))) ≡ Err told)
-stops_early {S} takes start text line r before none long = (told, next, stops) where
+    → (reported : TextFault) × (next_line takes r line ≡ Err reported) × ((rest : List ℕ) → read_lines takes 1 start (lines_of (text ++ (line ++ rest))) ≡ Err reported)
+stops_early {S} takes start text line r before none long = (reported, next, stops) where
   n : ℕ
   n = r.lines + 1
 
   cause : TextCause
   cause = if nat_lt most_lines n then Lines else Long
 
-  told : TextFault
-  told = record { line = n; cause = cause }
+  reported : TextFault
+  reported = record { line = n; cause = cause }
 
-  next : next_line takes r line ≡ Err told
+  next : next_line takes r line ≡ Err reported
   next = ap (after_line n) (long_stops takes n r.state line long)
 
-  stops : (rest : List ℕ) → read_lines takes 1 start (lines_of (text ++ (line ++ rest))) ≡ Err told
+  stops : (rest : List ℕ) → read_lines takes 1 start (lines_of (text ++ (line ++ rest))) ≡ Err reported
   stops rest =
       let on = open_line line rest none (omega arith) in
       let longer : longest_line < length (line ++ on.0) = omega (arith, length-append line on.0) in
@@ -193,9 +193,9 @@ reads_line_by_line takes start = record {
   last = λ text line r before none some.
       read_past takes start text line r before
       ∙ (ap (read_lines takes (r.lines + 1) r.state) (last_line line none some) ∙ one_read takes r line);
-  refused = λ text line rest r told before none stop.
+  refused = λ text line rest r reported before none stop.
       read_past takes start text (line ++ 10 ∷ rest) r before
-      ∙ (ap (read_lines takes (r.lines + 1) r.state) (one_line line rest none) ∙ stops_there takes r line (lines_of rest) told stop);
+      ∙ (ap (read_lines takes (r.lines + 1) r.state) (one_line line rest none) ∙ stops_there takes r line (lines_of rest) reported stop);
   too_long = stops_early takes start;
 }
 
@@ -207,9 +207,9 @@ pub next_taken : {S : Type 0} (takes : S → Data → Result S TextCause) (r : S
 next_taken takes r line t read = ap (after_line (r.lines + 1)) read
 
 pub next_refused : {S : Type 0} (takes : S → Data → Result S TextCause) (r : SoFar S) (line : List ℕ) (fault : LineFault)
-    → IfTold fault (λ cause. read_line takes (r.lines + 1) r.state line ≡ Err cause)
-    → IfTextTold (text_fault (r.lines + 1) fault) (λ told. next_line takes r line ≡ Err told)
-next_refused takes r line (Told cause) stop = ap (after_line (r.lines + 1)) stop
+    → IfReported fault (λ cause. read_line takes (r.lines + 1) r.state line ≡ Err cause)
+    → IfTextReported (text_fault (r.lines + 1) fault) (λ reported. next_line takes r line ≡ Err reported)
+next_refused takes r line (Reported cause) stop = ap (after_line (r.lines + 1)) stop
 next_refused takes r line NoMemory stop = tt
 
 -- the lines of a text up to a rest of it, and one line more
@@ -226,20 +226,20 @@ taken_more {S} takes start text rest after line r q before split next few = by_l
       (read_more takes start text rest after line r.lines r.state t before split is (omega (arith, number, few)))
   by_line (Err cause) is next = absurd (cc)
 
-stopped_at : {S : Type 0} (takes : S → Data → Result S TextCause) (start : S) (text rest after line : List ℕ) (r : SoFar S) (told : TextFault)
-    → IsReadUpTo takes start text rest r.lines r.state → lines_of rest ≡ line ∷ lines_of after → next_line takes r line ≡ Err told
-    → read_lines takes 1 start (lines_of text) ≡ Err told
-stopped_at {S} takes start text rest after line r told before split next = by_line (read_line takes (r.lines + 1) r.state line) refl next where
-  by_line : (o : Result S TextCause) → read_line takes (r.lines + 1) r.state line ≡ o → after_line (r.lines + 1) o ≡ Err told
-      → read_lines takes 1 start (lines_of text) ≡ Err told
+stopped_at : {S : Type 0} (takes : S → Data → Result S TextCause) (start : S) (text rest after line : List ℕ) (r : SoFar S) (reported : TextFault)
+    → IsReadUpTo takes start text rest r.lines r.state → lines_of rest ≡ line ∷ lines_of after → next_line takes r line ≡ Err reported
+    → read_lines takes 1 start (lines_of text) ≡ Err reported
+stopped_at {S} takes start text rest after line r reported before split next = by_line (read_line takes (r.lines + 1) r.state line) refl next where
+  by_line : (o : Result S TextCause) → read_line takes (r.lines + 1) r.state line ≡ o → after_line (r.lines + 1) o ≡ Err reported
+      → read_lines takes 1 start (lines_of text) ≡ Err reported
   by_line (Ok t) is next = absurd (cc)
   by_line (Err cause) is next =
       let here : TextFault = record { line = r.lines + 1; cause = cause } in
-      let same : here ≡ told = cc in
-      read_stops takes start text rest after line r.lines r.state (Told cause) before split is ∙ ap (λ (t : TextFault). Err t) same
+      let same : here ≡ reported = cc in
+      read_stops takes start text rest after line r.lines r.state (Reported cause) before split is ∙ ap (λ (t : TextFault). Err t) same
 
 pub taken_until : {S : Type 0} (takes : S → Data → Result S TextCause) (start : S) (text rest after line : List ℕ) (r : SoFar S) (fault : ReadFault)
-    → IsReadUpTo takes start text rest r.lines r.state → lines_of rest ≡ line ∷ lines_of after → IfTextTold fault (λ told. next_line takes r line ≡ Err told)
-    → IfTextTold fault (λ told. read_lines takes 1 start (lines_of text) ≡ Err told)
-taken_until takes start text rest after line r (refusal.Text told) before split next = stopped_at takes start text rest after line r told before split next
+    → IsReadUpTo takes start text rest r.lines r.state → lines_of rest ≡ line ∷ lines_of after → IfTextReported fault (λ reported. next_line takes r line ≡ Err reported)
+    → IfTextReported fault (λ reported. read_lines takes 1 start (lines_of text) ≡ Err reported)
+taken_until takes start text rest after line r (refusal.Text reported) before split next = stopped_at takes start text rest after line r reported before split next
 taken_until takes start text rest after line r refusal.NoMemory before split next = tt

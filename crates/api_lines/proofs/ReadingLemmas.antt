@@ -3,12 +3,12 @@ use Rattle.std.proofs.Common.{ℕ, suc, ◌≡◌, ◌<◌, ◌≤◌, ◌+◌, 
 use Rattle.std.specs.Prelude.{◌==◌, IfErr, if◌then◌else◌, nat_lt}
 use Rattle.std.proofs.lemmas.Bool.{le-ltb, ltb-false}
 use Rattle.serde_json.specs.Data.{Data}
-use Rattle.api_lines.specs.Faults.{IfTextTold, IfTold, text_fault, ◌>>=◌}
+use Rattle.api_lines.specs.Faults.{IfTextReported, IfReported, text_fault, ◌>>=◌}
 use Rattle.api_lines.specs.Json.{json_value}
 use Rattle.api_lines.specs.Lines.{is_blank, lines_of, longest_line, most_lines, onto_first}
 use Rattle.api_lines.specs.Texts.{line_given, read_line, read_lines, read_on, value_given}
 use Rattle.api_lines.specs.declared.text_fault.LineFault.{LineFault}
-use Rattle.api_lines.specs.declared.text_fault.LineFault.TheVariants.{Told, NoMemory}
+use Rattle.api_lines.specs.declared.text_fault.LineFault.TheVariants.{Reported, NoMemory}
 use Rattle.api_lines.specs.declared.text_fault.TextCause.{TextCause}
 use Rattle.api_lines.specs.declared.text_fault.TextCause.TheVariants.{Lines, Long}
 use Rattle.api_lines.specs.declared.text_fault.TextFault.{TextFault}
@@ -45,16 +45,16 @@ same_err : {S : Type 0} (x y : TextFault) → (let r : Result S TextFault = Err 
 same_err x y is = cc
 
 -- the line that is refused is the first one or a later one
-pub refused_from : {S : Type 0} (takes : S → Data → Result S TextCause) (k : ℕ) (s : S) (lines : List (List ℕ)) (told : TextFault)
-    → read_lines takes k s lines ≡ Err told → k ≤ told.line
-refused_from takes k s [] told stop = absurd (cc)
-refused_from {S} takes k s (line ∷ lines) told stop = by_read (read_line takes k s line) (λ t rest. refused_from takes (suc k) t lines told rest) stop where
-  by_read : (r : Result S TextCause) → ((t : S) → read_lines takes (suc k) t lines ≡ Err told → suc k ≤ told.line) → read_on k r (λ t. read_lines takes (suc k) t lines) ≡ Err told
-      → k ≤ told.line
-  by_read (Ok t) rest stop = let later : suc k ≤ told.line = rest t stop in omega arith
+pub refused_from : {S : Type 0} (takes : S → Data → Result S TextCause) (k : ℕ) (s : S) (lines : List (List ℕ)) (reported : TextFault)
+    → read_lines takes k s lines ≡ Err reported → k ≤ reported.line
+refused_from takes k s [] reported stop = absurd (cc)
+refused_from {S} takes k s (line ∷ lines) reported stop = by_read (read_line takes k s line) (λ t rest. refused_from takes (suc k) t lines reported rest) stop where
+  by_read : (r : Result S TextCause) → ((t : S) → read_lines takes (suc k) t lines ≡ Err reported → suc k ≤ reported.line) → read_on k r (λ t. read_lines takes (suc k) t lines) ≡ Err reported
+      → k ≤ reported.line
+  by_read (Ok t) rest stop = let later : suc k ≤ reported.line = rest t stop in omega arith
   by_read (Err cause) rest stop =
-      let is : record { line = k; cause = cause } ≡ told = same_err (record { line = k; cause = cause }) told stop in
-      let here : k ≡ told.line = ap (λ (x : TextFault). x.line) is in omega arith
+      let is : record { line = k; cause = cause } ≡ reported = same_err (record { line = k; cause = cause }) reported stop in
+      let here : k ≡ reported.line = ap (λ (x : TextFault). x.line) is in omega arith
 
 -- a text that is not empty has a line
 no_lines : (text : List ℕ) → 0 < length text → lines_of text ≡ [] → ⊥
@@ -97,9 +97,9 @@ read_refused takes start text rest line lines n s cause so_far split stop =
 
 pub read_stops : {S : Type 0} (takes : S → Data → Result S TextCause) (start : S) (text rest after line : List ℕ) (n : ℕ) (s : S) (fault : LineFault)
     → IsReadUpTo takes start text rest n s → lines_of rest ≡ line ∷ lines_of after
-    → IfTold fault (λ cause. read_line takes (n + 1) s line ≡ Err cause)
-    → IfTextTold (text_fault (n + 1) fault) (λ told. read_lines takes 1 start (lines_of text) ≡ Err told)
-read_stops takes start text rest after line n s (Told cause) so_far split stop = read_refused takes start text rest line (lines_of after) n s cause so_far split stop
+    → IfReported fault (λ cause. read_line takes (n + 1) s line ≡ Err cause)
+    → IfTextReported (text_fault (n + 1) fault) (λ reported. read_lines takes 1 start (lines_of text) ≡ Err reported)
+read_stops takes start text rest after line n s (Reported cause) so_far split stop = read_refused takes start text rest line (lines_of after) n s cause so_far split stop
 read_stops takes start text rest after line n s NoMemory so_far split stop = tt
 
 pub read_all : {S : Type 0} (takes : S → Data → Result S TextCause) (start : S) (text rest : List ℕ) (n : ℕ) (s : S)
@@ -110,12 +110,12 @@ read_all takes start text (b ∷ rest) n s so_far end = absurd (omega arith)
 
 -- no line up to the rest is refused
 pub read_later : {S : Type 0} (takes : S → Data → Result S TextCause) (start : S) (text rest : List ℕ) (n : ℕ) (s : S)
-    → IsReadUpTo takes start text rest n s → IfErr (read_lines takes 1 start (lines_of text)) (λ told. suc n ≤ told.line)
+    → IsReadUpTo takes start text rest n s → IfErr (read_lines takes 1 start (lines_of text)) (λ reported. suc n ≤ reported.line)
 unfolding IsReadUpTo
 read_later {S} takes start text rest n s so_far = by_read (read_lines takes 1 start (lines_of text)) refl where
-  by_read : (r : Result S TextFault) → read_lines takes 1 start (lines_of text) ≡ r → IfErr r (λ told. suc n ≤ told.line)
+  by_read : (r : Result S TextFault) → read_lines takes 1 start (lines_of text) ≡ r → IfErr r (λ reported. suc n ≤ reported.line)
   by_read (Ok t) is = tt
-  by_read (Err told) is = refused_from takes (suc n) s (lines_of rest) told (sym so_far.0 ∙ is)
+  by_read (Err reported) is = refused_from takes (suc n) s (lines_of rest) reported (sym so_far.0 ∙ is)
 
 -- behind the most lines there is none that is taken
 pub read_past_last : {S : Type 0} (takes : S → Data → Result S TextCause) (start : S) (text rest : List ℕ) (s : S)
@@ -175,22 +175,22 @@ given_value n line v few short written json =
 -- ---- the first line that is refused
 
 -- The lines before the one that is refused are read, and with it they are refused so.
-pub read_front : {S : Type 0} (takes : S → Data → Result S TextCause) (k : ℕ) (s : S) (lines : List (List ℕ)) (told : TextFault)
-    → read_lines takes k s lines ≡ Err told → (n : ℕ)
-    → (k + n ≤ told.line → (t : S) × (read_lines takes k s (take n lines) ≡ Ok t)) × (told.line < k + n → read_lines takes k s (take n lines) ≡ Err told)
-read_front takes k s [] told stop n = absurd (cc)
-read_front takes k s (line ∷ lines) told stop zero = (λ _. (s, refl), λ below. let least = refused_from takes k s (line ∷ lines) told stop in absurd (omega arith))
-read_front {S} takes k s (line ∷ lines) told stop (suc n) = by_read (read_line takes k s line) refl (λ t rest. read_front takes (suc k) t lines told rest n) stop where
+pub read_front : {S : Type 0} (takes : S → Data → Result S TextCause) (k : ℕ) (s : S) (lines : List (List ℕ)) (reported : TextFault)
+    → read_lines takes k s lines ≡ Err reported → (n : ℕ)
+    → (k + n ≤ reported.line → (t : S) × (read_lines takes k s (take n lines) ≡ Ok t)) × (reported.line < k + n → read_lines takes k s (take n lines) ≡ Err reported)
+read_front takes k s [] reported stop n = absurd (cc)
+read_front takes k s (line ∷ lines) reported stop zero = (λ _. (s, refl), λ below. let least = refused_from takes k s (line ∷ lines) reported stop in absurd (omega arith))
+read_front {S} takes k s (line ∷ lines) reported stop (suc n) = by_read (read_line takes k s line) refl (λ t rest. read_front takes (suc k) t lines reported rest n) stop where
   by_read : (r : Result S TextCause) → read_line takes k s line ≡ r
-      → ((t : S) → read_lines takes (suc k) t lines ≡ Err told
-      → (suc k + n ≤ told.line → (u : S) × (read_lines takes (suc k) t (take n lines) ≡ Ok u)) × (told.line < suc k + n → read_lines takes (suc k) t (take n lines) ≡ Err told))
-      → read_on k r (λ t. read_lines takes (suc k) t lines) ≡ Err told
-      → (k + suc n ≤ told.line → (u : S) × (read_lines takes k s (line ∷ take n lines) ≡ Ok u)) × (told.line < k + suc n → read_lines takes k s (line ∷ take n lines) ≡ Err told)
+      → ((t : S) → read_lines takes (suc k) t lines ≡ Err reported
+      → (suc k + n ≤ reported.line → (u : S) × (read_lines takes (suc k) t (take n lines) ≡ Ok u)) × (reported.line < suc k + n → read_lines takes (suc k) t (take n lines) ≡ Err reported))
+      → read_on k r (λ t. read_lines takes (suc k) t lines) ≡ Err reported
+      → (k + suc n ≤ reported.line → (u : S) × (read_lines takes k s (line ∷ take n lines) ≡ Ok u)) × (reported.line < k + suc n → read_lines takes k s (line ∷ take n lines) ≡ Err reported)
   by_read (Ok t) is rest stop =
       let later = rest t stop in
       let on : read_lines takes k s (line ∷ take n lines) ≡ read_lines takes (suc k) t (take n lines) = lines_on takes k s t line (take n lines) is in
       (λ few. let u = later.0 (omega arith) in (u.0, on ∙ u.1), λ below. on ∙ later.1 (omega arith))
   by_read (Err cause) is rest stop =
-      let same : record { line = k; cause = cause } ≡ told = same_err (record { line = k; cause = cause }) told stop in
-      let here : k ≡ told.line = ap (λ (x : TextFault). x.line) same in
+      let same : record { line = k; cause = cause } ≡ reported = same_err (record { line = k; cause = cause }) reported stop in
+      let here : k ≡ reported.line = ap (λ (x : TextFault). x.line) same in
       (λ few. absurd (omega arith), λ below. lines_stop takes k s line (take n lines) cause is ∙ stop)

@@ -7,11 +7,11 @@ use Rattle.doc_register.specs.declared.op.Op.TheVariants.{Index, Delete, Create}
 use Rattle.serde_json.specs.Data.{Data, null, boolean, number, string, array, object, Members, no_members, member}
 use Rattle.serde_json.specs.Find.{get}
 use Rattle.api_lines.specs.Faults.{◌>>=◌}
-use Rattle.api_lines.specs.Ids.{id_told}
+use Rattle.api_lines.specs.Ids.{id_parsed}
 use Rattle.api_lines.specs.Json.{FieldValue, absent, whole, not_whole, text, truth, other, field, json_value}
 use Rattle.api_lines.specs.Kinds.{optional_number, required_text}
 use Rattle.api_lines.specs.Lines.{is_blank, lines_of, longest_line}
-use Rattle.api_lines.specs.Pairs.{pair_told}
+use Rattle.api_lines.specs.Pairs.{pair_parsed}
 use Rattle.api_lines.specs.declared.action.ActionName.{ActionName}
 use Rattle.api_lines.specs.declared.action.ActionName.TheVariants as name
 use Rattle.api_lines.specs.declared.action.ActionSaid.{ActionSaid}
@@ -82,8 +82,8 @@ conditioned a = do
   name ← required_text a.id
   seq ← optional_number a.seq
   term ← optional_number a.term
-  id ← id_told name
-  cond ← pair_told seq term
+  id ← id_parsed name
+  cond ← pair_parsed seq term
   Ok (id, cond)
 
 -- what the action of this name says; a create has no condition
@@ -91,14 +91,14 @@ conditioned a = do
 abbrev pub action_by : ActionName → ActionValues → Result ActionSaid TextCause
 action_by name.Index a = conditioned a >>= (λ got. Ok (said.Awaits (awaited.Index got.0 got.1)))
 action_by name.Delete a = conditioned a >>= (λ got. Ok (said.Deletes got.0 got.1))
-action_by name.Create a = required_text a.id >>= (λ name. id_told name >>= (λ id. Ok (said.Awaits (awaited.Create id))))
+action_by name.Create a = required_text a.id >>= (λ name. id_parsed name >>= (λ id. Ok (said.Awaits (awaited.Create id))))
 
 -- what an action says, by its fields: a delete, or an action whose source line is to come; Shape if there is
 -- none
 -- Source: OpenSearch, bulk.
-abbrev pub action_told : Option ActionValues → Result ActionSaid TextCause
-action_told None = Err Shape
-action_told (Some a) = action_by a.action a
+abbrev pub action_parsed : Option ActionValues → Result ActionSaid TextCause
+action_parsed None = Err Shape
+action_parsed (Some a) = action_by a.action a
 
 -- ---- a line
 
@@ -124,7 +124,7 @@ with_action items (said.Awaits a) = record { items = items; awaited = Some a }
 -- the items after an action line
 abbrev pub begun : ℕ → List (List ℕ × Op) → Result ActionSaid TextCause → Result SoFar BulkFault
 begun n items (Err cause) = Err (action_fault n cause)
-begun n items (Ok told) = Ok (with_action items told)
+begun n items (Ok reported) = Ok (with_action items reported)
 
 -- the item of an action with the number of its source
 -- Source: profile.
@@ -145,7 +145,7 @@ sourced n items a other = Err (fault.Source n)
 -- the items after the value of a line: of an action line, or of a source line if one is to come
 -- Source: profile.
 abbrev pub taken_value : ℕ → List (List ℕ × Op) → Option Awaited → Data → Result SoFar BulkFault
-taken_value n items None v = begun n items (action_told (action_values v))
+taken_value n items None v = begun n items (action_parsed (action_values v))
 taken_value n items (Some a) v = sourced n items a (field (codes "k") v)
 
 -- the same of a line that may have no value: then Syntax with its number
@@ -155,7 +155,7 @@ taken_json n so_far None = Err (fault.Syntax n)
 taken_json n so_far (Some v) = taken_value n so_far.items so_far.awaited v
 
 -- The items after the line with this number, counted from 1, or its fault. A line of more than 65,536 bytes
--- is Syntax, a blank one too; any other blank line is passed over.
+-- is refused (Syntax), even if it is blank; a shorter blank line is passed over.
 -- Source: profile.
 abbrev pub taken_line : ℕ → SoFar → List ℕ → Result SoFar BulkFault
 taken_line n so_far line =

@@ -72,7 +72,7 @@ abbrev pub items_list : Items → List Data
 items_list no_items = []
 items_list (item d ds) = d ∷ items_list ds
 
--- What is heard by the items from index i on, after what is heard so far. There are as many items as calls.
+-- What is heard by the items from index i on, after what is heard so far, for as many items as calls.
 -- Source: profile.
 abbrev pub heard_items : ℕ → List Heard → List (List ℕ × Op) → List Data → Result (List Heard) BulkFault
 heard_items i so_far [] vs = Ok so_far

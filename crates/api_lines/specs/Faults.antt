@@ -8,26 +8,26 @@ use Rattle.api_lines.specs.declared.text_fault.ReadFault.TheVariants as text
 use Rattle.api_lines.specs.declared.text_fault.TextCause.{TextCause}
 use Rattle.api_lines.specs.declared.text_fault.TextFault.{TextFault}
 
--- the fault of a text whose line with this number is refused: the line with its cause, or out of memory
+-- what is reported of a text if its line n fails: the line with its cause, or out of memory
 abbrev pub text_fault : ℕ → LineFault → ReadFault
-text_fault n (line.Told cause) = text.Text (record { line = n; cause = cause })
+text_fault n (line.Reported cause) = text.Text (record { line = n; cause = cause })
 text_fault n line.NoMemory = text.NoMemory
 
 -- P holds of the cause that is reported; if memory was refused, none is
-abbrev pub IfTold : LineFault → (TextCause → Type 0) → Type 0
-IfTold (line.Told cause) P = P cause
-IfTold line.NoMemory P = Unit {0}
+abbrev pub IfReported : LineFault → (TextCause → Type 0) → Type 0
+IfReported (line.Reported cause) P = P cause
+IfReported line.NoMemory P = Unit {0}
 
 -- What a step gives that may be refused: its value, or the first cause. If memory was refused, this says
 -- nothing of it.
 abbrev pub Gives : {A : Type 0} → Result A LineFault → Result A TextCause → Type 0
-Gives (Ok x) told = told ≡ Ok x
-Gives (Err fault) told = IfTold fault (λ cause. told ≡ Err cause)
+Gives (Ok x) reported = reported ≡ Ok x
+Gives (Err fault) reported = IfReported fault (λ cause. reported ≡ Err cause)
 
 -- P holds of the line and the cause that are reported; if memory was refused, none are
-abbrev pub IfTextTold : ReadFault → (TextFault → Type 0) → Type 0
-IfTextTold (text.Text told) P = P told
-IfTextTold text.NoMemory P = Unit {0}
+abbrev pub IfTextReported : ReadFault → (TextFault → Type 0) → Type 0
+IfTextReported (text.Text reported) P = P reported
+IfTextReported text.NoMemory P = Unit {0}
 
 -- a first step that may be refused, and what follows it
 infixl 10 ◌>>=◌

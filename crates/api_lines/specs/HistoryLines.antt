@@ -4,11 +4,12 @@ use Rattle.std.specs.Prelude.{ℕ, ◌^◌, List, Option, Some, None, nat_lt, co
 use Rattle.std.specs.Str.{bytes_eq}
 use Rattle.doc_register.specs.declared.op.Op.{Op}
 use Rattle.doc_register.specs.declared.op.Op.TheVariants.{Get, Index, Delete, Create}
+use Rattle.version_pair.specs.Shards.{most_shards}
 use Rattle.api_lines.specs.Faults.{◌>>=◌}
 use Rattle.api_lines.specs.Fields.{LineValues}
-use Rattle.api_lines.specs.Ids.{id_told}
+use Rattle.api_lines.specs.Ids.{id_parsed}
 use Rattle.api_lines.specs.Kinds.{optional_number, required_number, required_text}
-use Rattle.api_lines.specs.Pairs.{pair_told, whole_told}
+use Rattle.api_lines.specs.Pairs.{pair_parsed, whole_parsed}
 use Rattle.api_lines.specs.declared.history_line.OpNumbers.{OpNumbers}
 use Rattle.api_lines.specs.declared.history_line.OpNumbers.TheVariants as numbers
 use Rattle.api_lines.specs.declared.history_line.LineSaid.{LineSaid}
@@ -16,11 +17,6 @@ use Rattle.api_lines.specs.declared.history_line.LineSaid.TheVariants.{Call, Rep
 use Rattle.api_lines.specs.declared.number.Number.{Number}
 use Rattle.api_lines.specs.declared.text_fault.TextCause.{TextCause}
 use Rattle.api_lines.specs.declared.text_fault.TextCause.TheVariants.{Range, Shape}
-
--- the number of shards, 1,024: their numbers are below it
--- Source: OpenSearch.
-abbrev pub most_shards : ℕ
-most_shards = 1024
 
 -- ---- kinds
 
@@ -69,17 +65,17 @@ op_numbers line = required_text line.op >>= numbers_named line
 -- the operation with these numbers: checked first are the halves and the ranges of its condition, then the
 -- range of the number that it writes
 -- Source: profile.
-abbrev pub op_told : OpNumbers → Result Op TextCause
-op_told numbers.Get = Ok Get
-op_told (numbers.Index k seq term) = do
-  cond ← pair_told seq term
-  n ← whole_told k
+abbrev pub op_parsed : OpNumbers → Result Op TextCause
+op_parsed numbers.Get = Ok Get
+op_parsed (numbers.Index k seq term) = do
+  cond ← pair_parsed seq term
+  n ← whole_parsed k
   Ok (Index n cond)
-op_told (numbers.Delete seq term) = do
-  cond ← pair_told seq term
+op_parsed (numbers.Delete seq term) = do
+  cond ← pair_parsed seq term
   Ok (Delete cond)
-op_told (numbers.Create k) = do
-  n ← whole_told k
+op_parsed (numbers.Create k) = do
+  n ← whole_parsed k
   Ok (Create n)
 
 -- the number, if it is below the limit; otherwise Range
@@ -88,60 +84,60 @@ below_limit limit n = if nat_lt n limit then Ok n else Err Range
 
 -- the shard: 0 if it isn't named, otherwise below 1,024
 -- Source: profile.
-abbrev pub shard_told : Option Number → Result ℕ TextCause
-shard_told None = Ok 0
-shard_told (Some number) = whole_told number >>= below_limit most_shards
+abbrev pub shard_parsed : Option Number → Result ℕ TextCause
+shard_parsed None = Ok 0
+shard_parsed (Some number) = whole_parsed number >>= below_limit most_shards
 
 -- the status, below 65,536
 -- Source: profile.
-abbrev pub status_told : Number → Result ℕ TextCause
-status_told number = whole_told number >>= below_limit (2 ^ 16)
+abbrev pub status_parsed : Number → Result ℕ TextCause
+status_parsed number = whole_parsed number >>= below_limit (2 ^ 16)
 
 -- ---- lines
 
 -- what a call line says: checked first are all kinds, then the id, then the halves of the condition, then the
 -- ranges
 -- Source: profile.
-abbrev pub call_told : LineValues → Result LineSaid TextCause
-call_told line = do
+abbrev pub call_parsed : LineValues → Result LineSaid TextCause
+call_parsed line = do
   number ← required_number line.n
   name ← required_text line.id
   numbers ← op_numbers line
   shard ← optional_number line.shard
-  id ← id_told name
-  op ← op_told numbers
-  n ← whole_told number
-  h ← shard_told shard
+  id ← id_parsed name
+  op ← op_parsed numbers
+  n ← whole_parsed number
+  h ← shard_parsed shard
   Ok (Call n h id op)
 
 -- what a reply line says: the number of its call and its status; its body is read when the call is known
 -- Source: profile.
-abbrev pub reply_told : LineValues → Result LineSaid TextCause
-reply_told line = do
+abbrev pub reply_parsed : LineValues → Result LineSaid TextCause
+reply_parsed line = do
   number ← required_number line.n
   status ← required_number line.status
-  n ← whole_told number
-  s ← status_told status
+  n ← whole_parsed number
+  s ← status_parsed status
   Ok (Reply n s)
 
 -- what a lost line says: the number of its call, which ends without a reply
 -- Source: profile.
-abbrev pub lost_told : LineValues → Result LineSaid TextCause
-lost_told line = do
+abbrev pub lost_parsed : LineValues → Result LineSaid TextCause
+lost_parsed line = do
   number ← required_number line.n
-  n ← whole_told number
+  n ← whole_parsed number
   Ok (Lost n)
 
 -- the line of this name: "call", "reply" or "lost"; another name is Shape
 -- Source: profile.
 abbrev pub line_named : LineValues → List ℕ → Result LineSaid TextCause
 line_named line name =
-    if bytes_eq name (codes "call") then call_told line
-    else (if bytes_eq name (codes "reply") then reply_told line
-    else (if bytes_eq name (codes "lost") then lost_told line
+    if bytes_eq name (codes "call") then call_parsed line
+    else (if bytes_eq name (codes "reply") then reply_parsed line
+    else (if bytes_eq name (codes "lost") then lost_parsed line
     else Err Shape))
 
 -- what a line says, by the text of its field `e`; or the first cause to refuse it
 -- Source: profile.
-abbrev pub line_told : LineValues → Result LineSaid TextCause
-line_told line = required_text line.e >>= line_named line
+abbrev pub line_parsed : LineValues → Result LineSaid TextCause
+line_parsed line = required_text line.e >>= line_named line

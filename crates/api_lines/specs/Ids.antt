@@ -11,5 +11,5 @@ is_id d = nat_lt 0 (length d) && nat_le (length d) longest_id
 
 -- the id, if it has as many bytes as an id may have; otherwise Id
 -- Source: OpenSearch (the bound on `_id`); profile: that an empty id is none.
-abbrev pub id_told : List ℕ → Result (List ℕ) TextCause
-id_told d = if is_id d then Ok d else Err Id
+abbrev pub id_parsed : List ℕ → Result (List ℕ) TextCause
+id_parsed d = if is_id d then Ok d else Err Id

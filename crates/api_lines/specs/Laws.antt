@@ -5,15 +5,15 @@ use Rattle.doc_register.specs.declared.reply.Reply.{Reply}
 use Rattle.doc_register.specs.Register.{fits}
 use Rattle.serde_json.specs.Data.{Data}
 use Rattle.api_lines.specs.Fields.{body_values}
-use Rattle.api_lines.specs.ReplyTable.{IsHeard, Tells, heard}
+use Rattle.api_lines.specs.ReplyTable.{IsHeard, Reports, heard}
 use Rattle.api_lines.specs.Written.{written_body, written_status}
 use Rattle.api_lines.specs.declared.reply_table.Heard.{Heard}
 use Rattle.api_lines.specs.declared.reply_table.Heard.TheVariants.{Reply as Replied}
 
 -- the reply table gives at most one reply for an operation, a status and a body
 -- Source: profile.
-abbrev pub TableTellsOne : Type 0
-TableTellsOne = (op : Op) (status : ℕ) (body : Data) (r s : Reply) → Tells op status body r → Tells op status body s → r ≡ s
+abbrev pub TableReportsOne : Type 0
+TableReportsOne = (op : Op) (status : ℕ) (body : Data) (r s : Reply) → Reports op status body r → Reports op status body s → r ≡ s
 
 -- the two definitions of what is heard agree
 -- Source: profile.

@@ -22,9 +22,9 @@ pair_of term seq = tested_pair term seq (nat_le 1 term) (nat_lt term (2 ^ 63)) (
 
 -- the whole number; Range if it is not whole
 -- Source: profile.
-abbrev pub whole_told : Number → Result ℕ TextCause
-whole_told (Whole n) = Ok n
-whole_told NotWhole = Err Range
+abbrev pub whole_parsed : Number → Result ℕ TextCause
+whole_parsed (Whole n) = Ok n
+whole_parsed NotWhole = Err Range
 
 -- the pair of two numbers that are both present; Range if there is none, because a number is outside its
 -- range
@@ -36,10 +36,10 @@ in_range (Some p) = Ok (Some p)
 -- the pair of a sequence number and a term: none if both are absent, Half if one is, and Range if one is not
 -- whole or outside its range
 -- Source: profile.
-abbrev pub pair_told : Option Number → Option Number → Result (Option Pair) TextCause
-pair_told None None = Ok None
-pair_told None (Some term) = Err Half
-pair_told (Some seq) None = Err Half
-pair_told (Some NotWhole) (Some term) = Err Range
-pair_told (Some (Whole s)) (Some NotWhole) = Err Range
-pair_told (Some (Whole s)) (Some (Whole t)) = in_range (pair_of t s)
+abbrev pub pair_parsed : Option Number → Option Number → Result (Option Pair) TextCause
+pair_parsed None None = Ok None
+pair_parsed None (Some term) = Err Half
+pair_parsed (Some seq) None = Err Half
+pair_parsed (Some NotWhole) (Some term) = Err Range
+pair_parsed (Some (Whole s)) (Some NotWhole) = Err Range
+pair_parsed (Some (Whole s)) (Some (Whole t)) = in_range (pair_of t s)

@@ -31,20 +31,20 @@ pub record CarriesPair (body : Data) (p : Pair) : Type 0 where
 
 -- a performed write: the wanted status, this text as its `result`, and a pair
 -- Source: OpenSearch, index document, delete document.
-pub record TellsWrite (wanted : ℕ) (result_text : List ℕ) (status : ℕ) (body : Data) (p : Pair) : Type 0 where
+pub record ReportsWrite (wanted : ℕ) (result_text : List ℕ) (status : ℕ) (body : Data) (p : Pair) : Type 0 where
   pub has_status : status ≡ wanted
   pub outcome : HasText (codes "result") result_text body
   pub pair : CarriesPair body p
 
 -- a version conflict: the status 409, and an `error` whose `type` is `version_conflict_engine_exception`
 -- Source: OpenSearch.
-pub record TellsConflict (status : ℕ) (body : Data) : Type 0 where
+pub record ReportsConflict (status : ℕ) (body : Data) : Type 0 where
   pub has_status : status ≡ 409
   pub error : (e : Data) × (get (codes "error") body ≡ Some e) × HasText (codes "type") (codes "version_conflict_engine_exception") e
 
 -- a document that exists: the status 200, `found` is true, a pair, and a `_source` whose `k` is this number
 -- Source: OpenSearch, get document; profile (`k`).
-pub record TellsFound (status : ℕ) (body : Data) (p : Pair) (k : ℕ) : Type 0 where
+pub record ReportsFound (status : ℕ) (body : Data) (p : Pair) (k : ℕ) : Type 0 where
   pub has_status : status ≡ 200
   pub found : HasBool (codes "found") true body
   pub pair : CarriesPair body p
@@ -52,49 +52,49 @@ pub record TellsFound (status : ℕ) (body : Data) (p : Pair) (k : ℕ) : Type 0
 
 -- a document that is missing: the status 404, and `found` is false
 -- Source: OpenSearch, get document.
-pub record TellsMissing (status : ℕ) (body : Data) : Type 0 where
+pub record ReportsMissing (status : ℕ) (body : Data) : Type 0 where
   pub has_status : status ≡ 404
   pub found : HasBool (codes "found") false body
 
 -- The reply table: for each operation the replies that it knows, each with its status and its body.
 -- Source: OpenSearch.
-abbrev pub Tells : Op → ℕ → Data → Answer → Type 0
-Tells Get status body (Indexed p created) = ⊥
-Tells Get status body (Deleted p found) = ⊥
-Tells Get status body (Found p k) = TellsFound status body p k
-Tells Get status body Missing = TellsMissing status body
-Tells Get status body Conflict = ⊥
-Tells (Index j c) status body (Indexed p true) = TellsWrite 201 (codes "created") status body p
-Tells (Index j c) status body (Indexed p false) = TellsWrite 200 (codes "updated") status body p
-Tells (Index j c) status body (Deleted p found) = ⊥
-Tells (Index j c) status body (Found p k) = ⊥
-Tells (Index j c) status body Missing = ⊥
-Tells (Index j c) status body Conflict = TellsConflict status body
-Tells (Delete c) status body (Indexed p created) = ⊥
-Tells (Delete c) status body (Deleted p true) = TellsWrite 200 (codes "deleted") status body p
-Tells (Delete c) status body (Deleted p false) = TellsWrite 404 (codes "not_found") status body p
-Tells (Delete c) status body (Found p k) = ⊥
-Tells (Delete c) status body Missing = ⊥
-Tells (Delete c) status body Conflict = TellsConflict status body
-Tells (Create j) status body (Indexed p true) = TellsWrite 201 (codes "created") status body p
-Tells (Create j) status body (Indexed p false) = ⊥
-Tells (Create j) status body (Deleted p found) = ⊥
-Tells (Create j) status body (Found p k) = ⊥
-Tells (Create j) status body Missing = ⊥
-Tells (Create j) status body Conflict = TellsConflict status body
+abbrev pub Reports : Op → ℕ → Data → Answer → Type 0
+Reports Get status body (Indexed p created) = ⊥
+Reports Get status body (Deleted p found) = ⊥
+Reports Get status body (Found p k) = ReportsFound status body p k
+Reports Get status body Missing = ReportsMissing status body
+Reports Get status body Conflict = ⊥
+Reports (Index j c) status body (Indexed p true) = ReportsWrite 201 (codes "created") status body p
+Reports (Index j c) status body (Indexed p false) = ReportsWrite 200 (codes "updated") status body p
+Reports (Index j c) status body (Deleted p found) = ⊥
+Reports (Index j c) status body (Found p k) = ⊥
+Reports (Index j c) status body Missing = ⊥
+Reports (Index j c) status body Conflict = ReportsConflict status body
+Reports (Delete c) status body (Indexed p created) = ⊥
+Reports (Delete c) status body (Deleted p true) = ReportsWrite 200 (codes "deleted") status body p
+Reports (Delete c) status body (Deleted p false) = ReportsWrite 404 (codes "not_found") status body p
+Reports (Delete c) status body (Found p k) = ⊥
+Reports (Delete c) status body Missing = ⊥
+Reports (Delete c) status body Conflict = ReportsConflict status body
+Reports (Create j) status body (Indexed p true) = ReportsWrite 201 (codes "created") status body p
+Reports (Create j) status body (Indexed p false) = ⊥
+Reports (Create j) status body (Deleted p found) = ⊥
+Reports (Create j) status body (Found p k) = ⊥
+Reports (Create j) status body Missing = ⊥
+Reports (Create j) status body Conflict = ReportsConflict status body
 
 -- The reply is of unknown outcome: no row of the table knows it. The call may have taken effect at any point
 -- after it was made, or may never.
 -- Source: profile.
 abbrev pub IsUnknown : Op → ℕ → Data → Type 0
-IsUnknown op status body = (r : Answer) → ¬ Tells op status body r
+IsUnknown op status body = (r : Answer) → ¬ Reports op status body r
 
 -- What is heard of a document's call by a status and a body. A body that names another document is a
 -- stranger's, whatever its status; otherwise the table decides.
 -- Source: profile.
 abbrev pub IsHeard : List ℕ → Op → ℕ → Data → Heard → Type 0
 IsHeard d op status body Stranger = IsStranger d body
-IsHeard d op status body (Reply r) = (¬ IsStranger d body) × Tells op status body r
+IsHeard d op status body (Reply r) = (¬ IsStranger d body) × Reports op status body r
 IsHeard d op status body Unknown = (¬ IsStranger d body) × IsUnknown op status body
 
 -- ---- the same by the fields of the body, as a function
@@ -164,11 +164,11 @@ created status body =
     else conflicted status body
 
 -- the reply to an operation; none if no row fits
-abbrev pub told_reply : Op → ℕ → BodyValues → Option Answer
-told_reply Get status body = got status body
-told_reply (Index k c) status body = indexed status body
-told_reply (Delete c) status body = deleted status body
-told_reply (Create k) status body = created status body
+abbrev pub reported_reply : Op → ℕ → BodyValues → Option Answer
+reported_reply Get status body = got status body
+reported_reply (Index k c) status body = indexed status body
+reported_reply (Delete c) status body = deleted status body
+reported_reply (Create k) status body = created status body
 
 -- the reply, or Unknown if there is none
 -- Source: profile.
@@ -180,4 +180,4 @@ reply_or_unknown (Some r) = Reply r
 -- Unknown if the table gives none
 -- Source: profile.
 abbrev pub heard : Op → List ℕ → ℕ → BodyValues → Heard
-heard op d status body = if is_other_text d body.id then Stranger else reply_or_unknown (told_reply op status body)
+heard op d status body = if is_other_text d body.id then Stranger else reply_or_unknown (reported_reply op status body)

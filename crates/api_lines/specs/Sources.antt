@@ -62,7 +62,7 @@ pub record IsTakenUpTo (number : ℕ) (text rest : List ℕ) : Type 0 where
   pub few : length before + length line ≤ most_lines * most_held
   -- the number is at most 4,194,305
   pub few_lines : number ≤ most_lines + 1
-  -- if it is that, no byte of its line was taken as its first ones
+  -- if it is 4,194,305, no first bytes were taken
   pub none_past : number ≡ most_lines + 1 → line ≡ []
   -- what the last read brought is at most 32,768 bytes
   pub brought_at_once : length brought ≤ most_brought
@@ -74,4 +74,4 @@ abbrev pub IsTakenFor : {S : Type 0} → (List ℕ → Result S TextFault) → O
 IsTakenFor reads None new = Unit {0}
 IsTakenFor reads (Some text) None = ⊥
 IsTakenFor reads (Some text) (Some rest) =
-    (number : ℕ) × IsTakenUpTo number text rest × IfErr (reads text) (λ told. number ≤ told.line)
+    (number : ℕ) × IsTakenUpTo number text rest × IfErr (reads text) (λ reported. number ≤ reported.line)

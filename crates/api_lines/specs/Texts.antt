@@ -76,7 +76,7 @@ next_line takes r line = after_line (r.lines + 1) (read_line takes (r.lines + 1)
 -- the state alone
 abbrev pub state_of : {S : Type 0} → Result (SoFar S) TextFault → Result S TextFault
 state_of (Ok r) = Ok r.state
-state_of (Err told) = Err told
+state_of (Err reported) = Err reported
 
 -- the text has that many whole lines, and they are read to this state
 pub record IsReadTo {S : Type 0} (takes : S → Data → Result S TextCause) (start : S) (text : List ℕ) (r : SoFar S) : Type 0 where
@@ -93,7 +93,7 @@ pub record IsReadTo {S : Type 0} (takes : S → Data → Result S TextCause) (st
 -- In all of this the line has no line feed in it.
 -- Source: profile.
 pub record ReadsLineByLine {S : Type 0} (takes : S → Data → Result S TextCause) (start : S) : Type 0 where
-  -- no line is read to the start
+  -- the empty text is read to the start, as no line
   pub none : IsReadTo takes start [] (so_far start 0)
   -- with a line that is taken, ended by a line feed, the text is read to what `next_line` gives
   pub more : (text line : List ℕ) (r q : SoFar S) → IsReadTo takes start text r → HasNoLineFeed line → next_line takes r line ≡ Ok q
@@ -105,9 +105,9 @@ pub record ReadsLineByLine {S : Type 0} (takes : S → Data → Result S TextCau
   pub last : (text line : List ℕ) (r : SoFar S) → IsReadTo takes start text r → HasNoLineFeed line → 0 < length line
       → read_lines takes 1 start (lines_of (text ++ line)) ≡ state_of (next_line takes r line)
   -- if the line is refused, the text is refused in this way, whatever follows
-  pub refused : (text line rest : List ℕ) (r : SoFar S) (told : TextFault) → IsReadTo takes start text r → HasNoLineFeed line
-      → next_line takes r line ≡ Err told → read_lines takes 1 start (lines_of (text ++ (line ++ 10 ∷ rest))) ≡ Err told
+  pub refused : (text line rest : List ℕ) (r : SoFar S) (reported : TextFault) → IsReadTo takes start text r → HasNoLineFeed line
+      → next_line takes r line ≡ Err reported → read_lines takes 1 start (lines_of (text ++ (line ++ 10 ∷ rest))) ≡ Err reported
   -- a line of more than 65,536 bytes is refused, and so is each text in which it continues
   pub too_long : (text line : List ℕ) (r : SoFar S) → IsReadTo takes start text r → HasNoLineFeed line → longest_line < length line
-      → (told : TextFault) × (next_line takes r line ≡ Err told)
-      × ((rest : List ℕ) → read_lines takes 1 start (lines_of (text ++ (line ++ rest))) ≡ Err told)
+      → (reported : TextFault) × (next_line takes r line ≡ Err reported)
+      × ((rest : List ℕ) → read_lines takes 1 start (lines_of (text ++ (line ++ rest))) ≡ Err reported)

@@ -1,6 +1,6 @@
 ghost use Rattle.std.specs.Prelude.{◌≡◌, MatchOption, None, Some, option_map};
 ghost use Rattle.serde_json.specs.View.{view};
-ghost use Rattle.api_lines.specs.Bulk.{action_by, action_told, action_values, has_one_key as is_object_of_one_key, item_of, only_member as member_alone, values_of, conditioned as told_condition};
+ghost use Rattle.api_lines.specs.Bulk.{action_by, action_parsed, action_values, has_one_key as is_object_of_one_key, item_of, only_member as member_alone, values_of, conditioned as reported_condition};
 ghost use Rattle.api_lines.specs.aids.Actions.{action_seen};
 ghost use Rattle.api_lines.specs.Faults.{Gives};
 
@@ -116,7 +116,7 @@ fn id_and_condition(
     alloc: Global,
     action: &ActionFields<'_>,
 ) -> Result<(DocId, Option<Pair>), LineFault>
-    ensures { Gives result (told_condition (action_seen action.now)) }
+    ensures { Gives result (reported_condition (action_seen action.now)) }
 {
     let name = action.id.required_text()?;
     let seq = action.seq.optional_number()?;
@@ -151,10 +151,10 @@ fn said_by(alloc: Global, action: &ActionFields<'_>) -> Result<ActionSaid, LineF
 /// Returns what an action's line says. Causes in their order: `Shape`, also for what is not an action; `Id`,
 /// `Half`, `Range`. `NoMemory` says nothing of the line.
 pub fn action_said(alloc: Global, value: &Value) -> Result<ActionSaid, LineFault>
-    ensures { Gives result (action_told (action_values (view value.now))) }
+    ensures { Gives result (action_parsed (action_values (view value.now))) }
 {
     match action_fields(value) {
         Some(action) => said_by(alloc, &action),
-        None => Err(LineFault::Told(TextCause::Shape)),
+        None => Err(LineFault::Reported(TextCause::Shape)),
     }
 }

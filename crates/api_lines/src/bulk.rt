@@ -74,7 +74,7 @@ impl Bulk {
                 self.begin(said)?;
                 Ok(())
             }
-            Err(LineFault::Told(cause)) => Err(action_fault(number, cause)),
+            Err(LineFault::Reported(cause)) => Err(action_fault(number, cause)),
             Err(LineFault::NoMemory) => Err(BulkFault::NoMemory),
         }
     }
@@ -123,7 +123,7 @@ impl Bulk {
         }
         match line_value(alloc, line) {
             Ok(value) => self.take_value(alloc, number, &value),
-            Err(LineFault::Told(_)) => Err(BulkFault::Syntax(number)),
+            Err(LineFault::Reported(_)) => Err(BulkFault::Syntax(number)),
             Err(LineFault::NoMemory) => Err(BulkFault::NoMemory),
         }
     }

@@ -15,7 +15,7 @@ pub enum BulkFault {
     /// the last one.
     #[error("line {0} is no source")]
     Source(u64),
-    /// One of the action's two conditions is present without the other.
+    /// Only one of the term and the sequence number of the action's condition is present.
     #[error("line {0} has one of the two conditions without the other")]
     Half(u64),
     /// A number of the action's condition is not whole or is outside its range.

@@ -172,7 +172,7 @@ pub fn read_bulk_reply(
     }
     match line_value(alloc, body) {
         Ok(value) => heard_value(alloc, calls, &value),
-        Err(LineFault::Told(_)) => Err(BulkFault::Syntax(1)),
+        Err(LineFault::Reported(_)) => Err(BulkFault::Syntax(1)),
         Err(LineFault::NoMemory) => Err(BulkFault::NoMemory),
     }
 }

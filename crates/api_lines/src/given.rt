@@ -1,7 +1,7 @@
 ghost use Rattle.std.specs.Prelude.{◌≡◌, IsTrue, MatchResult, Some, Ok, Err, option_map};
 ghost use Rattle.serde_json.specs.Data.{Data, null};
 ghost use Rattle.serde_json.specs.View.{view};
-ghost use Rattle.api_lines.specs.Faults.{IfTold};
+ghost use Rattle.api_lines.specs.Faults.{IfReported};
 ghost use Rattle.api_lines.specs.Fields.{line_seen, line_values};
 ghost use Rattle.api_lines.specs.Json.{json_value};
 ghost use Rattle.api_lines.specs.Texts.{line_given};
@@ -23,13 +23,13 @@ pub fn given_line(alloc: Global, number: u64, line: &[u8]) -> Result<Option<Valu
     // The result, unless it is `NoMemory`, is that of the definition, in both directions.
     ensures { MatchResult result
         (λ given. line_given number line.now ≡ Ok (option_map view given))
-        (λ fault. IfTold fault (λ cause. line_given number line.now ≡ Err cause)) }
+        (λ fault. IfReported fault (λ cause. line_given number line.now ≡ Err cause)) }
 {
     if number > MOST_LINES {
-        return Err(LineFault::Told(TextCause::Lines));
+        return Err(LineFault::Reported(TextCause::Lines));
     }
     if line.len() > LONGEST_LINE {
-        return Err(LineFault::Told(TextCause::Long));
+        return Err(LineFault::Reported(TextCause::Long));
     }
     if is_blank(line) {
         return Ok(None);

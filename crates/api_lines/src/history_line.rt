@@ -1,16 +1,13 @@
 ghost use Rattle.std.specs.Prelude.{◌≡◌};
 ghost use Rattle.api_lines.specs.Fields.{line_seen};
-ghost use Rattle.api_lines.specs.HistoryLines.{call_told, line_told, lost_told, op_numbers as numbers_of_line, op_told, reply_told, shard_told, status_told};
+ghost use Rattle.api_lines.specs.HistoryLines.{call_parsed, line_parsed, lost_parsed, op_numbers as numbers_of_line, op_parsed, reply_parsed, shard_parsed, status_parsed};
 
 use crate::fields::LineFields;
 use crate::ids::document_id;
 use crate::number::{Number, pair_of_numbers};
 use crate::text_fault::TextCause;
 use doc_register::Op;
-use version_pair::IdText;
-
-/// The number of shards. They are numbered from 0.
-pub const SHARDS: u64 = 1024;
+use version_pair::{IdText, SHARDS};
 
 /// The numbers of a call's operation, before their ranges are checked.
 #[derive(Clone, Copy, PartialEq, Eq)]
@@ -55,7 +52,7 @@ pub enum LineSaid<'l> {
 impl OpNumbers {
     // The operation: first `Half` of its condition, then `Range`.
     fn op(self) -> Result<Op, TextCause>
-        ensures { result ≡ op_told self }
+        ensures { result ≡ op_parsed self }
     {
         match self {
             OpNumbers::Get => Ok(Op::Get),
@@ -100,7 +97,7 @@ fn op_numbers(line: &LineFields<'_>) -> Result<OpNumbers, TextCause>
 
 // The shard of a call: 0 if it is not named, `Range` from 1,024 on.
 fn shard(field: Option<Number>) -> Result<u32, TextCause>
-    ensures { result ≡ shard_told field }
+    ensures { result ≡ shard_parsed field }
 {
     let Some(number) = field else {
         return Ok(0);
@@ -115,7 +112,7 @@ fn shard(field: Option<Number>) -> Result<u32, TextCause>
 
 // The status of a reply, or `Range` from 65,536 on.
 fn status(number: Number) -> Result<u16, TextCause>
-    ensures { result ≡ status_told number }
+    ensures { result ≡ status_parsed number }
 {
     let status = number.whole()?;
     if status < 65_536 {
@@ -129,7 +126,7 @@ fn status(number: Number) -> Result<u16, TextCause>
 /// `Half`, `Range`.
 pub fn call_of<'l>(line: &LineFields<'l>) -> Result<LineSaid<'l>, TextCause>
     // The call or the first cause is that of the definition.
-    ensures { result ≡ call_told (line_seen line.now) }
+    ensures { result ≡ call_parsed (line_seen line.now) }
 {
     let number = line.n.required_number()?;
     let name = line.id.required_text()?;
@@ -145,7 +142,7 @@ pub fn call_of<'l>(line: &LineFields<'l>) -> Result<LineSaid<'l>, TextCause>
 /// Returns the reply that a line gives. Errors, in this order: `Shape`, `Range`.
 pub fn reply_of<'l>(line: &LineFields<'l>) -> Result<LineSaid<'l>, TextCause>
     // The reply or the first cause is that of the definition.
-    ensures { result ≡ reply_told (line_seen line.now) }
+    ensures { result ≡ reply_parsed (line_seen line.now) }
 {
     let number = line.n.required_number()?;
     let status_number = line.status.required_number()?;
@@ -157,7 +154,7 @@ pub fn reply_of<'l>(line: &LineFields<'l>) -> Result<LineSaid<'l>, TextCause>
 /// Returns the end without a reply that a line gives. Errors, in this order: `Shape`, `Range`.
 pub fn lost_of<'l>(line: &LineFields<'l>) -> Result<LineSaid<'l>, TextCause>
     // The end or the first cause is that of the definition.
-    ensures { result ≡ lost_told (line_seen line.now) }
+    ensures { result ≡ lost_parsed (line_seen line.now) }
 {
     let number = line.n.required_number()?;
     let no = number.whole()?;
@@ -168,7 +165,7 @@ pub fn lost_of<'l>(line: &LineFields<'l>) -> Result<LineSaid<'l>, TextCause>
 /// count, also for an unknown text as `e` or `op`; `Id`, `Half`, `Range`.
 pub fn line_said<'l>(line: &LineFields<'l>) -> Result<LineSaid<'l>, TextCause>
     // What is said or the first cause is that of the definition.
-    ensures { result ≡ line_told (line_seen line.now) }
+    ensures { result ≡ line_parsed (line_seen line.now) }
 {
     match line.e.required_text()? {
         "call" => call_of(line),

@@ -1,11 +1,11 @@
 //! Laws of the definitions. Each is the contract of a function that does nothing.
 
-ghost use Rattle.api_lines.specs.Laws.{FieldsAreHeard, TableTellsOne, WrittenIsHeard};
+ghost use Rattle.api_lines.specs.Laws.{FieldsAreHeard, TableReportsOne, WrittenIsHeard};
 
 /// Shows that the reply table gives at most one reply for an operation, a status and a body.
-#[tactic(auto, using(crate::proofs::TableLaws::tells_one))]
-pub fn table_tells_one()
-    ensures { TableTellsOne }
+#[tactic(auto, using(crate::proofs::TableLaws::reports_one))]
+pub fn table_reports_one()
+    ensures { TableReportsOne }
 {}
 
 /// Shows that what is heard of a call by the fields of a body is a stranger's if and only if the body names

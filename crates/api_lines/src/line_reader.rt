@@ -1,7 +1,7 @@
 ghost use Rattle.std.specs.Prelude.{◌≡◌, ◌<◌, ◌≤◌, Err, IfErr, IfOk, IfSome, MatchResult, Ok, OnOk, OnSome, Result as Outcome, length};
 ghost use Rattle.std.specs.Io.KnownBytes.{IsAtEnd, Keeps, prepend_known};
 ghost use Rattle.serde_json.specs.Data.{Data};
-ghost use Rattle.api_lines.specs.Faults.{IfTextTold};
+ghost use Rattle.api_lines.specs.Faults.{IfTextReported};
 ghost use Rattle.api_lines.specs.Lines.{HasNoLineFeed, lines_of, most_lines};
 ghost use Rattle.api_lines.specs.Sources.{IsTakenFor, most_brought};
 ghost use Rattle.api_lines.specs.Texts.{SoFar, next_line as after_next, read_lines};
@@ -37,8 +37,8 @@ pub trait LineReader {
         // After a line that is taken the lines are 4,194,304 at most.
         ensures within { OnOk result ((Self.reached self.new).lines ≤ most_lines) }
         // An error other than `NoMemory` is that of the definition.
-        ensures fault { IfErr result (λ fault. IfTextTold fault
-            (λ told. after_next Self.takes (Self.reached self.old) line.now ≡ Err told)) };
+        ensures fault { IfErr result (λ fault. IfTextReported fault
+            (λ reported. after_next Self.takes (Self.reached self.old) line.now ≡ Err reported)) };
 }
 
 /// A line that was refused.
@@ -59,8 +59,8 @@ pub fn take_text<L: LineReader>(reader: &mut L, text: &[u8]) -> Result<(), ReadF
     ensures ok { OnOk result (read_lines L.takes 1 (L.reached reader.old).state (lines_of text.now)
         ≡ Ok (L.reached reader.new).state) }
     // An error other than `NoMemory` is that of the definition.
-    ensures fault { IfErr result (λ fault. IfTextTold fault
-        (λ told. read_lines L.takes 1 (L.reached reader.old).state (lines_of text.now) ≡ Err told)) }
+    ensures fault { IfErr result (λ fault. IfTextReported fault
+        (λ reported. read_lines L.takes 1 (L.reached reader.old).state (lines_of text.now) ≡ Err reported)) }
 {
     let mut rest = text;
     while !rest.is_empty() {
@@ -81,8 +81,8 @@ fn end_of_lines<R: Read>(
 ) -> Result<Result<(), RefusedLine>, InputFault>
     ensures kept { Keeps (prepend_known chunk.old (R.remaining input.old))
         (prepend_known chunk.new (R.remaining input.new)) }
-    ensures end { IfOk result (λ told. OnOk told (IsAtEnd (prepend_known chunk.old (R.remaining input.old)))) }
-    ensures past { IfOk result (λ told. IfErr told (λ refused.
+    ensures end { IfOk result (λ reported. OnOk reported (IsAtEnd (prepend_known chunk.old (R.remaining input.old)))) }
+    ensures past { IfOk result (λ reported. IfErr reported (λ refused.
         (refused.fault ≡ record { line = 4194305; cause = TextCause.Lines }) × IfSome (prepend_known chunk.old (R.remaining input.old))
         (λ bytes. 0 < length bytes))) }
     ensures brought { length chunk.new ≤ most_brought }
@@ -123,7 +123,7 @@ pub fn take_lines<L: LineReader, R: Read>(
     requires { (L.reached reader.old).lines ≡ 0 }
     // If the input's bytes are known, the result is what the definition gives for the text of these bytes, as
     // that of `take_text` is.
-    ensures told { IfOk result (λ told. IfSome (R.remaining input.old) (λ text. MatchResult told
+    ensures reported { IfOk result (λ reported. IfSome (R.remaining input.old) (λ text. MatchResult reported
         (λ _. read_lines L.takes 1 (L.reached reader.old).state (lines_of text) ≡ Ok (L.reached reader.new).state)
         (λ refused. read_lines L.takes 1 (L.reached reader.old).state (lines_of text) ≡ Err refused.fault))) }
     // Whatever the result, no bytes after the first refused line are taken but those that the last read
@@ -131,7 +131,7 @@ pub fn take_lines<L: LineReader, R: Read>(
     ensures taken { IsTakenFor (λ text. read_lines L.takes 1 (L.reached reader.old).state (lines_of text))
         (R.remaining input.old) (R.remaining input.new) }
     // If all lines are taken nothing is left.
-    ensures end { IfOk result (λ told. OnOk told (OnSome (R.remaining input.old)
+    ensures end { IfOk result (λ reported. OnOk reported (OnSome (R.remaining input.old)
         (IsAtEnd (R.remaining input.new)))) }
 {
     let mut chunk = Chunk::new(alloc)?;

@@ -1,6 +1,6 @@
 ghost use Rattle.std.specs.Prelude.{◌≡◌, ◌<◌, ◌∷◌, MatchResult, Some, None, length};
 ghost use Rattle.serde_json.specs.View.{view};
-ghost use Rattle.api_lines.specs.Faults.{IfTold};
+ghost use Rattle.api_lines.specs.Faults.{IfReported};
 ghost use Rattle.api_lines.specs.Json.{json_value};
 ghost use Rattle.api_lines.specs.Lines.{HasNoLineFeed, is_blank as blank, is_space as space, lines_of};
 ghost use Rattle.api_lines.specs.declared.text_fault.TextCause.TheVariants.{Json};
@@ -24,7 +24,7 @@ pub(crate) fn is_space(byte: u8) -> bool
     byte == b' ' || byte == b'\t' || byte == b'\r'
 }
 
-/// Returns whether a line has only spaces, tabs and carriage returns.
+/// Returns whether a line has only spaces, tabs and carriage returns. An empty line is blank.
 pub fn is_blank(line: &[u8]) -> bool
     ensures { result ≡ blank line.now }
 {
@@ -53,11 +53,11 @@ pub fn first_line(text: &[u8]) -> (&[u8], &[u8])
 pub fn line_value(alloc: Global, line: &[u8]) -> Result<Value, LineFault>
     // The value is that which the line spells; the error is `Json` only if it spells none.
     ensures { MatchResult result (λ value. json_value line.now ≡ Some (view value))
-        (λ fault. IfTold fault (λ cause. (json_value line.now ≡ None) × (cause ≡ Json))) }
+        (λ fault. IfReported fault (λ cause. (json_value line.now ≡ None) × (cause ≡ Json))) }
 {
     match Value::from_slice(alloc, line) {
         Ok(value) => Ok(value),
         Err(error) if error.is_memory() => Err(LineFault::NoMemory),
-        Err(_) => Err(LineFault::Told(TextCause::Json)),
+        Err(_) => Err(LineFault::Reported(TextCause::Json)),
     }
 }

@@ -1,5 +1,5 @@
 ghost use Rattle.std.specs.Prelude.{◌≡◌};
-ghost use Rattle.api_lines.specs.Pairs.{pair_of as the_pair_of, pair_told, whole_told};
+ghost use Rattle.api_lines.specs.Pairs.{pair_of as the_pair_of, pair_parsed, whole_parsed};
 
 use crate::text_fault::TextCause;
 use version_pair::Pair;
@@ -16,7 +16,7 @@ pub enum Number {
 impl Number {
     /// Returns the whole number. Errors: `Range` exactly if it is not whole.
     pub fn whole(self) -> Result<u64, TextCause>
-        ensures { result ≡ whole_told self }
+        ensures { result ≡ whole_parsed self }
     {
         match self {
             Number::Whole(n) => Ok(n),
@@ -36,7 +36,7 @@ pub fn pair_of(term: u64, seq: u64) -> Option<Pair>
 /// Errors: `Half` if only one is present, `Range` if one is not whole or is outside its range.
 pub fn pair_of_numbers(seq: Option<Number>, term: Option<Number>) -> Result<Option<Pair>, TextCause>
     // The pair or the error is that of the definition.
-    ensures { result ≡ pair_told seq term }
+    ensures { result ≡ pair_parsed seq term }
 {
     let (seq, term) = match (seq, term) {
         (None, None) => return Ok(None),

@@ -3,7 +3,7 @@ ghost use Rattle.serde_json.specs.View.{view};
 ghost use Rattle.doc_register.specs.declared.reply.Reply.{Reply as Answer};
 ghost use Rattle.api_lines.specs.Fields.{body_seen, body_values};
 ghost use Rattle.api_lines.specs.Kinds.{is_other_text};
-ghost use Rattle.api_lines.specs.ReplyTable.{IsStranger, IsUnknown, Tells, carried_pair, conflicted, created as created_reply, deleted as deleted_reply, got as got_reply, heard, indexed as indexed_reply, told_reply};
+ghost use Rattle.api_lines.specs.ReplyTable.{IsStranger, IsUnknown, Reports, carried_pair, conflicted, created as created_reply, deleted as deleted_reply, got as got_reply, heard, indexed as indexed_reply, reported_reply};
 
 use crate::field::Field;
 use crate::fields::{BodyFields, body_fields};
@@ -112,7 +112,7 @@ fn got(status: u16, body: &BodyFields<'_>) -> Option<Reply>
 
 // The reply that the table gives.
 fn known_reply(op: &Op, status: u16, body: &BodyFields<'_>) -> Option<Reply>
-    ensures { result ≡ told_reply op.now status (body_seen body.now) }
+    ensures { result ≡ reported_reply op.now status (body_seen body.now) }
 {
     match op {
         Op::Get => got(status, body),
@@ -160,7 +160,7 @@ pub fn read_reply(op: &Op, id: &DocId, status: u16, body: &Value) -> Heard
     ensures stranger { (result ≡ Heard.Stranger) ↔ IsStranger id.now (view body.now) }
     // It is a reply exactly if the body names no other document, and the reply table gives this reply.
     ensures reply { (r : Answer) → (result ≡ Heard.Reply r)
-        ↔ ((¬ IsStranger id.now (view body.now)) × Tells op.now status (view body.now) r) }
+        ↔ ((¬ IsStranger id.now (view body.now)) × Reports op.now status (view body.now) r) }
     // It is `Unknown` exactly if the body names no other document, and the reply table gives no reply.
     ensures unknown { (result ≡ Heard.Unknown)
         ↔ ((¬ IsStranger id.now (view body.now)) × IsUnknown op.now status (view body.now)) }

@@ -1,5 +1,6 @@
-//! The tokens of a line, read a byte at a time. The texts of the line have no escape and no byte outside
-//! ASCII, and its numbers are digits alone. Spaces may be around values, but not between a key and its colon.
+//! The tokens of a line, read a byte at a time. Only lines are taken whose texts have no escape and no byte
+//! outside ASCII, and whose numbers are digits alone. Spaces may be around values, but not between a key and
+//! its colon. Anything else is left to the tokens of `json`.
 ghost use Rattle.std.specs.Prelude.{◌≡◌, ◌<◌, ◌∷◌, ◌++◌, ℕ, [], IfSome, List, MatchOption, OnSome, Some, length, not, option_map, take, true};
 ghost use Rattle.std.specs.Bool.{MatchBool};
 ghost use Rattle.std.specs.List.{list_all};
@@ -131,7 +132,8 @@ fn is_ended(bytes: &[u8]) -> bool
     }
 }
 
-// The whole number that the digits spell which begin here, and the bytes after them.
+// The number of the first 1 to 19 digits, and the bytes after them, which may begin with a twentieth digit:
+// the caller checks where the number ends. `None` without a digit, or if a zero comes before other digits.
 #[inline(always)]
 fn digits(bytes: &[u8]) -> Option<(u64, &[u8])>
     ensures { IfSome result (λ parts. (ds : List ℕ) × (bytes.now ≡ ds ++ parts.1.now)
@@ -272,7 +274,8 @@ impl<'a> Scanner<'a> {
         true
     }
 
-    /// Takes a text that ends as most do. If it takes none, the same tokens are left.
+    /// Takes a text directly after which a comma or a closing bracket comes. If it takes none, the same
+    /// tokens are left.
     #[inline(always)]
     pub fn usual_text(&mut self) -> Option<&'a str>
         ensures { MatchOption result (tokens_left self.new ≡ tokens_left self.old)
@@ -287,7 +290,8 @@ impl<'a> Scanner<'a> {
         }
     }
 
-    /// Takes a whole number that ends as most do. If it takes none, the same tokens are left.
+    /// Takes a whole number directly after which a comma or a closing bracket comes. If it takes none, the
+    /// same tokens are left.
     #[inline(always)]
     pub fn usual_whole(&mut self) -> Option<u64>
         ensures { MatchOption result (tokens_left self.new ≡ tokens_left self.old)

@@ -1,5 +1,5 @@
 ghost use Rattle.std.specs.Prelude.{◌≡◌};
-ghost use Rattle.api_lines.specs.declared.text_fault.LineFault.TheVariants.{NoMemory as Unread, Told};
+ghost use Rattle.api_lines.specs.declared.text_fault.LineFault.TheVariants.{NoMemory as Unread, Reported};
 ghost use Rattle.api_lines.specs.Faults.{text_fault};
 
 use std::alloc::AllocError;
@@ -27,7 +27,7 @@ pub enum TextCause {
     /// A number is not whole or is outside its range.
     #[error("a number is not whole or outside its range")]
     Range,
-    /// One of the two conditions is present without the other.
+    /// Only one of the term and the sequence number of a pair is present.
     #[error("one of the two conditions is there without the other")]
     Half,
     /// The body of a reply names another document.
@@ -75,7 +75,7 @@ pub enum ReadFault {
 pub enum LineFault {
     /// It was refused.
     #[error("{0}")]
-    Told(TextCause),
+    Reported(TextCause),
     /// Memory was refused.
     #[error("no memory")]
     NoMemory,
@@ -87,17 +87,17 @@ impl LineFault {
         ensures { result ≡ text_fault line self }
     {
         match self {
-            LineFault::Told(cause) => ReadFault::Text(TextFault { line, cause }),
+            LineFault::Reported(cause) => ReadFault::Text(TextFault { line, cause }),
             LineFault::NoMemory => ReadFault::NoMemory,
         }
     }
 }
 
 impl From<TextCause> for LineFault {
-    ghost from_gives = { λ cause fault. fault ≡ Told cause };
+    ghost from_gives = { λ cause fault. fault ≡ Reported cause };
 
     fn from(cause: TextCause) -> LineFault {
-        LineFault::Told(cause)
+        LineFault::Reported(cause)
     }
 }
 

@@ -1,6 +1,6 @@
 -- Which faults the commands return.
-use Rattle.casbench.specs.declared.words.Words.{Words}
-use Rattle.casbench.specs.declared.words.Words.TheVariants as words
+use Rattle.command_line.specs.declared.request.Request.{Request}
+use Rattle.command_line.specs.declared.request.Request.TheVariants as request
 use Rattle.recorded_runs.specs.Runs.{IsRunFault}
 use Rattle.stream_io.specs.Faults.{IsStreamFault, IsWorkedFault}
 use Rattle.stream_io.specs.declared.stream_fault.StreamFault.{StreamFault}
@@ -8,11 +8,11 @@ use Rattle.stream_io.specs.declared.stream_fault.StreamFault.{StreamFault}
 -- the fault is one that the stream of the command may return: `IsWorkedFault` of a check, explained or not,
 -- `IsRunFault` of a run or a search, `IsStreamFault` of any other
 -- Source: profile.
-abbrev pub MayFail : Words → StreamFault → Type 0
-MayFail (words.Check file conflicts workers ruling) fault = IsWorkedFault fault
-MayFail (words.Witness file conflicts ruling) fault = IsStreamFault fault
-MayFail (words.Verify history witness conflicts) fault = IsStreamFault fault
-MayFail (words.Bulk body reply first) fault = IsStreamFault fault
-MayFail (words.Run setting manner) fault = IsRunFault fault
-MayFail (words.Search seeds setting disturbance) fault = IsRunFault fault
-MayFail (words.Explain file conflicts workers ruling page) fault = IsWorkedFault fault
+abbrev pub MayFail : Request → StreamFault → Type 0
+MayFail (request.Check file conflicts workers ruling) fault = IsWorkedFault fault
+MayFail (request.Witness file conflicts ruling) fault = IsStreamFault fault
+MayFail (request.Verify history witness conflicts) fault = IsStreamFault fault
+MayFail (request.Bulk body reply first) fault = IsStreamFault fault
+MayFail (request.Run setting manner) fault = IsRunFault fault
+MayFail (request.Search seeds setting disturbance) fault = IsRunFault fault
+MayFail (request.Explain file conflicts workers ruling page) fault = IsWorkedFault fault

@@ -1,4 +1,3 @@
-pub mod Asked
 pub mod Exit
 pub mod Faults
 pub mod aids

@@ -1,5 +1,5 @@
 //! casbench: says whether a recorded history of an OpenSearch index keeps the compare-and-set promise. The
-//! arguments of the process become a value `Words`, which `run` does; an exit status follows.
+//! arguments of the process become a value `Request`, which `run` does; an exit status follows.
 //!
 //! ```text
 //! $ casbench check history.ndjson
@@ -7,58 +7,60 @@
 //! ```
 #![tactic(auto)]
 
-mod arguments;
-mod commands;
 mod exit;
 mod files;
-mod given;
+mod notes;
+mod output;
 mod page_file;
 mod run;
-mod run_words;
-mod search_teller;
-mod words;
+mod search_reporter;
 
 use clap::error::ErrorKind;
-use exit::{WORDS_REFUSED, fault_code, status_code, words_code};
-use history::HashKeys;
-use report::StreamFault;
+use command_line::read_request;
+use events::HashKeys;
+use exit::{ARGUMENTS_REFUSED, arguments_code, fault_code, status_code};
+use notes::{note_compressed, note_terminal};
+use output::Output;
+use report::{Status, StreamFault};
 use run::run;
 use std::process::ExitCode;
 use std::random::RandomSource;
 use std::rt::Env;
 use std::{env, io};
-use words::read_words;
 
 // Reports the fault on standard error and returns its exit status, also if standard error fails.
-fn tell_fault(rt: &impl Eprint, fault: StreamFault) -> u8 {
+fn report_fault(rt: &impl Eprint, fault: StreamFault) -> u8 {
     let _ = eprintln!(rt; "casbench: {fault}");
     fault_code(fault)
 }
 
 // Reports why the arguments can't be read: one is not UTF-8, or memory was refused.
-fn tell_no_words(rt: &impl Eprint, error: &io::Error) -> u8 {
+fn report_no_arguments(rt: &impl Eprint, error: &io::Error) -> u8 {
     if error.kind() == io::ErrorKind::OutOfMemory {
-        return tell_fault(rt, StreamFault::NoMemory);
+        return report_fault(rt, StreamFault::NoMemory);
     }
-    let _ = eprintln!(rt; "casbench: a word is not UTF-8");
-    WORDS_REFUSED
+    let _ = eprintln!(rt; "casbench: an argument is not UTF-8");
+    ARGUMENTS_REFUSED
 }
 
 // Writes help or the version to standard output, or to standard error why the arguments are refused.
-fn tell_words<R: Print + Eprint>(rt: &R, error: &clap::Error) -> u8 {
+fn report_arguments<R: Print + Eprint>(rt: &R, error: &clap::Error) -> u8 {
     if error.kind() == ErrorKind::OutOfMemory {
-        return tell_fault(rt, StreamFault::NoMemory);
+        return report_fault(rt, StreamFault::NoMemory);
     }
     if error.print(rt).is_err() && !error.use_stderr() {
-        return tell_fault(rt, StreamFault::Write);
+        return report_fault(rt, StreamFault::Write);
     }
-    words_code(error.kind())
+    if error.kind() == ErrorKind::InvalidSubcommand {
+        let _ = eprintln!(rt; "To check a history text: casbench check FILE");
+    }
+    arguments_code(error.kind())
 }
 
 // Returns the arguments of the process, of which the first is the program's name.
-fn process_words<R: Env + AllocGlobal>(rt: &R) -> io::Result<Vec<String>> {
-    let words = env::args(rt)?.collect(rt.alloc())?;
-    Ok(words)
+fn process_arguments<R: Env + AllocGlobal>(rt: &R) -> io::Result<Vec<String>> {
+    let arguments = env::args(rt)?.collect(rt.alloc())?;
+    Ok(arguments)
 }
 
 // Returns keys that a text can't know, drawn by the system; the fixed ones if the system gives none.
@@ -73,17 +75,28 @@ fn drawn_keys(rt: &impl RandomSource) -> HashKeys {
 
 fn main(rt: HostRuntime) -> ExitCode {
     let alloc = rt.alloc();
-    let words = match process_words(&rt) {
-        Ok(words) => words,
-        Err(error) => return ExitCode::from(tell_no_words(&rt, &error)),
+    let arguments = match process_arguments(&rt) {
+        Ok(arguments) => arguments,
+        Err(error) => return ExitCode::from(report_no_arguments(&rt, &error)),
     };
-    let asked = match read_words(alloc, words.as_slice()) {
-        Ok(asked) => asked,
-        Err(error) => return ExitCode::from(tell_words(&rt, &error)),
+    let request = match read_request(alloc, arguments.as_slice()) {
+        Ok(request) => request,
+        Err(error) => return ExitCode::from(report_arguments(&rt, &error)),
     };
     let keys = drawn_keys(&rt);
-    match run(alloc, keys, &rt, &rt, rt.stdin(), &mut rt.stdout(), asked) {
-        Ok(status) => ExitCode::from(status_code(status)),
-        Err(fault) => ExitCode::from(tell_fault(&rt, fault)),
+    note_terminal(&rt, request);
+    let mut output = Output::new(rt.stdout());
+    match run(alloc, keys, &rt, &rt, rt.stdin(), &mut output, request) {
+        Ok(status) => {
+            if status == Status::Refused {
+                note_compressed(&rt, request);
+            }
+            ExitCode::from(status_code(status))
+        }
+        // Whoever closed the pipe wants no more, and needs no message.
+        Err(StreamFault::Write) if output.is_closed() => {
+            ExitCode::from(fault_code(StreamFault::Write))
+        }
+        Err(fault) => ExitCode::from(report_fault(&rt, fault)),
     }
 }

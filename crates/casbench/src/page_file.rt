@@ -4,7 +4,7 @@
 
 ghost use Rattle.std.specs.Prelude.{◌≡◌, ◌⊎◌, IfErr};
 
-use crate::files::{Source, tell_unopened};
+use crate::files::{Source, report_unopened};
 use report::StreamFault;
 use std::alloc::Global;
 use std::fs::{self, Metadata, OpenFile, OpenOptions};
@@ -59,7 +59,7 @@ pub fn refuse_history<R: Files + Eprint, I>(
 fn unwritten(rt: &impl Eprint, path: &str, error: &io::Error) -> StreamFault
     ensures { result ≡ StreamFault.Write }
 {
-    tell_unopened(rt, path, error);
+    report_unopened(rt, path, error);
     StreamFault::Write
 }
 

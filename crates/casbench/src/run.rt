@@ -9,19 +9,19 @@ ghost use Rattle.recorded_runs.specs.Runs.{IsRunText, IsTextInTurns};
 ghost use Rattle.recorded_runs.specs.declared.manner.Manner.{Manner as Going};
 ghost use Rattle.recorded_runs.specs.declared.run_setting.RunSetting.{RunSetting as Setting};
 ghost use Rattle.seed_search.specs.Found.{IsFoundText, IsSearched};
-ghost use Rattle.seed_search.specs.declared.seeds.Seeds.{Seeds as Range};
+ghost use Rattle.recorded_runs.specs.declared.seeds.Seeds.{Seeds as Range};
 ghost use Rattle.disturbances.specs.declared.disturbance.Disturbance.{Disturbance as Way};
 ghost use Rattle.casbench.specs.Faults.{MayFail};
 ghost use Rattle.stream_io.specs.Faults.{IsWorkedFault};
-ghost use Rattle.stream_io.specs.Written.{HasAnswer, HasFront};
+ghost use Rattle.stream_io.specs.Written.{HasAnswer, HasPrefix};
 
 use crate::files::{open_both, open_or};
 use crate::page_file::{ReadyPage, refuse_history};
-use crate::search_teller::SearchTeller;
-use crate::words::Words;
+use crate::search_reporter::SearchReporter;
+use command_line::Request;
 use disturbances::DisturbedGroup;
 use doc_register::Conflicts;
-use history::HashKeys;
+use events::HashKeys;
 use recorded_runs::{Playing, run_played_stream};
 use report::{
     RulingOut, Status, StreamFault, bulk_stream, check_stream, explain_stream, explained_page,
@@ -69,11 +69,11 @@ fn explain<F: Files + Eprint, T: Threads + Wait + Sync, R: Read, W: Write>(
     ensures explained { IfOk result (λ status. HasAnswer (ExplainsInput ruling_out conflicts (R.remaining history.old) status)
         (W.contents writer.old) (W.contents writer.new)) }
     ensures cut_off { IsErrOf result StreamFault.Write
-        → HasFront (ExplainsInput ruling_out conflicts (R.remaining history.old)) (W.contents writer.old)
+        → HasPrefix (ExplainsInput ruling_out conflicts (R.remaining history.old)) (W.contents writer.old)
         (W.contents writer.new) ⊎ Keeps (W.contents writer.old) (W.contents writer.new) }
     ensures kept { IfErr result (λ fault. fault ≢ StreamFault.Write
         → Keeps (W.contents writer.old) (W.contents writer.new)) }
-    ensures told { IfErr result IsWorkedFault }
+    ensures reported { IfErr result IsWorkedFault }
 {
     let Some(path) = page else {
         return explain_stream(
@@ -96,8 +96,8 @@ fn explain<F: Files + Eprint, T: Threads + Wait + Sync, R: Read, W: Write>(
     }
 }
 
-/// Does what the arguments ask for: opens the files in the order in which they were named, then reads, and
-/// writes the answer. Workers run on `threads`; ids and pairs are found by hashes with these keys.
+/// Does what the arguments ask for: opens the files in the order in which they were named, `-` being the
+/// input, then reads, and writes the answer. Workers run on `threads`; ids and pairs are found by hashes with these keys.
 ///
 /// Errors, in this order: `Read` if a file can't be opened, which is then named on standard error: nothing
 /// was read then; for an `explain` with a page `Write` if the page is the history's own file; then those of
@@ -106,8 +106,8 @@ fn explain<F: Files + Eprint, T: Threads + Wait + Sync, R: Read, W: Write>(
 /// `explained_page`, then `Write` or `NoMemory` if a new page can't be written, `Write` of the writer, and
 /// `Write` if the page can't take its place. It waits as the stream of the command does.
 ///
-/// Of a `verify` and a `bulk`, whose texts are files, only `kept` and `told` speak: that the files, and the
-/// reading of conflicts, are passed on to their streams is tested, not proved.
+/// `kept` and `reported` are the only clauses about a `verify` and a `bulk`, whose texts are files: that the
+/// files, and the reading of conflicts, are passed on to their streams is tested, not proved.
 pub fn run<R: Files + Eprint, T: Threads + Wait + Sync, I: Read + Drop, W: Write>(
     alloc: Global,
     keys: HashKeys,
@@ -115,68 +115,68 @@ pub fn run<R: Files + Eprint, T: Threads + Wait + Sync, I: Read + Drop, W: Write
     threads: &T,
     input: I,
     writer: &mut W,
-    words: Words<'_>,
+    request: Request<'_>,
 ) -> Result<Status, StreamFault>
     // A check of the input answers it, with conflicts read as the arguments say.
     ensures checked { (conflicts : Reading) (workers : ℕ) (ruling : Ruling)
-        → words.entry ≡ Words.Check None conflicts workers ruling
+        → request.entry ≡ Request.Check None conflicts workers ruling
         → IfOk result (IsAnswered ruling conflicts (I.remaining input) (W.contents writer.old)
         (W.contents writer.new)) }
     // The witness of the input is written, or the line of a check that is not yes, with conflicts read as the
     // arguments say.
-    ensures witnessed { (conflicts : Reading) (ruling : Ruling) → words.entry ≡ Words.Witness None conflicts ruling
+    ensures witnessed { (conflicts : Reading) (ruling : Ruling) → request.entry ≡ Request.Witness None conflicts ruling
         → IfOk result (λ status. HasAnswer (WitnessesInput ruling conflicts (I.remaining input) status)
         (W.contents writer.old) (W.contents writer.new)) }
     // A check of the input that is explained begins with its answer, whether a page is written too or not.
     ensures explained { (conflicts : Reading) (workers : ℕ) (ruling : Ruling) (page : Option (Bor (List ℕ)))
-        → words.entry ≡ Words.Explain None conflicts workers ruling page
+        → request.entry ≡ Request.Explain None conflicts workers ruling page
         → IfOk result (λ status. HasAnswer (ExplainsInput ruling conflicts (I.remaining input) status)
         (W.contents writer.old) (W.contents writer.new)) }
     // What the clients of a run recorded is written, and the status is yes.
-    ensures recorded { (setting : Setting) (manner : Going) → words.entry ≡ Words.Run setting manner
+    ensures recorded { (setting : Setting) (manner : Going) → request.entry ≡ Request.Run setting manner
         → IfOk result (λ status. (status ≡ Status.Yes) × HasAnswer (IsRunText ⟦<DisturbedGroup as Target>⟧.issued ⟦<DisturbedGroup as Target>⟧.gave setting)
         (W.contents writer.old) (W.contents writer.new)) }
     // In turns it is the text of exactly the run that the setting and the disturbance determine.
-    ensures in_turns { (setting : Setting) (manner : Going) → words.entry ≡ Words.Run setting manner
+    ensures in_turns { (setting : Setting) (manner : Going) → request.entry ≡ Request.Run setting manner
         → manner.playing ≡ Playing.InTurns → IfOk result (λ _. HasAnswer (IsTextInTurns setting manner.disturbance)
         (W.contents writer.old) (W.contents writer.new)) }
     // A search through seeds writes the first run that no order was found for, and the status is yes; or
     // there is none, and the status is no.
-    ensures searched { (seeds : Range) (setting : Setting) (way : Way) → words.entry ≡ Words.Search seeds setting way
+    ensures searched { (seeds : Range) (setting : Setting) (way : Way) → request.entry ≡ Request.Search seeds setting way
         → IfOk result (IsSearched ⟦<DisturbedGroup as Target>⟧.issued ⟦<DisturbedGroup as Target>⟧.gave way setting
         seeds.first seeds.last (W.contents writer.old) (W.contents writer.new)) }
     // `check_cut_off`, `witness_cut_off`, `explain_cut_off`: After `Write` the writer holds a prefix of what
     // the command answers, after what it held; of an `explain` it may hold no more than it held, since a page
     // can fail before.
     ensures check_cut_off { (conflicts : Reading) (workers : ℕ) (ruling : Ruling)
-        → words.entry ≡ Words.Check None conflicts workers ruling → IsErrOf result StreamFault.Write
+        → request.entry ≡ Request.Check None conflicts workers ruling → IsErrOf result StreamFault.Write
         → IsCutOff ruling conflicts (I.remaining input) (W.contents writer.old) (W.contents writer.new) }
-    ensures witness_cut_off { (conflicts : Reading) (ruling : Ruling) → words.entry ≡ Words.Witness None conflicts ruling
+    ensures witness_cut_off { (conflicts : Reading) (ruling : Ruling) → request.entry ≡ Request.Witness None conflicts ruling
         → IsErrOf result StreamFault.Write
-        → HasFront (WitnessesInput ruling conflicts (I.remaining input)) (W.contents writer.old)
+        → HasPrefix (WitnessesInput ruling conflicts (I.remaining input)) (W.contents writer.old)
         (W.contents writer.new) }
     ensures explain_cut_off { (conflicts : Reading) (workers : ℕ) (ruling : Ruling) (page : Option (Bor (List ℕ)))
-        → words.entry ≡ Words.Explain None conflicts workers ruling page → IsErrOf result StreamFault.Write
-        → HasFront (ExplainsInput ruling conflicts (I.remaining input)) (W.contents writer.old) (W.contents writer.new)
+        → request.entry ≡ Request.Explain None conflicts workers ruling page → IsErrOf result StreamFault.Write
+        → HasPrefix (ExplainsInput ruling conflicts (I.remaining input)) (W.contents writer.old) (W.contents writer.new)
         ⊎ Keeps (W.contents writer.old) (W.contents writer.new) }
     // `run_cut_off`, `search_cut_off`: After `Write` the writer holds a prefix of the text of such a run,
     // after what it held.
-    ensures run_cut_off { (setting : Setting) (manner : Going) → words.entry ≡ Words.Run setting manner
+    ensures run_cut_off { (setting : Setting) (manner : Going) → request.entry ≡ Request.Run setting manner
         → IsErrOf result StreamFault.Write
-        → HasFront (λ _. IsRunText ⟦<DisturbedGroup as Target>⟧.issued ⟦<DisturbedGroup as Target>⟧.gave setting)
+        → HasPrefix (λ _. IsRunText ⟦<DisturbedGroup as Target>⟧.issued ⟦<DisturbedGroup as Target>⟧.gave setting)
         (W.contents writer.old) (W.contents writer.new) }
-    ensures search_cut_off { (seeds : Range) (setting : Setting) (way : Way) → words.entry ≡ Words.Search seeds setting way
+    ensures search_cut_off { (seeds : Range) (setting : Setting) (way : Way) → request.entry ≡ Request.Search seeds setting way
         → IsErrOf result StreamFault.Write
-        → HasFront (λ _. IsFoundText ⟦<DisturbedGroup as Target>⟧.issued ⟦<DisturbedGroup as Target>⟧.gave way setting
+        → HasPrefix (λ _. IsFoundText ⟦<DisturbedGroup as Target>⟧.issued ⟦<DisturbedGroup as Target>⟧.gave way setting
         seeds.first seeds.last) (W.contents writer.old) (W.contents writer.new) }
     // After any error but `Write`, and so if a file can't be opened, the writer holds what it held.
     ensures kept { IfErr result (λ fault. fault ≢ StreamFault.Write
         → Keeps (W.contents writer.old) (W.contents writer.new)) }
     // Each command returns the errors of its own stream alone.
-    ensures told { IfErr result (MayFail words.entry) }
+    ensures reported { IfErr result (MayFail request.entry) }
 {
-    match words {
-        Words::Check {
+    match request {
+        Request::Check {
             file,
             conflicts,
             workers,
@@ -195,7 +195,7 @@ pub fn run<R: Files + Eprint, T: Threads + Wait + Sync, I: Read + Drop, W: Write
                 ruling_out,
             )
         }
-        Words::Witness {
+        Request::Witness {
             file,
             conflicts,
             ruling_out,
@@ -203,26 +203,26 @@ pub fn run<R: Files + Eprint, T: Threads + Wait + Sync, I: Read + Drop, W: Write
             let mut history = open_or(rt, file, input)?;
             witness_stream(alloc, keys, &mut history, writer, conflicts, ruling_out)
         }
-        Words::Verify {
+        Request::Verify {
             history,
             witness,
             conflicts,
         } => {
-            let (mut history, mut witness) = open_both(rt, history, witness)?;
+            let (mut history, mut witness) = open_both(rt, history, witness, input)?;
             verify_stream(alloc, keys, &mut history, &mut witness, writer, conflicts)
         }
-        Words::Bulk { body, reply, first } => {
-            let (mut body, mut reply) = open_both(rt, body, reply)?;
+        Request::Bulk { body, reply, first } => {
+            let (mut body, mut reply) = open_both(rt, body, reply, input)?;
             bulk_stream(alloc, first, &mut body, &mut reply, writer)
         }
-        Words::Run(setting, manner) => {
+        Request::Run(setting, manner) => {
             run_played_stream(threads, alloc, &setting, &manner, writer)
         }
-        Words::Search(seeds, setting, disturbance) => {
-            let watch = SearchTeller::new(rt, setting, disturbance);
+        Request::Search(seeds, setting, disturbance) => {
+            let watch = SearchReporter::new(rt, setting, disturbance);
             search_stream(threads, alloc, seeds, &setting, disturbance, &watch, writer)
         }
-        Words::Explain {
+        Request::Explain {
             file,
             conflicts,
             workers,

@@ -1,7 +1,7 @@
 -- What an answer is about, and what it answers.
 use Rattle.std.proofs.Common.{◌≡◌, ℕ, List}
 use Rattle.doc_register.specs.declared.state.Conflicts.{Conflicts}
-use Rattle.history.specs.declared.record.Rec.{Rec}
+use Rattle.events.specs.declared.record.Rec.{Rec}
 use Rattle.doc_check.specs.declared.search.DocAnswer.{DocAnswer}
 use Rattle.doc_check.specs.declared.search.DocAnswer.TheVariants.{Found, NotFound}
 use Rattle.check_pool.specs.declared.doc_job.DocJob.{DocJob}

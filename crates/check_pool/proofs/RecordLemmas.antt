@@ -1,4 +1,4 @@
--- What `==` tells of two records of calls.
+-- What `==` says of two records of calls.
 use Rattle.std.proofs.Common.{◌≡◌, ℕ, Bool, true, false, Option, None, Some, refl, ap, nat_eq}
 use mathlib.Core.Bool.{beq}
 use Rattle.std.specs.Prelude.{◌&&◌}
@@ -13,8 +13,8 @@ use Rattle.doc_register.specs.contracts.op.OpPartialEq.TheImpl as op_test
 use Rattle.doc_register.specs.declared.reply.Reply.{Reply}
 use Rattle.doc_register.specs.declared.reply.Reply.TheVariants.{Indexed, Deleted, Found, Missing, Conflict}
 use Rattle.doc_register.specs.contracts.reply.ReplyPartialEq.TheImpl as reply_test
-use Rattle.history.specs.declared.record.Rec.{Rec}
-use Rattle.history.specs.contracts.record.RecPartialEq.TheImpl as rec_test
+use Rattle.events.specs.declared.record.Rec.{Rec}
+use Rattle.events.specs.contracts.record.RecPartialEq.TheImpl as rec_test
 
 bool_decides : (a b : Bool) → Decides (beq a b) (a ≡ b)
 bool_decides true true = (λ _. refl, λ _. refl)

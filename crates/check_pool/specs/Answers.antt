@@ -1,7 +1,7 @@
 -- What the search for a job answers, and what the answers of a list of jobs are.
 use Rattle.std.specs.Prelude.{◌≡◌, ℕ, List, Some, length, slice_get}
 use Rattle.doc_register.specs.declared.state.Conflicts.{Conflicts}
-use Rattle.history.specs.declared.record.Rec.{Rec}
+use Rattle.events.specs.declared.record.Rec.{Rec}
 use Rattle.doc_check.specs.Search.{FindsUnpaired, FollowsReplies, IsAbout}
 use Rattle.doc_check.specs.declared.search.DocAnswer.{DocAnswer}
 use Rattle.check_pool.specs.declared.doc_job.DocJob.{DocJob}

@@ -1,5 +1,5 @@
 use doc_register::Conflicts;
-use history::{Rec, Seen};
+use events::{Rec, Seen};
 use version_pair::DocId;
 
 /// The search for one document.

@@ -5,7 +5,7 @@ ghost use Rattle.check_pool.specs.aids.Messages.{IsAboutJob, IsSearched};
 use crate::doc_job::DocJob;
 use doc_check::{DocAnswer, answer};
 use doc_register::Conflicts;
-use history::Rec;
+use events::Rec;
 use std::alloc::Global;
 use std::marker::Model;
 use version_pair::{DocId, NoMemory};

@@ -5,40 +5,71 @@ use super::*;
 use crate::collector::collect;
 use crate::message::Message;
 use doc_check::DocAnswer;
-use doc_register::Conflicts;
-use history::read;
+use doc_register::{Conflicts, Op, Reply};
+use events::{Event, History};
 use std::alloc::Global;
 use std::process::Abort;
 use std::test::Fail;
+use version_pair::{DocId, Pair};
+
+// Adds a call of a document, and its reply.
+fn ask(alloc: Global, history: &mut History, id: &str, op: Op, reply: Reply) -> Result<(), Fail> {
+    let no = history.len() as u64;
+    let id = DocId::new(alloc, id)?;
+    history.push(Event::Call {
+        shard: 0,
+        no,
+        id,
+        op,
+    })?;
+    history.push(Event::Reply { no, reply })?;
+    Ok(())
+}
+
+// An index without a condition.
+fn index(k: u64) -> Op {
+    Op::Index { k, cond: None }
+}
+
+// The pair of term 1 with this number.
+fn pair(seq: u64) -> Result<Pair, Fail> {
+    Ok(Pair::new(1, seq).ok_or("a pair")?)
+}
+
+fn created(seq: u64) -> Result<Reply, Fail> {
+    Ok(Reply::Indexed {
+        pair: pair(seq)?,
+        created: true,
+    })
+}
 
 // Each of two documents is written once.
-const TWO_DOCUMENTS: &str = r#"{"e":"call","n":0,"id":"a","op":"index","k":1}
-{"e":"call","n":1,"id":"b","op":"index","k":2}
-{"e":"reply","n":1,"status":201,"body":{"_id":"b","result":"created","_seq_no":0,"_primary_term":1}}
-{"e":"reply","n":0,"status":201,"body":{"_id":"a","result":"created","_seq_no":1,"_primary_term":1}}
-"#;
+fn two_documents(alloc: Global) -> Result<History, Fail> {
+    let mut history = History::new(alloc);
+    ask(alloc, &mut history, "a", index(1), created(0)?)?;
+    ask(alloc, &mut history, "b", index(2), created(1)?)?;
+    Ok(history)
+}
 
 // Five documents. The third has no order: its write has no condition, and its reply is a conflict.
-const FIVE_DOCUMENTS: &str = r#"{"e":"call","n":0,"id":"a","op":"index","k":1}
-{"e":"reply","n":0,"status":201,"body":{"_id":"a","result":"created","_seq_no":0,"_primary_term":1}}
-{"e":"call","n":1,"id":"b","op":"get"}
-{"e":"reply","n":1,"status":404,"body":{"_id":"b","found":false}}
-{"e":"call","n":2,"id":"c","op":"index","k":2}
-{"e":"reply","n":2,"status":409,"body":{"error":{"type":"version_conflict_engine_exception"}}}
-{"e":"call","n":3,"id":"d","op":"create","k":3}
-{"e":"reply","n":3,"status":201,"body":{"_id":"d","result":"created","_seq_no":1,"_primary_term":1}}
-{"e":"call","n":4,"id":"e","op":"delete"}
-{"e":"reply","n":4,"status":404,"body":{"_id":"e","result":"not_found","_seq_no":2,"_primary_term":1}}
-"#;
+fn five_documents(alloc: Global) -> Result<History, Fail> {
+    let mut history = History::new(alloc);
+    let missing = Reply::Deleted {
+        pair: pair(2)?,
+        found: false,
+    };
+    ask(alloc, &mut history, "a", index(1), created(0)?)?;
+    ask(alloc, &mut history, "b", Op::Get, Reply::Missing)?;
+    ask(alloc, &mut history, "c", index(2), Reply::Conflict)?;
+    ask(alloc, &mut history, "d", Op::Create { k: 3 }, created(1)?)?;
+    ask(alloc, &mut history, "e", Op::Delete { cond: None }, missing)?;
+    Ok(history)
+}
 
-// A job for each document of the text.
-fn jobs_of(alloc: Global, text: &str) -> Result<Vec<DocJob>, Fail>
+// A job for each document of the history.
+fn jobs_of(alloc: Global, history: &History) -> Result<Vec<DocJob>, Fail>
     ensures { IfOk result (λ jobs. AreNumbered jobs.items) }
 {
-    let history = match read(alloc, text.as_bytes()) {
-        Ok(history) => history,
-        Err(fault) => Err(fault)?,
-    };
     let mut jobs = Vec::new(alloc);
     for doc in 0..history.docs() {
         jobs.push(DocJob {
@@ -64,16 +95,16 @@ fn shown(answer: &DocAnswer) -> (&str, bool) {
 fn assert_shown(rt: &impl Abort, answers: &[DocAnswer], wanted: &[(&str, bool)]) {
     assert_eq!(rt; answers.len(), wanted.len());
     for (answer, (id, found)) in answers.iter().zip(wanted) {
-        let told = shown(answer);
-        assert_eq!(rt; told.0, *id);
-        assert_eq!(rt; told.1, *found, "{id}");
+        let reported = shown(answer);
+        assert_eq!(rt; reported.0, *id);
+        assert_eq!(rt; reported.1, *found, "{id}");
     }
 }
 
 #[test]
 fn refused_messages(rt: HostRuntime) -> Result<(), Fail> {
     let alloc = rt.alloc();
-    let jobs = jobs_of(alloc, TWO_DOCUMENTS)?;
+    let jobs = jobs_of(alloc, &two_documents(alloc)?)?;
     assert_eq!(rt; jobs.len(), 2);
     let stranger = DocJob {
         doc: 0,
@@ -107,7 +138,7 @@ fn refused_messages(rt: HostRuntime) -> Result<(), Fail> {
 #[test]
 fn strangers(rt: HostRuntime) -> Result<(), Fail> {
     let alloc = rt.alloc();
-    let jobs = jobs_of(alloc, TWO_DOCUMENTS)?;
+    let jobs = jobs_of(alloc, &two_documents(alloc)?)?;
     assert_eq!(rt; jobs.len(), 2);
     for (doc, id, conflicts, wanted) in [
         (2, &jobs[0].id, Conflicts::Plain, PoolFault::Stranger(1)),
@@ -132,7 +163,7 @@ fn strangers(rt: HostRuntime) -> Result<(), Fail> {
 #[test]
 fn messages_in_another_order(rt: HostRuntime) -> Result<(), Fail> {
     let alloc = rt.alloc();
-    let jobs = jobs_of(alloc, TWO_DOCUMENTS)?;
+    let jobs = jobs_of(alloc, &two_documents(alloc)?)?;
     let mut messages = Vec::new(alloc);
     for job in jobs.iter().rev() {
         messages.push(Message::of(alloc, job)?)?;
@@ -150,11 +181,12 @@ fn numbers_of_workers(rt: HostRuntime) -> Result<(), Fail> {
         (16, None),
         (17, Some(PoolFault::TooMany)),
     ] {
-        let jobs = jobs_of(rt.alloc(), "")?;
-        let told = answers(&rt, rt.alloc(), jobs, workers, &NoGate);
-        assert_eq!(rt; told.err(), wanted);
+        let jobs = jobs_of(rt.alloc(), &History::new(rt.alloc()))?;
+        let reported = answers(&rt, rt.alloc(), jobs, workers, &NoGate);
+        assert_eq!(rt; reported.err(), wanted);
     }
-    let none = answers(&rt, rt.alloc(), jobs_of(rt.alloc(), "")?, 1, &NoGate)?;
+    let jobs = jobs_of(rt.alloc(), &History::new(rt.alloc()))?;
+    let none = answers(&rt, rt.alloc(), jobs, 1, &NoGate)?;
     assert_shown(&rt, &none, &[]);
     Ok(())
 }
@@ -162,7 +194,7 @@ fn numbers_of_workers(rt: HostRuntime) -> Result<(), Fail> {
 #[test]
 fn answers_in_order(rt: HostRuntime) -> Result<(), Fail> {
     for workers in [1, 2, 3, 5, 16] {
-        let jobs = jobs_of(rt.alloc(), FIVE_DOCUMENTS)?;
+        let jobs = jobs_of(rt.alloc(), &five_documents(rt.alloc())?)?;
         let found = answers(&rt, rt.alloc(), jobs, workers, &NoGate)?;
         assert_shown(
             &rt,

@@ -6,10 +6,10 @@ use crate::limit::Limit;
 use crate::rules::link::Link;
 use crate::rules::numbers::places_with_pairs;
 use doc_register::Conflicts;
-use history::{Rec, Seen};
+use events::{Rec, Seen};
+use places::Place;
 use std::alloc::Global;
 use version_pair::{NoMemory, Pair};
-use witness::Place;
 
 pub mod failed;
 pub mod inserted_pair;
@@ -48,12 +48,15 @@ struct Search<'a> {
     walk: Walk<'a>,
     choices: Vec<Choice>,
     failed: Failed,
+    // The latest of the replies that were the first left at some point.
+    furthest: Option<usize>,
 }
 
 impl Search<'_> {
     // Places the reads, and records the point if it can lead anywhere; otherwise goes back to the last one.
     fn arrive(&mut self) -> Result<(), NoMemory> {
         self.walk.place_reads()?;
+        self.furthest = self.furthest.max(self.walk.next_reply());
         if self.failed.has(self.walk.standing.key()) || is_lost(&mut self.walk) {
             self.go_back();
         } else {
@@ -108,6 +111,19 @@ impl Search<'_> {
         }
         Ok(Step::More)
     }
+
+    // Whether an order is found in that many steps.
+    fn run(&mut self, most: usize) -> Result<bool, NoMemory> {
+        self.arrive()?;
+        for _ in 0..most {
+            match self.step()? {
+                Step::Done => return Ok(true),
+                Step::More if self.walk.steps < most => {}
+                Step::More | Step::Stuck => return Ok(false),
+            }
+        }
+        Ok(false)
+    }
 }
 
 // The chain of the walk, and the stretch of each record that is not in it.
@@ -150,14 +166,17 @@ fn most_steps(records: usize, limits: &[Limit]) -> usize {
     }
 }
 
-// The chain of an order that the search finds, and the stretch of each record that is not in it.
+// The chain of an order that the search finds, and the stretch of each record that is not in it. If it finds
+// none, `stuck` is how far it came.
 fn found_chain(
     alloc: Global,
     records: &[Rec],
     conflicts: Conflicts,
     used: &[Pair],
     limits: &[Limit],
+    stuck: &mut Option<usize>,
 ) -> Result<Option<(Vec<Link>, Vec<Option<usize>>)>, NoMemory> {
+    *stuck = None;
     let Some(walk) = Walk::of(alloc, records, conflicts, used, limits)? else {
         return Ok(None);
     };
@@ -165,26 +184,21 @@ fn found_chain(
         walk,
         choices: Vec::with_capacity(alloc, records.len())?,
         failed: Failed::of(alloc, records.len())?,
+        furthest: None,
     };
-    search.arrive()?;
-    let most = most_steps(records.len(), limits);
-    for _ in 0..most {
-        match search.step()? {
-            Step::Done => {
-                // (The points to which it could have come back are given up before the chain is made.)
-                search.choices = Vec::new(alloc);
-                return Ok(Some(chain_and_stretches(alloc, &search.walk)?));
-            }
-            Step::More if search.walk.steps < most => {}
-            Step::More | Step::Stuck => return Ok(None),
-        }
+    if search.run(most_steps(records.len(), limits))? {
+        // (The points to which it could have come back are given up before the chain is made.)
+        search.choices = Vec::new(alloc);
+        return Ok(Some(chain_and_stretches(alloc, &search.walk)?));
     }
+    *stuck = search.furthest;
     Ok(None)
 }
 
 /// Returns an order that completes unanswered writes, by a search forward in time. It has room for an
 /// invented pair only if a number is left that none of the pairs in use has, and within the limits. Returns
-/// `None` if none is found in a number of steps in proportion to the records.
+/// `None` if none is found in a number of steps in proportion to the records; then `stuck` is how far it came:
+/// the latest reply such that all answered calls with an earlier reply had a position.
 ///
 /// The result is a guess that `DocWitness::check` must check.
 pub fn search_forward(
@@ -194,9 +208,10 @@ pub fn search_forward(
     conflicts: Conflicts,
     used: &[Pair],
     limits: &[Limit],
+    stuck: &mut Option<usize>,
 ) -> Result<Option<Vec<Place>>, NoMemory> {
     // (What the search keeps is given up before the places are made, so that memory has only one of the two.)
-    match found_chain(alloc, records, conflicts, used, limits)? {
+    match found_chain(alloc, records, conflicts, used, limits, stuck)? {
         Some((links, given)) => places_with_pairs(alloc, records, &links, &given, seen),
         None => Ok(None),
     }

@@ -70,7 +70,8 @@ impl Free<'_> {
         from.seq().saturating_add(following)
     }
 
-    /// Returns the least pair that is free from one pair on and below another of its term.
+    /// Returns the least pair that is free from one pair on and below another, which must be of the same
+    /// term; `None` if none is free.
     pub fn least(self, from: Pair, below: Pair) -> Option<Pair> {
         let seq = self.least_from(from);
         if seq < below.seq() {

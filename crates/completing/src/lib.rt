@@ -3,16 +3,16 @@
 //!
 //! ```text
 //! let places = complete_by_rules(alloc, &records, seen, conflicts)?; // Option<Vec<Place>>
-//! let places = search_forward(alloc, &records, seen, conflicts, &used, &limits)?;
+//! let places = search_forward(alloc, &records, seen, conflicts, &used, &limits, &mut stuck)?;
 //! ```
 #![tactic(auto)]
 
-mod earlier;
 mod forward;
 mod free;
 mod limit;
 mod near;
 mod rules;
+mod timed;
 
 pub use forward::search_forward;
 pub use free::{Free, Gap};

@@ -4,15 +4,16 @@ use version_pair::Pair;
 /// stretch ends above one pair, but not above another.
 #[derive(Clone, Copy, Debug, PartialEq, Eq)]
 pub struct Limit {
-    /// Stretches that end at this pair or below aren't bounded.
+    /// It applies to stretches that end above this pair ..
     pub lower: Pair,
-    /// Neither are those that end above this one.
+    /// .. and at this one or below.
     pub upper: Pair,
     /// The greatest number of writes that may be inserted.
     pub most: u64,
 }
 
-/// Returns the greatest number of writes that the limits allow in a stretch that ends at the pair.
+/// Returns the greatest number of writes that the limits allow in a stretch that ends at the pair; the
+/// greatest `u64` if no limit applies.
 pub fn most_before(limits: &[Limit], pair: Pair) -> u64 {
     let mut most = u64::MAX;
     for limit in limits {

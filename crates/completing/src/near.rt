@@ -15,7 +15,7 @@ impl HasPair for (Pair, usize) {
 // The number of entries on either side that are examined before the whole list is searched.
 const NEAR: usize = 16;
 
-// The first index from one on whose entry is not below the pair, if it is one of the next few.
+// The first index from `from` on whose entry is not below the pair, if it is one of the next few.
 fn place_above<T: HasPair>(entries: &[T], pair: Pair, from: usize) -> Option<usize> {
     let end = from.saturating_add(NEAR).min(entries.len());
     for at in from..end {
@@ -26,7 +26,8 @@ fn place_above<T: HasPair>(entries: &[T], pair: Pair, from: usize) -> Option<usi
     None
 }
 
-// The last index up to one with an entry below the pair before it, if it is one of the few before.
+// The greatest index up to `from` with an entry below the pair before it, or 0; `None` if it isn't one of the
+// last few.
 fn place_below<T: HasPair>(entries: &[T], pair: Pair, from: usize) -> Option<usize> {
     for back in 0..NEAR {
         let at = from.saturating_sub(back);

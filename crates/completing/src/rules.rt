@@ -4,14 +4,15 @@ use crate::rules::numbers::places_with_pairs;
 use crate::rules::refused::Refused;
 use crate::rules::round::{Round, next_round};
 use doc_register::Conflicts;
-use history::{Rec, Seen};
+use events::{Rec, Seen};
+use places::Place;
 use std::alloc::Global;
 use version_pair::{NoMemory, Pair};
-use witness::Place;
 
 pub mod asking;
 pub mod by_number;
 pub mod flags;
+pub mod incomplete;
 pub mod link;
 pub mod lost;
 pub mod named;
@@ -23,7 +24,6 @@ pub mod queue;
 pub mod refused;
 pub mod round;
 pub mod stand;
-pub mod unsettled;
 
 /// Returns an order that completes unanswered writes, by rules. First the pairs that are named get their
 /// writes. Then, in rounds, the flags that do not fit ask for writes, then the calls that find no stretch,

@@ -4,9 +4,9 @@ use Rattle.std.specs.Prelude.{fold, if◌then◌else◌}
 use Rattle.std.specs.Cmp.Lexicographic.{bytes_decides}
 use Rattle.doc_check.proofs.Lists.{Has}
 use Rattle.doc_register.specs.declared.op.Op.{Op}
-use Rattle.history.specs.declared.event.Event.{Event}
-use Rattle.history.specs.declared.event.Event.TheVariants.{Call, Reply, Lost}
-use Rattle.history.specs.Events.{IsCallAt, IsHistory, documents_of, is_same, with_document, with_event}
+use Rattle.events.specs.declared.event.Event.{Event}
+use Rattle.events.specs.declared.event.Event.TheVariants.{Call, Reply, Lost}
+use Rattle.events.specs.Events.{IsCallAt, IsHistory, documents_of, is_same, with_document, with_event}
 use Rattle.compose.specs.Covers.{IsOfShard}
 use Rattle.version_pair.proofs.ListLemmas.{none_is_not_some, same_some}
 

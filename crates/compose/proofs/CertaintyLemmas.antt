@@ -1,4 +1,4 @@
--- Settled histories by their events, and settled documents without an order.
+-- Complete histories by their events, and complete documents without an order.
 use Rattle.std.proofs.Common.{ℕ, ◌≡◌, ◌≢◌, ◌<◌, List, length, refl, sym, ap, subst, ◌∙◌, Bool, false, true≢false, Option, Some, None, option_map, slice_get}
 use Rattle.std.specs.Prelude.{◌↔◌, IfSome, IsTrue, position}
 use Rattle.evidence.specs.declared.refuted.Refuted.{Refuted}
@@ -11,59 +11,59 @@ use Rattle.doc_register.specs.declared.reply.Reply.{Reply as Answer}
 use Rattle.doc_register.specs.declared.reply.Reply.TheVariants.{Conflict}
 use Rattle.doc_register.specs.declared.state.Conflicts.{Conflicts}
 use Rattle.doc_register.specs.declared.state.Conflicts.TheVariants.{Maybe}
-use Rattle.history.specs.declared.event.Event.{Event}
-use Rattle.history.specs.declared.event.Event.TheVariants.{Call, Reply, Lost}
-use Rattle.history.specs.declared.record.Rec.{Rec}
+use Rattle.events.specs.declared.event.Event.{Event}
+use Rattle.events.specs.declared.event.Event.TheVariants.{Call, Reply, Lost}
+use Rattle.events.specs.declared.record.Rec.{Rec}
 use Rattle.doc_register.specs.declared.op.Op.{Op}
-use Rattle.history.specs.Events.{IsCallAt, IsHistory, IsReplyAt, documents_of, heard_of, is_call, is_same, place_of, records_of}
-use Rattle.history.proofs.HistoryLemmas.{call_passes}
+use Rattle.events.specs.Events.{IsCallAt, IsHistory, IsReplyAt, documents_of, heard_of, is_call, is_same, place_of, records_of}
+use Rattle.events.proofs.HistoryLemmas.{call_passes}
 use Rattle.version_pair.proofs.ListLemmas.{none_is_not_some, same_some}
 use Rattle.evidence.proofs.CallsByNumber.{call_none, call_there}
-use Rattle.history.specs.Heard.{IsTold}
-use Rattle.history.specs.Order.{IsLinearizable}
+use Rattle.events.specs.Heard.{ShowsOutcome}
+use Rattle.events.specs.Order.{IsLinearizable}
 use Rattle.evidence.proofs.HeardLemmas.{heard_is_reply, reply_is_heard}
 use Rattle.evidence.proofs.RuledOutLemmas.{document_there}
-use Rattle.doc_check.specs.NoOrders.{AreSettled, HasNoOrder, SettledHaveNone}
-use Rattle.witness.specs.Places.{AreValid}
+use Rattle.doc_check.specs.NoOrders.{AreAllComplete, HasNoOrder, CompleteHaveNone}
+use Rattle.places.specs.Places.{AreValid}
 use Rattle.compose.specs.Certainties.{IsDocumentOf, IsWithoutOrder, Says, SaysOfCall}
-use Rattle.compose.specs.Laws.{IsSettled}
+use Rattle.compose.specs.Laws.{IsComplete}
 use Rattle.compose.specs.Verdicts.{HasNoOrderFound}
 use Rattle.compose.proofs.ListedDocuments.{documents_apart}
 use Rattle.compose.proofs.VerifyLemmas.{document_found, document_none}
-use Rattle.compose.specs.aids.Settled.{IsSettledEvent}
+use Rattle.compose.specs.aids.Complete.{IsCompleteEvent}
 use Rattle.compose.proofs.Restriction.{orders_are_covers}
 
--- each event before the place is settled
-abbrev pub AreSettledBefore : Conflicts → List Event → ℕ → Type 0
-AreSettledBefore conflicts events place = (i : ℕ) (e : Event) → i < place → slice_get events i ≡ Some e → IsSettledEvent conflicts events e
+-- each event before the place is complete
+abbrev pub AreCompleteBefore : Conflicts → List Event → ℕ → Type 0
+AreCompleteBefore conflicts events place = (i : ℕ) (e : Event) → i < place → slice_get events i ≡ Some e → IsCompleteEvent conflicts events e
 
--- all events are settled: so is the history
-pub settled_by_events : (conflicts : Conflicts) (events : List Event) → IsHistory events → AreSettledBefore conflicts events (length events) → IsSettled conflicts events
-settled_by_events conflicts events history all i n h d op at write =
+-- all events are complete: so is the history
+pub complete_by_events : (conflicts : Conflicts) (events : List Event) → IsHistory events → AreCompleteBefore conflicts events (length events) → IsComplete conflicts events
+complete_by_events conflicts events history all i n h d op at write =
     of_heard (heard_of events n) refl (all i (Call h n d op) (slice_get_within events i (Call h n d op) at) at write) where
-      of_heard : (heard : Option (ℕ × Answer)) → heard_of events n ≡ heard → IsTold conflicts heard
+      of_heard : (heard : Option (ℕ × Answer)) → heard_of events n ≡ heard → ShowsOutcome conflicts heard
           → (k : ℕ) × (r : Answer) × IsReplyAt events k n r × (conflicts ≡ Maybe → r ≢ Conflict)
-      of_heard None is told = absurd told
-      of_heard (Some (k, r)) is told = (k, r, heard_is_reply events history i n h d op at k r is, told)
+      of_heard None is reported = absurd reported
+      of_heard (Some (k, r)) is reported = (k, r, heard_is_reply events history i n h d op at k r is, reported)
 
--- a settled history has settled events
-pub settled_events : (conflicts : Conflicts) (events : List Event) → IsHistory events → IsSettled conflicts events → (i : ℕ) (e : Event) → slice_get events i ≡ Some e → IsSettledEvent conflicts events e
-settled_events conflicts events history settled i (Call h n d op) at = λ write.
-    let reply = settled i n h d op at write in
-    subst (IsTold conflicts) (sym (reply_is_heard events history reply.0 n reply.1 reply.2)) reply.3
-settled_events conflicts events history settled i (Reply n r) at = tt
-settled_events conflicts events history settled i (Lost n) at = tt
+-- a complete history has complete events
+pub complete_events : (conflicts : Conflicts) (events : List Event) → IsHistory events → IsComplete conflicts events → (i : ℕ) (e : Event) → slice_get events i ≡ Some e → IsCompleteEvent conflicts events e
+complete_events conflicts events history complete i (Call h n d op) at = λ write.
+    let reply = complete i n h d op at write in
+    subst (ShowsOutcome conflicts) (sym (reply_is_heard events history reply.0 n reply.1 reply.2)) reply.3
+complete_events conflicts events history complete i (Reply n r) at = tt
+complete_events conflicts events history complete i (Lost n) at = tt
 
--- a document whose settled records have no order leaves its history without one
+-- a document whose complete records have no order leaves its history without one
 pub document_has_none : (conflicts : Conflicts) (events : List Event) (doc : ℕ) (records : List Rec) → IsHistory events
     → option_map (λ (d : List ℕ × ℕ). records_of events d.0) (slice_get (documents_of events) doc) ≡ Some records
-    → SettledHaveNone → AreSettled conflicts records → HasNoOrder conflicts records → ¬ IsLinearizable conflicts events
-document_has_none conflicts events doc records history is settled_have_none settled none (order, explains) =
+    → CompleteHaveNone → AreAllComplete conflicts records → HasNoOrder conflicts records → ¬ IsLinearizable conflicts events
+document_has_none conflicts events doc records history is complete_have_none complete none (order, explains) =
     let there = document_there events doc records is in
     let made = orders_are_covers conflicts events order history explains in
     let entry = made.1.complete doc there.document there.listed in
     let own : records_of events entry.1.doc ≡ records = ap (records_of events) entry.3 ∙ there.same in
-    settled_have_none conflicts records settled none entry.1.places
+    complete_have_none conflicts records complete none entry.1.places
     (subst (λ rs. AreValid conflicts rs entry.1.places) own (made.1.fine.valid entry.0 entry.1 entry.2))
 
 -- what is said of a history and of how conflicts are read is said of the same ones
@@ -105,23 +105,23 @@ no_document_of_call events n doc none is = call_none events n is.called is.shard
 
 -- ---- documents without an order
 
--- settled records without an order are those of a document without one
+-- complete records without an order are those of a document without one
 pub records_without_order : (conflicts : Conflicts) (events : List Event) (doc : ℕ) (records : List Rec)
     → option_map (λ (d : List ℕ × ℕ). records_of events d.0) (slice_get (documents_of events) doc) ≡ Some records
-    → AreSettled conflicts records → HasNoOrder conflicts records → IsWithoutOrder conflicts events doc
-records_without_order conflicts events doc records is settled none =
+    → AreAllComplete conflicts records → HasNoOrder conflicts records → IsWithoutOrder conflicts events doc
+records_without_order conflicts events doc records is complete none =
     let there = document_there events doc records is in
-    (there.document, there.listed, subst (AreSettled conflicts) (sym there.same) settled, subst (HasNoOrder conflicts) (sym there.same) none)
+    (there.document, there.listed, subst (AreAllComplete conflicts) (sym there.same) complete, subst (HasNoOrder conflicts) (sym there.same) none)
 
--- and the records of a document without one are settled and have none
+-- and the records of a document without one are complete and have none
 pub order_missing : (conflicts : Conflicts) (events : List Event) (doc : ℕ) (records : List Rec)
     → option_map (λ (d : List ℕ × ℕ). records_of events d.0) (slice_get (documents_of events) doc) ≡ Some records
-    → IsWithoutOrder conflicts events doc → AreSettled conflicts records × HasNoOrder conflicts records
+    → IsWithoutOrder conflicts events doc → AreAllComplete conflicts records × HasNoOrder conflicts records
 order_missing conflicts events doc records is without =
     let there = document_there events doc records is in
     let one : there.document ≡ without.0 = same_some there.document without.0 (sym there.listed ∙ without.1) in
     let same : records_of events without.0.0 ≡ records = ap (λ (d : List ℕ × ℕ). records_of events d.0) (sym one) ∙ there.same in
-    (subst (AreSettled conflicts) same without.2, subst (HasNoOrder conflicts) same without.3)
+    (subst (AreAllComplete conflicts) same without.2, subst (HasNoOrder conflicts) same without.3)
 
 -- the document of a call is one of the history's
 pub document_within : (events : List Event) (n doc : ℕ) → IsDocumentOf events n doc → doc < length (documents_of events)
@@ -150,14 +150,14 @@ says_without r conflicts events same found n said one other none says =
 
 -- all that is said but `Undecided` leaves the history without an order
 pub said_is_proved : (conflicts : Conflicts) (events : List Event) (found : Option Refuted) (n : ℕ) (said : Certainty) → IsHistory events → HasNoOrderFound conflicts events
-    → EvidenceRefutes → SettledHaveNone → IfSome found (Holds conflicts events) → Says conflicts events found n said → said ≢ certainty.Undecided → ¬ IsLinearizable conflicts events
-said_is_proved conflicts events (Some evidence) n said history none refutes settled_have_none holds says decided = refutes conflicts events evidence history holds
-said_is_proved conflicts events None n certainty.Evident history none refutes settled_have_none holds says decided = absurd says
-said_is_proved conflicts events None n certainty.ToldRuledOut history none refutes settled_have_none holds says decided = absurd says
-said_is_proved conflicts events None n certainty.RuledOut history none refutes settled_have_none holds says decided =
+    → EvidenceRefutes → CompleteHaveNone → IfSome found (Holds conflicts events) → Says conflicts events found n said → said ≢ certainty.Undecided → ¬ IsLinearizable conflicts events
+said_is_proved conflicts events (Some evidence) n said history none refutes complete_have_none holds says decided = refutes conflicts events evidence history holds
+said_is_proved conflicts events None n certainty.Evident history none refutes complete_have_none holds says decided = absurd says
+said_is_proved conflicts events None n certainty.ReportedRuledOut history none refutes complete_have_none holds says decided = absurd says
+said_is_proved conflicts events None n certainty.RuledOut history none refutes complete_have_none holds says decided =
     refutes conflicts events (RuledOut says.2.0) history says.2.1
-said_is_proved conflicts events None n certainty.Answered history none refutes settled_have_none holds says decided = none.settled says.1
-said_is_proved conflicts events None n certainty.DocumentAnswered history none refutes settled_have_none holds says decided =
+said_is_proved conflicts events None n certainty.Answered history none refutes complete_have_none holds says decided = none.complete says.1
+said_is_proved conflicts events None n certainty.DocumentAnswered history none refutes complete_have_none holds says decided =
     let without = says.2.2 in
-    document_has_none conflicts events says.2.0 (records_of events without.0.0) history (ap (option_map (λ (d : List ℕ × ℕ). records_of events d.0)) without.1) settled_have_none without.2 without.3
-said_is_proved conflicts events None n certainty.Undecided history none refutes settled_have_none holds says decided = absurd (decided refl)
+    document_has_none conflicts events says.2.0 (records_of events without.0.0) history (ap (option_map (λ (d : List ℕ × ℕ). records_of events d.0)) without.1) complete_have_none without.2 without.3
+said_is_proved conflicts events None n certainty.Undecided history none refutes complete_have_none holds says decided = absurd (decided refl)

@@ -3,15 +3,14 @@ use Rattle.std.proofs.Common.{ℕ, ◌≡◌, ◌<◌, ◌≤◌, List, length, 
 use Rattle.std.proofs.lemmas.List.{length-map}
 use Rattle.std.proofs.lemmas.Option.{slice_get_within}
 use Rattle.doc_register.specs.declared.state.Conflicts.{Conflicts}
-use Rattle.history.specs.declared.event.Event.{Event}
-use Rattle.history.specs.declared.event.Event.TheVariants.{Call}
-use Rattle.history.specs.Events.{IsHistory, is_any_call}
-use Rattle.history.specs.Order.{Explains, IsOfCall, Placed}
-use Rattle.history.proofs.CountLemmas.{AreOnce, distinct_within}
-use Rattle.history.proofs.HistoryLemmas.{call_at}
-use Rattle.witness.specs.Documents.{witness_places}
-use Rattle.witness.specs.Text.{DocPlaces}
-use Rattle.witness.specs.Witness.{Witness}
+use Rattle.events.specs.declared.event.Event.{Event}
+use Rattle.events.specs.declared.event.Event.TheVariants.{Call}
+use Rattle.events.specs.Events.{IsHistory, is_any_call}
+use Rattle.events.specs.Order.{Explains, IsOfCall, Placed}
+use Rattle.events.proofs.CountLemmas.{AreOnce, distinct_within}
+use Rattle.events.proofs.HistoryLemmas.{call_at}
+use Rattle.places.specs.Documents.{DocPlaces, witness_places}
+use Rattle.places.specs.Witness.{Witness}
 use Rattle.compose.specs.Counts.{calls_of}
 use Rattle.compose.specs.Covers.{AreCover}
 use Rattle.compose.specs.Laws.{places_in}

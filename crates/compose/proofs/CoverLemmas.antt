@@ -1,4 +1,4 @@
--- Entries whose places tell of an order that explains the history, restricted to each document, are a cover.
+-- Entries whose places say of an order that explains the history, restricted to each document, are a cover.
 use Rattle.std.proofs.Common.{ℕ, ◌≡◌, List, map, refl, sym, ap, subst, ◌∙◌, Option, Some, None, slice_get}
 use Rattle.std.specs.Prelude.{option_and_then}
 use Rattle.version_pair.specs.declared.pair.Pair.{Pair}
@@ -7,19 +7,19 @@ use Rattle.doc_register.specs.declared.state.Conflicts.{Conflicts}
 use Rattle.doc_register.specs.Run.{Entry, pair_taken, taken, taken_at}
 use Rattle.doc_register.proofs.RunLemmas.{taken_of}
 use Rattle.doc_register.proofs.RunLaws.{no_pair_twice}
-use Rattle.history.specs.declared.event.Event.{Event}
-use Rattle.history.specs.declared.event.Event.TheVariants.{Call}
-use Rattle.history.specs.declared.record.Rec.{Rec}
-use Rattle.history.specs.Events.{IsHistory, documents_of, records_of}
-use Rattle.history.specs.Order.{Explains, IsOfCall, Placed, run_of}
+use Rattle.events.specs.declared.event.Event.{Event}
+use Rattle.events.specs.declared.event.Event.TheVariants.{Call}
+use Rattle.events.specs.declared.record.Rec.{Rec}
+use Rattle.events.specs.Events.{IsHistory, documents_of, records_of}
+use Rattle.events.specs.Order.{Explains, IsOfCall, Placed, run_of}
 use Rattle.version_pair.proofs.ListLemmas.{mapped_from, same_some}
-use Rattle.witness.specs.declared.place.Place.{Place}
-use Rattle.witness.specs.Places.{AreValid}
-use Rattle.witness.specs.Laws.{ArePlacedBy, TellsOf}
-use Rattle.witness.specs.Text.{DocPlaces}
-use Rattle.witness.proofs.DocumentLaws.{places_are_orders, tells_of}
+use Rattle.places.specs.declared.place.Place.{Place}
+use Rattle.places.specs.Places.{AreValid}
+use Rattle.places.specs.Laws.{ArePlacedBy, SaysOfEntry}
+use Rattle.places.specs.Documents.{DocPlaces}
+use Rattle.places.proofs.DocumentLaws.{places_are_orders, reports_of}
 use Rattle.compose.specs.Covers.{AreCover, ArePairsDistinct, IsEntered, IsTakenAt}
-use Rattle.history.specs.Heard.{taken_by}
+use Rattle.events.specs.Heard.{taken_by}
 use Rattle.compose.specs.Laws.{restricted}
 use Rattle.ruled_out.proofs.OrderedSteps.{mapped_at}
 use Rattle.compose.proofs.CalledDocuments.{shard_of_call}
@@ -29,13 +29,13 @@ use Rattle.compose.proofs.RestrictedOrders.{restricted_change, restricted_explai
 -- ---- places and what stands in the order
 
 -- the pair that a place takes is the one that its call takes
-told_pair : (heard : Option (ℕ × Answer)) (pair : Option Pair) (e : Entry) → TellsOf heard pair e → pair_taken e.reply e.hidden ≡ taken_by heard pair
-told_pair None pair e tells = tells.1
-told_pair (Some x) pair e tells = ap (λ r. pair_taken r e.hidden) tells.0 ∙ ap (λ h. pair_taken x.1 h) tells.1
+reported_pair : (heard : Option (ℕ × Answer)) (pair : Option Pair) (e : Entry) → SaysOfEntry heard pair e → pair_taken e.reply e.hidden ≡ taken_by heard pair
+reported_pair None pair e reports = reports.1
+reported_pair (Some x) pair e reports = ap (λ r. pair_taken r e.hidden) reports.0 ∙ ap (λ h. pair_taken x.1 h) reports.1
 
 -- ---- the entries
 
--- the places are valid for the document, and tell of the order restricted to it
+-- the places are valid for the document, and say of the order restricted to it
 abbrev HasPlaces : Conflicts → List Event → List Placed → List ℕ → List Place → Type 0
 HasPlaces conflicts events order d places = AreValid conflicts (records_of events d) places × ArePlacedBy (records_of events d) places (restricted events d order)
 
@@ -96,19 +96,19 @@ taken_in : (conflicts : Conflicts) (events : List Event) (order : List Placed) (
     → (i j h : ℕ) (q : Pair) (t : IsTakenAt events entries i j h q) → (k : ℕ) × (p : Placed) × IsTakenIn events order t.entry j (h, q) k p
 taken_in conflicts events order entries history explains are i j h q t =
     let d = t.entry.doc in
-    let told = tells_of (records_of events d) t.entry.places (restricted events d order) j t.place (are.placed i t.entry t.entered) t.placed in
-    let p : Placed = told.0 in
-    let s = restricted_from events d order j p told.1 in
+    let reported = reports_of (records_of events d) t.entry.places (restricted events d order) j t.place (are.placed i t.entry t.entered) t.placed in
+    let p : Placed = reported.0 in
+    let s = restricted_from events d order j p reported.1 in
     let of : IsOfCall events p = explains.is_order.calls s.0 p s.1.at in
-    let one : told.2.named ≡ t.called = same_some told.2.named t.called (sym told.2.names ∙ t.names) in
+    let one : reported.2.named ≡ t.called = same_some reported.2.named t.called (sym reported.2.names ∙ t.names) in
     let pair : pair_taken p.entry.reply p.entry.hidden ≡ Some q =
-    told_pair told.2.named.heard t.place.pair p.entry told.2.tells ∙ (ap (λ (r : Rec). taken_by r.heard t.place.pair) one ∙ t.takes) in
+    reported_pair reported.2.named.heard t.place.pair p.entry reported.2.reports ∙ (ap (λ (r : Rec). taken_by r.heard t.place.pair) one ∙ t.takes) in
     let shard : p.entry.shard ≡ h = shard_of_call events history of.0 p.no p.entry.shard h d p.entry.op
     (subst (λ c. slice_get events of.0 ≡ Some (Call p.entry.shard p.no c p.entry.op)) s.1.own of.1) t.shard in (
       s.0,
       p,
       record {
-        place = told.1;
+        place = reported.1;
         at = s.1.at;
         own = s.1.own;
         takes = ap (option_and_then taken) (mapped_at (λ (x : Placed). x.entry) order s.0 p s.1.at) ∙ (taken_of p.entry (Some q) pair ∙ ap (λ g. Some (g, q)) shard);

@@ -7,13 +7,13 @@ use Rattle.std.proofs.Math.Numerals.{add-one}
 use Rattle.std.proofs.lemmas.Bool.{false≢true}
 use Rattle.version_pair.specs.declared.pair.Pair.{Pair}
 use Rattle.doc_register.specs.declared.state.Conflicts.{Conflicts}
-use Rattle.history.specs.declared.event.Event.{Event}
-use Rattle.history.specs.declared.record.Rec.{Rec}
-use Rattle.history.specs.Events.{documents_of, records_of}
+use Rattle.events.specs.declared.event.Event.{Event}
+use Rattle.events.specs.declared.record.Rec.{Rec}
+use Rattle.events.specs.Events.{documents_of, records_of}
 use Rattle.version_pair.proofs.ListLemmas.{get_within, none_is_not_some, same_some, take_one_more}
-use Rattle.witness.specs.Documents.{witness_places}
-use Rattle.witness.specs.Places.{AreValid}
-use Rattle.witness.specs.Witness.{Witness}
+use Rattle.places.specs.Documents.{witness_places}
+use Rattle.places.specs.Places.{AreValid}
+use Rattle.places.specs.Witness.{Witness}
 use Rattle.doc_check.specs.Search.{FindsUnpaired, IsAbout}
 use Rattle.doc_check.specs.declared.search.DocAnswer.{DocAnswer}
 use Rattle.doc_check.specs.declared.search.DocAnswer.TheVariants.{Found, NotFound}

@@ -6,14 +6,14 @@ use Rattle.std.proofs.lemmas.List.Elements.{filter-append}
 use Rattle.doc_check.proofs.Lists.{Has}
 use Rattle.doc_register.proofs.RunLemmas.{other_id}
 use Rattle.doc_register.specs.declared.state.Conflicts.{Conflicts}
-use Rattle.history.specs.declared.event.Event.{Event}
-use Rattle.history.specs.Events.{IsHistory, records_of}
+use Rattle.events.specs.declared.event.Event.{Event}
+use Rattle.events.specs.Events.{IsHistory, records_of}
 use Rattle.version_pair.proofs.ListLemmas.{none_is_not_some, same_some}
-use Rattle.witness.specs.Laws.{ArePlacedBy, ExplainsDocument}
-use Rattle.witness.specs.Places.{AreValid}
-use Rattle.witness.specs.Text.{DocPlaces}
-use Rattle.witness.proofs.DocumentLaws.{places_are_orders}
-use Rattle.witness.proofs.PlaceLemmas.{placed_length}
+use Rattle.places.specs.Laws.{ArePlacedBy, ExplainsDocument}
+use Rattle.places.specs.Places.{AreValid}
+use Rattle.places.specs.Documents.{DocPlaces}
+use Rattle.places.proofs.DocumentLaws.{places_are_orders}
+use Rattle.places.proofs.PlaceLemmas.{placed_length}
 use Rattle.compose.specs.Covers.{IsEntered}
 use Rattle.compose.specs.Laws.{places_in}
 use Rattle.compose.proofs.Filtering.{filter_all, filter_none, in_either}
@@ -22,7 +22,7 @@ use Rattle.compose.proofs.Sorting.{IsRising, sort, sort_filter, sort_length, sor
 
 -- ---- one entry
 
--- The calls are an order of the entry's document, placed as the entry tells, each with its point.
+-- The calls are an order of the entry's document, placed as the entry says, each with its point.
 pub record IsPartOf (conflicts : Conflicts) (events : List Event) (e : DocPlaces) (ks : List Pointed) : Type 0 where
   pub explains : ExplainsDocument conflicts events e.doc (placed_of ks)
   pub placed : ArePlacedBy (records_of events e.doc) e.places (placed_of ks)

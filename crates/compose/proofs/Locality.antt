@@ -6,14 +6,14 @@ use Rattle.doc_register.specs.declared.reply.Reply.{Reply as Answer}
 use Rattle.doc_register.specs.declared.state.Conflicts.{Conflicts}
 use Rattle.doc_register.specs.declared.state.Conflicts.TheVariants.{Plain}
 use Rattle.doc_register.proofs.RunLaws.{locality}
-use Rattle.history.specs.declared.event.Event.{Event}
-use Rattle.history.specs.declared.event.Event.TheVariants.{Call}
-use Rattle.history.specs.Events.{IsCallAt, IsHistory, IsReplyAt, PassesAt, Precedes, is_call, records_of}
-use Rattle.history.specs.Order.{Explains, IsOfCall, Placed, run_of}
-use Rattle.history.proofs.HistoryLemmas.{answered_call, call_passes}
+use Rattle.events.specs.declared.event.Event.{Event}
+use Rattle.events.specs.declared.event.Event.TheVariants.{Call}
+use Rattle.events.specs.Events.{IsCallAt, IsHistory, IsReplyAt, PassesAt, Precedes, is_call, records_of}
+use Rattle.events.specs.Order.{Explains, IsOfCall, Placed, run_of}
+use Rattle.events.proofs.HistoryLemmas.{answered_call, call_passes}
 use Rattle.version_pair.proofs.ListLemmas.{same_some}
-use Rattle.witness.specs.Laws.{ArePlacedBy}
-use Rattle.witness.specs.Text.{DocPlaces}
+use Rattle.places.specs.Laws.{ArePlacedBy}
+use Rattle.places.specs.Documents.{DocPlaces}
 use Rattle.compose.specs.Covers.{AreCover, IsEntered}
 use Rattle.compose.specs.Laws.{CoversExplain, IsOrderOf}
 use Rattle.compose.proofs.CalledDocuments.{call_document}

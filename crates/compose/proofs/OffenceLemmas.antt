@@ -1,14 +1,14 @@
--- The replies of a history, and where its events are plainly right.
+-- The replies of a history, and where its events are legal in response order.
 use Rattle.std.proofs.Common.{ℕ, ◌≡◌, ◌<◌, ◌≤◌, ◌+◌, ◌-◌, ◌++◌, List, [], ◌∷◌, length, refl, sym, ap, subst, ◌∙◌, inl, inr, arith, Some, slice_get}
 use Rattle.std.proofs.lemmas.Bool.{cases_lt}
 use Rattle.std.proofs.lemmas.Option.{slice_get_within}
 use Rattle.doc_register.specs.declared.reply.Reply.{Reply as Answer}
 use Rattle.doc_register.specs.Run.{start}
-use Rattle.history.specs.declared.event.Event.{Event}
-use Rattle.history.specs.declared.event.Event.TheVariants.{Call, Reply, Lost}
-use Rattle.history.specs.Events.{IsHistory, IsReplyAt, prefix}
-use Rattle.history.specs.Order.{IsPlainlyRight}
-use Rattle.history.specs.Laws.{LateCallsChangeNothing}
+use Rattle.events.specs.declared.event.Event.{Event}
+use Rattle.events.specs.declared.event.Event.TheVariants.{Call, Reply, Lost}
+use Rattle.events.specs.Events.{IsHistory, IsReplyAt, prefix}
+use Rattle.events.specs.Order.{IsLegalInResponseOrder}
+use Rattle.events.specs.Laws.{LateCallsChangeNothing}
 use Rattle.version_pair.proofs.ListLemmas.{get_front, get_snoc, none_is_not_some}
 use Rattle.compose.specs.aids.Replies.{AreReplies, IsReplyPlace, IsWrongFrom, places_with}
 
@@ -60,8 +60,8 @@ next_event events n places (Call h m d op) are at = passed_over events n places 
 next_event events n places (Reply m r) are at = one_more_reply events n places are (m, r, at)
 next_event events n places (Lost m) are at = passed_over events n places are (λ (k, r, is). let other : Some (Lost m) ≡ Some (Reply k r) = sym at ∙ is in absurd (cc))
 
--- where a history is not plainly right its events up to its last reply are not
-pub wrong_from_last : (events : List Event) (places : List ℕ) → LateCallsChangeNothing → IsHistory events → AreReplies events (length events) places → (IsPlainlyRight events → ⊥)
+-- where a history is not legal in response order its events up to its last reply are not
+pub wrong_from_last : (events : List Event) (places : List ℕ) → LateCallsChangeNothing → IsHistory events → AreReplies events (length events) places → (IsLegalInResponseOrder events → ⊥)
     → IsWrongFrom events places (length places - 1)
 wrong_from_last events places late history are wrong p at right =
     wrong (late events (p + 1) history early right) where
@@ -73,11 +73,11 @@ wrong_from_last events places late history are wrong p at right =
           omega arith
 
 -- and it has one
-pub some_reply : (events : List Event) (places : List ℕ) → LateCallsChangeNothing → IsHistory events → AreReplies events (length events) places → (IsPlainlyRight events → ⊥) → 0 < length places
+pub some_reply : (events : List Event) (places : List ℕ) → LateCallsChangeNothing → IsHistory events → AreReplies events (length events) places → (IsLegalInResponseOrder events → ⊥) → 0 < length places
 some_reply events (p ∷ places) late history are wrong = omega arith
 some_reply events [] late history are wrong = absurd (wrong (late events 0 history none nothing)) where
   none : (k m : ℕ) (r : Answer) → IsReplyAt events k m r → k < 0
   none k m r reply = let a = are.all k (slice_get_within events k _ reply) (m, r, reply) in absurd (none_is_not_some k a.1)
 
-  nothing : IsPlainlyRight (prefix events 0)
+  nothing : IsLegalInResponseOrder (prefix events 0)
   nothing = (start, refl)

@@ -4,10 +4,10 @@ use Rattle.std.specs.Prelude.{filter, option_map}
 use Rattle.std.proofs.lemmas.Bool.{cases_lt, true≢false}
 use Rattle.std.proofs.lemmas.Option.{slice_get-map}
 use Rattle.doc_register.specs.Run.{part_of}
-use Rattle.history.specs.declared.event.Event.{Event}
-use Rattle.history.specs.Events.{PassesAt, is_call, is_same}
-use Rattle.history.specs.Order.{IsOfCall, Placed, run_of}
-use Rattle.history.proofs.HistoryLemmas.{call_passes}
+use Rattle.events.specs.declared.event.Event.{Event}
+use Rattle.events.specs.Events.{PassesAt, is_call, is_same}
+use Rattle.events.specs.Order.{IsOfCall, Placed, run_of}
+use Rattle.events.proofs.HistoryLemmas.{call_passes}
 use Rattle.version_pair.proofs.ListLemmas.{none_is_not_some, same_some}
 use Rattle.compose.specs.Laws.{part_of_order}
 use Rattle.compose.proofs.Filtering.{filter_made, part_from}

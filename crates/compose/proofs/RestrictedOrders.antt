@@ -15,17 +15,17 @@ use Rattle.doc_register.specs.Register.{DocStep}
 use Rattle.doc_register.specs.Run.{Entry, IsDocRun, IsLegalRun, pair_taken, part_of}
 use Rattle.doc_register.proofs.RunLemmas.{IsKind, legal_of_one, step_kind}
 use Rattle.doc_register.proofs.RunLaws.{locality}
-use Rattle.history.specs.declared.event.Event.{Event}
-use Rattle.history.specs.Events.{IsCallAt, IsHistory, IsReplyAt, PassesAt, heard_of, is_call, is_same}
-use Rattle.history.specs.Order.{Explains, IsOfCall, Placed, Respects, run_of}
-use Rattle.history.proofs.HistoryLemmas.{call_passes}
+use Rattle.events.specs.declared.event.Event.{Event}
+use Rattle.events.specs.Events.{IsCallAt, IsHistory, IsReplyAt, PassesAt, heard_of, is_call, is_same}
+use Rattle.events.specs.Order.{Explains, IsOfCall, Placed, Respects, run_of}
+use Rattle.events.proofs.HistoryLemmas.{call_passes}
 use Rattle.version_pair.proofs.ListLemmas.{compare, mapped_from, none_is_not_some, same_some}
-use Rattle.witness.specs.Laws.{AllChange, ExplainsDocument}
+use Rattle.places.specs.Laws.{AllChange, ExplainsDocument}
 use Rattle.compose.specs.Laws.{is_kept, part_of_order, restricted}
 use Rattle.evidence.proofs.FilterLemmas.{kept_from, kept_order}
 use Rattle.compose.proofs.Filtering.{place_kept}
 use Rattle.evidence.proofs.HeardLemmas.{heard_is_reply, reply_is_heard}
-use Rattle.history.proofs.EventLemmas.{same_call}
+use Rattle.events.proofs.EventLemmas.{same_call}
 
 -- ---- places in the restricted order
 

@@ -4,17 +4,16 @@ use Rattle.std.proofs.lemmas.Bool.{cases_eq}
 use Rattle.version_pair.specs.declared.pair.Pair.{Pair}
 use Rattle.doc_register.specs.declared.reply.Reply.{Reply as Answer}
 use Rattle.doc_register.specs.declared.state.Conflicts.{Conflicts}
-use Rattle.history.specs.declared.event.Event.{Event}
-use Rattle.history.specs.Events.{documents_of, records_of}
+use Rattle.events.specs.declared.event.Event.{Event}
+use Rattle.events.specs.Events.{documents_of, records_of}
 use Rattle.version_pair.proofs.ListLemmas.{mapped_from, none_is_not_some, same_some}
-use Rattle.witness.specs.declared.place.Place.{Place}
-use Rattle.witness.specs.Documents.{witness_places}
-use Rattle.witness.specs.Places.{AreValid}
-use Rattle.witness.specs.Text.{DocPlaces}
-use Rattle.witness.specs.Witness.{Witness}
+use Rattle.places.specs.declared.place.Place.{Place}
+use Rattle.places.specs.Documents.{DocPlaces, witness_places}
+use Rattle.places.specs.Places.{AreValid}
+use Rattle.places.specs.Witness.{Witness}
 use Rattle.doc_check.specs.NoOrders.{AreUnpaired, HasNoOrder}
 use Rattle.compose.specs.Covers.{AreAllUnpaired, AreCover, HasNoUnpairedCover, IsOfShard, IsTakenAt}
-use Rattle.history.specs.Heard.{taken_by}
+use Rattle.events.specs.Heard.{taken_by}
 use Rattle.compose.specs.VerifyFaults.{IsTakenTwice}
 use Rattle.compose.specs.Verdicts.{AreWitnesses}
 use Rattle.compose.specs.aids.Searched.{AreSearched, IsSearched}

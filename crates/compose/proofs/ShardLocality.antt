@@ -5,10 +5,10 @@ use Rattle.doc_register.specs.declared.reply.Reply.{Reply as Answer}
 use Rattle.doc_register.specs.declared.state.Conflicts.{Conflicts}
 use Rattle.doc_register.specs.declared.state.Conflicts.TheVariants.{Plain}
 use Rattle.doc_register.specs.Run.{Entry, IsLegalRun}
-use Rattle.history.specs.declared.event.Event.{Event}
-use Rattle.history.specs.Events.{IsCallAt, IsHistory, IsReplyAt, PassesAt, Precedes, is_call}
-use Rattle.history.specs.Order.{Explains, IsOfCall, Placed, run_of}
-use Rattle.history.proofs.HistoryLemmas.{answered_call, call_passes}
+use Rattle.events.specs.declared.event.Event.{Event}
+use Rattle.events.specs.Events.{IsCallAt, IsHistory, IsReplyAt, PassesAt, Precedes, is_call}
+use Rattle.events.specs.Order.{Explains, IsOfCall, Placed, run_of}
+use Rattle.events.proofs.HistoryLemmas.{answered_call, call_passes}
 use Rattle.compose.specs.Shards.{LocalByShard, part_of_shard}
 use Rattle.evidence.proofs.CallsByNumber.{same_shard}
 use Rattle.compose.proofs.Filtering.{filter_made, rank, rank_at, rank_once}

@@ -6,8 +6,8 @@ use Rattle.std.proofs.lemmas.List.{append-nil}
 use Rattle.std.proofs.lemmas.List.Elements.{filter-append}
 use Rattle.doc_check.proofs.Lists.{Has}
 use Rattle.doc_register.specs.declared.state.Conflicts.{Conflicts}
-use Rattle.history.specs.declared.event.Event.{Event}
-use Rattle.history.specs.Order.{Explains, IsLinearizable}
+use Rattle.events.specs.declared.event.Event.{Event}
+use Rattle.events.specs.Order.{Explains, IsLinearizable}
 use Rattle.version_pair.proofs.ListLemmas.{none_is_not_some}
 use Rattle.compose.specs.Shards.{part_of_shard}
 use Rattle.compose.proofs.Filtering.{filter_all, filter_none, in_either}

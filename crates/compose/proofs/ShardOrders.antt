@@ -5,9 +5,9 @@ use Rattle.std.proofs.lemmas.Bool.{eq-eqb, eqb-true}
 use Rattle.doc_register.specs.declared.reply.Reply.{Reply as Answer}
 use Rattle.doc_register.specs.declared.state.Conflicts.{Conflicts}
 use Rattle.doc_register.specs.Run.{Entry, IsLegalRun}
-use Rattle.history.specs.declared.event.Event.{Event}
-use Rattle.history.specs.Events.{IsCallAt, IsHistory, IsReplyAt, Precedes}
-use Rattle.history.specs.Order.{Explains, IsOfCall, Placed, run_of}
+use Rattle.events.specs.declared.event.Event.{Event}
+use Rattle.events.specs.Events.{IsCallAt, IsHistory, IsReplyAt, Precedes}
+use Rattle.events.specs.Order.{Explains, IsOfCall, Placed, run_of}
 use Rattle.version_pair.proofs.ListLemmas.{compare, mapped_from}
 use Rattle.compose.specs.Shards.{concerns, part_of_shard}
 use Rattle.evidence.proofs.FilterLemmas.{kept_order}

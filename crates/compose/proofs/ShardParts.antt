@@ -6,16 +6,16 @@ use Rattle.std.proofs.lemmas.Bool.{eq-eqb, eqb-true, false≢true}
 use Rattle.std.proofs.lemmas.Map.Keys.{any_passes_from_place}
 use Rattle.doc_register.specs.declared.op.Op.{Op}
 use Rattle.doc_register.specs.declared.reply.Reply.{Reply as Answer}
-use Rattle.history.specs.declared.event.Event.{Event}
-use Rattle.history.specs.declared.event.Event.TheVariants.{Call, Reply, Lost}
-use Rattle.history.specs.Events.{IsCallAt, IsHistory, IsReplyAt, PassesAt, Precedes, is_call, is_ending}
-use Rattle.history.proofs.HistoryLemmas.{call_at, call_passes, reply_passes}
+use Rattle.events.specs.declared.event.Event.{Event}
+use Rattle.events.specs.declared.event.Event.TheVariants.{Call, Reply, Lost}
+use Rattle.events.specs.Events.{IsCallAt, IsHistory, IsReplyAt, PassesAt, Precedes, is_call, is_ending}
+use Rattle.events.proofs.HistoryLemmas.{call_at, call_passes, reply_passes}
 use Rattle.version_pair.proofs.ListLemmas.{compare}
 use Rattle.compose.specs.Shards.{IsSplitByShard, concerns, is_call_on, part_of_shard}
 use Rattle.evidence.proofs.CallsByNumber.{same_shard}
 use Rattle.evidence.proofs.FilterLemmas.{kept_order}
 use Rattle.compose.proofs.Filtering.{filter_none, part_from, rank, rank_at, rank_rises, ranked_from}
-use Rattle.history.proofs.EventLemmas.{element_passes, passes_element}
+use Rattle.events.proofs.EventLemmas.{element_passes, passes_element}
 use Rattle.version_pair.proofs.TruthLemmas.{both}
 
 -- ---- calls on a shard

@@ -8,7 +8,7 @@ use Rattle.doc_register.specs.declared.state.DocState.{DocState}
 use Rattle.doc_register.specs.declared.state.DocState.TheVariants.{Never}
 use Rattle.doc_register.specs.Run.{Entry, IsDocRun, IsLegalRun, PairsDistinct, pair_taken, part_of, taken, taken_at}
 use Rattle.doc_register.proofs.RunLaws.{locality}
-use Rattle.history.specs.Events.{is_same}
+use Rattle.events.specs.Events.{is_same}
 use Rattle.version_pair.proofs.ListLemmas.{compare, none_is_not_some, same_some}
 use Rattle.evidence.proofs.FilterLemmas.{kept_order}
 use Rattle.compose.proofs.Filtering.{filter_none, part_from, rank, rank_at, rank_once}

@@ -2,9 +2,9 @@
 use Rattle.std.proofs.Common.{ℕ, ◌≡◌, List, sym, true, Some, slice_get}
 use Rattle.std.specs.Cmp.Lexicographic.{bytes_decides}
 use Rattle.doc_register.specs.declared.state.Conflicts.{Conflicts}
-use Rattle.history.specs.declared.event.Event.{Event}
-use Rattle.history.specs.Order.{IsOfCall}
-use Rattle.witness.specs.Text.{DocPlaces}
+use Rattle.events.specs.declared.event.Event.{Event}
+use Rattle.events.specs.Order.{IsOfCall}
+use Rattle.places.specs.Documents.{DocPlaces}
 use Rattle.compose.proofs.Filtering.{rank, rank_at}
 use Rattle.compose.proofs.Gathering.{AreGathered, IsPartOf}
 use Rattle.compose.proofs.Points.{Pointed, is_of, part, placed_at}

@@ -7,16 +7,15 @@ use Rattle.std.proofs.lemmas.Bool.{cases_lt, lt-ltb, ltb-true}
 use Rattle.std.proofs.lemmas.List.Sums.{fails_before_first, passes_at_first}
 use Rattle.std.proofs.lemmas.Option.{get_or_from_slice_get, slice_get-get_or, slice_get_within}
 use Rattle.version_pair.specs.declared.pair.Pair.{Pair}
-use Rattle.history.specs.declared.event.Event.{Event}
-use Rattle.history.specs.declared.record.Rec.{Rec}
-use Rattle.history.specs.Events.{documents_of, is_same, records_of}
+use Rattle.events.specs.declared.event.Event.{Event}
+use Rattle.events.specs.declared.record.Rec.{Rec}
+use Rattle.events.specs.Events.{documents_of, is_same, records_of}
 use Rattle.version_pair.proofs.ListLemmas.{IsMadeAt, kept_at, kept_in_order, made_in_order, made_of, mapped_from, none_is_not_some, same_some}
-use Rattle.witness.specs.declared.place.Place.{Place}
-use Rattle.witness.specs.Documents.{witness_places}
-use Rattle.witness.specs.Text.{DocPlaces}
-use Rattle.witness.specs.Witness.{Witness}
+use Rattle.places.specs.declared.place.Place.{Place}
+use Rattle.places.specs.Documents.{DocPlaces, witness_places}
+use Rattle.places.specs.Witness.{Witness}
 use Rattle.compose.specs.Covers.{IsOfShard, IsTakenAt}
-use Rattle.history.specs.Heard.{taken_by}
+use Rattle.events.specs.Heard.{taken_by}
 use Rattle.compose.specs.VerifyFaults.{IsTakenTwice}
 use Rattle.compose.specs.aids.Taken.{IsTwice, pair_at, pairs_of_document, pairs_taken, shard_in}
 use Rattle.ruled_out.proofs.OrderedSteps.{mapped_at}

@@ -2,17 +2,17 @@
 use Rattle.std.proofs.Common.{ℕ, zero, suc, Bool, true, ◌≡◌, ◌<◌, List, [], ◌∷◌, arith, ap, refl, length, subst, Some, slice_get}
 use Rattle.std.proofs.lemmas.Option.{slice_get_within}
 use Rattle.doc_register.specs.declared.state.Conflicts.{Conflicts}
-use Rattle.history.specs.declared.event.Event.{Event}
-use Rattle.history.specs.Events.{IsHistory, documents_of, records_of}
-use Rattle.history.specs.Order.{Placed}
+use Rattle.events.specs.declared.event.Event.{Event}
+use Rattle.events.specs.Events.{IsHistory, documents_of, records_of}
+use Rattle.events.specs.Order.{Placed}
 use Rattle.version_pair.proofs.ListLemmas.{none_is_not_some, same_some}
-use Rattle.witness.specs.declared.place.Place.{Place}
-use Rattle.witness.specs.Laws.{ExplainsDocument}
-use Rattle.witness.specs.Places.{AreValid}
-use Rattle.witness.proofs.DocumentLaws.{places_are_orders}
+use Rattle.places.specs.declared.place.Place.{Place}
+use Rattle.places.specs.Laws.{ExplainsDocument}
+use Rattle.places.specs.Places.{AreValid}
+use Rattle.places.proofs.DocumentLaws.{places_are_orders}
 use Rattle.ruled_out.specs.Laws.{ExplainsWithin}
 use Rattle.ruled_out.specs.Placings.{IsRuledOut}
-use Rattle.ruled_out.specs.Told.{told}
+use Rattle.ruled_out.specs.Reported.{reported}
 use Rattle.ruled_out.proofs.PlacingLaws.{ordered_are_not_ruled_out}
 use Rattle.evidence.specs.Evidence.{AreDocuments, ListsRuledOut}
 use Rattle.doc_check.specs.declared.search.DocAnswer.{DocAnswer}
@@ -32,7 +32,7 @@ explains_within conflicts events d order explains = record {
 
 -- a document of whose records some places are valid
 valid_not_ruled_out : (conflicts : Conflicts) (events : List Event) (d : List ℕ) (places : List Place) (n : ℕ) → IsHistory events → AreValid conflicts (records_of events d) places
-    → ¬ IsRuledOut (told conflicts (records_of events d)) n
+    → ¬ IsRuledOut (reported conflicts (records_of events d)) n
 valid_not_ruled_out conflicts events d places n history valid =
     let order = places_are_orders.explains conflicts events d places history valid in
     ordered_are_not_ruled_out conflicts events d order.0 n history (explains_within conflicts events d order.0 order.1)

@@ -1,18 +1,18 @@
 -- What a proof and a case keep.
 use Rattle.std.proofs.Common.{arith, List, ◌≡◌, ◌-◌, refl, length, map}
 use Rattle.doc_register.specs.declared.state.Conflicts.{Conflicts}
-use Rattle.history.specs.declared.event.Event.{Event}
-use Rattle.history.specs.Events.{IsHistory, documents_of}
-use Rattle.history.specs.Order.{IsLinearizable}
-use Rattle.witness.specs.Documents.{witness_places}
-use Rattle.witness.specs.Witness.{Witness}
+use Rattle.events.specs.declared.event.Event.{Event}
+use Rattle.events.specs.Events.{IsHistory, documents_of}
+use Rattle.events.specs.Order.{IsLinearizable}
+use Rattle.places.specs.Documents.{witness_places}
+use Rattle.places.specs.Witness.{Witness}
 use Rattle.compose.specs.Counts.{calls_of}
 use Rattle.compose.specs.Laws.{places_in}
 use Rattle.compose.specs.Covers.{HasNoUnpairedCover}
 use Rattle.compose.specs.Verdicts.{AreCounts, AreWitnesses, HasNoOrderFound, HasOrder}
 use Rattle.compose.proofs.CountedPlaces.{places_within}
 use Rattle.compose.proofs.Locality.{covers_explain}
-use Rattle.compose.proofs.Restriction.{plainly_right_are_covered, settled_have_no_order}
+use Rattle.compose.proofs.Restriction.{legal_in_response_order_are_covered, complete_have_no_order}
 
 pub witnesses_explain : (conflicts : Conflicts) (events : List Event) (ws : List Witness) → IsHistory events → AreWitnesses conflicts events ws → IsLinearizable conflicts events
 witnesses_explain conflicts events ws history are = let order = covers_explain conflicts events _ history are.cover in (order.0, order.1)
@@ -20,8 +20,8 @@ witnesses_explain conflicts events ws history are = let order = covers_explain c
 pub uncovered_has_none : (conflicts : Conflicts) (events : List Event) → IsHistory events → HasNoUnpairedCover conflicts events → HasNoOrderFound conflicts events
 uncovered_has_none conflicts events history none = record {
   uncovered = none;
-  not_right = λ right. let cover = plainly_right_are_covered conflicts events history right in none cover.0 cover.1 cover.2;
-  settled = λ settled. settled_have_no_order conflicts events history settled none;
+  not_right = λ right. let cover = legal_in_response_order_are_covered conflicts events history right in none cover.0 cover.1 cover.2;
+  complete = λ complete. complete_have_no_order conflicts events history complete none;
 }
 
 -- what is counted of a history and of the witnesses that cover it

@@ -8,14 +8,13 @@ use Rattle.std.proofs.Math.Seq.{take-append_seam}
 use Rattle.std.proofs.lemmas.Option.{slice_get_within}
 use Rattle.version_pair.specs.declared.pair.Pair.{Pair}
 use Rattle.doc_register.specs.declared.state.Conflicts.{Conflicts}
-use Rattle.history.specs.declared.event.Event.{Event}
-use Rattle.history.specs.Events.{documents_of, is_same, records_of}
+use Rattle.events.specs.declared.event.Event.{Event}
+use Rattle.events.specs.Events.{documents_of, is_same, records_of}
 use Rattle.version_pair.proofs.ListLemmas.{get_front, get_last, get_middle, get_snoc, get_within, same_some, slice_get-set_other, slice_get-set_same}
-use Rattle.witness.specs.Documents.{witness_places}
-use Rattle.witness.specs.Places.{AreValid}
-use Rattle.witness.specs.Text.{DocPlaces}
-use Rattle.witness.specs.Witness.{Witness}
-use Rattle.compose.specs.Covers.{AreComplete, AreCover, ArePairsDistinct, AreFine, IsEntered, IsKnown, IsOfShard}
+use Rattle.places.specs.Documents.{DocPlaces, witness_places}
+use Rattle.places.specs.Places.{AreValid}
+use Rattle.places.specs.Witness.{Witness}
+use Rattle.compose.specs.Covers.{AreComplete, AreCover, ArePairsDistinct, AreValidEntries, IsEntered, IsKnown, IsOfShard}
 use Rattle.compose.specs.VerifyFaults.{IsAtEntry, IsFirstVerifyFault, IsTakenTwice}
 use Rattle.compose.specs.Verdicts.{AreWitnesses}
 use Rattle.compose.specs.aids.Taken.{IsLeastTwice, pairs_taken}
@@ -62,8 +61,8 @@ not_entered conflicts events before marks ws d k are free entered =
     true≢false (same_some true false (sym ((are.marked k (d, free.0) free.1).1 entered) ∙ free.2))
 
 -- the entries with one more are fine
-fine_next : (conflicts : Conflicts) (events : List Event) (before : List DocPlaces) (e : DocPlaces) → AreFine conflicts events before → IsKnown events e → (IsEntered before e.doc → ⊥)
-    → AreValid conflicts (records_of events e.doc) e.places → AreFine conflicts events (before ++ e ∷ [])
+fine_next : (conflicts : Conflicts) (events : List Event) (before : List DocPlaces) (e : DocPlaces) → AreValidEntries conflicts events before → IsKnown events e → (IsEntered before e.doc → ⊥)
+    → AreValid conflicts (records_of events e.doc) e.places → AreValidEntries conflicts events (before ++ e ∷ [])
 fine_next conflicts events before e fine known new valid = record {
   known = λ i f at. known_at f (get_snoc before e f i at);
   once = λ i j f g at bt same. once_at i j f g same (get_snoc before e f i at) (get_snoc before e g j bt);
@@ -122,8 +121,8 @@ entered_next conflicts events before e marks ws k w are free witnessed =
 
 -- ---- the fault of one more entry
 
-pub entry_fault_document : (conflicts : Conflicts) (events : List Event) (before : List DocPlaces) (e : DocPlaces) (marks : List Bool) (ws : List Witness) (entry : ℕ) (told : VerifyFault)
-    → AreVerified conflicts events before marks ws → length before ≡ entry → IsFaultOfDocument events marks entry e.doc told → IsFaultOfEntry conflicts events before e told
+pub entry_fault_document : (conflicts : Conflicts) (events : List Event) (before : List DocPlaces) (e : DocPlaces) (marks : List Bool) (ws : List Witness) (entry : ℕ) (reported : VerifyFault)
+    → AreVerified conflicts events before marks ws → length before ≡ entry → IsFaultOfDocument events marks entry e.doc reported → IsFaultOfEntry conflicts events before e reported
 entry_fault_document conflicts events before e marks ws entry (fault.DocStranger i) are size wrong = (wrong.0 ∙ sym size, λ known. wrong.1 known.0 known.1)
 entry_fault_document conflicts events before e marks ws entry (fault.DocTwice i) are size wrong =
     (wrong.0 ∙ sym size, (wrong.1.1, (wrong.1.0, wrong.1.2)), (are.marked wrong.1.0 (e.doc, wrong.1.1) wrong.1.2).0 wrong.1.3)
@@ -134,18 +133,18 @@ entry_fault_document conflicts events before e marks ws entry fault.NoMemory are
 
 -- ---- the first fault of all entries
 
-fine_front : (conflicts : Conflicts) (events : List Event) (before : List DocPlaces) (e : DocPlaces) (after : List DocPlaces) → AreFine conflicts events before
+fine_front : (conflicts : Conflicts) (events : List Event) (before : List DocPlaces) (e : DocPlaces) (after : List DocPlaces) → AreValidEntries conflicts events before
     → IsAtEntry conflicts events (before ++ e ∷ after) (length before) e
 fine_front conflicts events before e after fine = record {
   here = get_middle before after e;
-  fine = subst (AreFine conflicts events) (sym (take-append_seam before (e ∷ after))) fine;
+  fine = subst (AreValidEntries conflicts events) (sym (take-append_seam before (e ∷ after))) fine;
 }
 
 entered_front : (before : List DocPlaces) (e : DocPlaces) (after : List DocPlaces) → take (length before) (before ++ e ∷ after) ≡ before
 entered_front before e after = take-append_seam before (e ∷ after)
 
-pub first_of_entry : (conflicts : Conflicts) (events : List Event) (before : List DocPlaces) (e : DocPlaces) (after : List DocPlaces) (told : VerifyFault) → AreFine conflicts events before
-    → IsFaultOfEntry conflicts events before e told → IsFirstVerifyFault conflicts events (before ++ e ∷ after) told
+pub first_of_entry : (conflicts : Conflicts) (events : List Event) (before : List DocPlaces) (e : DocPlaces) (after : List DocPlaces) (reported : VerifyFault) → AreValidEntries conflicts events before
+    → IsFaultOfEntry conflicts events before e reported → IsFirstVerifyFault conflicts events (before ++ e ∷ after) reported
 first_of_entry conflicts events before e after (fault.DocStranger i) fine wrong =
     subst (λ n. IsFirstVerifyFault conflicts events (before ++ e ∷ after) (fault.DocStranger n)) (sym wrong.0) (e, fine_front conflicts events before e after fine, wrong.1)
 first_of_entry conflicts events before e after (fault.DocTwice i) fine wrong =
@@ -212,7 +211,7 @@ verified_covers conflicts events entries marks ws are all none = (
   },
 )
 
--- else the least pair that is taken twice is told
+-- else the least pair that is taken twice is reported
 pub verified_twice : (conflicts : Conflicts) (events : List Event) (entries : List DocPlaces) (marks : List Bool) (ws : List Witness) (x : ℕ × Pair)
     → AreVerified conflicts events entries marks ws → ((j : ℕ) → j < length marks → slice_get marks j ≡ Some true) → IsLeastTwice (pairs_taken events ws) (Some x)
     → IsFirstVerifyFault conflicts events entries (fault.PairTwice x.0 x.1)

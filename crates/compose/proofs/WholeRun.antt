@@ -9,15 +9,15 @@ use Rattle.doc_register.specs.declared.state.DocState.{DocState}
 use Rattle.doc_register.specs.declared.state.DocState.TheVariants.{Never}
 use Rattle.doc_register.specs.Run.{Entry, IsDocRun, PairsDistinct, pair_taken, part_of, taken, taken_at}
 use Rattle.doc_register.proofs.RunLaws.{locality}
-use Rattle.history.specs.declared.event.Event.{Event}
-use Rattle.history.specs.Events.{IsCallAt, IsHistory, records_of}
-use Rattle.history.specs.Order.{IsOfCall, Placed, run_of}
+use Rattle.events.specs.declared.event.Event.{Event}
+use Rattle.events.specs.Events.{IsCallAt, IsHistory, records_of}
+use Rattle.events.specs.Order.{IsOfCall, Placed, run_of}
 use Rattle.version_pair.proofs.ListLemmas.{none_is_not_some, same_some}
-use Rattle.witness.specs.Laws.{TellsOf}
-use Rattle.witness.specs.Text.{DocPlaces}
-use Rattle.witness.proofs.DocumentLaws.{told_by}
+use Rattle.places.specs.Laws.{SaysOfEntry}
+use Rattle.places.specs.Documents.{DocPlaces}
+use Rattle.places.proofs.DocumentLaws.{reported_by}
 use Rattle.compose.specs.Covers.{AreCover, IsOfShard, IsTakenAt}
-use Rattle.history.specs.Heard.{taken_by}
+use Rattle.events.specs.Heard.{taken_by}
 use Rattle.compose.proofs.CalledDocuments.{document_called}
 use Rattle.compose.proofs.Filtering.{filter_all, part_from, rank, rank_once}
 use Rattle.compose.proofs.Gathering.{AreGathered, IsPartOf}
@@ -57,10 +57,10 @@ taken_parts shard (Some p) q takes =
     let same : (shard, p) ≡ q = same_some (shard, p) q takes in
     (ap (λ (x : ℕ × Pair). x.0) same, ap (λ (x : ℕ × Pair). Some x.1) same)
 
--- a place tells of the pair that what stands there takes
-told_pair : (heard : Option (ℕ × Answer)) (given : Option Pair) (e : Entry) (q : Pair) → TellsOf heard given e → pair_taken e.reply e.hidden ≡ Some q → taken_by heard given ≡ Some q
-told_pair None given e q tells takes = sym tells.1 ∙ takes
-told_pair (Some heard) given e q tells takes = ap (λ h. pair_taken heard.1 h) (sym tells.1) ∙ (ap (λ r. pair_taken r e.hidden) (sym tells.0) ∙ takes)
+-- a place says which pair the call there takes
+reported_pair : (heard : Option (ℕ × Answer)) (given : Option Pair) (e : Entry) (q : Pair) → SaysOfEntry heard given e → pair_taken e.reply e.hidden ≡ Some q → taken_by heard given ≡ Some q
+reported_pair None given e q reports takes = sym reports.1 ∙ takes
+reported_pair (Some heard) given e q reports takes = ap (λ h. pair_taken heard.1 h) (sym reports.1) ∙ (ap (λ r. pair_taken r e.hidden) (sym reports.0) ∙ takes)
 
 -- the shard of an entry's document is that of its calls
 own_shard : (conflicts : Conflicts) (events : List Event) (entries : List DocPlaces) → IsHistory events → AreCover conflicts events entries → (number : ℕ) (e : DocPlaces)
@@ -77,17 +77,17 @@ taken_there : (conflicts : Conflicts) (events : List Event) (entries : List DocP
     → (a : IsListed conflicts events entries ks i k) → taken k.placed.entry ≡ Some q → IsTakenAt events entries a.number (rank (is_of a.entry.doc) ks i) q.0 q.1
 taken_there conflicts events entries ks history cover i k q a takes =
     let r : ℕ = rank (is_of a.entry.doc) ks i in
-    let told = told_by (records_of events a.entry.doc) a.entry.places (placed_of (part a.entry.doc ks)) r k.placed a.own.placed (placed_at (part a.entry.doc ks) r k a.stands) in
+    let reported = reported_by (records_of events a.entry.doc) a.entry.places (placed_of (part a.entry.doc ks)) r k.placed a.own.placed (placed_at (part a.entry.doc ks) r k a.stands) in
     let pair = taken_parts k.placed.entry.shard (pair_taken k.placed.entry.reply k.placed.entry.hidden) q takes in
     record {
       entry = a.entry;
-      place = told.0;
-      called = told.2.named;
+      place = reported.0;
+      called = reported.2.named;
       entered = a.entered;
-      placed = told.1;
-      names = told.2.names;
+      placed = reported.1;
+      names = reported.2.names;
       shard = subst (λ h. IsOfShard events a.entry.doc h) pair.0 (own_shard conflicts events entries history cover a.number a.entry a.entered k.placed a.call a.doc);
-      takes = told_pair told.2.named.heard told.0.pair k.placed.entry q.1 told.2.tells pair.1;
+      takes = reported_pair reported.2.named.heard reported.0.pair k.placed.entry q.1 reported.2.reports pair.1;
     }
 
 -- no pair of a shard is taken at two places

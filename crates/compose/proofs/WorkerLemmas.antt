@@ -4,8 +4,8 @@ use Rattle.std.specs.Prelude.{IfErr, IsErrOf}
 use Rattle.std.specs.declared.alloc.Global.{Global}
 use Rattle.std.proofs.Math.Numerals.{add-one}
 use Rattle.doc_register.specs.declared.state.Conflicts.{Conflicts}
-use Rattle.history.specs.declared.event.Event.{Event}
-use Rattle.history.specs.Events.{documents_of, records_of}
+use Rattle.events.specs.declared.event.Event.{Event}
+use Rattle.events.specs.Events.{documents_of, records_of}
 use Rattle.version_pair.proofs.ListLemmas.{get_within, same_some, take_one_more}
 use Rattle.doc_check.specs.Search.{FindsUnpaired, IsAbout}
 use Rattle.doc_check.specs.declared.search.DocAnswer.{DocAnswer}

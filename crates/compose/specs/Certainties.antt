@@ -2,15 +2,15 @@
 use Rattle.std.specs.Prelude.{◌≡◌, ℕ, List, Option, Some, None, slice_get}
 use Rattle.doc_register.specs.declared.op.Op.{Op}
 use Rattle.doc_register.specs.declared.state.Conflicts.{Conflicts}
-use Rattle.history.specs.declared.event.Event.{Event}
-use Rattle.history.specs.Events.{IsCallAt, documents_of, records_of}
-use Rattle.doc_check.specs.NoOrders.{AreSettled, HasNoOrder}
+use Rattle.events.specs.declared.event.Event.{Event}
+use Rattle.events.specs.Events.{IsCallAt, documents_of, records_of}
+use Rattle.doc_check.specs.NoOrders.{AreAllComplete, HasNoOrder}
 use Rattle.evidence.specs.Evidence.{IsDocumentRuledOut}
 use Rattle.evidence.specs.declared.certainty.Certainty.{Certainty}
 use Rattle.evidence.specs.declared.certainty.Certainty.TheVariants as certainty
 use Rattle.evidence.specs.declared.refuted.Refuted.{Refuted}
 use Rattle.evidence.specs.declared.refuted.Refuted.TheVariants as evidence
-use Rattle.compose.specs.Laws.{IsSettled}
+use Rattle.compose.specs.Laws.{IsComplete}
 
 -- The document of the call numbered n has this number.
 pub record IsDocumentOf (events : List Event) (n doc : ℕ) : Type 0 where
@@ -23,35 +23,35 @@ pub record IsDocumentOf (events : List Event) (n doc : ℕ) : Type 0 where
   -- the document has this number in the history
   pub listed : slice_get (documents_of events) doc ≡ Some document
 
--- the records of the document of this number are complete (settled), and no order of its answered calls
+-- the records of the document of this number are complete, and no order of its answered calls
 -- explains their replies
 abbrev pub IsWithoutOrder : Conflicts → List Event → ℕ → Type 0
 IsWithoutOrder conflicts events doc = (document : List ℕ × ℕ) × (slice_get (documents_of events) doc ≡ Some document)
-    × AreSettled conflicts (records_of events document.0) × HasNoOrder conflicts (records_of events document.0)
+    × AreAllComplete conflicts (records_of events document.0) × HasNoOrder conflicts (records_of events document.0)
 
 -- the document of the call numbered n is ruled out
 abbrev pub IsCallRuledOut : Conflicts → List Event → ℕ → Type 0
 IsCallRuledOut conflicts events n = (doc : ℕ) × IsDocumentOf events n doc × IsDocumentRuledOut conflicts events doc
 
--- the records of the document of the call numbered n are complete (settled), and the document has no order
+-- the records of the document of the call numbered n are complete, and the document has no order
 abbrev pub IsCallWithoutOrder : Conflicts → List Event → ℕ → Type 0
 IsCallWithoutOrder conflicts events n = (doc : ℕ) × IsDocumentOf events n doc × IsWithoutOrder conflicts events doc
 
 -- What is said without evidence, if n is the number of the call at which the search first fails, the first of
--- these that holds: RuledOut if the call's document is ruled out; Answered if the history is complete
--- (settled); DocumentAnswered if the document's records are, and it has no order; otherwise Undecided.
+-- these that holds: RuledOut if the call's document is ruled out; Answered if the history is complete;
+-- DocumentAnswered if the document's records are, and it has no order; otherwise Undecided.
 -- Source: profile.
 abbrev pub SaysOfCall : Conflicts → List Event → ℕ → Certainty → Type 0
 SaysOfCall conflicts events n certainty.Evident = ⊥
-SaysOfCall conflicts events n certainty.ToldRuledOut = ⊥
+SaysOfCall conflicts events n certainty.ReportedRuledOut = ⊥
 SaysOfCall conflicts events n certainty.RuledOut = IsCallRuledOut conflicts events n
-SaysOfCall conflicts events n certainty.Answered = (¬ IsCallRuledOut conflicts events n) × IsSettled conflicts events
+SaysOfCall conflicts events n certainty.Answered = (¬ IsCallRuledOut conflicts events n) × IsComplete conflicts events
 SaysOfCall conflicts events n certainty.DocumentAnswered =
-    (¬ IsCallRuledOut conflicts events n) × (¬ IsSettled conflicts events) × IsCallWithoutOrder conflicts events n
+    (¬ IsCallRuledOut conflicts events n) × (¬ IsComplete conflicts events) × IsCallWithoutOrder conflicts events n
 SaysOfCall conflicts events n certainty.Undecided =
-    (¬ IsCallRuledOut conflicts events n) × (¬ IsSettled conflicts events) × (¬ IsCallWithoutOrder conflicts events n)
+    (¬ IsCallRuledOut conflicts events n) × (¬ IsComplete conflicts events) × (¬ IsCallWithoutOrder conflicts events n)
 
--- what is said: ToldRuledOut with the evidence that a document is ruled out, Evident with any other, and
+-- what is said: ReportedRuledOut with the evidence that a document is ruled out, Evident with any other, and
 -- without evidence `SaysOfCall`
 -- Source: profile.
 abbrev pub Says : Conflicts → List Event → Option Refuted → ℕ → Certainty → Type 0
@@ -59,5 +59,5 @@ Says conflicts events (Some (evidence.PairTwice a b)) n said = said ≡ certaint
 Says conflicts events (Some (evidence.NoWriter g)) n said = said ≡ certainty.Evident
 Says conflicts events (Some (evidence.StaleGet g w)) n said = said ≡ certainty.Evident
 Says conflicts events (Some (evidence.StaleSwap a b)) n said = said ≡ certainty.Evident
-Says conflicts events (Some (evidence.RuledOut m)) n said = said ≡ certainty.ToldRuledOut
+Says conflicts events (Some (evidence.RuledOut m)) n said = said ≡ certainty.ReportedRuledOut
 Says conflicts events None n said = SaysOfCall conflicts events n said

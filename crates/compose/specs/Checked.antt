@@ -1,9 +1,9 @@
 -- What a check of a history returns.
 use Rattle.std.specs.Prelude.{◌≡◌, ◌≢◌, ◌<◌, List, length}
 use Rattle.doc_register.specs.declared.state.Conflicts.{Conflicts}
-use Rattle.history.specs.declared.event.Event.{Event}
-use Rattle.history.specs.Events.{documents_of}
-use Rattle.history.specs.Order.{IsLinearizable}
+use Rattle.events.specs.declared.event.Event.{Event}
+use Rattle.events.specs.Events.{documents_of}
+use Rattle.events.specs.Order.{IsLinearizable}
 use Rattle.compose.specs.Verdicts.{AreWitnesses, HasNoOrderFound}
 use Rattle.check_pool.specs.declared.pool_fault.PoolFault.TheVariants as pool_fault
 use Rattle.compose.specs.declared.checking.CheckFault.{CheckFault}

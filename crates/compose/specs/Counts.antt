@@ -1,7 +1,7 @@
 -- The number of calls of a history.
 use Rattle.std.specs.Prelude.{ℕ, List, filter, length}
-use Rattle.history.specs.declared.event.Event.{Event}
-use Rattle.history.specs.Events.{is_any_call}
+use Rattle.events.specs.declared.event.Event.{Event}
+use Rattle.events.specs.Events.{is_any_call}
 
 -- the number of calls of a history
 abbrev pub calls_of : List Event → ℕ

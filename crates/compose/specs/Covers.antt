@@ -4,14 +4,14 @@
 use Rattle.std.specs.Prelude.{◌≡◌, ℕ, List, Some, slice_get}
 use Rattle.version_pair.specs.declared.pair.Pair.{Pair}
 use Rattle.doc_register.specs.declared.state.Conflicts.{Conflicts}
-use Rattle.history.specs.declared.event.Event.{Event}
-use Rattle.history.specs.declared.record.Rec.{Rec}
-use Rattle.history.specs.Events.{documents_of, records_of}
-use Rattle.witness.specs.declared.place.Place.{Place}
-use Rattle.witness.specs.Places.{AreValid, IsPlaceOf}
-use Rattle.witness.specs.Text.{DocPlaces}
+use Rattle.events.specs.declared.event.Event.{Event}
+use Rattle.events.specs.declared.record.Rec.{Rec}
+use Rattle.events.specs.Events.{documents_of, records_of}
+use Rattle.places.specs.declared.place.Place.{Place}
+use Rattle.places.specs.Places.{AreValid, IsPlaceOf}
+use Rattle.places.specs.Documents.{DocPlaces}
 use Rattle.doc_check.specs.NoOrders.{AreUnpaired}
-use Rattle.history.specs.Heard.{taken_by}
+use Rattle.events.specs.Heard.{taken_by}
 
 -- the document is one of the history, and of this shard
 abbrev pub IsOfShard : List Event → List ℕ → ℕ → Type 0
@@ -26,7 +26,7 @@ abbrev pub IsEntered : List DocPlaces → List ℕ → Type 0
 IsEntered entries d = (i : ℕ) × (e : DocPlaces) × (slice_get entries i ≡ Some e) × (e.doc ≡ d)
 
 -- The entries are fine.
-pub record AreFine (conflicts : Conflicts) (events : List Event) (entries : List DocPlaces) : Type 0 where
+pub record AreValidEntries (conflicts : Conflicts) (events : List Event) (entries : List DocPlaces) : Type 0 where
   -- each is of a document of the history
   pub known : (i : ℕ) (e : DocPlaces) → slice_get entries i ≡ Some e → IsKnown events e
   -- no two are of one document
@@ -68,7 +68,7 @@ ArePairsDistinct events entries = (i j k l h : ℕ) (q : Pair) → IsTakenAt eve
 -- Source: after Herlihy and Wing, section 3.1: an order of each object gives one of all; profile (the pairs).
 pub record AreCover (conflicts : Conflicts) (events : List Event) (entries : List DocPlaces) : Type 0 where
   -- they are fine: each is of a document of its own, with valid places
-  pub fine : AreFine conflicts events entries
+  pub fine : AreValidEntries conflicts events entries
   -- each document of the history is entered
   pub complete : AreComplete events entries
   -- no pair of a shard is taken at two places

@@ -8,11 +8,11 @@ use Rattle.doc_register.specs.declared.reply.Reply.TheVariants.{Conflict}
 use Rattle.doc_register.specs.declared.state.Conflicts.{Conflicts}
 use Rattle.doc_register.specs.declared.state.Conflicts.TheVariants.{Maybe}
 use Rattle.doc_register.specs.Run.{pair_taken}
-use Rattle.history.specs.declared.event.Event.{Event}
-use Rattle.history.specs.Events.{IsCallAt, IsHistory, IsReplyAt, heard_of, is_same, records_of}
-use Rattle.history.specs.Order.{Explains, IsLinearizable, IsPlainlyRight, Placed}
-use Rattle.witness.specs.Laws.{ArePlacedBy}
-use Rattle.witness.specs.Text.{DocPlaces}
+use Rattle.events.specs.declared.event.Event.{Event}
+use Rattle.events.specs.Events.{IsCallAt, IsHistory, IsReplyAt, heard_of, is_same, records_of}
+use Rattle.events.specs.Order.{Explains, IsLinearizable, IsLegalInResponseOrder, Placed}
+use Rattle.places.specs.Laws.{ArePlacedBy}
+use Rattle.places.specs.Documents.{DocPlaces}
 use Rattle.compose.specs.Covers.{AreAllUnpaired, AreCover, HasNoUnpairedCover, IsEntered}
 use Rattle.compose.specs.VerifyFaults.{IsFirstVerifyFault}
 use Rattle.compose.specs.declared.verify_fault.VerifyFault.{VerifyFault}
@@ -68,22 +68,22 @@ OrdersAreCovers = (conflicts : Conflicts) (events : List Event) (order : List Pl
 
 -- ---- histories without a cover
 
--- the history is complete (settled): each write has a reply, under Maybe one other than a conflict
+-- the history is complete: each write has a reply, under Maybe one other than a conflict
 -- Source: profile.
-abbrev pub IsSettled : Conflicts → List Event → Type 0
-IsSettled conflicts events = (i n h : ℕ) (d : List ℕ) (op : Op) → IsCallAt events i n h d op → op ≢ Get
+abbrev pub IsComplete : Conflicts → List Event → Type 0
+IsComplete conflicts events = (i n h : ℕ) (d : List ℕ) (op : Op) → IsCallAt events i n h d op → op ≢ Get
     → (k : ℕ) × (r : Answer) × IsReplyAt events k n r × (conflicts ≡ Maybe → r ≢ Conflict)
 
--- a complete (settled) history that no entries without a given pair cover is not linearizable
+-- a complete history that no entries without a given pair cover is not linearizable
 -- Source: profile.
-abbrev pub SettledHaveNoOrder : Type 0
-SettledHaveNoOrder = (conflicts : Conflicts) (events : List Event) → IsHistory events → IsSettled conflicts events → HasNoUnpairedCover conflicts events
+abbrev pub CompleteHaveNoOrder : Type 0
+CompleteHaveNoOrder = (conflicts : Conflicts) (events : List Event) → IsHistory events → IsComplete conflicts events → HasNoUnpairedCover conflicts events
     → ¬ IsLinearizable conflicts events
 
 -- a history that is legal in response order is covered by entries without a given pair
 -- Source: profile.
-abbrev pub PlainlyRightAreCovered : Type 0
-PlainlyRightAreCovered = (conflicts : Conflicts) (events : List Event) → IsHistory events → IsPlainlyRight events
+abbrev pub LegalInResponseOrderAreCovered : Type 0
+LegalInResponseOrderAreCovered = (conflicts : Conflicts) (events : List Event) → IsHistory events → IsLegalInResponseOrder events
     → (entries : List DocPlaces) × AreAllUnpaired entries × AreCover conflicts events entries
 
 -- ---- faults
@@ -91,5 +91,5 @@ PlainlyRightAreCovered = (conflicts : Conflicts) (events : List Event) → IsHis
 -- entries that have a first fault are no cover
 -- Source: profile.
 abbrev pub FaultyAreNoCover : Type 0
-FaultyAreNoCover = (conflicts : Conflicts) (events : List Event) (entries : List DocPlaces) (told : VerifyFault)
-    → IsFirstVerifyFault conflicts events entries told → ¬ AreCover conflicts events entries
+FaultyAreNoCover = (conflicts : Conflicts) (events : List Event) (entries : List DocPlaces) (fault : VerifyFault)
+    → IsFirstVerifyFault conflicts events entries fault → ¬ AreCover conflicts events entries

@@ -2,9 +2,9 @@
 use Rattle.std.specs.Prelude.{◌≡◌, ◌+◌, true, false, List}
 use Rattle.doc_register.specs.declared.reply.Reply.{Reply as Answer}
 use Rattle.doc_register.specs.declared.state.Conflicts.{Conflicts}
-use Rattle.history.specs.declared.event.Event.{Event}
-use Rattle.history.specs.Events.{IsReplyAt, prefix}
-use Rattle.history.specs.Order.{IsLinearizable, IsPlainlyRight}
+use Rattle.events.specs.declared.event.Event.{Event}
+use Rattle.events.specs.Events.{IsReplyAt, prefix}
+use Rattle.events.specs.Order.{IsLinearizable, IsLegalInResponseOrder}
 use Rattle.compose.specs.Verdicts.{HasNoOrderFound}
 use Rattle.compose.specs.declared.offence.Offence.{Offence}
 
@@ -14,7 +14,7 @@ pub record IsOffence (conflicts : Conflicts) (events : List Event) (o : Offence)
   -- at its position there is a reply, to the call with its number
   pub reply : (r : Answer) × IsReplyAt events o.event o.call r
   -- the events up to and including it are not legal in response order
-  pub wrong : ¬ IsPlainlyRight (prefix events (o.event + 1))
+  pub wrong : ¬ IsLegalInResponseOrder (prefix events (o.event + 1))
   -- if it says that the events before it have an order, they are linearizable
   pub shown : o.before_shown ≡ true → IsLinearizable conflicts (prefix events o.event)
   -- if it says that they have none, no order was found for them (`HasNoOrderFound`)

@@ -3,10 +3,10 @@ use Rattle.std.specs.Prelude.{◌≡◌, ◌↔◌, ◌==◌, ◌&&◌, ℕ, Boo
 use Rattle.std.specs.List.{list_any}
 use Rattle.doc_register.specs.declared.op.Op.{Op}
 use Rattle.doc_register.specs.declared.state.Conflicts.{Conflicts}
-use Rattle.history.specs.declared.event.Event.{Event}
-use Rattle.history.specs.declared.event.Event.TheVariants.{Call, Reply, Lost}
-use Rattle.history.specs.Events.{IsCallAt, IsHistory}
-use Rattle.history.specs.Order.{IsLinearizable}
+use Rattle.events.specs.declared.event.Event.{Event}
+use Rattle.events.specs.declared.event.Event.TheVariants.{Call, Reply, Lost}
+use Rattle.events.specs.Events.{IsCallAt, IsHistory}
+use Rattle.events.specs.Order.{IsLinearizable}
 
 -- ---- the part of a shard
 
@@ -16,8 +16,8 @@ is_call_on h n (Call g m d op) = (m == n) && (g == h)
 is_call_on h n (Reply m r) = false
 is_call_on h n (Lost m) = false
 
--- The event concerns the shard: it is a call that names it, or the ending of such a call. Whose ending it is,
--- the whole list says.
+-- The event concerns the shard: it is a call that names it, or the ending of such a call, which is looked up
+-- in the whole list.
 abbrev pub concerns : ℕ → List Event → Event → Bool
 concerns h events (Call g n d op) = g == h
 concerns h events (Reply n r) = list_any (is_call_on h n) events

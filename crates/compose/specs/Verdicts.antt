@@ -1,15 +1,14 @@
 -- What a verdict on a history keeps.
 use Rattle.std.specs.Prelude.{◌≡◌, ◌+◌, ◌-◌, ℕ, List, Some, length, map, slice_get}
 use Rattle.doc_register.specs.declared.state.Conflicts.{Conflicts}
-use Rattle.history.specs.declared.event.Event.{Event}
-use Rattle.history.specs.Events.{documents_of, records_of}
-use Rattle.history.specs.Order.{Explains, IsLinearizable, IsPlainlyRight, Placed}
-use Rattle.witness.specs.Documents.{witness_places}
-use Rattle.witness.specs.Text.{DocPlaces}
-use Rattle.witness.specs.Witness.{Witness}
+use Rattle.events.specs.declared.event.Event.{Event}
+use Rattle.events.specs.Events.{documents_of, records_of}
+use Rattle.events.specs.Order.{Explains, IsLinearizable, IsLegalInResponseOrder, Placed}
+use Rattle.places.specs.Documents.{DocPlaces, witness_places}
+use Rattle.places.specs.Witness.{Witness}
 use Rattle.compose.specs.Counts.{calls_of}
 use Rattle.compose.specs.Covers.{AreCover, HasNoUnpairedCover}
-use Rattle.compose.specs.Laws.{IsSettled, places_in}
+use Rattle.compose.specs.Laws.{IsComplete, places_in}
 
 -- The witnesses are those of the history.
 -- Source: profile.
@@ -66,6 +65,6 @@ pub record HasNoOrderFound (conflicts : Conflicts) (events : List Event) : Type 
   -- no entries without a given pair cover the history
   pub uncovered : HasNoUnpairedCover conflicts events
   -- it is not legal in response order
-  pub not_right : ¬ IsPlainlyRight events
-  -- if it is complete (settled), no order explains it
-  pub settled : IsSettled conflicts events → ¬ IsLinearizable conflicts events
+  pub not_right : ¬ IsLegalInResponseOrder events
+  -- if it is complete, no order explains it
+  pub complete : IsComplete conflicts events → ¬ IsLinearizable conflicts events

@@ -3,11 +3,11 @@ use Rattle.std.specs.Prelude.{◌≡◌, ◌<◌, ◌⊎◌, ℕ, List, Some, sl
 use Rattle.version_pair.specs.declared.pair.Pair.{Pair}
 use Rattle.version_pair.specs.PairOrder.{IsBelow}
 use Rattle.doc_register.specs.declared.state.Conflicts.{Conflicts}
-use Rattle.history.specs.declared.event.Event.{Event}
-use Rattle.history.specs.Events.{documents_of, records_of}
-use Rattle.witness.specs.Faults.{IsFirstFault}
-use Rattle.witness.specs.Text.{DocPlaces}
-use Rattle.compose.specs.Covers.{AreComplete, AreFine, IsEntered, IsKnown, IsTakenAt}
+use Rattle.events.specs.declared.event.Event.{Event}
+use Rattle.events.specs.Events.{documents_of, records_of}
+use Rattle.places.specs.Faults.{IsFirstFault}
+use Rattle.places.specs.Documents.{DocPlaces}
+use Rattle.compose.specs.Covers.{AreComplete, AreValidEntries, IsEntered, IsKnown, IsTakenAt}
 use Rattle.compose.specs.declared.verify_fault.VerifyFault.{VerifyFault}
 use Rattle.compose.specs.declared.verify_fault.VerifyFault.TheVariants as fault
 
@@ -16,7 +16,7 @@ pub record IsAtEntry (conflicts : Conflicts) (events : List Event) (entries : Li
   -- the entry is at i
   pub here : slice_get entries i ≡ Some e
   -- those before it are fine
-  pub fine : AreFine conflicts events (take i entries)
+  pub fine : AreValidEntries conflicts events (take i entries)
 
 -- the pair of the shard is taken at two places
 pub record IsTakenTwice (events : List Event) (entries : List DocPlaces) (h : ℕ) (q : Pair) : Type 0 where
@@ -48,9 +48,9 @@ IsFirstVerifyFault conflicts events entries (fault.Broken i broken) =
     (e : DocPlaces) × IsAtEntry conflicts events entries i e × IsKnown events e × (¬ IsEntered (take i entries) e.doc)
     × IsFirstFault conflicts (records_of events e.doc) e.places broken
 IsFirstVerifyFault conflicts events entries (fault.DocMissing k) =
-    (d : List ℕ × ℕ) × AreFine conflicts events entries × (slice_get (documents_of events) k ≡ Some d) × (¬ IsEntered entries d.0)
+    (d : List ℕ × ℕ) × AreValidEntries conflicts events entries × (slice_get (documents_of events) k ≡ Some d) × (¬ IsEntered entries d.0)
     × ((j : ℕ) (c : List ℕ × ℕ) → j < k → slice_get (documents_of events) j ≡ Some c → IsEntered entries c.0)
 IsFirstVerifyFault conflicts events entries (fault.PairTwice shard pair) =
-    AreFine conflicts events entries × AreComplete events entries × IsTakenTwice events entries shard pair
+    AreValidEntries conflicts events entries × AreComplete events entries × IsTakenTwice events entries shard pair
     × ((h : ℕ) (q : Pair) → IsTakenTwice events entries h q → IsAtMost shard pair h q)
 IsFirstVerifyFault conflicts events entries fault.NoMemory = ⊥

@@ -4,4 +4,4 @@ pub mod Joined
 pub mod Worked
 pub mod Verified
 pub mod Replies
-pub mod Settled
+pub mod Complete

@@ -13,13 +13,13 @@ struct DocLimit {
 /// orders.
 #[derive(Drop)]
 pub struct Asked {
-    // For each document, whether it is.
+    // Whether each document is searched again.
     flags: Vec<bool>,
     limits: Vec<DocLimit>,
 }
 
 impl Asked {
-    /// Returns a value that asks for none of that many documents, without limits.
+    /// Returns a value that asks for none of `docs` documents, without limits.
     pub fn none(alloc: Global, docs: usize) -> Result<Asked, NoMemory> {
         Ok(Asked {
             flags: vec![in alloc; false; docs]?,

@@ -1,17 +1,17 @@
 ghost use Rattle.std.specs.Prelude.{◌≡◌};
-ghost use Rattle.history.specs.Events.{IsHistory};
+ghost use Rattle.events.specs.Events.{IsHistory};
 ghost use Rattle.compose.specs.Covers.{HasNoUnpairedCover};
 ghost use Rattle.compose.specs.Verdicts.{HasNoOrderFound};
 ghost use Rattle.evidence.specs.Evidence.{AreDocuments, ListsRuledOut};
 
 use doc_register::Conflicts;
-use history::History;
+use events::History;
 use std::marker::Model;
 
 /// A history for which no order was found.
 ///
 /// Contracts see the history and the reading of conflicts. The type guarantees that no witnesses without a
-/// given pair cover the history. So it is not legal in response order; and if it is complete (settled), that
+/// given pair cover the history. So it is not legal in response order; and if it is complete, that
 /// is, if each write was answered (under Maybe, by a reply other than a conflict), no order of its calls
 /// explains it.
 #[derive(Debug, Drop)]
@@ -25,7 +25,7 @@ pub struct Case {
 }
 
 impl Model for Case {
-    ghost use Rattle.history.specs.Events.{IsHistory};
+    ghost use Rattle.events.specs.Events.{IsHistory};
     ghost use Rattle.compose.specs.Covers.{HasNoUnpairedCover};
     ghost use Rattle.compose.specs.Verdicts.{Unproven};
     ghost use Rattle.evidence.specs.Evidence.{AreDocuments, ListsRuledOut};

@@ -1,31 +1,31 @@
 //! How much an answer says of a history for which no order was found.
 
 ghost use Rattle.std.specs.Prelude.{◌≡◌, ◌≢◌, ◌<◌, ◌↔◌, ℕ, IfOk, IfSome, IsTrue, Some as Just, length, slice_get};
-ghost use Rattle.history.specs.declared.event.Event.{Event as Happening};
-ghost use Rattle.history.specs.Events.{IsHistory, documents_of};
-ghost use Rattle.history.specs.Order.{IsLinearizable};
+ghost use Rattle.events.specs.declared.event.Event.{Event as Happening};
+ghost use Rattle.events.specs.Events.{IsHistory, documents_of};
+ghost use Rattle.events.specs.Order.{IsLinearizable};
 ghost use Rattle.evidence.specs.Evidence.{Holds};
 ghost use Rattle.compose.specs.Certainties.{IsCallRuledOut, IsCallWithoutOrder, IsDocumentOf, IsWithoutOrder, Says, SaysOfCall};
-ghost use Rattle.compose.specs.Laws.{IsSettled};
-ghost use Rattle.compose.specs.aids.Settled.{IsSettledEvent};
+ghost use Rattle.compose.specs.Laws.{IsComplete};
+ghost use Rattle.compose.specs.aids.Complete.{IsCompleteEvent};
 
 use crate::case::Case;
 use crate::finding::Failing;
-use doc_check::laws::settled_have_none;
-use doc_check::{DocAnswer, answer, is_settled};
+use doc_check::laws::complete_have_none;
+use doc_check::{DocAnswer, answer, is_complete};
 use doc_register::Conflicts;
+use events::{Event, History, Rec};
 use evidence::laws::evidence_refutes;
 use evidence::{Certainty, Refuted, is_document_ruled_out};
-use history::{Event, History, Rec};
 use std::alloc::Global;
 use version_pair::NoMemory;
 
 // Whether the event at the position is not a write; or the write has a reply, under Maybe one other than a
 // conflict.
-fn is_settled_at(history: &History, place: usize, conflicts: Conflicts) -> bool
+fn is_complete_at(history: &History, place: usize, conflicts: Conflicts) -> bool
     requires { place < length history.now }
     ensures { (event : Happening) → slice_get history.now place ≡ Just event
-        → (IsTrue result ↔ IsSettledEvent conflicts history.now event) }
+        → (IsTrue result ↔ IsCompleteEvent conflicts history.now event) }
 {
     match history.event(place) {
         Event::Call { no, op, .. } => {
@@ -35,19 +35,19 @@ fn is_settled_at(history: &History, place: usize, conflicts: Conflicts) -> bool
                 call_at: place,
                 heard: history.heard(*no),
             };
-            call.is_settled(conflicts)
+            call.is_complete(conflicts)
         }
         Event::Reply { .. } | Event::Lost { .. } => true,
     }
 }
 
-// Whether the history is complete (settled): each write has a reply, under Maybe one other than a conflict.
-fn is_settled_history(history: &History, conflicts: Conflicts) -> bool
+// Whether the history is complete: each write has a reply, under Maybe one other than a conflict.
+fn is_complete_history(history: &History, conflicts: Conflicts) -> bool
     requires { IsHistory history.now }
-    ensures { IsTrue result ↔ IsSettled conflicts history.now }
+    ensures { IsTrue result ↔ IsComplete conflicts history.now }
 {
     for place in 0..history.len() {
-        if !is_settled_at(history, place, conflicts) {
+        if !is_complete_at(history, place, conflicts) {
             return false;
         }
     }
@@ -79,11 +79,11 @@ fn is_without_order(
     ensures { IfOk result (λ without. IsTrue without ↔ IsWithoutOrder conflicts history.now doc) }
 {
     let records = history.records(doc)?;
-    if !is_settled(&records, conflicts) {
+    if !is_complete(&records, conflicts) {
         return Ok(false);
     }
-    // What complete (settled) records without an order say is known from here on.
-    settled_have_none();
+    // What complete records without an order say is known from here on.
+    complete_have_none();
     let id = history.doc(doc).copy()?;
     match answer(alloc, id, records, history.seen(), conflicts)? {
         DocAnswer::Found(_) => Ok(false),
@@ -136,7 +136,7 @@ fn certainty_without_evidence(
     if is_call_ruled_out(alloc, history, call, conflicts)? {
         return Ok(Certainty::RuledOut);
     }
-    if is_settled_history(history, conflicts) {
+    if is_complete_history(history, conflicts) {
         return Ok(Certainty::Answered);
     }
     if is_call_without_order(alloc, history, call, conflicts)? {
@@ -158,13 +158,13 @@ pub fn certainty_of(alloc: Global, case: &Case, failing: &Failing) -> Result<Cer
     ensures proved { IfOk result (λ certainty. certainty ≢ Certainty.Undecided
         → ¬ IsLinearizable case.now.conflicts case.now.events) }
 {
-    // What evidence and complete (settled) records say is known from here on, and that the case has a
+    // What evidence and complete records say is known from here on, and that the case has a
     // history.
     evidence_refutes();
-    settled_have_none();
+    complete_have_none();
     let history = case.history();
     match failing.evidence {
-        Some(Refuted::RuledOut(_)) => Ok(Certainty::ToldRuledOut),
+        Some(Refuted::RuledOut(_)) => Ok(Certainty::ReportedRuledOut),
         Some(_) => Ok(Certainty::Evident),
         None => certainty_without_evidence(alloc, history, failing.offence.call, case.conflicts()),
     }

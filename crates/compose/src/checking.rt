@@ -1,10 +1,10 @@
 ghost use Rattle.std.specs.Prelude.{◌≡◌, ◌<◌, ◌↔◌, IfErr, IfOk, IsErrOf, false, length, true};
-ghost use Rattle.history.specs.Events.{documents_of};
-ghost use Rattle.history.specs.Order.{IsLinearizable, IsPlainlyRight};
+ghost use Rattle.events.specs.Events.{documents_of};
+ghost use Rattle.events.specs.Order.{IsLinearizable, IsLegalInResponseOrder};
 ghost use Rattle.compose.specs.Checked.{HandsBack, IsVerdictOn, IsYes, NamesDocument};
 ghost use Rattle.compose.specs.declared.checking.CheckFault.TheVariants.{NoMemory as Unchecked, Pool as Unpooled};
 ghost use Rattle.compose.specs.Verdicts.{HasNoOrderFound};
-ghost use Rattle.compose.specs.aids.Joined.{IsLookedFor};
+ghost use Rattle.compose.specs.aids.Joined.{IsSearchOutcome};
 ghost use Rattle.compose.specs.aids.Searched.{AreAnswersFor, AreUnordered};
 
 use crate::case::Case;
@@ -15,7 +15,7 @@ use crate::workers::answers_of_workers;
 use check_pool::{Gate, PoolFault, check_workers};
 use doc_check::DocAnswer;
 use doc_register::Conflicts;
-use history::{Front, History};
+use events::{Front, History};
 use std::alloc::Global;
 use std::sync::Wait;
 use std::thread::Threads;
@@ -45,7 +45,7 @@ pub enum CheckFault {
 
 /// Whether one order was found for events.
 #[derive(Clone, Copy)]
-pub enum Looked {
+pub enum SearchOutcome {
     /// An order was found.
     Found,
     /// No order was found. If that is because numbers are too few, the position of the reply with which they
@@ -55,19 +55,19 @@ pub enum Looked {
 
 /// Returns whether one order of all calls is found that explains these events, as `check_alone` searches for
 /// one in a history that has no other events.
-pub fn looked_for(
+pub fn search_outcome(
     alloc: Global,
     history: &Front<'_>,
     conflicts: Conflicts,
-) -> Result<Looked, NoMemory>
-    ensures { IfOk result (IsLookedFor conflicts history.now) }
+) -> Result<SearchOutcome, NoMemory>
+    ensures { IfOk result (IsSearchOutcome conflicts history.now) }
 {
     // Calling `len` makes it known from here on that these are a history.
     let _ = history.len();
     let answers = answers_found(alloc, history, conflicts)?;
     match cover_answers(alloc, history, answers) {
-        Ok(Covering::Found(_)) => Ok(Looked::Found),
-        Ok(Covering::NotFound(place)) => Ok(Looked::NotFound(place)),
+        Ok(Covering::Found(_)) => Ok(SearchOutcome::Found),
+        Ok(Covering::NotFound(place)) => Ok(SearchOutcome::NotFound(place)),
         Err(refused) => Err(refused),
     }
 }
@@ -84,9 +84,9 @@ pub fn is_explained(
     // response order, and if they are complete they are not linearizable.
     ensures none { IfOk result (λ found. found ≡ false → HasNoOrderFound conflicts history.now) }
 {
-    match looked_for(alloc, history, conflicts)? {
-        Looked::Found => Ok(true),
-        Looked::NotFound(_) => Ok(false),
+    match search_outcome(alloc, history, conflicts)? {
+        SearchOutcome::Found => Ok(true),
+        SearchOutcome::NotFound(_) => Ok(false),
     }
 }
 
@@ -113,7 +113,7 @@ fn verdict_of(
 ) -> Result<Verdict, CheckFault>
     requires { AreAnswersFor conflicts history true (documents_of history) answers.items }
     ensures verdict { IfOk result (IsVerdictOn conflicts history) }
-    ensures accepts { IfOk result (λ verdict. IsPlainlyRight history → IsYes verdict) }
+    ensures accepts { IfOk result (λ verdict. IsLegalInResponseOrder history → IsYes verdict) }
     ensures back { IfErr result (λ fault. fault ≡ Unchecked history) }
 {
     // Calling `len` makes it known from here on that this is a history.
@@ -145,7 +145,7 @@ pub fn check_alone(
     // linearizable if it is complete.
     ensures verdict { IfOk result (IsVerdictOn conflicts history) }
     // A history that is legal in response order gets Yes.
-    ensures accepts { IfOk result (λ verdict. IsPlainlyRight history → IsYes verdict) }
+    ensures accepts { IfOk result (λ verdict. IsLegalInResponseOrder history → IsYes verdict) }
     // The only error is `NoMemory`, and the history comes back.
     ensures back { IfErr result (λ fault. fault ≡ Unchecked history) }
 {
@@ -173,7 +173,7 @@ pub fn check<R: Threads + Wait + Sync, G: Gate + Sync>(
     // document.
     ensures verdict { IfOk result (IsVerdictOn conflicts history) }
     // A history that is legal in response order gets Yes.
-    ensures accepts { IfOk result (λ verdict. IsPlainlyRight history → IsYes verdict) }
+    ensures accepts { IfOk result (λ verdict. IsLegalInResponseOrder history → IsYes verdict) }
     ensures no_workers { IsErrOf result (Unpooled PoolFault.NoWorkers history) ↔ (workers ≡ 0) }
     ensures too_many { IsErrOf result (Unpooled PoolFault.TooMany history) ↔ (16 < workers) }
     // A document that an error names, as lost, double or a stranger, is one of the history's.

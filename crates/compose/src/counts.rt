@@ -1,13 +1,13 @@
 ghost use Rattle.std.specs.Prelude.{◌≡◌, ◌<◌, ◌^◌, cond, map};
-ghost use Rattle.history.specs.Events.{is_any_call};
-ghost use Rattle.witness.specs.Documents.{witness_places};
+ghost use Rattle.events.specs.Events.{is_any_call};
+ghost use Rattle.places.specs.Documents.{witness_places};
 ghost use Rattle.compose.specs.Counts.{calls_of};
 ghost use Rattle.compose.specs.Laws.{places_in};
 ghost use Rattle.compose.specs.Verdicts.{AreCounts, HasOrder};
 
 use crate::proof::Proof;
-use history::{Event, History};
-use witness::DocWitness;
+use events::{Event, History};
+use places::DocWitness;
 
 /// The numbers of documents and of calls of a history, and the number of its calls that are in no order.
 #[derive(Clone, Copy, Debug, PartialEq, Eq)]

@@ -1,21 +1,21 @@
 ghost use Rattle.std.specs.Prelude.{Bool, IfOk, false, true};
 ghost use Rattle.doc_register.specs.declared.state.Conflicts.{Conflicts as Reading};
-ghost use Rattle.history.specs.Events.{documents_of};
+ghost use Rattle.events.specs.Events.{documents_of};
 ghost use Rattle.compose.specs.aids.Joined.{IsCovered};
 ghost use Rattle.compose.specs.aids.Searched.{AreAnswersFor, AreSearched};
 
 use crate::joined::{Joined, has_lost, joined_again, renumbered, witnesses_of};
 use crate::renumbered::gaps::Gaps;
-use crate::second_look::{Known, orders_again, with_gaps_again};
+use crate::second_look::{SearchContext, orders_again, with_gaps_again};
 use crate::shortage::Shortage;
 use crate::taken::pair_twice;
 use crate::third_look::cover_with_fewer;
 use crate::used_pairs::UsedPairs;
 use doc_check::DocAnswer;
-use history::Front;
+use events::Front;
+use places::DocWitness;
 use std::alloc::Global;
 use version_pair::NoMemory;
-use witness::DocWitness;
 
 /// Whether orders of the documents are found that together explain the history.
 #[derive(Drop)]
@@ -39,7 +39,7 @@ fn cover_scarce(
         → AreSearched conflicts history.now false (documents_of history.now) witnesses.items
         → IsCovered conflicts history.now false found) }
 {
-    let known = Known {
+    let known = SearchContext {
         seen: history.seen(),
         used,
     };

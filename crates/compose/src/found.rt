@@ -1,10 +1,10 @@
 ghost use Rattle.std.specs.Prelude.{◌<◌, IfOk, length, true};
-ghost use Rattle.history.specs.Events.{documents_of};
+ghost use Rattle.events.specs.Events.{documents_of};
 ghost use Rattle.compose.specs.aids.Searched.{AnswersDocument, AreAnswersFor};
 
 use doc_check::{DocAnswer, answer};
 use doc_register::Conflicts;
-use history::{Front, Seen};
+use events::{Front, Seen};
 use std::alloc::Global;
 use version_pair::NoMemory;
 

@@ -1,7 +1,7 @@
 ghost use Rattle.std.specs.Prelude.{◌≡◌, Bool, IfOk, MatchOption, false, map, true};
 ghost use Rattle.doc_check.specs.declared.search.DocAnswer.TheVariants.{Found as Ordered};
 ghost use Rattle.doc_register.specs.declared.state.Conflicts.{Conflicts as Reading};
-ghost use Rattle.history.specs.Events.{documents_of};
+ghost use Rattle.events.specs.Events.{documents_of};
 ghost use Rattle.compose.specs.Covers.{HasNoUnpairedCover};
 ghost use Rattle.compose.specs.aids.Joined.{IsJoined};
 ghost use Rattle.compose.specs.aids.Searched.{AreSearched, HasLost};
@@ -12,10 +12,10 @@ use crate::shortage::Shortage;
 use crate::taken::pair_twice;
 use crate::used_pairs::UsedPairs;
 use doc_check::DocAnswer;
-use history::Front;
+use events::Front;
+use places::DocWitness;
 use std::alloc::Global;
 use version_pair::NoMemory;
-use witness::DocWitness;
 
 /// What the witnesses of all documents are together.
 #[derive(Drop)]

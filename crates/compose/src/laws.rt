@@ -1,6 +1,6 @@
 //! Laws of covers and of shards. Each is the contract of a function that does nothing.
 
-ghost use Rattle.compose.specs.Laws.{CoversExplain, FaultyAreNoCover, OrdersAreCovers, PlainlyRightAreCovered, SettledHaveNoOrder};
+ghost use Rattle.compose.specs.Laws.{CoversExplain, FaultyAreNoCover, OrdersAreCovers, LegalInResponseOrderAreCovered, CompleteHaveNoOrder};
 ghost use Rattle.compose.specs.Shards.{LocalByShard};
 
 /// Shows that entries that cover a history make it linearizable, by an order of exactly their places.
@@ -16,16 +16,16 @@ pub fn orders_are_covers()
     ensures { OrdersAreCovers }
 {}
 
-/// Shows that a complete (settled) history that no entries without a given pair cover is not linearizable.
-#[tactic(auto, using(crate::proofs::Restriction::settled_have_no_order))]
-pub fn settled_have_no_order()
-    ensures { SettledHaveNoOrder }
+/// Shows that a complete history that no entries without a given pair cover is not linearizable.
+#[tactic(auto, using(crate::proofs::Restriction::complete_have_no_order))]
+pub fn complete_have_no_order()
+    ensures { CompleteHaveNoOrder }
 {}
 
 /// Shows that a history that is legal in response order is covered by entries without a given pair.
-#[tactic(auto, using(crate::proofs::Restriction::plainly_right_are_covered))]
-pub fn plainly_right_are_covered()
-    ensures { PlainlyRightAreCovered }
+#[tactic(auto, using(crate::proofs::Restriction::legal_in_response_order_are_covered))]
+pub fn legal_in_response_order_are_covered()
+    ensures { LegalInResponseOrderAreCovered }
 {}
 
 /// Shows that entries that have a first fault are no cover.

@@ -3,10 +3,10 @@ ghost use Rattle.compose.specs.Offences.{IsOffence};
 ghost use Rattle.compose.specs.aids.Replies.{AreReplies, IsNarrower, IsReplyPlace, IsWrongAt, IsWrongFrom, IsWrongUnlessFound, places_with};
 
 use crate::case::Case;
-use crate::checking::{Looked, is_explained, looked_for};
+use crate::checking::{SearchOutcome, is_explained, search_outcome};
 use doc_register::Conflicts;
-use history::laws::late_calls;
-use history::{Event, History};
+use events::laws::late_calls;
+use events::{Event, History};
 use narrowing::guess;
 use std::alloc::Global;
 use version_pair::NoMemory;
@@ -51,23 +51,22 @@ fn reply_places(alloc: Global, history: &History) -> Result<Vec<usize>, NoMemory
 }
 
 // What the search finds of the events up to and including this position.
-fn looked_to(
+fn search_outcome_to(
     alloc: Global,
     history: &History,
     conflicts: Conflicts,
     place: usize,
-) -> Result<Looked, NoMemory>
+) -> Result<SearchOutcome, NoMemory>
     requires { place < length history.now }
     ensures { IfOk result (IsWrongUnlessFound history.now place) }
 {
     // A look at the history: that its positions are small numbers is known from here on.
     let _ = history.len();
-    looked_for(alloc, &history.front(place + 1), conflicts)
+    search_outcome(alloc, &history.front(place + 1), conflicts)
 }
 
 // The index of the reply to try next, in `low..high`: the guess, if it is among them; if it is before them,
-// `low` and about three times the distance from the guess; never beyond the middle, which it is without a
-// guess.
+// `low` plus about three times its distance; the middle if that is nearer, or there is no guess.
 fn next_tried(places: &[usize], low: usize, high: usize, guessed: Option<usize>) -> usize
     requires order { low < high }
     ensures from { low ≤ result }
@@ -103,8 +102,8 @@ fn guess_after_failure(
     }
 }
 
-// Fewer of the replies from `low` to `high`, if the search fails at `high`: those up to one at which it fails,
-// or those after one at which it finds an order. The guess is replaced by another one.
+// Fewer of the replies from `low` to `high`, if the search fails at `high`: those up to one at which it
+// fails, or those after one at which it finds an order. The guess is replaced by another one.
 fn narrower(
     alloc: Global,
     history: &History,
@@ -120,9 +119,9 @@ fn narrower(
     ensures { IfOk result (IsNarrower history.now places.now low high) }
 {
     let at = next_tried(places, low, high, *guessed);
-    match looked_to(alloc, history, conflicts, places[at])? {
-        Looked::Found => Ok((at + 1, high)),
-        Looked::NotFound(found) => {
+    match search_outcome_to(alloc, history, conflicts, places[at])? {
+        SearchOutcome::Found => Ok((at + 1, high)),
+        SearchOutcome::NotFound(found) => {
             *guessed = guess_after_failure(places, at, *guessed, found);
             Ok((low, at))
         }
@@ -185,7 +184,7 @@ fn offence_at(
 
 // The offence at this reply, if the search finds an order of all events before and fails there. If it fails
 // on the events before, `next` is another guess, if there is one; if it finds an order of the events up to
-// the reply, `next` is the reply again.
+// the reply, `next` is the event after it.
 fn offence_if(
     alloc: Global,
     history: &History,
@@ -202,19 +201,19 @@ fn offence_if(
     let Event::Reply { no, .. } = history.event(place) else {
         return Ok(None);
     };
-    match looked_for(alloc, &history.front(place), conflicts)? {
-        Looked::Found => {}
-        Looked::NotFound(earlier) => {
+    match search_outcome(alloc, &history.front(place), conflicts)? {
+        SearchOutcome::Found => {}
+        SearchOutcome::NotFound(earlier) => {
             *next = earlier;
             return Ok(None);
         }
     }
-    match looked_to(alloc, history, conflicts, place)? {
-        Looked::Found => {
-            *next = Some(place);
+    match search_outcome_to(alloc, history, conflicts, place)? {
+        SearchOutcome::Found => {
+            *next = place.checked_add(1);
             Ok(None)
         }
-        Looked::NotFound(_) => Ok(Some(Offence {
+        SearchOutcome::NotFound(_) => Ok(Some(Offence {
             event: place,
             call: *no,
             before_shown: true,
@@ -253,12 +252,13 @@ pub fn first_offence(alloc: Global, case: &Case) -> Result<Offence, NoMemory>
         if let Some(offence) = offence_if(alloc, history, conflicts, place, &mut guessed)? {
             return Ok(offence);
         }
-        if guessed == Some(place) {
+        if guessed > Some(place) {
             break;
         }
     }
     let places = reply_places(alloc, history)?;
-    // What calls after the last reply leave as it was is known from here on.
+    // From here on it is known that calls after the last reply don't change whether a history is legal in
+    // response order.
     late_calls();
     let place = first_wrong(alloc, history, conflicts, &places, guessed)?;
     offence_at(alloc, history, conflicts, place)

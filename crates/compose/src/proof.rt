@@ -1,13 +1,13 @@
 ghost use Rattle.std.specs.Prelude.{◌≡◌};
-ghost use Rattle.history.specs.Events.{IsHistory};
-ghost use Rattle.history.specs.Order.{IsLinearizable};
+ghost use Rattle.events.specs.Events.{IsHistory};
+ghost use Rattle.events.specs.Order.{IsLinearizable};
 ghost use Rattle.compose.specs.Verdicts.{AreWitnesses, left_out_of};
 
 use crate::counts::Counts;
 use doc_register::Conflicts;
-use history::History;
+use events::History;
+use places::DocWitness;
 use std::marker::Model;
-use witness::DocWitness;
 
 /// A history with the witnesses of its documents.
 ///
@@ -22,7 +22,7 @@ pub struct Proof {
 }
 
 impl Model for Proof {
-    ghost use Rattle.history.specs.Events.{IsHistory};
+    ghost use Rattle.events.specs.Events.{IsHistory};
     ghost use Rattle.compose.specs.Verdicts.{AreWitnesses, Proven};
 
     ghost Value = { Proven };

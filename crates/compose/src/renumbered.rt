@@ -6,10 +6,10 @@ use crate::renumbered::gaps::{Gap, Gaps};
 use crate::renumbered::names::Names;
 use crate::renumbered::tight::{Filled, tight_set};
 use crate::used_pairs::UsedPairs;
-use history::HashKeys;
+use events::HashKeys;
+use places::{Broken, DocWitness};
 use std::alloc::{AllocError, Global};
 use version_pair::{NoMemory, Pair};
-use witness::{Broken, DocWitness};
 
 pub mod free_numbers;
 pub mod gaps;

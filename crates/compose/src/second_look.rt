@@ -1,6 +1,6 @@
 ghost use Rattle.std.specs.Prelude.{IfOk, IfSome, false};
 ghost use Rattle.doc_register.specs.declared.state.Conflicts.{Conflicts as Reading};
-ghost use Rattle.history.specs.Events.{documents_of};
+ghost use Rattle.events.specs.Events.{documents_of};
 ghost use Rattle.compose.specs.aids.Searched.{AreAlike, AreAnswersFor, AreKept, AreSearched, IsAlike, Keeps};
 
 use crate::asked::Asked;
@@ -9,15 +9,15 @@ use crate::renumbered::gaps::Gaps;
 use crate::taken::shard_of;
 use crate::used_pairs::UsedPairs;
 use completing::Limit;
-use doc_check::{DocAnswer, answer_among, is_settled};
-use history::{Front, Seen};
+use doc_check::{DocAnswer, answer_among, is_complete};
+use events::{Front, Seen};
+use places::DocWitness;
 use std::alloc::Global;
 use version_pair::{NoMemory, Pair};
-use witness::DocWitness;
 
 /// What a search of a document is given beside its calls.
 #[derive(Clone, Copy)]
-pub struct Known<'a> {
+pub struct SearchContext<'a> {
     /// What is seen in the history.
     pub seen: Seen,
     /// The pairs that the documents of each shard use.
@@ -36,7 +36,19 @@ fn second_answer(
 {
     let id = answer.id().copy()?;
     let records = Vec::from_slice(alloc, answer.records())?;
-    match answer_among(alloc, id, records, seen, answer.conflicts(), used, &[])? {
+    // How far the search came is of no use here.
+    let mut stuck = None;
+    let found = answer_among(
+        alloc,
+        id,
+        records,
+        seen,
+        answer.conflicts(),
+        used,
+        &[],
+        &mut stuck,
+    )?;
+    match found {
         Some(witness) => Ok(DocAnswer::Found(witness)),
         None => Ok(answer),
     }
@@ -47,7 +59,7 @@ fn answer_again(
     alloc: Global,
     history: &Front<'_>,
     answer: DocAnswer,
-    known: Known<'_>,
+    known: SearchContext<'_>,
 ) -> Result<DocAnswer, NoMemory>
     ensures { IfOk result (Keeps answer) }
 {
@@ -65,7 +77,7 @@ fn answers_again(
     alloc: Global,
     history: &Front<'_>,
     answers: Vec<DocAnswer>,
-    known: Known<'_>,
+    known: SearchContext<'_>,
 ) -> Result<Vec<DocAnswer>, NoMemory>
     ensures { IfOk result (λ others. AreKept answers.items others.items) }
 {
@@ -82,7 +94,7 @@ fn is_hopeless(answers: &[DocAnswer]) -> bool {
         match answer {
             DocAnswer::Found(_) => {}
             DocAnswer::NotFound(none) => {
-                if is_settled(none.records(), none.conflicts()) {
+                if is_complete(none.records(), none.conflicts()) {
                     return true;
                 }
             }
@@ -106,7 +118,7 @@ pub fn orders_again(
         return Ok(None);
     }
     let used = UsedPairs::shown(alloc, history, &answers)?;
-    let known = Known {
+    let known = SearchContext {
         seen: history.seen(),
         used: &used,
     };
@@ -114,17 +126,19 @@ pub fn orders_again(
     witnesses_of(alloc, others)
 }
 
-// Returns another order of the same calls within the limits, given which pairs the documents of the shard
-// use, if the search forward finds one.
+/// Returns another order of the same calls within the limits, given which pairs the documents of the shard
+/// use, if the search forward finds one. If it doesn't, `stuck` is how far it came (`answer_among`).
 pub fn order_within(
     alloc: Global,
     history: &Front<'_>,
     witness: &DocWitness,
-    known: Known<'_>,
+    known: SearchContext<'_>,
     limits: &[Limit],
+    stuck: &mut Option<usize>,
 ) -> Result<Option<DocWitness>, NoMemory>
     ensures { IfOk result (λ found. IfSome found (IsAlike witness.now)) }
 {
+    *stuck = None;
     let Some(shard) = shard_of(history, witness.id()) else {
         return Ok(None);
     };
@@ -139,6 +153,7 @@ pub fn order_within(
         witness.conflicts(),
         used,
         limits,
+        stuck,
     )
 }
 
@@ -147,7 +162,7 @@ fn witness_again(
     alloc: Global,
     history: &Front<'_>,
     witness: DocWitness,
-    known: Known<'_>,
+    known: SearchContext<'_>,
     limits: Option<Vec<Limit>>,
 ) -> Result<DocWitness, NoMemory>
     ensures { IfOk result (IsAlike witness) }
@@ -157,7 +172,9 @@ fn witness_again(
     let Some(limits) = limits else {
         return Ok(witness);
     };
-    match order_within(alloc, history, &witness, known, &limits)? {
+    // How far the search came is of no use here.
+    let mut stuck = None;
+    match order_within(alloc, history, &witness, known, &limits, &mut stuck)? {
         Some(other) => Ok(other),
         None => Ok(witness),
     }
@@ -169,7 +186,7 @@ pub fn witnesses_again(
     history: &Front<'_>,
     witnesses: Vec<DocWitness>,
     asked: &Asked,
-    known: Known<'_>,
+    known: SearchContext<'_>,
 ) -> Result<Vec<DocWitness>, NoMemory>
     ensures { IfOk result (λ others. AreAlike witnesses.items others.items) }
 {
@@ -187,7 +204,7 @@ pub fn with_gaps_again(
     history: &Front<'_>,
     witnesses: Vec<DocWitness>,
     gaps: &Gaps,
-    known: Known<'_>,
+    known: SearchContext<'_>,
 ) -> Result<Vec<DocWitness>, NoMemory>
     ensures { IfOk result (λ others. AreAlike witnesses.items others.items) }
 {

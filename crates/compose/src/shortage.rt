@@ -1,9 +1,9 @@
 use crate::renumbered::gaps::{Gap, Gaps};
 use crate::taken::{pair_of_place, shard_of};
-use history::{Front, Rec};
+use events::{Front, Rec};
+use places::DocWitness;
 use std::alloc::Global;
 use version_pair::{NoMemory, Pair};
-use witness::DocWitness;
 
 /// Too few numbers for the invented pairs of some documents.
 #[derive(Drop)]
@@ -71,7 +71,7 @@ fn first_asking(gap: &Gap, witness: &DocWitness) -> Option<usize> {
 }
 
 impl Shortage {
-    // The latest, over these gaps, of the first reply that may ask for what is invented there.
+    // For each of these gaps the first reply that may ask for a write invented there; the latest of them.
     fn last_asking(&self, witnesses: &[DocWitness]) -> Option<usize> {
         let mut last = None;
         for number in 0..self.tight.len() {
@@ -105,9 +105,9 @@ impl Shortage {
         Some(stretch)
     }
 
-    /// A guess at the reply with which the numbers become too few, the later of two: the last reply that is
-    /// the first to show some pair from the end below these gaps to the end above; and the latest of the
-    /// first replies that may ask for their invented writes.
+    /// A guess at the reply with which the numbers become too few, the later of two. One is the latest among
+    /// the first replies to show each pair from the end below these gaps to the end above; the other the
+    /// latest among the first replies that may ask for an invented write, one for each gap.
     pub fn reply(
         &self,
         alloc: Global,

@@ -1,12 +1,12 @@
 ghost use Rattle.std.specs.Prelude.{◌≡◌, ◌++◌, ◌∷◌, [], IfOk, IsSorted, OnOk};
-ghost use Rattle.history.specs.Heard.{taken_by};
+ghost use Rattle.events.specs.Heard.{taken_by};
 ghost use Rattle.compose.specs.aids.Taken.{IsLeastTwice, by_shard, pair_at, pairs_at, pairs_of_document, pairs_taken, shard_in};
 
 use doc_register::Reply;
-use history::{Front, Rec};
+use events::{Front, Rec};
+use places::{DocWitness, Place};
 use std::alloc::Global;
 use version_pair::{DocId, NoMemory, Pair};
-use witness::{DocWitness, Place};
 
 // Returns the pair that a call takes: the one that its reply shows, or the one that is given to its place.
 fn pair_taken(heard: Option<(usize, Reply)>, given: Option<Pair>) -> Option<Pair>

@@ -1,6 +1,6 @@
 ghost use Rattle.std.specs.Prelude.{IfOk, false};
 ghost use Rattle.doc_register.specs.declared.state.Conflicts.{Conflicts as Reading};
-ghost use Rattle.history.specs.Events.{documents_of};
+ghost use Rattle.events.specs.Events.{documents_of};
 ghost use Rattle.compose.specs.aids.Joined.{IsCovered};
 ghost use Rattle.compose.specs.aids.Searched.{AreSearched};
 
@@ -8,13 +8,13 @@ use crate::asked::Asked;
 use crate::covering::Covering;
 use crate::joined::{Joined, joined_again};
 use crate::renumbered::gaps::{Gap, Gaps};
-use crate::second_look::{Known, order_within, witnesses_again};
+use crate::second_look::{SearchContext, order_within, witnesses_again};
 use crate::shortage::Shortage;
 use completing::Limit;
-use history::Front;
+use events::Front;
+use places::DocWitness;
 use std::alloc::Global;
 use version_pair::NoMemory;
-use witness::DocWitness;
 
 // The greatest number of documents that give way, one after the other.
 const MOST_STEPS: usize = 64;
@@ -22,8 +22,8 @@ const MOST_STEPS: usize = 64;
 // The greatest number of gaps that are tried for one that can do with fewer numbers.
 const MOST_TRIED: usize = 64;
 
-// The greatest number of records that are searched again: for each event of the history, and in addition in
-// any case.
+// The greatest number of records that are searched again: this many for each event of the history, and
+// `ALWAYS_SEARCHED` more.
 const MOST_SEARCHED: usize = 2;
 
 const ALWAYS_SEARCHED: usize = 100_000;
@@ -37,11 +37,14 @@ fn fewer_than(gap: &Gap) -> Option<Limit> {
     })
 }
 
-// The documents that are asked for, and the number of records that may still be searched.
+// The documents that are asked for, the number of records that may still be searched, and how far the
+// searches that found nothing came since the last document gave way: the latest of the replies at which they
+// were stuck.
 #[derive(Drop)]
 struct Trials {
     asked: Asked,
     left: usize,
+    stuck: Option<usize>,
 }
 
 impl Trials {
@@ -59,23 +62,25 @@ impl Trials {
 
 // What is asked of a document that can do with fewer numbers in a gap.
 #[derive(Clone, Copy)]
-struct GivesWay {
+struct Concession {
     doc: usize,
     limit: Limit,
     // How many more numbers it wants in all.
     more: usize,
 }
 
-// Returns how many numbers the document of a witness wants within the limits, if an order is found.
+// Returns how many numbers the document of a witness wants within the limits, if an order is found. If none
+// is, `stuck` is how far the search came.
 fn wanted_within(
     alloc: Global,
     history: &Front<'_>,
     doc: usize,
     witness: &DocWitness,
-    known: Known<'_>,
+    known: SearchContext<'_>,
     limits: &[Limit],
+    stuck: &mut Option<usize>,
 ) -> Result<Option<usize>, NoMemory> {
-    match order_within(alloc, history, witness, known, limits)? {
+    match order_within(alloc, history, witness, known, limits, stuck)? {
         Some(other) => {
             let mut gaps = Gaps::none(alloc);
             gaps.note(alloc, history, doc, &other)?;
@@ -87,15 +92,15 @@ fn wanted_within(
 
 // Returns what to ask of the document of a gap if it can do with one number fewer there, as far as it may be
 // searched.
-fn gives_way(
+fn concession_of(
     alloc: Global,
     history: &Front<'_>,
     witnesses: &[DocWitness],
     gaps: &Gaps,
     gap: &Gap,
     trials: &mut Trials,
-    known: Known<'_>,
-) -> Result<Option<GivesWay>, NoMemory> {
+    known: SearchContext<'_>,
+) -> Result<Option<Concession>, NoMemory> {
     let (Some(witness), Some(limit)) = (witnesses.get(gap.witness), fewer_than(gap)) else {
         return Ok(None);
     };
@@ -104,13 +109,25 @@ fn gives_way(
     }
     let mut limits = trials.asked.limits_on(alloc, gap.witness)?;
     limits.push(limit)?;
-    match wanted_within(alloc, history, gap.witness, witness, known, &limits)? {
-        Some(count) => Ok(Some(GivesWay {
+    let mut stuck = None;
+    match wanted_within(
+        alloc,
+        history,
+        gap.witness,
+        witness,
+        known,
+        &limits,
+        &mut stuck,
+    )? {
+        Some(count) => Ok(Some(Concession {
             doc: gap.witness,
             limit,
             more: count.saturating_sub(gaps.wanted(gap.witness)),
         })),
-        None => Ok(None),
+        None => {
+            trials.stuck = trials.stuck.max(stuck);
+            Ok(None)
+        }
     }
 }
 
@@ -122,15 +139,16 @@ fn best_of(
     witnesses: &[DocWitness],
     shortage: &Shortage,
     trials: &mut Trials,
-    known: Known<'_>,
-) -> Result<Option<GivesWay>, NoMemory> {
+    known: SearchContext<'_>,
+) -> Result<Option<Concession>, NoMemory> {
     let gaps = &shortage.gaps;
-    let mut best: Option<GivesWay> = None;
+    let mut best: Option<Concession> = None;
+    trials.stuck = None;
     for number in shortage.tight.iter().take(MOST_TRIED) {
         let Some(gap) = gaps.list.get(*number) else {
             continue;
         };
-        if let Some(found) = gives_way(alloc, history, witnesses, gaps, gap, trials, known)? {
+        if let Some(found) = concession_of(alloc, history, witnesses, gaps, gap, trials, known)? {
             if found.more == 0 {
                 return Ok(Some(found));
             }
@@ -145,13 +163,14 @@ fn best_of(
 
 /// Takes a third look, if the documents want more numbers than are free: as long as there are too few for
 /// some gaps, one of their documents is searched again with one number fewer there. Returns witnesses that
-/// cover the history, if the numbers suffice in the end.
+/// cover the history, if the numbers suffice in the end; else a guess at the reply with which they become too
+/// few.
 pub fn cover_with_fewer(
     alloc: Global,
     history: &Front<'_>,
     witnesses: Vec<DocWitness>,
     shortage: Shortage,
-    known: Known<'_>,
+    known: SearchContext<'_>,
 ) -> Result<Covering, NoMemory>
     ensures { IfOk result (λ found. (conflicts : Reading)
         → AreSearched conflicts history.now false (documents_of history.now) witnesses.items
@@ -161,6 +180,7 @@ pub fn cover_with_fewer(
     let mut trials = Trials {
         asked: Asked::none(alloc, witnesses.len())?,
         left: most.saturating_add(ALWAYS_SEARCHED),
+        stuck: None,
     };
     let mut witnesses = witnesses;
     let mut shortage = shortage;
@@ -179,5 +199,6 @@ pub fn cover_with_fewer(
             Joined::Spent => return Ok(Covering::NotFound(None)),
         }
     }
-    Ok(Covering::NotFound(shortage.reply(alloc, history, &witnesses)?))
+    let guessed = shortage.reply(alloc, history, &witnesses)?;
+    Ok(Covering::NotFound(guessed.max(trials.stuck)))
 }

@@ -1,9 +1,9 @@
 use crate::taken::shard_of;
 use doc_check::DocAnswer;
-use history::{Front, Rec};
+use events::{Front, Rec};
+use places::DocWitness;
 use std::alloc::Global;
 use version_pair::{NoMemory, Pair};
-use witness::DocWitness;
 
 /// The pairs that are in use, by shard.
 #[derive(Drop)]
@@ -29,8 +29,8 @@ fn note_used(list: &mut Vec<Pair>, found: Rec) -> Result<(), NoMemory> {
 }
 
 impl UsedPairs {
-    /// Returns those that the calls of these documents show to be in use: a get found them, a write that was
-    /// performed has them, or its condition names them.
+    /// Returns the pairs that the calls of these documents show to be in use: a get found them, a write that
+    /// was performed has them, or its condition names them.
     pub fn shown(
         alloc: Global,
         history: &Front<'_>,
@@ -51,7 +51,8 @@ impl UsedPairs {
         Ok(used)
     }
 
-    /// Returns those that the answered writes of these witnesses have, and the others, each with its shard.
+    /// Returns the pairs that the answered writes of these witnesses have, and those of the other writes,
+    /// each with its shard.
     pub fn taken(
         alloc: Global,
         history: &Front<'_>,
@@ -119,7 +120,7 @@ impl UsedPairs {
         }
     }
 
-    /// Returns those of a shard, rising.
+    /// Returns the pairs in use in a shard, rising.
     pub fn of_shard(&self, shard: u32) -> &[Pair] {
         match usize::try_from(shard) {
             Ok(shard) => match self.shards.get(shard) {

@@ -1,8 +1,7 @@
 ghost use Rattle.std.specs.Prelude.{◌≡◌, ◌≢◌, ◌<◌, ◌++◌, ◌∷◌, [], IfErr, IfOk, IsOk, List, MatchOption, MatchResult, OnOk, Some, false, true, ℕ, length, map, slice_get};
 ghost use Rattle.doc_register.specs.declared.state.Conflicts.{Conflicts as Reading};
-ghost use Rattle.history.specs.Events.{documents_of};
-ghost use Rattle.witness.specs.Documents.{doc_places, witness_places};
-ghost use Rattle.witness.specs.Text.{DocPlaces};
+ghost use Rattle.events.specs.Events.{documents_of};
+ghost use Rattle.places.specs.Documents.{DocPlaces, doc_places, witness_places};
 ghost use Rattle.compose.specs.VerifyFaults.{IsFirstVerifyFault};
 ghost use Rattle.compose.specs.Verdicts.{AreWitnesses};
 ghost use Rattle.compose.specs.Covers.{AreCover};
@@ -13,10 +12,10 @@ use crate::proof::Proof;
 use crate::taken::pair_twice;
 use crate::verify_fault::VerifyFault;
 use doc_register::Conflicts;
-use history::History;
+use events::History;
+use places::{Broken, DocWitness, Place};
 use std::alloc::Global;
 use version_pair::{DocId, NoMemory};
-use witness::{Broken, DocWitness, Place};
 
 // The entries that were verified: their witnesses, and for each document of the history whether it is
 // entered.

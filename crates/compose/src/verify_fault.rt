@@ -1,6 +1,6 @@
+use places::Broken;
 use thiserror::Error;
 use version_pair::Pair;
-use witness::Broken;
 
 /// Why the entries of a witness text do not cover a history: the first fault. Entries and documents are
 /// numbered from 0, documents in the order of their first calls.

@@ -1,5 +1,5 @@
 ghost use Rattle.std.specs.Prelude.{◌≡◌, ◌<◌, ◌≤◌, IfErr, IfOk, length, true};
-ghost use Rattle.history.specs.Events.{documents_of};
+ghost use Rattle.events.specs.Events.{documents_of};
 ghost use Rattle.check_pool.specs.Answers.{AreNumbered};
 ghost use Rattle.compose.specs.aids.Searched.{AreAnswersFor};
 ghost use Rattle.compose.specs.aids.Worked.{AreJobsFor, IsJobOf, IsWorkersFault};
@@ -7,7 +7,7 @@ ghost use Rattle.compose.specs.aids.Worked.{AreJobsFor, IsJobOf, IsWorkersFault}
 use check_pool::{DocJob, Gate, PoolFault, answers};
 use doc_check::DocAnswer;
 use doc_register::Conflicts;
-use history::{Front, Seen};
+use events::{Front, Seen};
 use std::alloc::Global;
 use std::sync::Wait;
 use std::thread::Threads;

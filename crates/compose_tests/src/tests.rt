@@ -3,7 +3,8 @@ mod refutations;
 
 use compose::{CheckFault, Refuted, Verdict, check, check_alone, refutes, rule_out};
 use doc_register::Conflicts;
-use history::{History, read};
+use events::History;
+use history::read;
 use std::alloc::Global;
 use std::process::Abort;
 use std::test::Fail;

@@ -46,8 +46,8 @@ IsDisturbed w incident n = IsRun w (steps_of incident w.primary (length w.copies
 -- (`Polls`).
 -- Source: profile.
 abbrev pub PollsDisturbed : List Incident → ℕ → GroupState → Lcg → ℕ → Result Progress TargetFault → GroupState → Lcg → Type 0
-PollsDisturbed schedule number w random t told n random' =
-    (m : GroupState) × IsDisturbed w (incident_before schedule number) m × Polls m random t told n random'
+PollsDisturbed schedule number w random t reported n random' =
+    (m : GroupState) × IsDisturbed w (incident_before schedule number) m × Polls m random t reported n random'
 
 -- ---- a group that one caller owns
 
@@ -75,7 +75,7 @@ pub record DisturbedState : Type 0 where
 abbrev pub with_schedule : CountedState → List Incident → DisturbedState
 with_schedule counted schedule = record { core = counted.core; random = counted.random; polls = counted.polls; schedule = schedule }
 
--- a group at the start that does this wrong, with that many copies (`start`) and the generator of the seed,
+-- a group at the start with this fault, with that many copies (`start`) and the generator of the seed,
 -- before any poll
 -- Source: profile.
 abbrev pub counted_from : Fault → ℕ → ℕ → CountedState
@@ -86,7 +86,7 @@ counted_from fault copies seed = record { core = start fault copies; random = ge
 abbrev pub disturbed_from : Fault → ℕ → ℕ → Disturbance → ℕ → DisturbedState
 disturbed_from fault copies seed disturbance count = with_schedule (counted_from fault copies seed) (schedule_drawn disturbance seed count)
 
--- A submission that returns a ticket.
+-- submitting op on id returns the ticket, and leads from old to new
 -- Source: profile.
 pub record SubmitsTicket (old : DisturbedState) (id : List ℕ) (op : Op) (ticket : Ticket) (new : DisturbedState) : Type 0 where
   -- the group takes the step Submit (`Submits`)
@@ -96,7 +96,7 @@ pub record SubmitsTicket (old : DisturbedState) (id : List ℕ) (op : Op) (ticke
 
 -- A poll that reports on a ticket.
 -- Source: profile.
-pub record TellsProgress (old : DisturbedState) (ticket : Ticket) (progress : Progress) (new : DisturbedState) : Type 0 where
+pub record ReportsProgress (old : DisturbedState) (ticket : Ticket) (progress : Progress) (new : DisturbedState) : Type 0 where
   -- it does what the poll of its number does (`PollsDisturbed`)
   pub polls : PollsDisturbed old.schedule old.polls old.core old.random ticket.0 (Ok progress) new.core new.random
   -- it is counted, modulo 2^64

@@ -32,7 +32,7 @@ unfoldable pub after_words : ℕ → Lcg → Lcg
 after_words zero g = g
 after_words (suc n) g = after_words n (pcg32 g).1
 
--- the generator from whose words schedules are drawn, by its seed: its stream, 56, is another than those of
+-- the generator from whose words schedules are drawn, by its seed: its stream, 56, differs from those of
 -- plans and of groups
 -- Source: profile.
 abbrev pub generator_of : ℕ → Lcg

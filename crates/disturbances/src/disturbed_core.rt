@@ -67,14 +67,14 @@ impl DisturbedCore {
 
 // Its errors are those of `submit_step` and `disturbed_poll_step`. What they leave is left open.
 impl OwnedTarget for DisturbedCore {
-    ghost use Rattle.disturbances.specs.Disturbed.{SubmitsTicket, TellsProgress};
+    ghost use Rattle.disturbances.specs.Disturbed.{SubmitsTicket, ReportsProgress};
 
     // A submission is the step `Submit`, and leaves the rest as it was.
     ghost takes = { SubmitsTicket };
 
     // A poll is the incident that the schedule has before it, followed by the step of the poll, and it is
     // counted modulo 2^64.
-    ghost tells = { TellsProgress };
+    ghost reports = { ReportsProgress };
 
     fn submit(&mut self, id: &DocId, op: &Op) -> Result<Ticket, TargetFault> {
         self.counted.submit(id, op)

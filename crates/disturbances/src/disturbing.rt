@@ -2,7 +2,7 @@ ghost use Rattle.std.specs.Prelude.{◌≡◌, ◌≤◌, IfErr, IfOk};
 ghost use Rattle.disturbances.specs.Disturbed.{IsDisturbed, PollsDisturbed, other_copy as other_by};
 ghost use Rattle.repl_group.specs.Group.{IsCopyCount, Takes};
 ghost use Rattle.repl_group.specs.Honest.{IsHonestUnlessFaulty};
-ghost use Rattle.repl_group.specs.declared.step.Answer.{Answer as Told};
+ghost use Rattle.repl_group.specs.declared.step.Answer.{Answer as Reported};
 
 use crate::incident::Incident;
 use crate::schedule::Schedule;
@@ -20,7 +20,7 @@ fn other_copy(primary: u32, copies: u32, number: u32) -> u32
 
 // Takes one step, whatever its answer.
 fn take(core: &mut Core, step: Step) -> Result<(), TargetFault>
-    ensures takes { IfOk result (λ _. (told : Told) × Takes core.old step told core.new) }
+    ensures takes { IfOk result (λ _. (reported : Reported) × Takes core.old step reported core.new) }
     ensures refused { IfErr result (λ fault. fault ≡ TargetFault.NoMemory) }
     ensures honest { IsHonestUnlessFaulty core.new }
 {

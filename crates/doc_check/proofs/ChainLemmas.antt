@@ -5,13 +5,13 @@ use Rattle.std.specs.Ordering.{nat_cmp, ordering_then, is_lt}
 use Rattle.std.proofs.lemmas.Cmp.{nat_cmp_total, on_total, ranked, then_total}
 use Rattle.version_pair.specs.declared.pair.Pair.{Pair}
 use Rattle.version_pair.specs.PairOrder.{IsBelow}
-use Rattle.history.specs.declared.record.Rec.{Rec}
+use Rattle.events.specs.declared.record.Rec.{Rec}
 use Rattle.std.specs.declared.cmp.Ordering.TheVariants.{Less, Equal, Greater}
 use Rattle.std.proofs.lemmas.Bool.{true≢false}
 use Rattle.std.proofs.lemmas.Option.{slice_get_within}
 use Rattle.version_pair.proofs.ListLemmas.{compare, get_within, none_is_not_some, same_some}
 use Rattle.write_chain.specs.Chain.{IsChain, Rises, by_pair, link_at, pair_cmp, performed_records}
-use Rattle.history.specs.Heard.{pair_of}
+use Rattle.events.specs.Heard.{pair_of}
 use Rattle.doc_check.proofs.Lists.{Has, KeyOnce, KeyRises, not_below_then, once_moved, same_rising, sorted_at}
 use Rattle.doc_register.proofs.RunLemmas.{below_trans, not_both_below}
 

@@ -5,5 +5,5 @@ mod StretchLemmas
 mod SweepLemmas
 mod MomentLemmas
 mod OrderLemmas
-mod SettledLemmas
+mod CompleteLemmas
 mod SearchLemmas

@@ -13,14 +13,14 @@ use Rattle.doc_register.specs.declared.reply.Reply.TheVariants.{Indexed, Deleted
 use Rattle.doc_register.specs.declared.state.Conflicts.{Conflicts}
 use Rattle.doc_register.specs.declared.state.DocState.{DocState}
 use Rattle.doc_register.specs.declared.state.DocState.TheVariants.{Never}
-use Rattle.history.specs.declared.record.Rec.{Rec}
+use Rattle.events.specs.declared.record.Rec.{Rec}
 use Rattle.version_pair.proofs.ListLemmas.{get_within, none_is_not_some, same_some}
-use Rattle.witness.specs.declared.place.Place.{Place}
-use Rattle.witness.specs.Places.{AreRight, AreValid, GivesAsMay, IsHeardBefore, IsPlaceOf, IsPlaceRun, StepsAt}
+use Rattle.places.specs.declared.place.Place.{Place}
+use Rattle.places.specs.Places.{AreValidSoFar, AreValid, GivesAsMay, IsHeardBefore, IsPlaceOf, IsPlaceRun, StepsAt}
 use Rattle.doc_check.specs.NoOrders.{AreUnpaired}
 use Rattle.write_chain.specs.Chain.{IsChain, Rises, performed_records}
-use Rattle.history.specs.Heard.{pair_of}
-use Rattle.doc_check.specs.aids.Order.{IsStretchOrder, Standing, by_standing, place_of, standing_made, standings_from, turn, with_standing}
+use Rattle.events.specs.Heard.{pair_of}
+use Rattle.doc_check.specs.aids.Order.{IsStretchOrder, StretchKey, by_standing, place_of, standing_made, standings_from, turn, with_standing}
 use Rattle.doc_check.specs.aids.Stretches.{FitsAs, ReadFits, WriteFits, cap, state_in, states_of}
 use Rattle.doc_check.specs.aids.Sweep.{AreGiven, AreSpread, IsGiven}
 use Rattle.doc_check.proofs.Lists.{Has, KeyOnce, KeyRises, has_back, has_moved, not_below, not_below_then, once_moved, sorted_at}
@@ -40,13 +40,13 @@ standing_has (s ∷ rs) (g ∷ gs) k zero j r h at is given =
     subst (λ o. Has (with_standing o (standings_from (suc k) rs gs)) (j, turn (pair_of (Some h)), h.0, k + 0)) (sym made)
     (0, ap (λ n. Some (j, turn (pair_of (Some h)), h.0, n)) number)
 standing_has (s ∷ rs) (g ∷ gs) k (suc i) j r h at is given = by_made (standing_made k s.heard g) (standing_has rs gs (suc k) i j r h at is given) where
-  by_made : (o : Option Standing) → Has (standings_from (suc k) rs gs) (j, turn (pair_of (Some h)), h.0, suc k + i)
+  by_made : (o : Option StretchKey) → Has (standings_from (suc k) rs gs) (j, turn (pair_of (Some h)), h.0, suc k + i)
       → Has (with_standing o (standings_from (suc k) rs gs)) (j, turn (pair_of (Some h)), h.0, k + suc i)
   by_made None has = (has.0, has.1 ∙ ap (λ n. Some (j, turn (pair_of (Some h)), h.0, n)) (let e : suc k + i ≡ k + suc i = omega arith in e))
   by_made (Some o) has = (suc has.0, has.1 ∙ ap (λ n. Some (j, turn (pair_of (Some h)), h.0, n)) (let e : suc k + i ≡ k + suc i = omega arith in e))
 
 -- the record of a standing
-record IsOf (rs : List Rec) (gs : List (Option ℕ)) (k : ℕ) (s : Standing) : Type 0 where
+record IsOf (rs : List Rec) (gs : List (Option ℕ)) (k : ℕ) (s : StretchKey) : Type 0 where
   from : ℕ
   record_of : Rec
   heard_of : ℕ × Reply
@@ -57,7 +57,7 @@ record IsOf (rs : List Rec) (gs : List (Option ℕ)) (k : ℕ) (s : Standing) : 
   turn_is : s.1 ≡ turn (pair_of record_of.heard)
   reply : s.2 ≡ heard_of.0
 
-of_later : (r : Rec) (rs : List Rec) (g : Option ℕ) (gs : List (Option ℕ)) (k : ℕ) (s : Standing) → IsOf rs gs (suc k) s → IsOf (r ∷ rs) (g ∷ gs) k s
+of_later : (r : Rec) (rs : List Rec) (g : Option ℕ) (gs : List (Option ℕ)) (k : ℕ) (s : StretchKey) → IsOf rs gs (suc k) s → IsOf (r ∷ rs) (g ∷ gs) k s
 of_later r rs g gs k s o = record {
   from = suc o.from;
   record_of = o.record_of;
@@ -70,7 +70,7 @@ of_later r rs g gs k s o = record {
   reply = o.reply;
 }
 
-standing_of : (rs : List Rec) (gs : List (Option ℕ)) (k i : ℕ) (s : Standing) → slice_get (standings_from k rs gs) i ≡ Some s → IsOf rs gs k s
+standing_of : (rs : List Rec) (gs : List (Option ℕ)) (k i : ℕ) (s : StretchKey) → slice_get (standings_from k rs gs) i ≡ Some s → IsOf rs gs k s
 standing_of [] gs k i s at = absurd (none_is_not_some s at)
 standing_of (r ∷ rs) [] k i s at = absurd (none_is_not_some s at)
 standing_of (r ∷ rs) (g ∷ gs) k i s at = by_heard r.heard g refl refl i at (λ j e. of_later r rs g gs k s (standing_of rs gs (suc k) j s e)) where
@@ -84,28 +84,28 @@ standing_of (r ∷ rs) (g ∷ gs) k i s at = by_heard r.heard g refl refl i at (
         from = 0;
         record_of = r;
         heard_of = h;
-        number = (let e : k ≡ s.3 = ap (λ (n : Standing). n.3) same in omega arith);
+        number = (let e : k ≡ s.3 = ap (λ (n : StretchKey). n.3) same in omega arith);
         at = refl;
         heard = is;
-        given = ap (λ o. Some o) given ∙ ap (λ (n : Standing). Some (Some n.0)) same;
-        turn_is = sym (ap (λ (n : Standing). n.1) same) ∙ ap (λ o. turn (pair_of o)) (sym is);
-        reply = sym (ap (λ (n : Standing). n.2) same);
+        given = ap (λ o. Some o) given ∙ ap (λ (n : StretchKey). Some (Some n.0)) same;
+        turn_is = sym (ap (λ (n : StretchKey). n.1) same) ∙ ap (λ o. turn (pair_of o)) (sym is);
+        reply = sym (ap (λ (n : StretchKey). n.2) same);
       }
   by_heard (Some h) (Some j) is given (suc i) at later = later i at
 
-numbers_rise : (rs : List Rec) (gs : List (Option ℕ)) (k : ℕ) → KeyRises (λ (s : Standing). s.3) (standings_from k rs gs)
+numbers_rise : (rs : List Rec) (gs : List (Option ℕ)) (k : ℕ) → KeyRises (λ (s : StretchKey). s.3) (standings_from k rs gs)
 numbers_rise [] gs k i j a b less at bt = absurd (none_is_not_some a at)
 numbers_rise (r ∷ rs) [] k i j a b less at bt = absurd (none_is_not_some a at)
 numbers_rise (r ∷ rs) (g ∷ gs) k i j a b less at bt = by_made (standing_made k r.heard g) here i j less at bt (numbers_rise rs gs (suc k)) where
-  here : (s : Standing) → standing_made k r.heard g ≡ Some s → s.3 ≡ k
+  here : (s : StretchKey) → standing_made k r.heard g ≡ Some s → s.3 ≡ k
   here s is = by_heard r.heard g is where
     by_heard : (o : Option (ℕ × Reply)) (d : Option ℕ) → standing_made k o d ≡ Some s → s.3 ≡ k
     by_heard None d is = absurd (none_is_not_some s is)
     by_heard (Some h) None is = absurd (none_is_not_some s is)
-    by_heard (Some h) (Some l) is = sym (ap (λ (n : Standing). n.3) (same_some (l, turn (pair_of (Some h)), h.0, k) s is))
+    by_heard (Some h) (Some l) is = sym (ap (λ (n : StretchKey). n.3) (same_some (l, turn (pair_of (Some h)), h.0, k) s is))
 
-  by_made : (o : Option Standing) → ((s : Standing) → o ≡ Some s → s.3 ≡ k) → (i j : ℕ) → i < j → slice_get (with_standing o (standings_from (suc k) rs gs)) i ≡ Some a
-      → slice_get (with_standing o (standings_from (suc k) rs gs)) j ≡ Some b → KeyRises (λ (s : Standing). s.3) (standings_from (suc k) rs gs) → a.3 < b.3
+  by_made : (o : Option StretchKey) → ((s : StretchKey) → o ≡ Some s → s.3 ≡ k) → (i j : ℕ) → i < j → slice_get (with_standing o (standings_from (suc k) rs gs)) i ≡ Some a
+      → slice_get (with_standing o (standings_from (suc k) rs gs)) j ≡ Some b → KeyRises (λ (s : StretchKey). s.3) (standings_from (suc k) rs gs) → a.3 < b.3
   by_made None own i j less at bt later = later i j a b less at bt
   by_made (Some s) own zero zero less at bt later = absurd (omega arith)
   by_made (Some s) own zero (suc j) less at bt later =
@@ -118,8 +118,8 @@ numbers_rise (r ∷ rs) (g ∷ gs) k i j a b less at bt = by_made (standing_made
 
 by_standing_total : IsTotalOrder by_standing
 by_standing_total =
-    then_total (then_total (then_total (on_total (λ (s : Standing). s.0) nat_cmp_total) (on_total (λ (s : Standing). s.1) nat_cmp_total))
-    (on_total (λ (s : Standing). s.2) nat_cmp_total)) (on_total (λ (s : Standing). s.3) nat_cmp_total)
+    then_total (then_total (then_total (on_total (λ (s : StretchKey). s.0) nat_cmp_total) (on_total (λ (s : StretchKey). s.1) nat_cmp_total))
+    (on_total (λ (s : StretchKey). s.2) nat_cmp_total)) (on_total (λ (s : StretchKey). s.3) nat_cmp_total)
 
 then_not : (o p : Ordering) → is_lt (ordering_then o p) ≡ false → is_lt o ≡ false
 then_not Less p not = absurd (true≢false not)
@@ -127,12 +127,12 @@ then_not Equal p not = refl
 then_not Greater p not = refl
 
 -- a stands up to b: by stretch, then by turn, then by place of reply
-record IsUpTo (a b : Standing) : Type 0 where
+record IsUpTo (a b : StretchKey) : Type 0 where
   stretch : a.0 ≤ b.0
   turn_up : a.0 ≡ b.0 → a.1 ≤ b.1
   reply_up : a.0 ≡ b.0 → a.1 ≡ b.1 → a.2 ≤ b.2
 
-up_to : (a b : Standing) → is_lt (by_standing b a) ≡ false → IsUpTo a b
+up_to : (a b : StretchKey) → is_lt (by_standing b a) ≡ false → IsUpTo a b
 up_to a b not =
     let three = then_not (ordering_then (ordering_then (nat_cmp b.0 a.0) (nat_cmp b.1 a.1)) (nat_cmp b.2 a.2)) (nat_cmp b.3 a.3) not in
     let two = then_not (ordering_then (nat_cmp b.0 a.0) (nat_cmp b.1 a.1)) (nat_cmp b.2 a.2) three in
@@ -160,7 +160,7 @@ turns None = omega arith
 turns (Some q) = omega arith
 
 -- what the proof stands on: the chain, the stretches given, some order, and the standings sorted
-record Given (records : List Rec) (chain : List (Pair × ℕ)) (given : List (Option ℕ)) (places : List Place) (sorted : List Standing) : Type 0 where
+record Given (records : List Rec) (chain : List (Pair × ℕ)) (given : List (Option ℕ)) (places : List Place) (sorted : List StretchKey) : Type 0 where
   is_chain : IsChain records chain
   rising : Rises chain
   are_given : AreGiven records chain given
@@ -169,7 +169,7 @@ record Given (records : List Rec) (chain : List (Pair × ℕ)) (given : List (Op
   in_order : IsSorted by_standing sorted
 
 -- the record of a sorted standing
-record Stood (records : List Rec) (given : List (Option ℕ)) (s : Standing) : Type 0 where
+record Stood (records : List Rec) (given : List (Option ℕ)) (s : StretchKey) : Type 0 where
   record_of : Rec
   heard_of : ℕ × Reply
   names : slice_get records s.3 ≡ Some record_of
@@ -178,8 +178,8 @@ record Stood (records : List Rec) (given : List (Option ℕ)) (s : Standing) : T
   turn_is : s.1 ≡ turn (pair_of record_of.heard)
   reply : s.2 ≡ heard_of.0
 
-stood : (records : List Rec) (chain : List (Pair × ℕ)) (given : List (Option ℕ)) (places : List Place) (sorted : List Standing) → Given records chain given places sorted
-    → (i : ℕ) (s : Standing) → slice_get sorted i ≡ Some s → Stood records given s
+stood : (records : List Rec) (chain : List (Pair × ℕ)) (given : List (Option ℕ)) (places : List Place) (sorted : List StretchKey) → Given records chain given places sorted
+    → (i : ℕ) (s : StretchKey) → slice_get sorted i ≡ Some s → Stood records given s
 stood records chain given places sorted g i s at =
     let has = has_back (standings_from 0 records given) sorted s g.moved (i, at) in
     let o = standing_of records given 0 has.0 s has.1 in
@@ -194,47 +194,47 @@ stood records chain given places sorted g i s at =
       reply = o.reply;
     }
 
-once : (records : List Rec) (chain : List (Pair × ℕ)) (given : List (Option ℕ)) (places : List Place) (sorted : List Standing) → Given records chain given places sorted
-    → KeyOnce (λ (s : Standing). s.3) sorted
-once records chain given places sorted g = once_moved (λ (s : Standing). s.3) (standings_from 0 records given) sorted g.moved (numbers_rise records given 0)
+once : (records : List Rec) (chain : List (Pair × ℕ)) (given : List (Option ℕ)) (places : List Place) (sorted : List StretchKey) → Given records chain given places sorted
+    → KeyOnce (λ (s : StretchKey). s.3) sorted
+once records chain given places sorted g = once_moved (λ (s : StretchKey). s.3) (standings_from 0 records given) sorted g.moved (numbers_rise records given 0)
 
-in_line : (records : List Rec) (chain : List (Pair × ℕ)) (given : List (Option ℕ)) (places : List Place) (sorted : List Standing) → Given records chain given places sorted
-    → (i j : ℕ) (a b : Standing) → i ≤ j → slice_get sorted i ≡ Some a → slice_get sorted j ≡ Some b → IsUpTo a b
+in_line : (records : List Rec) (chain : List (Pair × ℕ)) (given : List (Option ℕ)) (places : List Place) (sorted : List StretchKey) → Given records chain given places sorted
+    → (i j : ℕ) (a b : StretchKey) → i ≤ j → slice_get sorted i ≡ Some a → slice_get sorted j ≡ Some b → IsUpTo a b
 in_line records chain given places sorted g i j a b less at bt = up_to a b (sorted_at by_standing by_standing_total sorted g.in_order i j a b less at bt)
 
 -- an answered record stands somewhere
-stands : (records : List Rec) (chain : List (Pair × ℕ)) (given : List (Option ℕ)) (places : List Place) (sorted : List Standing) → Given records chain given places sorted
+stands : (records : List Rec) (chain : List (Pair × ℕ)) (given : List (Option ℕ)) (places : List Place) (sorted : List StretchKey) → Given records chain given places sorted
     → (y j : ℕ) (r : Rec) (h : ℕ × Reply) → slice_get records y ≡ Some r → r.heard ≡ Some h → IsGiven given y j → Has sorted (j, turn (pair_of (Some h)), h.0, y)
 stands records chain given places sorted g y j r h at is given_is =
     has_moved (standings_from 0 records given) sorted (j, turn (pair_of (Some h)), h.0, y) g.moved
     (subst (λ n. Has (standings_from 0 records given) (j, turn (pair_of (Some h)), h.0, n)) (let e : 0 + y ≡ y = omega arith in e) (standing_has records given 0 y j r h at is given_is))
 
 -- the write of a standing, where it is one
-record Written (chain : List (Pair × ℕ)) (s : Standing) : Type 0 where
+record Written (chain : List (Pair × ℕ)) (s : StretchKey) : Type 0 where
   pair : Pair
   link : ℕ
   stretch : s.0 ≡ suc link
   there : slice_get chain link ≡ Some (pair, s.3)
 
 -- a standing with turn 0 is a write
-data Kind (chain : List (Pair × ℕ)) (records : List Rec) (s : Standing) (r : Rec) : Type 0 where
+data Kind (chain : List (Pair × ℕ)) (records : List Rec) (s : StretchKey) (r : Rec) : Type 0 where
   writes : Written chain s → s.1 ≡ 0 → cap (pair_of r.heard) s.0 ≡ s.0 - 1 → Kind chain records s r
   reads : s.1 ≡ 1 → cap (pair_of r.heard) s.0 ≡ s.0 → ReadFits (states_of records chain) r.op r.heard s.0 → pair_of r.heard ≡ None → Kind chain records s r
 
-kind : (records : List Rec) (chain : List (Pair × ℕ)) (s : Standing) (r : Rec) (d : Option Pair) → pair_of r.heard ≡ d → s.1 ≡ turn d
+kind : (records : List Rec) (chain : List (Pair × ℕ)) (s : StretchKey) (r : Rec) (d : Option Pair) → pair_of r.heard ≡ d → s.1 ≡ turn d
     → FitsAs d chain (states_of records chain) s.3 r s.0 → Kind chain records s r
 kind records chain s r None is turn_is fits = reads turn_is (ap (λ o. cap o s.0) is) fits is
 kind records chain s r (Some q) is turn_is fits = writes (record { pair = q; link = fits.0; stretch = fits.1; there = fits.2 }) turn_is (ap (λ o. cap o s.0) is)
 
-kind_of : (records : List Rec) (chain : List (Pair × ℕ)) (given : List (Option ℕ)) (places : List Place) (sorted : List Standing) → Given records chain given places sorted
-    → (s : Standing) (st : Stood records given s) → Kind chain records s st.record_of
+kind_of : (records : List Rec) (chain : List (Pair × ℕ)) (given : List (Option ℕ)) (places : List Place) (sorted : List StretchKey) → Given records chain given places sorted
+    → (s : StretchKey) (st : Stood records given s) → Kind chain records s st.record_of
 kind_of records chain given places sorted g s st =
     kind records chain s st.record_of (pair_of st.record_of.heard) refl st.turn_is (g.are_given.fits s.3 s.0 st.record_of st.names st.is)
 
 -- ---- none too late
 
-in_time : (records : List Rec) (chain : List (Pair × ℕ)) (given : List (Option ℕ)) (places : List Place) (sorted : List Standing) → Given records chain given places sorted
-    → (i j : ℕ) (a b : Standing) (sa : Stood records given a) (sb : Stood records given b) → i ≤ j → slice_get sorted i ≡ Some a → slice_get sorted j ≡ Some b
+in_time : (records : List Rec) (chain : List (Pair × ℕ)) (given : List (Option ℕ)) (places : List Place) (sorted : List StretchKey) → Given records chain given places sorted
+    → (i j : ℕ) (a b : StretchKey) (sa : Stood records given a) (sb : Stood records given b) → i ≤ j → slice_get sorted i ≡ Some a → slice_get sorted j ≡ Some b
     → sb.heard_of.0 < sa.record_of.call_at → ⊥
 in_time records chain given places sorted g i j a b sa sb less at bt early =
     let low : b.0 ≤ cap (pair_of sa.record_of.heard) a.0 =
@@ -258,31 +258,31 @@ in_time records chain given places sorted g i j a b sa sb less at bt early =
 -- ---- a legal run
 
 -- the stretch that is reached after i places
-reach : List Standing → ℕ → ℕ
+reach : List StretchKey → ℕ → ℕ
 reach [] i = 0
 reach (s ∷ ss) zero = 0
 reach (s ∷ ss) (suc zero) = s.0
 reach (s ∷ ss) (suc (suc i)) = reach ss (suc i)
 
-reach_after : (ss : List Standing) (i : ℕ) (s : Standing) → slice_get ss i ≡ Some s → reach ss (suc i) ≡ s.0
+reach_after : (ss : List StretchKey) (i : ℕ) (s : StretchKey) → slice_get ss i ≡ Some s → reach ss (suc i) ≡ s.0
 unfolding reach
 reach_after [] i s at = absurd (none_is_not_some s at)
-reach_after (t ∷ ss) zero s at = ap (λ (n : Standing). n.0) (same_some t s at)
+reach_after (t ∷ ss) zero s at = ap (λ (n : StretchKey). n.0) (same_some t s at)
 reach_after (t ∷ ss) (suc i) s at = reach_after ss i s at
 
-reach_start : (ss : List Standing) → reach ss 0 ≡ 0
+reach_start : (ss : List StretchKey) → reach ss 0 ≡ 0
 unfolding reach
 reach_start [] = refl
 reach_start (s ∷ ss) = refl
 
-at_before : (ss : List Standing) (i j : ℕ) (s : Standing) → i < j → slice_get ss j ≡ Some s → (t : Standing) × (slice_get ss i ≡ Some t)
+at_before : (ss : List StretchKey) (i j : ℕ) (s : StretchKey) → i < j → slice_get ss j ≡ Some s → (t : StretchKey) × (slice_get ss i ≡ Some t)
 at_before [] i j s less at = absurd (none_is_not_some s at)
 at_before (t ∷ ss) zero j s less at = (t, refl)
 at_before (t ∷ ss) (suc i) zero s less at = absurd (omega arith)
 at_before (t ∷ ss) (suc i) (suc j) s less at = at_before ss i j s (omega arith) at
 
-not_past : (records : List Rec) (chain : List (Pair × ℕ)) (given : List (Option ℕ)) (places : List Place) (sorted : List Standing) → Given records chain given places sorted
-    → (i : ℕ) (b : Standing) (sb : Stood records given b) → slice_get sorted i ≡ Some b → reach sorted i ≤ cap (pair_of sb.record_of.heard) b.0
+not_past : (records : List Rec) (chain : List (Pair × ℕ)) (given : List (Option ℕ)) (places : List Place) (sorted : List StretchKey) → Given records chain given places sorted
+    → (i : ℕ) (b : StretchKey) (sb : Stood records given b) → slice_get sorted i ≡ Some b → reach sorted i ≤ cap (pair_of sb.record_of.heard) b.0
 not_past records chain given places sorted g zero b sb at = let start : reach sorted 0 ≡ 0 = reach_start sorted in omega arith
 not_past records chain given places sorted g (suc i) b sb at =
     let a = at_before sorted i (suc i) b (omega arith) at in
@@ -290,7 +290,7 @@ not_past records chain given places sorted g (suc i) b sb at =
     let sa = stood records chain given places sorted g i a.0 a.1 in
     let up = in_line records chain given places sorted g i (suc i) a.0 b (omega arith) a.1 at in
     by_kinds a.0 a.1 here up (kind_of records chain given places sorted g a.0 sa) (kind_of records chain given places sorted g b sb) where
-      by_kinds : (a : Standing) → slice_get sorted i ≡ Some a → reach sorted (suc i) ≡ a.0 → IsUpTo a b → {r : Rec} → Kind chain records a r → Kind chain records b sb.record_of
+      by_kinds : (a : StretchKey) → slice_get sorted i ≡ Some a → reach sorted (suc i) ≡ a.0 → IsUpTo a b → {r : Rec} → Kind chain records a r → Kind chain records b sb.record_of
           → reach sorted (suc i) ≤ cap (pair_of sb.record_of.heard) b.0
       by_kinds a ata here up ka (reads one_is cap_is fits none) = let rise : a.0 ≤ b.0 = up.stretch in omega arith
       by_kinds a ata here up (reads one_a cap_a fits none) (writes w zero_is cap_is) = elim (cases_lt a.0 b.0) as (λ _. reach sorted (suc i) ≤ cap (pair_of sb.record_of.heard) b.0) [
@@ -338,7 +338,7 @@ performed records chain k c is at =
     }
 
 -- a write of the chain is given the stretch that it begins
-given_own : (records : List Rec) (chain : List (Pair × ℕ)) (given : List (Option ℕ)) (places : List Place) (sorted : List Standing) → Given records chain given places sorted
+given_own : (records : List Rec) (chain : List (Pair × ℕ)) (given : List (Option ℕ)) (places : List Place) (sorted : List StretchKey) → Given records chain given places sorted
     → (k : ℕ) (c : Pair × ℕ) → slice_get chain k ≡ Some c → (p : Performed records k c) → IsGiven given c.1 (suc k)
 given_own records chain given places sorted g k c at p =
     let is = g.are_given.all c.1 p.record_of p.heard_of p.names p.heard in
@@ -348,19 +348,19 @@ given_own records chain given places sorted g k c at p =
     subst (IsGiven given c.1) (fits.1 ∙ ap suc same) is.1
 
 -- what a write of the chain begins is reached where anything stands that is to be in it or later
-reached : (records : List Rec) (chain : List (Pair × ℕ)) (given : List (Option ℕ)) (places : List Place) (sorted : List Standing) → Given records chain given places sorted
-    → (i : ℕ) (b : Standing) (sb : Stood records given b) → slice_get sorted i ≡ Some b → cap (pair_of sb.record_of.heard) b.0 ≤ reach sorted i
+reached : (records : List Rec) (chain : List (Pair × ℕ)) (given : List (Option ℕ)) (places : List Place) (sorted : List StretchKey) → Given records chain given places sorted
+    → (i : ℕ) (b : StretchKey) (sb : Stood records given b) → slice_get sorted i ≡ Some b → cap (pair_of sb.record_of.heard) b.0 ≤ reach sorted i
 reached records chain given places sorted g i b sb at = by_target (cap (pair_of sb.record_of.heard) b.0) refl (kind_of records chain given places sorted g b sb) where
   below : (k : ℕ) → Kind chain records b sb.record_of → cap (pair_of sb.record_of.heard) b.0 ≡ suc k → suc k ≤ b.0
   below k (writes w zero_is cap_is) is = omega arith
   below k (reads one_is cap_is fits none) is = omega arith
 
-  not_late : (k : ℕ) (s : Standing) → Kind chain records b sb.record_of → cap (pair_of sb.record_of.heard) b.0 ≡ suc k → s.0 ≡ suc k → s.1 ≡ 0 → IsUpTo b s → ⊥
+  not_late : (k : ℕ) (s : StretchKey) → Kind chain records b sb.record_of → cap (pair_of sb.record_of.heard) b.0 ≡ suc k → s.0 ≡ suc k → s.1 ≡ 0 → IsUpTo b s → ⊥
   not_late k s (writes w zero_is cap_is) is stretch turn_is up = let rise : b.0 ≤ s.0 = up.stretch in omega arith
   not_late k s (reads one_is cap_is fits none) is stretch turn_is up =
       let turn_up : b.1 ≤ s.1 = up.turn_up (omega arith) in omega arith
 
-  after : (k n i : ℕ) (s : Standing) → slice_get sorted n ≡ Some s → s.0 ≡ suc k → n < i → slice_get sorted i ≡ Some b → suc k ≤ reach sorted i
+  after : (k n i : ℕ) (s : StretchKey) → slice_get sorted n ≡ Some s → s.0 ≡ suc k → n < i → slice_get sorted i ≡ Some b → suc k ≤ reach sorted i
   after k n zero s there stretch less ib = absurd (omega arith)
   after k n (suc j) s there stretch less ib =
       let a = at_before sorted j (suc j) b (omega arith) ib in
@@ -386,11 +386,11 @@ reached records chain given places sorted g i b sb at = by_target (cap (pair_of 
       omega arith
 
 -- the document after i places
-abbrev state_reached : List Rec → List (Pair × ℕ) → List Standing → ℕ → DocState
+abbrev state_reached : List Rec → List (Pair × ℕ) → List StretchKey → ℕ → DocState
 state_reached records chain sorted i = state_in (states_of records chain) (reach sorted i)
 
-step_there : (records : List Rec) (chain : List (Pair × ℕ)) (given : List (Option ℕ)) (places : List Place) (sorted : List Standing) → Given records chain given places sorted
-    → (s : Standing) (st : Stood records given s)
+step_there : (records : List Rec) (chain : List (Pair × ℕ)) (given : List (Option ℕ)) (places : List Place) (sorted : List StretchKey) → Given records chain given places sorted
+    → (s : StretchKey) (st : Stood records given s)
     → StepsAt (state_in (states_of records chain) (cap (pair_of st.record_of.heard) s.0)) st.record_of.op st.record_of.heard None (state_in (states_of records chain) s.0)
 step_there records chain given places sorted g s st = by_kind (kind_of records chain given places sorted g s st) where
   read_step : (heard : Option (ℕ × Reply)) → ReadFits (states_of records chain) st.record_of.op heard s.0
@@ -427,12 +427,12 @@ run_made records (p ∷ ps) at steps =
 
 -- ---- the places of sorted standings
 
-placed : (sorted : List Standing) (i : ℕ) (p : Place) → slice_get (map place_of sorted) i ≡ Some p → (s : Standing) × (slice_get sorted i ≡ Some s) × (p ≡ place_of s)
+placed : (sorted : List StretchKey) (i : ℕ) (p : Place) → slice_get (map place_of sorted) i ≡ Some p → (s : StretchKey) × (slice_get sorted i ≡ Some s) × (p ≡ place_of s)
 placed [] i p at = absurd (none_is_not_some p at)
 placed (s ∷ ss) zero p at = (s, refl, sym (same_some (place_of s) p at))
 placed (s ∷ ss) (suc i) p at = placed ss i p at
 
-place_there : (sorted : List Standing) (i : ℕ) (s : Standing) → slice_get sorted i ≡ Some s → slice_get (map place_of sorted) i ≡ Some (place_of s)
+place_there : (sorted : List StretchKey) (i : ℕ) (s : StretchKey) → slice_get sorted i ≡ Some s → slice_get (map place_of sorted) i ≡ Some (place_of s)
 place_there sorted i s at = slice_get-map place_of sorted i ∙ ap (option_map place_of) at
 
 gives : (conflicts : Conflicts) (h : ℕ × Reply) → GivesAsMay conflicts (Some h) None
@@ -450,11 +450,11 @@ some_is : (heard : Option (ℕ × Reply)) → IsSome heard → (h : ℕ × Reply
 some_is None is = absurd (true≢false (sym is))
 some_is (Some h) is = (h, refl)
 
-of_same : (records : List Rec) (given : List (Option ℕ)) (s : Standing) (p : Place) (r : Rec) (st : Stood records given s) → p ≡ place_of s → IsPlaceOf records p r → st.record_of ≡ r
+of_same : (records : List Rec) (given : List (Option ℕ)) (s : StretchKey) (p : Place) (r : Rec) (st : Stood records given s) → p ≡ place_of s → IsPlaceOf records p r → st.record_of ≡ r
 of_same records given s p r st is names = same_some st.record_of r (sym st.names ∙ (ap (λ (q : Place). slice_get records q.rec) (sym is) ∙ names))
 
-sorted_right : (conflicts : Conflicts) (records : List Rec) (chain : List (Pair × ℕ)) (given : List (Option ℕ)) (places : List Place) (sorted : List Standing)
-    → Given records chain given places sorted → AreRight conflicts records (map place_of sorted)
+sorted_right : (conflicts : Conflicts) (records : List Rec) (chain : List (Pair × ℕ)) (given : List (Option ℕ)) (places : List Place) (sorted : List StretchKey)
+    → Given records chain given places sorted → AreValidSoFar conflicts records (map place_of sorted)
 sorted_right conflicts records chain given places sorted g = record {
   known = λ i p at.
       let s = placed sorted i p at in

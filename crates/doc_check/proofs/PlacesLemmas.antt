@@ -13,13 +13,13 @@ use Rattle.doc_register.specs.declared.state.DocState.{DocState}
 use Rattle.doc_register.specs.declared.state.DocState.TheVariants.{Never, Gone, Here}
 use Rattle.doc_register.specs.Register.{DocStep, Exceeds, Performs, performed_state}
 use Rattle.doc_register.proofs.RunLemmas.{below_new, leaves_pair, step_kind}
-use Rattle.history.specs.declared.record.Rec.{Rec}
+use Rattle.events.specs.declared.record.Rec.{Rec}
 use Rattle.version_pair.proofs.ListLemmas.{none_is_not_some, same_some}
-use Rattle.witness.specs.declared.place.Place.{Place}
-use Rattle.witness.specs.Places.{AreValid, IsHeardBefore, IsPlaceOf, IsPlaceRun, StepsAt}
+use Rattle.places.specs.declared.place.Place.{Place}
+use Rattle.places.specs.Places.{AreValid, IsHeardBefore, IsPlaceOf, IsPlaceRun, StepsAt}
 use Rattle.doc_check.specs.NoOrders.{AreUnpaired}
 use Rattle.write_chain.specs.Chain.{IsChain, after_link, link_at, performed_records, written}
-use Rattle.history.specs.Heard.{pair_of}
+use Rattle.events.specs.Heard.{pair_of}
 use Rattle.doc_check.specs.aids.Stretches.{Fits, FitsAs, ReadFits, cap, state_in, states_of}
 use Rattle.doc_check.specs.aids.Sweep.{AreSpread, StandsIn, level, link_count, pair_at}
 use Rattle.doc_check.proofs.Lists.{Has, has_back, has_moved}

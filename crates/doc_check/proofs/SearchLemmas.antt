@@ -12,10 +12,10 @@ use Rattle.std.proofs.lemmas.Option.{slice_get-map}
 use Rattle.version_pair.specs.declared.pair.Pair.{Pair}
 use Rattle.doc_register.specs.declared.reply.Reply.{Reply}
 use Rattle.doc_register.specs.declared.state.Conflicts.{Conflicts}
-use Rattle.history.specs.declared.record.Rec.{Rec}
+use Rattle.events.specs.declared.record.Rec.{Rec}
 use Rattle.version_pair.proofs.ListLemmas.{none_is_not_some, same_some}
-use Rattle.witness.specs.declared.place.Place.{Place}
-use Rattle.witness.specs.Places.{AreValid}
+use Rattle.places.specs.declared.place.Place.{Place}
+use Rattle.places.specs.Places.{AreValid}
 use Rattle.doc_check.specs.NoOrders.{AreUnpaired, HasNoOrder}
 use Rattle.doc_check.specs.ReplyOrder.{IsReplyOrder, answered_at, answered_records, by_reply, unpaired_place}
 use Rattle.write_chain.specs.Chain.{IsChain, Rises}

@@ -22,7 +22,7 @@ use Rattle.doc_register.specs.declared.state.DocState.{DocState}
 use Rattle.doc_register.specs.declared.state.DocState.TheVariants.{Never, Gone, Here}
 use Rattle.doc_register.specs.Register.{HasPair, is_here, shown, performed_state}
 use Rattle.doc_register.proofs.RunLemmas.{not_below_itself}
-use Rattle.history.specs.declared.record.Rec.{Rec}
+use Rattle.events.specs.declared.record.Rec.{Rec}
 use Rattle.version_pair.proofs.ListLemmas.{compare, get_front, get_last, get_within, none_is_not_some, same_some}
 use Rattle.write_chain.specs.Chain.{Rises, after_link, pair_cmp, written}
 use Rattle.doc_check.specs.aids.Stretches.{AreLaidOut, HoldsNowhere, IsGuess, IsLatest, IsReadIn, IsTable, WriteFits, is_as_asked, is_so, latest_below, state_in, states_of}

@@ -6,10 +6,10 @@ use Rattle.std.proofs.lemmas.List.{length-set}
 use Rattle.std.proofs.lemmas.Option.{slice_get_within}
 use Rattle.version_pair.specs.declared.pair.Pair.{Pair}
 use Rattle.doc_register.specs.declared.reply.Reply.{Reply}
-use Rattle.history.specs.declared.record.Rec.{Rec}
+use Rattle.events.specs.declared.record.Rec.{Rec}
 use Rattle.version_pair.proofs.ListLemmas.{none_is_not_some, same_some, slice_get-set_other, slice_get-set_same}
-use Rattle.witness.specs.declared.place.Place.{Place}
-use Rattle.history.specs.Heard.{pair_of}
+use Rattle.places.specs.declared.place.Place.{Place}
+use Rattle.events.specs.Heard.{pair_of}
 use Rattle.doc_check.specs.aids.Stretches.{Fits, cap}
 use Rattle.doc_check.specs.aids.Sweep.{AreGiven, AreMoments, AreSpread, IsGiven, IsMet, IsMoment, IsStuck, IsUpTo, Moment, StandsIn}
 

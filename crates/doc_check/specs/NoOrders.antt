@@ -1,12 +1,12 @@
 -- Records without an order of the answered calls alone. Places that give no pair complete no write of unknown
--- outcome: they are an order of the answered calls alone. Records are complete (settled) if each write has a
+-- outcome: they are an order of the answered calls alone. Records are complete if each write has a
 -- reply that says whether it was performed; then there are no other valid places.
 use Rattle.std.specs.Prelude.{◌≡◌, ℕ, List, None, Some, slice_get}
 use Rattle.doc_register.specs.declared.state.Conflicts.{Conflicts}
-use Rattle.history.specs.declared.record.Rec.{Rec}
-use Rattle.history.specs.Heard.{IsSettled}
-use Rattle.witness.specs.declared.place.Place.{Place}
-use Rattle.witness.specs.Places.{AreValid}
+use Rattle.events.specs.declared.record.Rec.{Rec}
+use Rattle.events.specs.Heard.{IsComplete}
+use Rattle.places.specs.declared.place.Place.{Place}
+use Rattle.places.specs.Places.{AreValid}
 
 -- no place gives a pair
 abbrev pub AreUnpaired : List Place → Type 0
@@ -23,16 +23,16 @@ pub record Unordered : Type 0 where
   pub records : List Rec
   pub conflicts : Conflicts
 
--- ---- complete (settled) records
+-- ---- complete records
 
 -- the records are complete: each write has a reply that says whether it was performed
 -- Source: profile.
-abbrev pub AreSettled : Conflicts → List Rec → Type 0
-AreSettled conflicts records = (k : ℕ) (r : Rec) → slice_get records k ≡ Some r → IsSettled conflicts r
+abbrev pub AreAllComplete : Conflicts → List Rec → Type 0
+AreAllComplete conflicts records = (k : ℕ) (r : Rec) → slice_get records k ≡ Some r → IsComplete conflicts r
 
 -- complete records for which no places without a given pair are valid (`HasNoOrder`) have no valid places at
 -- all
 -- Source: profile.
-abbrev pub SettledHaveNone : Type 0
-SettledHaveNone = (conflicts : Conflicts) (records : List Rec) → AreSettled conflicts records → HasNoOrder conflicts records
+abbrev pub CompleteHaveNone : Type 0
+CompleteHaveNone = (conflicts : Conflicts) (records : List Rec) → AreAllComplete conflicts records → HasNoOrder conflicts records
     → (places : List Place) → ¬ AreValid conflicts records places

@@ -4,8 +4,8 @@ use Rattle.std.specs.Prelude.{◌≡◌, ℕ, suc, List, [], ◌∷◌, Option, 
 use Rattle.std.specs.declared.cmp.Ordering.{Ordering}
 use Rattle.std.specs.Ordering.{nat_cmp, ordering_then}
 use Rattle.doc_register.specs.declared.reply.Reply.{Reply}
-use Rattle.history.specs.declared.record.Rec.{Rec}
-use Rattle.witness.specs.declared.place.Place.{Place}
+use Rattle.events.specs.declared.record.Rec.{Rec}
+use Rattle.places.specs.declared.place.Place.{Place}
 
 -- the answered records, with that numbered k before them if it was answered: the position of its reply, and
 -- its number

@@ -9,6 +9,7 @@
 //! ```
 #![tactic(auto)]
 
+mod complete;
 mod latest;
 pub mod laws;
 mod moments;
@@ -16,10 +17,9 @@ mod no_order;
 mod order;
 mod reply_order;
 mod search;
-mod settled;
 mod stretches;
 mod sweep;
 
+pub use complete::is_complete;
 pub use no_order::NoOrder;
 pub use search::{DocAnswer, answer, answer_among};
-pub use settled::is_settled;

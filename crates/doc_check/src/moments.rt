@@ -1,7 +1,7 @@
 ghost use Rattle.std.specs.Prelude.{◌≡◌, IfOk};
 ghost use Rattle.doc_check.specs.aids.Sweep.{AreMoments, moments_from};
 
-use history::Rec;
+use events::Rec;
 use std::alloc::Global;
 use version_pair::NoMemory;
 use write_chain::sort_nearly_ordered;

@@ -2,7 +2,7 @@ ghost use Rattle.std.specs.Prelude.{◌≡◌};
 ghost use Rattle.doc_check.specs.NoOrders.{HasNoOrder};
 
 use doc_register::Conflicts;
-use history::Rec;
+use events::Rec;
 use std::marker::Model;
 use version_pair::DocId;
 

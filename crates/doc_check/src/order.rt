@@ -1,17 +1,17 @@
 ghost use Rattle.std.specs.Prelude.{◌≡◌, IfOk, length};
 ghost use Rattle.doc_check.specs.aids.Order.{IsStretchOrder, standing_made, standings_from};
 
-use history::Rec;
+use events::Rec;
+use places::Place;
 use std::alloc::Global;
 use version_pair::NoMemory;
-use witness::Place;
 use write_chain::sort_nearly_ordered;
 
 // The sort key of a record: its stretch, its turn there, the index of its reply, its number.
-type Standing = (usize, usize, usize, usize);
+type StretchKey = (usize, usize, usize, usize);
 
 // The sort key of an answered record that was given a stretch: the write of a stretch comes first in it.
-fn standing_of(k: usize, found: Rec, given: Option<usize>) -> Option<Standing>
+fn standing_of(k: usize, found: Rec, given: Option<usize>) -> Option<StretchKey>
     ensures { result ≡ standing_made k found.heard given }
 {
     let Some(heard) = found.heard else {
@@ -31,7 +31,7 @@ fn standings_of(
     alloc: Global,
     records: &[Rec],
     given: &[Option<usize>],
-) -> Result<Vec<Standing>, NoMemory>
+) -> Result<Vec<StretchKey>, NoMemory>
     requires { length given.now ≡ length records.now }
     ensures { IfOk result
         (λ standings. standings.items ≡ standings_from 0 records.now given.now) }

@@ -1,10 +1,10 @@
 ghost use Rattle.std.specs.Prelude.{◌≡◌, IfOk};
 ghost use Rattle.doc_check.specs.ReplyOrder.{IsReplyOrder, answered_records};
 
-use history::Rec;
+use events::Rec;
+use places::Place;
 use std::alloc::Global;
 use version_pair::NoMemory;
-use witness::Place;
 use write_chain::sort_nearly_ordered;
 
 // The answered records in the order of their numbers, each as the index of its reply and its number.

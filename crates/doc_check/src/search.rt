@@ -1,23 +1,23 @@
 ghost use Rattle.std.specs.Prelude.{◌≡◌, IfOk, IfSome, MatchOption};
 ghost use Rattle.doc_register.specs.declared.state.Conflicts.{Conflicts as Reading};
-ghost use Rattle.witness.specs.Places.{AreValid};
+ghost use Rattle.places.specs.Places.{AreValid};
 ghost use Rattle.doc_check.specs.NoOrders.{HasNoOrder};
 ghost use Rattle.doc_check.specs.Search.{FindsUnpaired, FollowsReplies, IsAbout, id_of, conflicts_of, records_of};
 ghost use Rattle.doc_check.specs.aids.Checked.{IsChecked};
 ghost use Rattle.doc_check.specs.aids.Sweep.{IsOfSweep};
 
+use crate::complete::is_complete;
 use crate::no_order::NoOrder;
 use crate::order::order_of;
 use crate::reply_order::reply_order;
-use crate::settled::is_settled;
 use crate::stretches::Stretches;
 use crate::sweep::sweep;
 use completing::{Limit, complete_by_rules, search_forward};
 use doc_register::Conflicts;
-use history::{Rec, Seen};
+use events::{Rec, Seen};
+use places::{Broken, DocWitness, Place};
 use std::alloc::{AllocError, Global};
 use version_pair::{DocId, NoMemory, Pair};
-use witness::{Broken, DocWitness, Place};
 use write_chain::{chain_of, rises};
 
 /// The result of the search for a document.
@@ -120,10 +120,12 @@ fn answer_forward(
     requires { HasNoOrder conflicts recs.items }
     ensures { IfOk result (IsAbout id recs.items conflicts) }
 {
-    if is_settled(&recs, conflicts) {
+    if is_complete(&recs, conflicts) {
         return Ok(DocAnswer::NotFound(NoOrder::of(id, recs, conflicts)));
     }
-    match search_forward(alloc, &recs, seen, conflicts, &[], &[])? {
+    // How far the search came is of no use here.
+    let mut stuck = None;
+    match search_forward(alloc, &recs, seen, conflicts, &[], &[], &mut stuck)? {
         Some(places) => match check_places(alloc, id, recs, places, conflicts)? {
             Checked::Valid(witness) => Ok(DocAnswer::Found(witness)),
             Checked::Invalid(id, recs) => {
@@ -208,7 +210,9 @@ pub fn answer(
 /// search knows which pairs the documents of the shard use, by rising pair; the document's own may be among
 /// them. It invents pairs only if one is left, and within the limits, of which no clause speaks.
 ///
-/// If nothing is found, this says nothing. If memory is refused, the id and the records are dropped.
+/// If nothing is found, this says nothing, but `stuck` is how far the search came, of which no clause speaks:
+/// the latest reply such that all answered calls with an earlier reply had a position. If memory is refused,
+/// the id and the records are dropped.
 pub fn answer_among(
     alloc: Global,
     id: DocId,
@@ -217,16 +221,18 @@ pub fn answer_among(
     conflicts: Conflicts,
     used: &[Pair],
     limits: &[Limit],
+    stuck: &mut Option<usize>,
 ) -> Result<Option<DocWitness>, NoMemory>
     // An order that is found is of the id, the records and the reading that were passed in, and valid for
     // them.
     ensures { IfOk result (λ found. IfSome found (λ w. (w.doc ≡ id) × (w.records ≡ recs.items)
         × (w.conflicts ≡ conflicts) × AreValid conflicts recs.items w.places)) }
 {
-    if is_settled(&recs, conflicts) {
+    *stuck = None;
+    if is_complete(&recs, conflicts) {
         return Ok(None);
     }
-    match search_forward(alloc, &recs, seen, conflicts, used, limits)? {
+    match search_forward(alloc, &recs, seen, conflicts, used, limits, stuck)? {
         Some(places) => match check_places(alloc, id, recs, places, conflicts)? {
             Checked::Valid(witness) => Ok(Some(witness)),
             Checked::Invalid(..) => Ok(None),

@@ -4,12 +4,12 @@ ghost use Rattle.doc_register.specs.declared.reply.Reply.TheVariants.{Conflict};
 ghost use Rattle.doc_register.specs.Register.{HasPair};
 ghost use Rattle.doc_register.specs.Run.{pair_taken};
 ghost use Rattle.write_chain.specs.Chain.{IsChain, Rises, pair_cmp};
-ghost use Rattle.history.specs.Heard.{pair_of};
+ghost use Rattle.events.specs.Heard.{pair_of};
 ghost use Rattle.doc_check.specs.aids.Stretches.{AreLaidOut, AreStretches, FitsAs, HoldsNowhere, IsGuess, IsLatest, IsReadIn, ReadFits, WriteFits, state_in};
 
 use crate::latest::latest_stretches;
 use doc_register::{DocState, Op, Reply, step};
-use history::Rec;
+use events::Rec;
 use std::alloc::Global;
 use version_pair::{NoMemory, Pair};
 use write_chain::{pairs_of, states_of};

@@ -1,13 +1,13 @@
 ghost use Rattle.std.specs.Prelude.{◌≡◌, ◌<◌, ◌≤◌, Some, IfOk, IfSome, IfNone, MatchOption, List, length, slice_get};
-ghost use Rattle.history.specs.declared.record.Rec.{Rec as Call};
-ghost use Rattle.witness.specs.declared.place.Place.{Place};
-ghost use Rattle.history.specs.Heard.{pair_of};
+ghost use Rattle.events.specs.declared.record.Rec.{Rec as Call};
+ghost use Rattle.places.specs.declared.place.Place.{Place};
+ghost use Rattle.events.specs.Heard.{pair_of};
 ghost use Rattle.doc_check.specs.aids.Stretches.{AreStretches, cap};
 ghost use Rattle.doc_check.specs.aids.Sweep.{AreGiven, AreSpread, IsMet, IsStuck};
 
 use crate::moments::{Moment, moments_of};
 use crate::stretches::Stretches;
-use history::Rec;
+use events::Rec;
 use std::alloc::Global;
 use version_pair::NoMemory;
 

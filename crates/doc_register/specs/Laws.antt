@@ -20,7 +20,7 @@ abbrev pub StepIsDecided : Type 0
 StepIsDecided = (s : DocState) (op : Op) (r : Reply) (h : Option Pair) (t u : DocState) → DocStep s op r h t
     → DocStep s op r h u → t ≡ u
 
--- the pair that the entry at index i takes
+-- the entry at index i takes the pair p
 abbrev pub IsPairAt : List Entry → ℕ → Pair → Type 0
 IsPairAt es i p = (e : Entry) × (slice_get es i ≡ Some e) × (pair_taken e.reply e.hidden ≡ Some p)
 

@@ -170,6 +170,3 @@ impl DocMap {
         Ok(reply)
     }
 }
-
-#[cfg(test)]
-mod tests;

@@ -1,12 +1,12 @@
 -- The call with a number: where it is found, and that none is found.
 use Rattle.std.proofs.Common.{ℕ, zero, suc, ◌≡◌, List, [], ◌∷◌, refl, sym, subst, ◌∙◌, Bool, true, false, Option, Some, None, cond, option_map, slice_get, true≢false}
 use Rattle.doc_register.specs.declared.op.Op.{Op}
-use Rattle.history.specs.declared.event.Event.{Event}
-use Rattle.history.specs.declared.event.Event.TheVariants.{Call}
-use Rattle.history.specs.Events.{IsCallAt, PassesAt, is_call, place_of}
-use Rattle.history.proofs.HistoryLemmas.{call_at, call_passes}
+use Rattle.events.specs.declared.event.Event.{Event}
+use Rattle.events.specs.declared.event.Event.TheVariants.{Call}
+use Rattle.events.specs.Events.{IsCallAt, PassesAt, is_call, place_of}
+use Rattle.events.proofs.HistoryLemmas.{call_at, call_passes}
 use Rattle.version_pair.proofs.ListLemmas.{none_is_not_some, same_some}
-use Rattle.history.proofs.EventLemmas.{place_of-passes, same_call}
+use Rattle.events.proofs.EventLemmas.{place_of-passes, same_call}
 
 -- ---- the first place at which a test passes
 

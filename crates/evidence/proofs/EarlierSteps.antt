@@ -1,4 +1,4 @@
--- What the state before a step of a run tells of the steps before it.
+-- What the state before a step of a run says of the steps before it.
 use Rattle.std.proofs.Common.{ℕ, zero, suc, ◌≡◌, ◌<◌, ◌⊎◌, inl, inr, List, [], ◌∷◌, refl, sym, ap, subst, ◌∙◌, arith, Bool, true, false, Option, Some, None, slice_get, true≢false}
 use Rattle.std.specs.Cmp.Lexicographic.{bytes_decides}
 use Rattle.version_pair.specs.declared.pair.Pair.{Pair}
@@ -12,7 +12,7 @@ use Rattle.doc_register.specs.Register.{DocStep, WriteStep, value_of}
 use Rattle.doc_register.specs.Run.{Entry, IsRun, State, Step, pair_taken}
 use Rattle.doc_register.proofs.RunLemmas.{AtMost, IsKind, leaves_pair, step_kind}
 use Rattle.doc_register.proofs.RunLaws.{pair_performs}
-use Rattle.history.specs.Events.{is_same}
+use Rattle.events.specs.Events.{is_same}
 use Rattle.ruled_out.proofs.DocumentSteps.{step_keeps}
 use Rattle.version_pair.proofs.ListLemmas.{none_is_not_some, same_some}
 

@@ -14,23 +14,23 @@ use Rattle.doc_register.specs.Register.{DocStep, HasPair, Performs, condition_of
 use Rattle.doc_register.specs.Run.{Entry, IsLegalRun, pair_taken, start, taken, taken_at}
 use Rattle.doc_register.proofs.RunLemmas.{AtMost, below_new, not_below_itself, not_both_below, step_kind, taken_of}
 use Rattle.doc_register.proofs.RunLaws.{no_pair_twice, pair_performs}
-use Rattle.history.specs.declared.event.Event.{Event}
-use Rattle.history.specs.declared.event.Event.TheVariants.{Call, Reply}
-use Rattle.history.specs.Events.{IsCallAt, IsHistory, PassesAt, Precedes, heard_of, is_call}
-use Rattle.history.specs.Order.{Explains, IsLinearizable, IsOfCall, Placed, run_of}
-use Rattle.history.proofs.HistoryLemmas.{call_passes}
+use Rattle.events.specs.declared.event.Event.{Event}
+use Rattle.events.specs.declared.event.Event.TheVariants.{Call, Reply}
+use Rattle.events.specs.Events.{IsCallAt, IsHistory, PassesAt, Precedes, heard_of, is_call}
+use Rattle.events.specs.Order.{Explains, IsLinearizable, IsOfCall, Placed, run_of}
+use Rattle.events.proofs.HistoryLemmas.{call_passes}
 use Rattle.version_pair.proofs.ListLemmas.{mapped_from, none_is_not_some, same_some}
-use Rattle.history.specs.Heard.{taken_by}
+use Rattle.events.specs.Heard.{taken_by}
 use Rattle.evidence.specs.Evidence.{EvidenceRefutes, HasNoWriter, IsPairTwice, IsPerformed, IsStaleGet, IsStaleSwap, MayTake}
 use Rattle.evidence.specs.declared.refuted.Refuted.TheVariants as evidence
 use Rattle.evidence.proofs.EarlierSteps.{GivesNumber, IsGivenBefore, StepsAbove, above_taken, steps_from}
 use Rattle.evidence.proofs.CallsByNumber.{same_shard}
 use Rattle.evidence.proofs.HeardLemmas.{heard_is_reply}
-use Rattle.history.proofs.EventLemmas.{same_call}
+use Rattle.events.proofs.EventLemmas.{same_call}
 use Rattle.ruled_out.proofs.PlacingLaws.{ruled_out_have_no_order}
 use Rattle.ruled_out.proofs.DocumentSteps.{meets}
 use Rattle.ruled_out.proofs.OrderedSteps.{mapped_at}
-use Rattle.ruled_out.proofs.ToldStates.{found_has, shown_taken}
+use Rattle.ruled_out.proofs.ReportedStates.{found_has, shown_taken}
 
 -- ---- answered calls in an order
 
@@ -179,8 +179,8 @@ stale_swap conflicts events a b history stale (order, explains) =
 -- what is heard of a call that gave a number with a pair allows that it did
 may_take : (conflicts : Conflicts) (heard : Option (ℕ × Answer)) (e : Entry) (p : Pair) (k : ℕ) → GivesNumber p k e → (conflicts ≡ Plain → e.hidden ≡ None)
     → ((y : ℕ) (r : Answer) → heard ≡ Some (y, r) → e.reply ≡ r) → MayTake conflicts heard p
-may_take conflicts None e p k gives plain told = tt
-may_take conflicts (Some (y, r)) e p k gives plain told = by_reply (told y r refl) gives.takes where
+may_take conflicts None e p k gives plain reported = tt
+may_take conflicts (Some (y, r)) e p k gives plain reported = by_reply (reported y r refl) gives.takes where
   by_conflicts : (m : Conflicts) → conflicts ≡ m → e.hidden ≡ Some p → conflicts ≡ Maybe
   by_conflicts Plain is hides = absurd (none_is_not_some p (sym (plain is) ∙ hides))
   by_conflicts Maybe is hides = is
@@ -225,8 +225,8 @@ no_writer conflicts events g history evidence (order, explains) =
           ]
 
       -- what was heard of a call of the order is its reply there
-      told : (i : ℕ) (p : Placed) → slice_get order i ≡ Some p → IsOfCall events p → (y : ℕ) (r : Answer) → heard_of events p.no ≡ Some (y, r) → p.entry.reply ≡ r
-      told i p at of y r heard =
+      reported : (i : ℕ) (p : Placed) → slice_get order i ≡ Some p → IsOfCall events p → (y : ℕ) (r : Answer) → heard_of events p.no ≡ Some (y, r) → p.entry.reply ≡ r
+      reported i p at of y r heard =
           let own = placed conflicts events order history explains of.0 p.no p.entry.shard y p.entry.doc p.entry.op r of.1 heard in
           let same : own.place ≡ i = explains.is_order.once own.place i own.placed p own.at at own.number in
           let call : own.placed ≡ p = same_some own.placed p (sym own.at ∙ (ap (slice_get order) same ∙ at)) in
@@ -247,7 +247,7 @@ no_writer conflicts events g history evidence (order, explains) =
             gives = ap (λ (e : Entry). value_of e.op) x.2 ∙ given.gives.number;
             takes = may_take conflicts (heard_of events x.0.no) given.entry evidence.pair evidence.number given.gives
                 (λ is. ap (λ (e : Entry). e.hidden) (sym x.2) ∙ explains.is_order.plain is given.place x.0 x.1)
-                (λ y r heard. ap (λ (e : Entry). e.reply) (sym x.2) ∙ told given.place x.0 x.1 of y r heard);
+                (λ y r heard. ap (λ (e : Entry). e.reply) (sym x.2) ∙ reported given.place x.0 x.1 of y r heard);
           })
 
       by_source : (get : IsPlaced order g evidence.get.shard evidence.doc evidence.get.op (Found evidence.pair evidence.number))

@@ -1,4 +1,4 @@
--- What a history tells of the calls that evidence names, and where that is evidence.
+-- What a history says of the calls that evidence names, and where that is evidence.
 use Rattle.std.proofs.Common.{ℕ, ◌≡◌, ◌≢◌, ◌<◌, ◌⊎◌, inl, inr, List, refl, sym, ap, subst, ◌∙◌, true, Option, Some, None, length, option_map}
 use Rattle.std.specs.Prelude.{◌↔◌}
 use Rattle.std.specs.Cmp.Lexicographic.{bytes_decides}
@@ -9,12 +9,12 @@ use Rattle.doc_register.specs.declared.op.Op.{Op}
 use Rattle.doc_register.specs.declared.reply.Reply.{Reply as Answer}
 use Rattle.doc_register.specs.declared.reply.Reply.TheVariants.{Found}
 use Rattle.doc_register.specs.declared.state.Conflicts.{Conflicts}
-use Rattle.history.specs.declared.event.Event.{Event}
-use Rattle.history.specs.declared.event.Event.TheVariants.{Call, Reply}
-use Rattle.history.specs.Events.{IsCallAt, IsHistory, PassesAt, Precedes, heard_of, is_call_of}
-use Rattle.history.proofs.HistoryLemmas.{call_passes, reply_passes}
+use Rattle.events.specs.declared.event.Event.{Event}
+use Rattle.events.specs.declared.event.Event.TheVariants.{Call, Reply}
+use Rattle.events.specs.Events.{IsCallAt, IsHistory, PassesAt, Precedes, heard_of, is_call_of}
+use Rattle.events.proofs.HistoryLemmas.{call_passes, reply_passes}
 use Rattle.version_pair.proofs.ListLemmas.{same_some}
-use Rattle.history.specs.Heard.{taken_by}
+use Rattle.events.specs.Heard.{taken_by}
 use Rattle.doc_register.specs.Register.{condition_of, value_of}
 use Rattle.evidence.specs.Evidence.{HasNoWriter, IsFound, IsPairTwice, IsPerformed, IsStaleGet, IsStaleSwap, IsWriter, MayTake}
 use Rattle.evidence.specs.aids.AnsweredCalls.{AsksTooLittle, IsFoundGet, IsPerformedWrite}
@@ -22,7 +22,7 @@ use Rattle.evidence.specs.declared.answered_call.FoundGet.{FoundGet}
 use Rattle.evidence.specs.declared.answered_call.PerformedWrite.{PerformedWrite}
 use Rattle.evidence.proofs.CallsByNumber.{same_shard}
 use Rattle.evidence.proofs.HeardLemmas.{heard_is_reply}
-use Rattle.history.proofs.EventLemmas.{same_call}
+use Rattle.events.proofs.EventLemmas.{same_call}
 
 -- ---- calls at places
 
@@ -48,9 +48,9 @@ one_call events i j n h g d e op o history at bt =
     let same = same_call events j n n h g d e op o moved bt in
     record { place = place; shard = same_shard events j n n h g d e op o moved bt; doc = same.1; operation = same.2 }
 
--- ---- what the history tells of a call
+-- ---- what the history says of a call
 
--- a performed write as the history tells of it
+-- a performed write as the history describes it
 abbrev pub performed_as : (events : List Event) (n : ℕ) (w : PerformedWrite) (look : IsPerformedWrite events n w) (d : List ℕ) (q : Pair) → look.doc ≡ d → w.pair ≡ q → IsPerformed events n d q
 performed_as events n w look d q doc pair = record {
   called = w.called;
@@ -60,7 +60,7 @@ performed_as events n w look d q doc pair = record {
   shows = ap (λ o. taken_by o None) look.heard ∙ (look.shows ∙ ap (λ x. Some x) pair);
 }
 
--- what it tells is the only one
+-- what it says is the only one
 pub record IsThatWrite (events : List Event) (n : ℕ) (w : PerformedWrite) (d e : List ℕ) (q : Pair) (p : IsPerformed events n d q) : Type 0 where
   pub call : IsOneCall events w.called p.called n w.shard p.shard e d w.op p.op
   pub pair : w.pair ≡ q
@@ -112,9 +112,9 @@ reply_within events n get history look =
 
 -- ---- a pair twice
 
-pub twice_told : (events : List Event) (a b : ℕ) (one two : PerformedWrite) → IsHistory events → IsPerformedWrite events a one → IsPerformedWrite events b two → a ≢ b
+pub twice_reported : (events : List Event) (a b : ℕ) (one two : PerformedWrite) → IsHistory events → IsPerformedWrite events a one → IsPerformedWrite events b two → a ≢ b
     → ((one.shard ≡ two.shard) × (one.pair ≡ two.pair)) ↔ IsPairTwice events a b
-twice_told events a b one two history x y apart = (
+twice_reported events a b one two history x y apart = (
   λ same. record {
     apart = apart;
     pair = one.pair;
@@ -147,9 +147,9 @@ precedes events a b w j h d op history look call =
 
 -- ---- stale gets
 
-pub stale_get_told : (events : List Event) (g w : ℕ) (get : FoundGet) (write : PerformedWrite) → IsHistory events → (x : IsFoundGet events g get) (y : IsPerformedWrite events w write)
+pub stale_get_reported : (events : List Event) (g w : ℕ) (get : FoundGet) (write : PerformedWrite) → IsHistory events → (x : IsFoundGet events g get) (y : IsPerformedWrite events w write)
     → ((write.replied < get.called) × IsBelow get.pair write.pair × PassesAt (is_call_of x.doc) events write.called) ↔ IsStaleGet events g w
-stale_get_told events g w get write history x y = (
+stale_get_reported events g w get write history x y = (
   λ (before, below, own). record {
     doc = x.doc;
     replied = get.replied;
@@ -172,9 +172,9 @@ stale_get_told events g w get write history x y = (
 
 -- ---- stale swaps
 
-pub stale_swap_told : (events : List Event) (a b : ℕ) (one two : PerformedWrite) → IsHistory events → (x : IsPerformedWrite events a one) → IsPerformedWrite events b two → a ≢ b
+pub stale_swap_reported : (events : List Event) (a b : ℕ) (one two : PerformedWrite) → IsHistory events → (x : IsPerformedWrite events a one) → IsPerformedWrite events b two → a ≢ b
     → (AsksTooLittle one two × PassesAt (is_call_of x.doc) events two.called) ↔ IsStaleSwap events a b
-stale_swap_told events a b one two history x y apart = (
+stale_swap_reported events a b one two history x y apart = (
   λ (asks, own). record {
     apart = apart;
     doc = x.doc;
@@ -212,9 +212,9 @@ stale_swap_told events a b one two history x y apart = (
 
 -- ---- no writer
 
-pub no_writer_told : (conflicts : Conflicts) (events : List Event) (g : ℕ) (get : FoundGet) → IsHistory events → (x : IsFoundGet events g get)
+pub no_writer_reported : (conflicts : Conflicts) (events : List Event) (g : ℕ) (get : FoundGet) → IsHistory events → (x : IsFoundGet events g get)
     → ((j : ℕ) → ¬ IsWriter conflicts events x.doc get.replied get.pair get.k j) ↔ HasNoWriter conflicts events g
-no_writer_told conflicts events g get history x = (
+no_writer_reported conflicts events g get history x = (
   λ none. record { doc = x.doc; replied = get.replied; pair = get.pair; number = get.k; get = found_as events g get x; none = none },
   λ evidence j writer.
       let that = that_get events g get evidence.doc evidence.replied evidence.pair evidence.number history x evidence.get in
@@ -225,9 +225,9 @@ no_writer_told conflicts events g get history x = (
 )
 
 -- the call at the place is a writer, if it may give the number with the pair and is of the document
-pub writer_told : (conflicts : Conflicts) (events : List Event) (d e : List ℕ) (get : FoundGet) (j n h : ℕ) (op : Op) → j < get.replied → IsCallAt events j n h e op
+pub writer_reported : (conflicts : Conflicts) (events : List Event) (d e : List ℕ) (get : FoundGet) (j n h : ℕ) (op : Op) → j < get.replied → IsCallAt events j n h e op
     → ((value_of op ≡ Some get.k) × MayTake conflicts (heard_of events n) get.pair × PassesAt (is_call_of d) events j) ↔ IsWriter conflicts events d get.replied get.pair get.k j
-writer_told conflicts events d e get j n h op before call = (
+writer_reported conflicts events d e get j n h op before call = (
   λ (gives, takes, own). record {
     before = before;
     number = n;

@@ -4,11 +4,11 @@ use Rattle.std.specs.Prelude.{◌↔◌, IfSome, IsTrue, MatchOption, is_some}
 use Rattle.std.proofs.lemmas.Bool.{cases_lt}
 use Rattle.std.proofs.lemmas.Option.{slice_get-get_or, slice_get_within}
 use Rattle.doc_register.specs.declared.state.Conflicts.{Conflicts}
-use Rattle.history.specs.declared.event.Event.{Event}
-use Rattle.history.specs.declared.record.Rec.{Rec}
-use Rattle.history.specs.Events.{IsHistory, documents_of, records_of}
+use Rattle.events.specs.declared.event.Event.{Event}
+use Rattle.events.specs.declared.record.Rec.{Rec}
+use Rattle.events.specs.Events.{IsHistory, documents_of, records_of}
 use Rattle.version_pair.proofs.ListLemmas.{none_is_not_some, same_some}
-use Rattle.ruled_out.specs.Told.{told}
+use Rattle.ruled_out.specs.Reported.{reported}
 use Rattle.ruled_out.specs.Placings.{AreInOrder, IsRuledOutAt}
 use Rattle.ruled_out.proofs.RecordOrder.{records_in_order}
 use Rattle.ruled_out.proofs.WalkLemmas.{ruled_out_once}
@@ -30,27 +30,27 @@ document_there events doc records is = by_found (slice_get (documents_of events)
 
 -- its records are in order
 pub records_ready : (conflicts : Conflicts) (events : List Event) (doc : ℕ) (records : List Rec) → IsHistory events
-    → option_map (λ (d : List ℕ × ℕ). records_of events d.0) (slice_get (documents_of events) doc) ≡ Some records → AreInOrder (told conflicts records)
+    → option_map (λ (d : List ℕ × ℕ). records_of events d.0) (slice_get (documents_of events) doc) ≡ Some records → AreInOrder (reported conflicts records)
 records_ready conflicts events doc records history is =
     let x = document_there events doc records is in
-    subst (λ (rs : List Rec). AreInOrder (told conflicts rs)) x.same (records_in_order conflicts events x.document.0 history)
+    subst (λ (rs : List Rec). AreInOrder (reported conflicts rs)) x.same (records_in_order conflicts events x.document.0 history)
 
 -- what is found of its records is found of the document
 pub found_of_document : (conflicts : Conflicts) (events : List Event) (doc : ℕ) (records : List Rec) (found : Option ℕ)
-    → option_map (λ (d : List ℕ × ℕ). records_of events d.0) (slice_get (documents_of events) doc) ≡ Some records → IsRuledOutAt (told conflicts records) found
+    → option_map (λ (d : List ℕ × ℕ). records_of events d.0) (slice_get (documents_of events) doc) ≡ Some records → IsRuledOutAt (reported conflicts records) found
     → IsRuledOutDocument conflicts events doc found
 found_of_document conflicts events doc records found is at document listed =
     let x = document_there events doc records is in
     let one : x.document ≡ document = same_some x.document document (sym x.listed ∙ listed) in
-    subst (λ (d : List ℕ × ℕ). IsRuledOutAt (told conflicts (records_of events d.0)) found) one (subst (λ (rs : List Rec). IsRuledOutAt (told conflicts rs) found) (sym x.same) at)
+    subst (λ (d : List ℕ × ℕ). IsRuledOutAt (reported conflicts (records_of events d.0)) found) one (subst (λ (rs : List Rec). IsRuledOutAt (reported conflicts rs) found) (sym x.same) at)
 
 -- a document that is ruled out at the call is ruled out at no other
 pub only_call : (conflicts : Conflicts) (events : List Event) (n : ℕ) (found : Option ℕ) → IsHistory events → (is : IsRuledOutIn conflicts events n) → IsRuledOutDocument conflicts events is.doc found → found ≡ Some n
 only_call conflicts events n found history is at = by_found found (at is.document is.listed) where
-  by_found : (found : Option ℕ) → IsRuledOutAt (told conflicts (records_of events is.document.0)) found → found ≡ Some n
+  by_found : (found : Option ℕ) → IsRuledOutAt (reported conflicts (records_of events is.document.0)) found → found ≡ Some n
   by_found None none = absurd (none n is.ruled_out)
   by_found (Some m) ruled =
-      ap (λ (k : ℕ). Some k) (ruled_out_once (told conflicts (records_of events is.document.0)) m n (records_in_order conflicts events is.document.0 history) ruled is.ruled_out)
+      ap (λ (k : ℕ). Some k) (ruled_out_once (reported conflicts (records_of events is.document.0)) m n (records_in_order conflicts events is.document.0 history) ruled is.ruled_out)
 
 -- the call at which a document was found to be ruled out
 pub found_call : (conflicts : Conflicts) (events : List Event) (doc n : ℕ) → doc < length (documents_of events) → IsRuledOutDocument conflicts events doc (Some n) → IsRuledOutIn conflicts events n

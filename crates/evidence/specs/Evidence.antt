@@ -9,11 +9,11 @@ use Rattle.doc_register.specs.declared.reply.Reply.{Reply as Answer}
 use Rattle.doc_register.specs.declared.reply.Reply.TheVariants.{Indexed, Deleted, Found, Missing, Conflict}
 use Rattle.doc_register.specs.declared.state.Conflicts.{Conflicts}
 use Rattle.doc_register.specs.declared.state.Conflicts.TheVariants.{Maybe}
-use Rattle.history.specs.declared.event.Event.{Event}
-use Rattle.history.specs.Events.{IsCallAt, IsHistory, Precedes, documents_of, heard_of, records_of}
-use Rattle.history.specs.Order.{IsLinearizable}
-use Rattle.history.specs.Heard.{taken_by}
-use Rattle.ruled_out.specs.Told.{told}
+use Rattle.events.specs.declared.event.Event.{Event}
+use Rattle.events.specs.Events.{IsCallAt, IsHistory, Precedes, documents_of, heard_of, records_of}
+use Rattle.events.specs.Order.{IsLinearizable}
+use Rattle.events.specs.Heard.{taken_by}
+use Rattle.ruled_out.specs.Reported.{reported}
 use Rattle.ruled_out.specs.Placings.{IsRuledOut}
 use Rattle.evidence.specs.declared.refuted.Refuted.{Refuted}
 use Rattle.evidence.specs.declared.refuted.Refuted.TheVariants as evidence
@@ -154,7 +154,7 @@ pub record IsRuledOutIn (conflicts : Conflicts) (events : List Event) (n : ℕ) 
   -- the document is one of the history
   pub listed : slice_get (documents_of events) doc ≡ Some document
   -- its records as reported are ruled out at the call (`IsRuledOut`)
-  pub ruled_out : IsRuledOut (told conflicts (records_of events document.0)) n
+  pub ruled_out : IsRuledOut (reported conflicts (records_of events document.0)) n
 
 -- the document of this number is ruled out at some call
 abbrev pub IsDocumentRuledOut : Conflicts → List Event → ℕ → Type 0

@@ -1,10 +1,10 @@
 ghost use Rattle.std.specs.Prelude.{◌<◌, ◌↔◌, IsTrue, List, None, ℕ, length};
 ghost use Rattle.doc_register.specs.Run.{pair_taken};
-ghost use Rattle.history.specs.Events.{IsHistory, PassesAt, is_call_of};
+ghost use Rattle.events.specs.Events.{IsHistory, PassesAt, is_call_of};
 ghost use Rattle.evidence.specs.aids.AnsweredCalls.{IsFoundAs, IsPerformedAs};
 
 use doc_register::{Op, Reply};
-use history::{Event, History};
+use events::{Event, History};
 use version_pair::Pair;
 
 /// A get that found its document. Positions are indices of events, from 0.

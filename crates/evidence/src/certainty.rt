@@ -5,7 +5,7 @@ pub enum Certainty {
     Evident,
     /// A document is ruled out: provably no order explains its calls, whatever became of those without a
     /// reply. The line says so.
-    ToldRuledOut,
+    ReportedRuledOut,
     /// The document of the offence is ruled out, and the line doesn't say so.
     RuledOut,
     /// Each write of the history was answered, so there is no order.

@@ -1,6 +1,6 @@
 ghost use Rattle.std.specs.Prelude.{◌≡◌, ◌<◌, ◌≤◌, ◌↔◌, ◌⊎◌, IfOk, IsOk, IsTrue, List, Some, ℕ, length};
 ghost use Rattle.version_pair.specs.PairOrder.{IsBelow};
-ghost use Rattle.history.specs.Events.{IsHistory, PassesAt, is_call_of};
+ghost use Rattle.events.specs.Events.{IsHistory, PassesAt, is_call_of};
 ghost use Rattle.doc_register.specs.Register.{value_of};
 ghost use Rattle.evidence.specs.Evidence.{HasNoWriter, Holds, IsOfCalls, IsPairTwice, IsStaleGet, IsStaleSwap, IsWriter, MayTake};
 ghost use Rattle.evidence.specs.aids.AnsweredCalls.{AsksTooLittle};
@@ -11,7 +11,7 @@ use crate::answered_call::{
 use crate::refuted::Refuted;
 use crate::ruled_out_calls::is_ruled_out;
 use doc_register::{Conflicts, Op, Reply};
-use history::{Event, History};
+use events::{Event, History};
 use std::alloc::Global;
 use version_pair::{NoMemory, Pair};
 

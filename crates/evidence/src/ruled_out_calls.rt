@@ -1,12 +1,12 @@
 //! The calls at which documents of a history are ruled out.
 
 ghost use Rattle.std.specs.Prelude.{◌≡◌, ◌<◌, ◌≤◌, ◌⊎◌, ◌↔◌, IfOk, IfSome, IsTrue, MatchOption, None as Nothing, Some as Just, length};
-ghost use Rattle.history.specs.Events.{IsHistory, documents_of};
+ghost use Rattle.events.specs.Events.{IsHistory, documents_of};
 ghost use Rattle.evidence.specs.Evidence.{AreDocuments, IsDocumentRuledOut, IsRuledOutIn, ListsRuledOut};
 ghost use Rattle.evidence.specs.aids.RuledOutCalls.{IsRuledOutCall, IsRuledOutDocument};
 
 use doc_register::Conflicts;
-use history::History;
+use events::History;
 use ruled_out::ruled_out_at;
 use std::alloc::Global;
 use version_pair::NoMemory;

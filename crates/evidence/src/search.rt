@@ -16,7 +16,7 @@ use crate::ruled_out_calls::least_ruled_out;
 use crate::ruling_out::RulingOut;
 use answered_calls::AnsweredCalls;
 use doc_register::Conflicts;
-use history::History;
+use events::History;
 use lost_updates::least_stale_swap;
 use pairs_taken_twice::least_pair_twice;
 use stale_reads::least_stale_get;

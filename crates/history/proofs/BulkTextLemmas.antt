@@ -15,7 +15,7 @@ use Rattle.api_lines.specs.declared.reply_table.Heard.{Heard}
 use Rattle.api_lines.specs.declared.reply_table.Heard.TheVariants.{Unknown}
 use Rattle.history.specs.BulkText.{call_values, ending_value, ending_values}
 use Rattle.history.specs.Written.{call_value, written_values}
-use Rattle.history.proofs.PlaceLemmas.{take_next}
+use Rattle.events.proofs.PlaceLemmas.{take_next}
 use Rattle.std.proofs.lemmas.List.{length-map}
 
 -- ---- lines

@@ -10,11 +10,12 @@ use Rattle.doc_register.specs.declared.op.Op.{Op}
 use Rattle.doc_register.specs.declared.op.Op.TheVariants.{Get, Index, Delete, Create}
 use Rattle.serde_json.specs.Data.{Data}
 use Rattle.api_lines.specs.Fields.{LineValues, line_values}
-use Rattle.api_lines.specs.HistoryLines.{below_limit, call_told, create_numbers, delete_numbers, index_numbers, line_told, lost_told, most_shards, op_numbers, op_told, reply_told, shard_told, status_told}
-use Rattle.api_lines.specs.Ids.{id_told, is_id}
+use Rattle.version_pair.specs.Shards.{most_shards}
+use Rattle.api_lines.specs.HistoryLines.{below_limit, call_parsed, create_numbers, delete_numbers, index_numbers, line_parsed, lost_parsed, op_numbers, op_parsed, reply_parsed, shard_parsed, status_parsed}
+use Rattle.api_lines.specs.Ids.{id_parsed, is_id}
 use Rattle.api_lines.specs.Json.{FieldValue, absent, whole, not_whole, text, truth, other}
 use Rattle.api_lines.specs.Kinds.{optional_number, required_number, required_text}
-use Rattle.api_lines.specs.Pairs.{in_range, pair_of, pair_told, whole_told}
+use Rattle.api_lines.specs.Pairs.{in_range, pair_of, pair_parsed, whole_parsed}
 use Rattle.api_lines.specs.declared.history_line.OpNumbers.{OpNumbers}
 use Rattle.api_lines.specs.declared.history_line.OpNumbers.TheVariants as numbers
 use Rattle.api_lines.specs.declared.history_line.LineSaid.{LineSaid}
@@ -36,7 +37,7 @@ same_ok x y is = cc
 
 -- ---- fields that were read
 
-number_read : (f : FieldValue) (x : Number) (n : ℕ) → required_number f ≡ Ok x → whole_told x ≡ Ok n → f ≡ whole n
+number_read : (f : FieldValue) (x : Number) (n : ℕ) → required_number f ≡ Ok x → whole_parsed x ≡ Ok n → f ≡ whole n
 number_read absent x n a b = absurd (cc)
 number_read (whole m) (Whole k) n a b = cc
 number_read (whole m) NotWhole n a b = absurd (cc)
@@ -73,19 +74,19 @@ none_read (text s) is = absurd (cc)
 none_read (truth b) is = absurd (cc)
 none_read other is = absurd (cc)
 
-none_told : (c : Option Pair) → pair_told None None ≡ Ok c → None ≡ c
-none_told c told = cc
+none_reported : (c : Option Pair) → pair_parsed None None ≡ Ok c → None ≡ c
+none_reported c reported = cc
 
-condition_read : (f g : FieldValue) (a b : Option Number) (c : Option Pair) → optional_number f ≡ Ok a → optional_number g ≡ Ok b → pair_told a b ≡ Ok c
+condition_read : (f g : FieldValue) (a b : Option Number) (c : Option Pair) → optional_number f ≡ Ok a → optional_number g ≡ Ok b → pair_parsed a b ≡ Ok c
     → Conditions f g c
 unfolding Conditions
-condition_read f g None None c x y told = subst (Conditions f g) (none_told c told) (none_read f x, none_read g y)
-condition_read f g None (Some t) c x y told = absurd (cc)
-condition_read f g (Some s) None c x y told = absurd (cc)
-condition_read f g (Some NotWhole) (Some t) c x y told = absurd (cc)
-condition_read f g (Some (Whole s)) (Some NotWhole) c x y told = absurd (cc)
-condition_read f g (Some (Whole s)) (Some (Whole t)) c x y told =
-    let made = in_range_made (pair_of t s) c told in
+condition_read f g None None c x y reported = subst (Conditions f g) (none_reported c reported) (none_read f x, none_read g y)
+condition_read f g None (Some t) c x y reported = absurd (cc)
+condition_read f g (Some s) None c x y reported = absurd (cc)
+condition_read f g (Some NotWhole) (Some t) c x y reported = absurd (cc)
+condition_read f g (Some (Whole s)) (Some NotWhole) c x y reported = absurd (cc)
+condition_read f g (Some (Whole s)) (Some (Whole t)) c x y reported =
+    let made = in_range_made (pair_of t s) c reported in
     let numbers = pair_of-numbers t s made.0 made.1 in
     let fs : f ≡ whole s = number_of f s x in
     let gt : g ≡ whole t = number_of g t y in
@@ -99,7 +100,7 @@ condition_read f g (Some (Whole s)) (Some (Whole t)) c x y told =
       number_of other n is = absurd (cc)
 
 condition_said : (f g : FieldValue) (c : Option Pair) → Conditions f g c
-    → (a b : Option Number) × (optional_number f ≡ Ok a) × (optional_number g ≡ Ok b) × (pair_told a b ≡ Ok c)
+    → (a b : Option Number) × (optional_number f ≡ Ok a) × (optional_number g ≡ Ok b) × (pair_parsed a b ≡ Ok c)
 unfolding Conditions
 condition_said f g None is = (None, None, ap optional_number is.0, ap optional_number is.1, refl)
 condition_said f g (Some p) is =
@@ -114,21 +115,21 @@ Says l (Index k c) = (l.op ≡ text (codes "index")) × (l.k ≡ whole k) × Con
 Says l (Delete c) = (l.op ≡ text (codes "delete")) × Conditions l.if_seq_no l.if_primary_term c
 Says l (Create k) = (l.op ≡ text (codes "create")) × (l.k ≡ whole k)
 
-op_said : (l : LineValues) (op : Op) → Says l op → (ns : OpNumbers) × (op_numbers l ≡ Ok ns) × (op_told ns ≡ Ok op)
+op_said : (l : LineValues) (op : Op) → Says l op → (ns : OpNumbers) × (op_numbers l ≡ Ok ns) × (op_parsed ns ≡ Ok op)
 unfolding Says
 op_said l Get is = (numbers.Get, rw is refl, refl)
 op_said l (Index k c) is =
     let read = condition_said l.if_seq_no l.if_primary_term c is.2 in
     let seq : optional_number l.if_seq_no ≡ Ok read.0 = read.2 in
     let term : optional_number l.if_primary_term ≡ Ok read.1 = read.3 in
-    let told : pair_told read.0 read.1 ≡ Ok c = read.4 in
-    (numbers.Index (Whole k) read.0 read.1, rw (is.0, is.1, seq, term) refl, rw told refl)
+    let reported : pair_parsed read.0 read.1 ≡ Ok c = read.4 in
+    (numbers.Index (Whole k) read.0 read.1, rw (is.0, is.1, seq, term) refl, rw reported refl)
 op_said l (Delete c) is =
     let read = condition_said l.if_seq_no l.if_primary_term c is.1 in
     let seq : optional_number l.if_seq_no ≡ Ok read.0 = read.2 in
     let term : optional_number l.if_primary_term ≡ Ok read.1 = read.3 in
-    let told : pair_told read.0 read.1 ≡ Ok c = read.4 in
-    (numbers.Delete read.0 read.1, rw (is.0, seq, term) refl, rw told refl)
+    let reported : pair_parsed read.0 read.1 ≡ Ok c = read.4 in
+    (numbers.Delete read.0 read.1, rw (is.0, seq, term) refl, rw reported refl)
 op_said l (Create k) is = (numbers.Create (Whole k), rw (is.0, is.1) refl, refl)
 
 -- the name in the test, or the test goes on
@@ -139,72 +140,72 @@ named name word r s x is = by_test (bytes_eq name word) refl is where
   by_test true same is = inl ((bytes_decides name word).0 same, is)
   by_test false same is = inr is
 
-index_read : (l : LineValues) (ns : OpNumbers) (op : Op) → l.op ≡ text (codes "index") → index_numbers l ≡ Ok ns → op_told ns ≡ Ok op → Says l op
+index_read : (l : LineValues) (ns : OpNumbers) (op : Op) → l.op ≡ text (codes "index") → index_numbers l ≡ Ok ns → op_parsed ns ≡ Ok op → Says l op
 unfolding Says
-index_read l ns op name read told =
+index_read l ns op name read reported =
     let k = first_ok (required_number l.k) _ ns read in
     let seq = first_ok (optional_number l.if_seq_no) _ ns k.2 in
     let term = first_ok (optional_number l.if_primary_term) _ ns seq.2 in
     let is : numbers.Index k.0 seq.0 term.0 ≡ ns = same_ok (numbers.Index k.0 seq.0 term.0) ns (term.2) in
-    let cond = first_ok (pair_told seq.0 term.0) _ op (subst (λ m. op_told m ≡ Ok op) (sym is) told) in
-    let n = first_ok (whole_told k.0) _ op cond.2 in
+    let cond = first_ok (pair_parsed seq.0 term.0) _ op (subst (λ m. op_parsed m ≡ Ok op) (sym is) reported) in
+    let n = first_ok (whole_parsed k.0) _ op cond.2 in
     let made : Index n.0 cond.0 ≡ op = same_ok (Index n.0 cond.0) op (n.2) in
     subst (Says l) made (name, number_read l.k k.0 n.0 k.1 n.1, condition_read l.if_seq_no l.if_primary_term seq.0 term.0 cond.0 seq.1 term.1 cond.1)
 
-delete_read : (l : LineValues) (ns : OpNumbers) (op : Op) → l.op ≡ text (codes "delete") → delete_numbers l ≡ Ok ns → op_told ns ≡ Ok op → Says l op
+delete_read : (l : LineValues) (ns : OpNumbers) (op : Op) → l.op ≡ text (codes "delete") → delete_numbers l ≡ Ok ns → op_parsed ns ≡ Ok op → Says l op
 unfolding Says
-delete_read l ns op name read told =
+delete_read l ns op name read reported =
     let seq = first_ok (optional_number l.if_seq_no) _ ns read in
     let term = first_ok (optional_number l.if_primary_term) _ ns seq.2 in
     let is : numbers.Delete seq.0 term.0 ≡ ns = same_ok (numbers.Delete seq.0 term.0) ns (term.2) in
-    let cond = first_ok (pair_told seq.0 term.0) _ op (subst (λ m. op_told m ≡ Ok op) (sym is) told) in
+    let cond = first_ok (pair_parsed seq.0 term.0) _ op (subst (λ m. op_parsed m ≡ Ok op) (sym is) reported) in
     let made : Delete cond.0 ≡ op = same_ok (Delete cond.0) op (cond.2) in
     subst (Says l) made (name, condition_read l.if_seq_no l.if_primary_term seq.0 term.0 cond.0 seq.1 term.1 cond.1)
 
-create_read : (l : LineValues) (ns : OpNumbers) (op : Op) → l.op ≡ text (codes "create") → create_numbers l ≡ Ok ns → op_told ns ≡ Ok op → Says l op
+create_read : (l : LineValues) (ns : OpNumbers) (op : Op) → l.op ≡ text (codes "create") → create_numbers l ≡ Ok ns → op_parsed ns ≡ Ok op → Says l op
 unfolding Says
-create_read l ns op name read told =
+create_read l ns op name read reported =
     let k = first_ok (required_number l.k) _ ns read in
     let is : numbers.Create k.0 ≡ ns = same_ok (numbers.Create k.0) ns (k.2) in
-    let n = first_ok (whole_told k.0) _ op (subst (λ m. op_told m ≡ Ok op) (sym is) told) in
+    let n = first_ok (whole_parsed k.0) _ op (subst (λ m. op_parsed m ≡ Ok op) (sym is) reported) in
     let made : Create n.0 ≡ op = same_ok (Create n.0) op (n.2) in
     subst (Says l) made (name, number_read l.k k.0 n.0 k.1 n.1)
 
-get_read : (l : LineValues) (ns : OpNumbers) (op : Op) → l.op ≡ text (codes "get") → ok_of numbers.Get ≡ Ok ns → op_told ns ≡ Ok op → Says l op
+get_read : (l : LineValues) (ns : OpNumbers) (op : Op) → l.op ≡ text (codes "get") → ok_of numbers.Get ≡ Ok ns → op_parsed ns ≡ Ok op → Says l op
 unfolding Says
-get_read l ns op name read told =
+get_read l ns op name read reported =
     let is : numbers.Get ≡ ns = same_ok numbers.Get ns read in
-    let made : Get ≡ op = same_ok Get op (subst (λ m. op_told m ≡ Ok op) (sym is) told) in
+    let made : Get ≡ op = same_ok Get op (subst (λ m. op_parsed m ≡ Ok op) (sym is) reported) in
     subst (Says l) made name
 
 abbrev refused : Result OpNumbers TextCause
 refused = Err Shape
 
-op_read : (l : LineValues) (ns : OpNumbers) (op : Op) → op_numbers l ≡ Ok ns → op_told ns ≡ Ok op → Says l op
-op_read l ns op read told =
+op_read : (l : LineValues) (ns : OpNumbers) (op : Op) → op_numbers l ≡ Ok ns → op_parsed ns ≡ Ok op → Says l op
+op_read l ns op read reported =
     let name = first_ok (required_text l.op) _ ns read in
     let field = text_read l.op name.0 name.1 in
     by_get name.0 field (named name.0 (codes "get") _ _ ns name.2) where
       by_create : (w : List ℕ) → l.op ≡ text w → ((w ≡ codes "create") × (create_numbers l ≡ Ok ns)) ⊎ (refused ≡ Ok ns) → Says l op
-      by_create w field (inl is) = create_read l ns op (field ∙ ap text is.0) is.1 told
+      by_create w field (inl is) = create_read l ns op (field ∙ ap text is.0) is.1 reported
       by_create w field (inr none) = absurd (cc)
 
       by_delete : (w : List ℕ) → l.op ≡ text w
           → ((w ≡ codes "delete") × (delete_numbers l ≡ Ok ns)) ⊎ ((if bytes_eq w (codes "create") then create_numbers l else Err Shape) ≡ Ok ns) → Says l op
-      by_delete w field (inl is) = delete_read l ns op (field ∙ ap text is.0) is.1 told
+      by_delete w field (inl is) = delete_read l ns op (field ∙ ap text is.0) is.1 reported
       by_delete w field (inr on) = by_create w field (named w (codes "create") (create_numbers l) refused ns on)
 
       by_index : (w : List ℕ) → l.op ≡ text w
           → ((w ≡ codes "index") × (index_numbers l ≡ Ok ns))
           ⊎ ((if bytes_eq w (codes "delete") then delete_numbers l else (if bytes_eq w (codes "create") then create_numbers l else Err Shape)) ≡ Ok ns) → Says l op
-      by_index w field (inl is) = index_read l ns op (field ∙ ap text is.0) is.1 told
+      by_index w field (inl is) = index_read l ns op (field ∙ ap text is.0) is.1 reported
       by_index w field (inr on) = by_delete w field (named w (codes "delete") (delete_numbers l) _ ns on)
 
       by_get : (w : List ℕ) → l.op ≡ text w
           → ((w ≡ codes "get") × (ok_of numbers.Get ≡ Ok ns))
           ⊎ ((if bytes_eq w (codes "index") then index_numbers l else (if bytes_eq w (codes "delete") then delete_numbers l else (if bytes_eq w (codes "create") then create_numbers l else Err Shape))) ≡ Ok ns)
           → Says l op
-      by_get w field (inl is) = get_read l ns op (field ∙ ap text is.0) is.1 told
+      by_get w field (inl is) = get_read l ns op (field ∙ ap text is.0) is.1 reported
       by_get w field (inr on) = by_index w field (named w (codes "index") (index_numbers l) _ ns on)
 
 -- ---- shards, ids and statuses
@@ -222,31 +223,31 @@ below_read limit n m is = by_test (nat_lt n limit) refl is where
   by_test true less is = (same_ok n m is, ltb-true n limit less)
   by_test false less is = absurd (cc)
 
-shard_said : (f : FieldValue) (h : ℕ) → SaysShard f h → (o : Option Number) × (optional_number f ≡ Ok o) × (shard_told o ≡ Ok h)
+shard_said : (f : FieldValue) (h : ℕ) → SaysShard f h → (o : Option Number) × (optional_number f ≡ Ok o) × (shard_parsed o ≡ Ok h)
 unfolding SaysShard
 shard_said f h (inl is) = (None, ap optional_number is.0, ap ok_of (sym is.1))
 shard_said f h (inr is) = (Some (Whole h), ap optional_number is.0, below_said most_shards h is.1)
 
-shard_read : (f : FieldValue) (o : Option Number) (h : ℕ) → optional_number f ≡ Ok o → shard_told o ≡ Ok h → SaysShard f h
+shard_read : (f : FieldValue) (o : Option Number) (h : ℕ) → optional_number f ≡ Ok o → shard_parsed o ≡ Ok h → SaysShard f h
 unfolding SaysShard
-shard_read absent o h read told =
+shard_read absent o h read reported =
     let is : None ≡ o = same_ok None o read in
-    inl (refl, sym (same_ok 0 h (subst (λ x. shard_told x ≡ Ok h) (sym is) told)))
-shard_read (whole n) o h read told =
+    inl (refl, sym (same_ok 0 h (subst (λ x. shard_parsed x ≡ Ok h) (sym is) reported)))
+shard_read (whole n) o h read reported =
     let is : Some (Whole n) ≡ o = same_ok (Some (Whole n)) o read in
-    let below = below_read most_shards n h (subst (λ x. shard_told x ≡ Ok h) (sym is) told) in
+    let below = below_read most_shards n h (subst (λ x. shard_parsed x ≡ Ok h) (sym is) reported) in
     inr (ap (λ k. whole k) below.0, subst (λ k. k < most_shards) below.0 below.1)
-shard_read not_whole o h read told =
+shard_read not_whole o h read reported =
     let is : Some NotWhole ≡ o = same_ok (Some NotWhole) o read in
-    let none : shard_told (Some NotWhole) ≡ Ok h = subst (λ x. shard_told x ≡ Ok h) (sym is) told in absurd (cc)
-shard_read (text t) o h read told = absurd (cc)
-shard_read (truth b) o h read told = absurd (cc)
-shard_read other o h read told = absurd (cc)
+    let none : shard_parsed (Some NotWhole) ≡ Ok h = subst (λ x. shard_parsed x ≡ Ok h) (sym is) reported in absurd (cc)
+shard_read (text t) o h read reported = absurd (cc)
+shard_read (truth b) o h read reported = absurd (cc)
+shard_read other o h read reported = absurd (cc)
 
-id_said : (d : List ℕ) → IsIdLength (length d) → id_told d ≡ Ok d
+id_said : (d : List ℕ) → IsIdLength (length d) → id_parsed d ≡ Ok d
 id_said d fits = rw (lt-ltb 0 (length d) fits.some, le-leb (length d) longest_id fits.within) refl
 
-id_read : (d e : List ℕ) → id_told d ≡ Ok e → (d ≡ e) × IsIdLength (length d)
+id_read : (d e : List ℕ) → id_parsed d ≡ Ok e → (d ≡ e) × IsIdLength (length d)
 id_read d e is = by_test (is_id d) refl is where
   by_test : (b : Bool) → is_id d ≡ b → (if b then ok_of d else Err Id) ≡ Ok e → (d ≡ e) × IsIdLength (length d)
   by_test true fits is =
@@ -266,30 +267,30 @@ record SaysCall (l : LineValues) (n h : ℕ) (d : List ℕ) (op : Op) : Type 0 w
   operation : Says l op
   shard : SaysShard l.shard h
 
-call_said : (l : LineValues) (n h : ℕ) (d : List ℕ) (op : Op) → SaysCall l n h d op → call_told l ≡ Ok (said.Call n h d op)
+call_said : (l : LineValues) (n h : ℕ) (d : List ℕ) (op : Op) → SaysCall l n h d op → call_parsed l ≡ Ok (said.Call n h d op)
 call_said l n h d op is =
     let ns = op_said l op is.operation in
     let o = shard_said l.shard h is.shard in
     let operation : op_numbers l ≡ Ok ns.0 = ns.1 in
-    let told : op_told ns.0 ≡ Ok op = ns.2 in
+    let reported : op_parsed ns.0 ≡ Ok op = ns.2 in
     let shard : optional_number l.shard ≡ Ok o.0 = o.1 in
-    let shard_is : shard_told o.0 ≡ Ok h = o.2 in
-    let fits : id_told d ≡ Ok d = id_said d is.id_length in
-    rw (is.number, is.id, operation, shard, fits, told, shard_is) refl
+    let shard_is : shard_parsed o.0 ≡ Ok h = o.2 in
+    let fits : id_parsed d ≡ Ok d = id_said d is.id_length in
+    rw (is.number, is.id, operation, shard, fits, reported, shard_is) refl
 
 same_call : (n h m g : ℕ) (d e : List ℕ) (o p : Op) → said.Call n h d o ≡ said.Call m g e p → (n ≡ m) × (h ≡ g) × (d ≡ e) × (o ≡ p)
 same_call n h m g d e o p same = (cc, cc, cc, cc)
 
-call_read : (l : LineValues) (n h : ℕ) (d : List ℕ) (op : Op) → call_told l ≡ Ok (said.Call n h d op) → SaysCall l n h d op
+call_read : (l : LineValues) (n h : ℕ) (d : List ℕ) (op : Op) → call_parsed l ≡ Ok (said.Call n h d op) → SaysCall l n h d op
 call_read l n h d op read =
     let number = first_ok (required_number l.n) _ (said.Call n h d op) read in
     let name = first_ok (required_text l.id) _ (said.Call n h d op) number.2 in
     let ns = first_ok (op_numbers l) _ (said.Call n h d op) name.2 in
     let o = first_ok (optional_number l.shard) _ (said.Call n h d op) ns.2 in
-    let id = first_ok (id_told name.0) _ (said.Call n h d op) o.2 in
-    let operation = first_ok (op_told ns.0) _ (said.Call n h d op) id.2 in
-    let no = first_ok (whole_told number.0) _ (said.Call n h d op) operation.2 in
-    let shard = first_ok (shard_told o.0) _ (said.Call n h d op) no.2 in
+    let id = first_ok (id_parsed name.0) _ (said.Call n h d op) o.2 in
+    let operation = first_ok (op_parsed ns.0) _ (said.Call n h d op) id.2 in
+    let no = first_ok (whole_parsed number.0) _ (said.Call n h d op) operation.2 in
+    let shard = first_ok (shard_parsed o.0) _ (said.Call n h d op) no.2 in
     let made : said.Call no.0 shard.0 id.0 operation.0 ≡ said.Call n h d op = same_ok (said.Call no.0 shard.0 id.0 operation.0) (said.Call n h d op) shard.2 in
     let parts = same_call no.0 shard.0 n h id.0 d operation.0 op made in
     let n_is : no.0 ≡ n = parts.0 in
@@ -305,34 +306,34 @@ call_read l n h d op read =
       shard = subst (SaysShard l.shard) h_is (shard_read l.shard o.0 shard.0 o.1 shard.1);
     }
 
--- what is told of a call's line is a call
-pub call_is : (l : LineValues) (s : LineSaid) → call_told l ≡ Ok s → (n h : ℕ) × (d : List ℕ) × (op : Op) × (s ≡ said.Call n h d op)
+-- what is said of a call's line is a call
+pub call_is : (l : LineValues) (s : LineSaid) → call_parsed l ≡ Ok s → (n h : ℕ) × (d : List ℕ) × (op : Op) × (s ≡ said.Call n h d op)
 call_is l s read =
     let number = first_ok (required_number l.n) _ s read in
     let name = first_ok (required_text l.id) _ s number.2 in
     let ns = first_ok (op_numbers l) _ s name.2 in
     let o = first_ok (optional_number l.shard) _ s ns.2 in
-    let id = first_ok (id_told name.0) _ s o.2 in
-    let operation = first_ok (op_told ns.0) _ s id.2 in
-    let no = first_ok (whole_told number.0) _ s operation.2 in
-    let shard = first_ok (shard_told o.0) _ s no.2 in
+    let id = first_ok (id_parsed name.0) _ s o.2 in
+    let operation = first_ok (op_parsed ns.0) _ s id.2 in
+    let no = first_ok (whole_parsed number.0) _ s operation.2 in
+    let shard = first_ok (shard_parsed o.0) _ s no.2 in
     (no.0, shard.0, id.0, operation.0, sym (same_ok (said.Call no.0 shard.0 id.0 operation.0) s shard.2))
 
 -- ---- replies and losses
 
-pub reply_said : (l : LineValues) (n status : ℕ) → l.n ≡ whole n → l.status ≡ whole status → status < 2 ^ 16 → reply_told l ≡ Ok (said.Reply n status)
+pub reply_said : (l : LineValues) (n status : ℕ) → l.n ≡ whole n → l.status ≡ whole status → status < 2 ^ 16 → reply_parsed l ≡ Ok (said.Reply n status)
 reply_said l n status number has_status fits =
-    let told : status_told (Whole status) ≡ Ok status = below_said (2 ^ 16) status fits in
-    rw (number, has_status, told) refl
+    let reported : status_parsed (Whole status) ≡ Ok status = below_said (2 ^ 16) status fits in
+    rw (number, has_status, reported) refl
 
-pub reply_read : (l : LineValues) (s : LineSaid) → reply_told l ≡ Ok s
+pub reply_read : (l : LineValues) (s : LineSaid) → reply_parsed l ≡ Ok s
     → (n status : ℕ) × (s ≡ said.Reply n status) × (l.n ≡ whole n) × (l.status ≡ whole status) × (status < 2 ^ 16)
 reply_read l s read =
     let number = first_ok (required_number l.n) _ s read in
     let status = first_ok (required_number l.status) _ s number.2 in
-    let n = first_ok (whole_told number.0) _ s status.2 in
-    let m = first_ok (status_told status.0) _ s n.2 in
-    let w = first_ok (whole_told status.0) _ m.0 m.1 in
+    let n = first_ok (whole_parsed number.0) _ s status.2 in
+    let m = first_ok (status_parsed status.0) _ s n.2 in
+    let w = first_ok (whole_parsed status.0) _ m.0 m.1 in
     let below = below_read (2 ^ 16) w.0 m.0 w.2 in (
       n.0,
       m.0,
@@ -342,13 +343,13 @@ reply_read l s read =
       subst (λ k. k < 2 ^ 16) below.0 below.1,
     )
 
-pub lost_said : (l : LineValues) (n : ℕ) → l.n ≡ whole n → lost_told l ≡ Ok (said.Lost n)
+pub lost_said : (l : LineValues) (n : ℕ) → l.n ≡ whole n → lost_parsed l ≡ Ok (said.Lost n)
 lost_said l n number = rw number refl
 
-pub lost_read : (l : LineValues) (s : LineSaid) → lost_told l ≡ Ok s → (n : ℕ) × (s ≡ said.Lost n) × (l.n ≡ whole n)
+pub lost_read : (l : LineValues) (s : LineSaid) → lost_parsed l ≡ Ok s → (n : ℕ) × (s ≡ said.Lost n) × (l.n ≡ whole n)
 lost_read l s read =
     let number = first_ok (required_number l.n) _ s read in
-    let n = first_ok (whole_told number.0) _ s number.2 in
+    let n = first_ok (whole_parsed number.0) _ s number.2 in
     (n.0, sym (same_ok (said.Lost n.0) s n.2), number_read l.n number.0 n.0 number.1 n.1)
 
 -- ---- what a value spells
@@ -377,26 +378,26 @@ op_of_value v (Index k c) is = (is.0, is.1, condition_of v c is.2)
 op_of_value v (Delete c) is = (is.0, condition_of v c is.1)
 op_of_value v (Create k) is = is
 
--- a value whose call is told spells it
-pub call_spelled : (v : Data) (n h : ℕ) (d : List ℕ) (op : Op) → (line_values v).e ≡ text (codes "call") → call_told (line_values v) ≡ Ok (said.Call n h d op)
+-- a value whose call is reported spells it
+pub call_spelled : (v : Data) (n h : ℕ) (d : List ℕ) (op : Op) → (line_values v).e ≡ text (codes "call") → call_parsed (line_values v) ≡ Ok (said.Call n h d op)
     → SpellsCall v n h d op
 unfolding SaysShard
-call_spelled v n h d op kind told =
-    let is = call_read (line_values v) n h d op told in
+call_spelled v n h d op kind reported =
+    let is = call_read (line_values v) n h d op reported in
     record { kind = kind; number = is.number; id = is.id; id_length = is.id_length; operation = op_spelled v op is.operation; shard = is.shard }
 
--- a value that spells a call tells it
-pub spelled_call : (v : Data) (n h : ℕ) (d : List ℕ) (op : Op) → SpellsCall v n h d op → line_told (line_values v) ≡ Ok (said.Call n h d op)
+-- a value that spells a call says it
+pub spelled_call : (v : Data) (n h : ℕ) (d : List ℕ) (op : Op) → SpellsCall v n h d op → line_parsed (line_values v) ≡ Ok (said.Call n h d op)
 unfolding SaysShard
 spelled_call v n h d op is =
     let kind : (line_values v).e ≡ text (codes "call") = is.kind in
     rw kind (call_said (line_values v) n h d op
     (record { number = is.number; id = is.id; id_length = is.id_length; operation = op_of_value v op is.operation; shard = is.shard }))
 
--- the shard of a call that is told is one of those that there are
-pub call_shard : (l : LineValues) (n h : ℕ) (d : List ℕ) (op : Op) → call_told l ≡ Ok (said.Call n h d op) → h < most_shards
+-- the shard of a call that is reported is one of those that there are
+pub call_shard : (l : LineValues) (n h : ℕ) (d : List ℕ) (op : Op) → call_parsed l ≡ Ok (said.Call n h d op) → h < most_shards
 unfolding SaysShard
-call_shard l n h d op told = by_shard (call_read l n h d op told).shard where
+call_shard l n h d op reported = by_shard (call_read l n h d op reported).shard where
   by_shard : ((l.shard ≡ absent) × (h ≡ 0)) ⊎ ((l.shard ≡ whole h) × (h < most_shards)) → h < most_shards
   by_shard (inl is) = let none : h ≡ 0 = is.1 in omega arith
   by_shard (inr is) = is.1

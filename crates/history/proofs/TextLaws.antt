@@ -12,17 +12,17 @@ use Rattle.api_lines.specs.declared.text_fault.TextCause.{TextCause}
 use Rattle.api_lines.specs.declared.text_fault.TextFault.{TextFault}
 use Rattle.api_lines.proofs.JsonLemmas.{is_json_line, json_value_is}
 use Rattle.api_lines.proofs.ReadingLemmas.{first_ok, given_blank, given_of, given_value, given_within, read_front}
-use Rattle.history.specs.declared.event.Event.{Event}
-use Rattle.history.specs.declared.fault.HistFault.{HistFault}
-use Rattle.history.specs.Events.{IsHistory}
+use Rattle.events.specs.declared.event.Event.{Event}
+use Rattle.events.specs.declared.fault.HistFault.{HistFault}
+use Rattle.events.specs.Events.{IsHistory}
 use Rattle.history.specs.Laws.{IsFirstRefused, TextOfOneHistory, TextsAreRead}
-use Rattle.history.specs.Reading.{adds, event_told, history_text, takes_value, with_more}
-use Rattle.history.specs.Refusal.{most_events, refusal_of}
+use Rattle.history.specs.Reading.{adds, event_parsed, history_text, takes_value, with_more}
+use Rattle.events.specs.Refusal.{most_events, refusal_of}
 use Rattle.history.specs.Text.{AreLinesOf, IsHistoryText, IsLineOf}
-use Rattle.history.proofs.AcceptedEvents.{IsNext, accepted, few_after, history_after}
-use Rattle.history.proofs.HistoryLemmas.{empty_history}
+use Rattle.events.proofs.AcceptedEvents.{IsNext, accepted, few_after, history_after}
+use Rattle.events.proofs.HistoryLemmas.{empty_history}
 use Rattle.history.proofs.TextLemmas.{line_front}
-use Rattle.history.proofs.TextReading.{event_spelled, spelled_told, told_shard}
+use Rattle.history.proofs.TextReading.{event_spelled, spelled_reported, reported_shard}
 
 abbrev events_of : List Event → Result (List Event) TextCause
 events_of H = Ok H
@@ -60,11 +60,11 @@ blank_more line lines G H blank short rest = record {
 }
 
 line_more : (line : List ℕ) (lines : List (List ℕ)) (v : Data) (e : Event) (G H : List Event) → is_blank line ≡ false → length line ≤ longest_line
-    → json_value line ≡ Some v → event_told G (line_values v) ≡ Ok e → LeadsTo lines (G ++ e ∷ []) H → LeadsTo (line ∷ lines) G H
-line_more line lines v e G H written short json told rest =
+    → json_value line ≡ Some v → event_parsed G (line_values v) ≡ Ok e → LeadsTo lines (G ++ e ∷ []) H → LeadsTo (line ∷ lines) G H
+line_more line lines v e G H written short json reported rest =
     let split : H ≡ G ++ e ∷ rest.events = rest.split ∙ append_assoc G (e ∷ []) rest.events in
     let value = is_json_line line v json in
-    let spells : IsLineOf G line e = (value.0, (v, value.1, event_spelled G v e told)) in
+    let spells : IsLineOf G line e = (value.0, (v, value.1, event_spelled G v e reported)) in
     let whole : IsLineOf H line e = subst (λ K. IsLineOf K line e) (sym split) (line_front G (e ∷ rest.events) line e spells) in
     record {
       events = e ∷ rest.events;
@@ -96,10 +96,10 @@ leads (line ∷ lines) k G H history few read = by_line (read_line takes_value k
       blank_more line lines G H is.1 (given_within k line o given).1
       (later G history few (subst (λ L. read_lines takes_value (suc k) L lines ≡ Ok H) (sym same) rest))
   by_given o K given takes later rest (inr is) =
-      let value = first_ok (event_told G (line_values is.0)) (adds G) K (subst (λ x. taken takes_value G x ≡ Ok K) is.1 takes) in
+      let value = first_ok (event_parsed G (line_values is.0)) (adds G) K (subst (λ x. taken takes_value G x ≡ Ok K) is.1 takes) in
       let more = added G K value.0 value.2 in
       line_more line lines is.0 value.0 G H is.2 (given_within k line o given).1 is.3 value.1
-      (later (G ++ value.0 ∷ []) (history_after G value.0 history more.0 (told_shard G is.0 value.0 value.1)) (few_after G value.0 more.0)
+      (later (G ++ value.0 ∷ []) (history_after G value.0 history more.0 (reported_shard G is.0 value.0 value.1)) (few_after G value.0 more.0)
       (subst (λ L. read_lines takes_value (suc k) L lines ≡ Ok H) more.1 rest))
 
   by_line : (r : Result (List Event) TextCause) → read_line takes_value k G line ≡ r
@@ -161,10 +161,10 @@ read_spelled (line ∷ lines) k done es H split history few spelled short within
           let next : IsNext H done e = record { history = history; after = fs; split = split ∙ ap (λ gs. done ++ gs) is } in
           let json : json_value line ≡ Some spells.1.0 = json_value_is line spells.1.0 (spells.0, spells.1.1) in
           let given : line_given k line ≡ Ok (Some spells.1.0) = given_value k line spells.1.0 (omega arith) here written json in
-          let told : event_told done (line_values spells.1.0) ≡ Ok e = spelled_told H done spells.1.0 e next spells.1.2 in
+          let reported : event_parsed done (line_values spells.1.0) ≡ Ok e = spelled_reported H done spells.1.0 e next spells.1.2 in
           let kept : refusal_of done e ≡ None = accepted H done e next few in
           ap (λ r. read_on k (r >>= taken takes_value done) (λ K. read_lines takes_value (suc k) K lines)) given
-          ∙ (ap (λ r. read_on k (r >>= adds done) (λ K. read_lines takes_value (suc k) K lines)) told
+          ∙ (ap (λ r. read_on k (r >>= adds done) (λ K. read_lines takes_value (suc k) K lines)) reported
           ∙ (ap (λ o. read_on k (with_more done e o) (λ K. read_lines takes_value (suc k) K lines)) kept
           ∙ on (done ++ e ∷ []) fs (split ∙ (ap (λ gs. done ++ gs) is ∙ sym (append_assoc done (e ∷ []) fs))) rest))
 
@@ -187,21 +187,21 @@ text_of_one_history bytes G H is other = same_read (history_text bytes) (text_is
   same_read : (r : Result (List Event) TextFault) → r ≡ Ok G → r ≡ Ok H → G ≡ H
   same_read r a b = cc
 
-refused_first : (bytes : List ℕ) (told : TextFault) → history_text bytes ≡ Err told → IsFirstRefused bytes told
-refused_first bytes told stop = record {
-  line_from_one = (let all = read_front takes_value 1 [] (lines_of bytes) told stop 0 in from_one all);
+refused_first : (bytes : List ℕ) (reported : TextFault) → history_text bytes ≡ Err reported → IsFirstRefused bytes reported
+refused_first bytes reported stop = record {
+  line_from_one = (let all = read_front takes_value 1 [] (lines_of bytes) reported stop 0 in from_one all);
   before = λ front n is below.
-      let reads = (read_front takes_value 1 [] (lines_of bytes) told stop n).0 (omega arith) in
+      let reads = (read_front takes_value 1 [] (lines_of bytes) reported stop n).0 (omega arith) in
       (reads.0, read_is_text front reads.0 (ap (read_lines takes_value 1 []) is ∙ reads.1));
   with_it = λ front n is above events text.
-      let stops = (read_front takes_value 1 [] (lines_of bytes) told stop n).1 (omega arith) in
+      let stops = (read_front takes_value 1 [] (lines_of bytes) reported stop n).1 (omega arith) in
       let reads : history_text front ≡ Ok events = text_is_read front events text in
-      let refused : history_text front ≡ Err told = ap (read_lines takes_value 1 []) is ∙ stops in absurd (cc);
+      let refused : history_text front ≡ Err reported = ap (read_lines takes_value 1 []) is ∙ stops in absurd (cc);
 } where
-  from_one : (1 + 0 ≤ told.line → (t : List Event) × (read_lines takes_value 1 [] (take 0 (lines_of bytes)) ≡ Ok t))
-      × (told.line < 1 + 0 → read_lines takes_value 1 [] (take 0 (lines_of bytes)) ≡ Err told) → 1 ≤ told.line
-  from_one all = by_order (told.line) refl where
-    by_order : (n : ℕ) → told.line ≡ n → 1 ≤ told.line
+  from_one : (1 + 0 ≤ reported.line → (t : List Event) × (read_lines takes_value 1 [] (take 0 (lines_of bytes)) ≡ Ok t))
+      × (reported.line < 1 + 0 → read_lines takes_value 1 [] (take 0 (lines_of bytes)) ≡ Err reported) → 1 ≤ reported.line
+  from_one all = by_order (reported.line) refl where
+    by_order : (n : ℕ) → reported.line ≡ n → 1 ≤ reported.line
     by_order zero is = let stops = all.1 (omega arith) in absurd (cc)
     by_order (suc n) is = omega arith
 

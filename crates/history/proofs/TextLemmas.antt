@@ -2,8 +2,8 @@
 use Rattle.std.proofs.Common.{ℕ, List, ◌++◌, inl, inr}
 use Rattle.serde_json.specs.Data.{Data}
 use Rattle.doc_register.specs.declared.op.Op.{Op}
-use Rattle.history.specs.declared.event.Event.{Event}
-use Rattle.history.specs.declared.event.Event.TheVariants.{Call, Reply, Lost}
+use Rattle.events.specs.declared.event.Event.{Event}
+use Rattle.events.specs.declared.event.Event.TheVariants.{Call, Reply, Lost}
 use Rattle.history.specs.Text.{IsLineOf, Spells, SpellsReply}
 use Rattle.version_pair.proofs.ListLemmas.{get_front}
 

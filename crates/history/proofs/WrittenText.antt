@@ -18,22 +18,22 @@ use Rattle.doc_register.specs.declared.op.Op.TheVariants.{Get, Index, Delete, Cr
 use Rattle.doc_register.specs.declared.reply.Reply.{Reply as Answer}
 use Rattle.doc_register.specs.declared.reply.Reply.TheVariants.{Indexed, Deleted, Found, Missing, Conflict}
 use Rattle.api_lines.specs.Json.{HasNumber, Lacks}
-use Rattle.api_lines.specs.HistoryLines.{most_shards}
+use Rattle.version_pair.specs.Shards.{most_shards}
 use Rattle.api_lines.specs.Lines.{is_written, lines_of, longest_line, most_lines}
 use Rattle.api_lines.specs.Written.{id_and_pair, number_member, write_body, written_body, written_status}
 use Rattle.api_lines.proofs.WrittenLines.{decimal_length, no_line_feed-compact_text, one_line, quoted_length}
-use Rattle.api_lines.proofs.WrittenReplies.{written_known, written_told}
-use Rattle.history.specs.declared.event.Event.{Event}
-use Rattle.history.specs.declared.event.Event.TheVariants.{Call, Reply, Lost}
-use Rattle.history.specs.Events.{IsCallAt, IsHistory, is_call}
-use Rattle.history.specs.Refusal.{most_events}
+use Rattle.api_lines.proofs.WrittenReplies.{written_known, written_reported}
+use Rattle.events.specs.declared.event.Event.{Event}
+use Rattle.events.specs.declared.event.Event.TheVariants.{Call, Reply, Lost}
+use Rattle.events.specs.Events.{IsCallAt, IsHistory, is_call}
+use Rattle.events.specs.Refusal.{most_events}
 use Rattle.history.specs.Text.{AreLinesOf, IsHistoryText, Spells, SpellsCall, SpellsOp, SpellsShard}
 use Rattle.history.specs.Written.{call_end, call_value, call_with, condition_members, event_value, id_named, id_of, lost_value, op_members, op_name, reply_value, written_values}
 use Rattle.history.specs.aids.Writing.{AreWritten, HasItsCall, IsInRange, IsReadable, OpFits, ReplyFits}
-use Rattle.history.proofs.EventLemmas.{place_of-passes, place_of-some}
-use Rattle.history.proofs.HistoryLemmas.{answered_call, call_passes}
+use Rattle.events.proofs.EventLemmas.{place_of-passes, place_of-some}
+use Rattle.events.proofs.HistoryLemmas.{answered_call, call_passes}
 use Rattle.version_pair.proofs.ListLemmas.{get_middle}
-use Rattle.history.proofs.PlaceLemmas.{take_next}
+use Rattle.events.proofs.PlaceLemmas.{take_next}
 
 -- ---- calls
 
@@ -309,7 +309,7 @@ spelled_event H i (Reply n r) history at range =
         status_fits = status_small r;
         call = (c.0, c.1, c.2, c.4, written_known c.2 r);
       },
-      written_told c.3 c.2 r fit,
+      written_reported c.3 c.2 r fit,
     )
 spelled_event H i (Lost n) history at range = inl (record { kind = refl; number = refl })
 

@@ -3,8 +3,8 @@ use Rattle.api_lines.specs.declared.text_fault.LineFault.{LineFault}
 use Rattle.api_lines.specs.declared.text_fault.LineFault.TheVariants as line
 use Rattle.api_lines.specs.declared.text_fault.TextCause.{TextCause}
 use Rattle.api_lines.specs.declared.text_fault.TextCause.TheVariants.{Shape, SecondCall, NoCall, Ended, Full, ShardMoved}
-use Rattle.history.specs.declared.fault.HistFault.{HistFault}
-use Rattle.history.specs.declared.fault.HistFault.TheVariants as event
+use Rattle.events.specs.declared.fault.HistFault.{HistFault}
+use Rattle.events.specs.declared.fault.HistFault.TheVariants as event
 
 -- The cause of a refusal. A reply of a kind that its call can't have would be of another shape, but the reply
 -- table gives none; being out of memory is not a refusal.
@@ -20,10 +20,10 @@ cause_of event.ShardMoved = ShardMoved
 
 -- the same as a fault of the line, to which being out of memory belongs too
 abbrev pub line_fault : HistFault → LineFault
-line_fault event.SecondCall = line.Told SecondCall
-line_fault event.NoCall = line.Told NoCall
-line_fault event.Ended = line.Told Ended
-line_fault event.Kind = line.Told Shape
-line_fault event.Full = line.Told Full
+line_fault event.SecondCall = line.Reported SecondCall
+line_fault event.NoCall = line.Reported NoCall
+line_fault event.Ended = line.Reported Ended
+line_fault event.Kind = line.Reported Shape
+line_fault event.Full = line.Reported Full
 line_fault event.NoMemory = line.NoMemory
-line_fault event.ShardMoved = line.Told ShardMoved
+line_fault event.ShardMoved = line.Reported ShardMoved

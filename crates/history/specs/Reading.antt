@@ -4,7 +4,7 @@ use Rattle.std.specs.Prelude.{ℕ, List, [], ◌∷◌, ◌++◌, Option, Some, 
 use Rattle.serde_json.specs.Data.{Data}
 use Rattle.api_lines.specs.Faults.{◌>>=◌}
 use Rattle.api_lines.specs.Fields.{BodyValues, LineValues, line_values}
-use Rattle.api_lines.specs.HistoryLines.{line_told}
+use Rattle.api_lines.specs.HistoryLines.{line_parsed}
 use Rattle.api_lines.specs.Lines.{lines_of}
 use Rattle.api_lines.specs.ReplyTable.{heard}
 use Rattle.api_lines.specs.Texts.{read_lines}
@@ -15,12 +15,12 @@ use Rattle.api_lines.specs.declared.reply_table.Heard.TheVariants as heard
 use Rattle.api_lines.specs.declared.text_fault.TextCause.{TextCause}
 use Rattle.api_lines.specs.declared.text_fault.TextCause.TheVariants.{Ended, NoCall, Stranger}
 use Rattle.api_lines.specs.declared.text_fault.TextFault.{TextFault}
-use Rattle.history.specs.declared.event.Event.{Event}
-use Rattle.history.specs.declared.event.Event.TheVariants.{Call, Reply, Lost}
-use Rattle.history.specs.declared.fault.HistFault.{HistFault}
-use Rattle.history.specs.Events.{is_call, is_ending, place_of}
+use Rattle.events.specs.declared.event.Event.{Event}
+use Rattle.events.specs.declared.event.Event.TheVariants.{Call, Reply, Lost}
+use Rattle.events.specs.declared.fault.HistFault.{HistFault}
+use Rattle.events.specs.Events.{is_call, is_ending, place_of}
 use Rattle.history.specs.Faults.{cause_of}
-use Rattle.history.specs.Refusal.{first_event, refusal_of}
+use Rattle.events.specs.Refusal.{first_event, refusal_of}
 
 -- ---- the event of a line
 
@@ -41,23 +41,23 @@ event_heard n heard.Stranger = Err Stranger
 -- The event of a reply line, by the call with its number and by the ending of this call: NoCall if there is
 -- no such call, Ended if it has an ending already, otherwise what is heard.
 -- Source: profile.
-abbrev pub ending_told : ℕ → ℕ → BodyValues → Option Event → Option ℕ → Result Event TextCause
-ending_told n status body None ending = Err NoCall
-ending_told n status body (Some call) (Some place) = Err Ended
-ending_told n status body (Some call) None = event_heard n (heard_of_call call status body)
+abbrev pub ending_parsed : ℕ → ℕ → BodyValues → Option Event → Option ℕ → Result Event TextCause
+ending_parsed n status body None ending = Err NoCall
+ending_parsed n status body (Some call) (Some place) = Err Ended
+ending_parsed n status body (Some call) None = event_heard n (heard_of_call call status body)
 
 -- the event of what a line says
 -- Source: profile.
 abbrev pub event_said : List Event → BodyValues → LineSaid → Result Event TextCause
 event_said events body (said.Call n h d op) = Ok (Call h n d op)
 event_said events body (said.Reply n status) =
-    ending_told n status body (first_event (is_call n) events) (place_of (is_ending n) events)
+    ending_parsed n status body (first_event (is_call n) events) (place_of (is_ending n) events)
 event_said events body (said.Lost n) = Ok (Lost n)
 
 -- the event that a line gives after these events, by its fields; or the first cause to refuse it
 -- Source: profile.
-abbrev pub event_told : List Event → LineValues → Result Event TextCause
-event_told events line = line_told line >>= event_said events line.body
+abbrev pub event_parsed : List Event → LineValues → Result Event TextCause
+event_parsed events line = line_parsed line >>= event_said events line.body
 
 -- ---- the whole text
 
@@ -75,7 +75,7 @@ adds events e = with_more events e (refusal_of events e)
 -- the events after a line of these fields
 -- Source: profile.
 abbrev pub takes_line : List Event → LineValues → Result (List Event) TextCause
-takes_line events line = event_told events line >>= adds events
+takes_line events line = event_parsed events line >>= adds events
 
 -- the events after the value of a line
 abbrev pub takes_value : List Event → Data → Result (List Event) TextCause

@@ -7,15 +7,15 @@ use Rattle.doc_register.specs.declared.op.Op.{Op}
 use Rattle.doc_register.specs.declared.op.Op.TheVariants.{Get, Index, Delete, Create}
 use Rattle.serde_json.specs.Data.{Data}
 use Rattle.serde_json.specs.Read.{read}
-use Rattle.api_lines.specs.HistoryLines.{most_shards}
+use Rattle.version_pair.specs.Shards.{most_shards}
 use Rattle.api_lines.specs.Fields.{body_of}
 use Rattle.api_lines.specs.Json.{HasNumber, HasText, Lacks}
 use Rattle.api_lines.specs.Lines.{is_written, lines_of, longest_line, most_lines}
-use Rattle.api_lines.specs.ReplyTable.{IsStranger, IsUnknown, Tells}
-use Rattle.history.specs.declared.event.Event.{Event}
-use Rattle.history.specs.declared.event.Event.TheVariants.{Call, Reply, Lost}
-use Rattle.history.specs.Events.{IsCallAt, IsHistory}
-use Rattle.history.specs.Refusal.{most_events}
+use Rattle.api_lines.specs.ReplyTable.{IsStranger, IsUnknown, Reports}
+use Rattle.events.specs.declared.event.Event.{Event}
+use Rattle.events.specs.declared.event.Event.TheVariants.{Call, Reply, Lost}
+use Rattle.events.specs.Events.{IsCallAt, IsHistory}
+use Rattle.events.specs.Refusal.{most_events}
 
 -- ---- what a line spells
 
@@ -85,7 +85,7 @@ pub record SpellsLost (v : Data) (n : ℕ) : Type 0 where
 abbrev pub Spells : List Event → Data → Event → Type 0
 Spells events v (Call h n d op) = SpellsCall v n h d op
 Spells events v (Reply n r) = (op : Op) × (status : ℕ) × SpellsReply events v n op status
-    × Tells op status (body_of v) r
+    × Reports op status (body_of v) r
 Spells events v (Lost n) = SpellsLost v n
     ⊎ ((op : Op) × (status : ℕ) × SpellsReply events v n op status × IsUnknown op status (body_of v))
 

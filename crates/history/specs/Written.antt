@@ -7,10 +7,10 @@ use Rattle.doc_register.specs.declared.reply.Reply.{Reply as Answer}
 use Rattle.serde_json.specs.Data.{Data, Members, string, object, member, no_members}
 use Rattle.serde_json.specs.Written.{compact_text}
 use Rattle.api_lines.specs.Written.{number_member, written_body, written_status}
-use Rattle.history.specs.declared.event.Event.{Event}
-use Rattle.history.specs.declared.event.Event.TheVariants.{Call, Reply, Lost}
-use Rattle.history.specs.Events.{is_call}
-use Rattle.history.specs.Refusal.{first_event}
+use Rattle.events.specs.declared.event.Event.{Event}
+use Rattle.events.specs.declared.event.Event.TheVariants.{Call, Reply, Lost}
+use Rattle.events.specs.Events.{is_call}
+use Rattle.events.specs.Refusal.{first_event}
 
 -- ---- the value of a line; its keys are in the order of their bytes
 

@@ -1,6 +1,2 @@
-pub mod CallPlaces
-pub mod Documents
-pub mod Fronts
-pub mod Indexes
 pub mod Taking
 pub mod Writing

@@ -4,10 +4,9 @@ ghost use Rattle.api_lines.specs.Sources.{IsTakenFor};
 ghost use Rattle.history.specs.Reading.{history_text};
 ghost use Rattle.history.specs.Text.{IsHistoryText};
 
-use crate::hash_keys::HashKeys;
-use crate::history::History;
 use crate::reader::HistoryReader;
 use api_lines::{InputFault, TextFault, take_lines};
+use events::{HashKeys, History};
 use std::alloc::Global;
 use std::io::Read;
 
@@ -28,17 +27,17 @@ pub fn read_from<R: Read>(
 ) -> Result<Result<History, TextFault>, InputFault>
     // If the reader's bytes are known, the result is what the definition gives for them, as that of `read`
     // is.
-    ensures told { IfOk result (λ told. IfSome (R.remaining input.old) (λ text. MatchResult told
+    ensures reported { IfOk result (λ reported. IfSome (R.remaining input.old) (λ text. MatchResult reported
         (λ history. history_text text ≡ Ok history)
         (λ fault. history_text text ≡ Err fault))) }
     // A history is one that the reader's bytes to their end are a text of, if they are known.
-    ensures text { IfOk result (λ told. IfSome (R.remaining input.old)
-        (λ text. IfOk told (IsHistoryText text))) }
+    ensures text { IfOk result (λ reported. IfSome (R.remaining input.old)
+        (λ text. IfOk reported (IsHistoryText text))) }
     // No bytes after the first refused line are taken but those that the last read returned, 32,768 at most;
     // of that line and all before it 4,194,304 times 65,537 bytes at most.
     ensures taken { IsTakenFor history_text (R.remaining input.old) (R.remaining input.new) }
     // After a history nothing is left in the reader.
-    ensures end { IfOk result (λ told. OnOk told (OnSome (R.remaining input.old)
+    ensures end { IfOk result (λ reported. OnOk reported (OnSome (R.remaining input.old)
         (IsAtEnd (R.remaining input.new)))) }
 {
     let mut reader = HistoryReader::with_keys(alloc, keys);

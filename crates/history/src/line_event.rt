@@ -1,13 +1,12 @@
 ghost use Rattle.std.specs.Prelude.{◌≡◌, IfErr, OnErr, OnOk, Ok, Err};
-ghost use Rattle.api_lines.specs.Faults.{IfTold};
+ghost use Rattle.api_lines.specs.Faults.{IfReported};
 ghost use Rattle.api_lines.specs.Fields.{body_seen};
 ghost use Rattle.history.specs.Reading.{heard_of_call};
 ghost use Rattle.history.specs.aids.Taking.{HasSaidShard, line_result, takes_reply, takes_said};
 
-use crate::event::Event;
-use crate::fault::HistFault;
-use crate::history::History;
+use crate::line_fault::line_fault;
 use api_lines::{BodyFields, Heard, LineFault, LineSaid, TextCause, heard_of};
+use events::{Event, HistFault, History};
 
 // What is heard of a call, by a status and a body.
 fn heard_of_event(call: &Event, status: u16, body: &BodyFields<'_>) -> Heard
@@ -25,7 +24,7 @@ fn of_line(pushed: Result<(), HistFault>) -> Result<(), LineFault>
 {
     match pushed {
         Ok(()) => Ok(()),
-        Err(fault) => Err(LineFault::from(fault)),
+        Err(fault) => Err(line_fault(fault)),
     }
 }
 
@@ -38,18 +37,18 @@ fn take_reply(
 ) -> Result<(), LineFault>
     ensures ok { OnOk result (takes_reply history.old no status (body_seen body.now)
         ≡ Ok history.new) }
-    ensures err { IfErr result (λ fault. IfTold fault (λ cause. takes_reply history.old no status
+    ensures err { IfErr result (λ fault. IfReported fault (λ cause. takes_reply history.old no status
         (body_seen body.now) ≡ Err cause)) }
     ensures unchanged { OnErr result (history.new ≡ history.old) }
 {
     let call = match history.open_call(no) {
         Ok(call) => call,
-        Err(fault) => return Err(LineFault::from(fault)),
+        Err(fault) => return Err(line_fault(fault)),
     };
     match heard_of_event(history.event(call), status, body) {
         Heard::Reply(reply) => of_line(history.push_answer(call, no, reply)),
         Heard::Unknown => of_line(history.push_loss(call, no)),
-        Heard::Stranger => Err(LineFault::Told(TextCause::Stranger)),
+        Heard::Stranger => Err(LineFault::Reported(TextCause::Stranger)),
     }
 }
 
@@ -66,7 +65,7 @@ pub fn take_said(
 ) -> Result<(), LineFault>
     requires { HasSaidShard said }
     ensures ok { OnOk result (takes_said history.old (body_seen body.now) said.entry ≡ Ok history.new) }
-    ensures err { IfErr result (λ fault. IfTold fault
+    ensures err { IfErr result (λ fault. IfReported fault
         (λ cause. takes_said history.old (body_seen body.now) said.entry ≡ Err cause)) }
     ensures unchanged { OnErr result (history.new ≡ history.old) }
 {

@@ -1,31 +1,30 @@
 ghost use Rattle.std.specs.Prelude.{◌≡◌, ◌≤◌, [], IfErr, IfOk, OnErr, OnOk, Ok, Err};
-ghost use Rattle.api_lines.specs.Faults.{IfTextTold, IfTold};
+ghost use Rattle.api_lines.specs.Faults.{IfTextReported, IfReported};
 ghost use Rattle.api_lines.specs.Fields.{line_seen};
 ghost use Rattle.api_lines.specs.Lines.{HasNoLineFeed, most_lines};
 ghost use Rattle.api_lines.specs.Texts.{next_line, read_line, so_far};
 ghost use Rattle.history.specs.Reading.{history_text, takes_line, takes_value};
 ghost use Rattle.history.specs.Text.{IsHistoryText};
 
-use crate::hash_keys::HashKeys;
-use crate::history::History;
 use crate::line_event::take_said;
 use api_lines::{
     LineFault, LineFields, LineReader, LineRoom, ReadFault, given_fields, given_line,
     given_unescaped_fields, line_fields, line_said, take_text,
 };
+use events::{HashKeys, History};
 use std::alloc::Global;
 use std::marker::Model;
 
 // Takes the fields of one more line. A line that is refused leaves the history as it was.
 fn take_fields(history: &mut History, line: &LineFields<'_>) -> Result<(), LineFault>
     ensures ok { OnOk result (takes_line history.old (line_seen line.now) ≡ Ok history.new) }
-    ensures err { IfErr result (λ fault. IfTold fault
+    ensures err { IfErr result (λ fault. IfReported fault
         (λ cause. takes_line history.old (line_seen line.now) ≡ Err cause)) }
     ensures unchanged { OnErr result (history.new ≡ history.old) }
 {
     match line_said(line) {
         Ok(said) => take_said(history, said, &line.body),
-        Err(cause) => Err(LineFault::Told(cause)),
+        Err(cause) => Err(LineFault::Reported(cause)),
     }
 }
 
@@ -39,7 +38,7 @@ fn take_value(
 ) -> Result<(), LineFault>
     ensures ok { OnOk result (read_line takes_value number history.old line.now ≡ Ok history.new) }
     ensures within { OnOk result (number ≤ most_lines) }
-    ensures err { IfErr result (λ fault. IfTold fault
+    ensures err { IfErr result (λ fault. IfReported fault
         (λ cause. read_line takes_value number history.old line.now ≡ Err cause)) }
     ensures unchanged { OnErr result (history.new ≡ history.old) }
 {
@@ -61,7 +60,7 @@ fn take_other_line(
 ) -> Result<(), LineFault>
     ensures ok { OnOk result (read_line takes_value number history.old line.now ≡ Ok history.new) }
     ensures within { OnOk result (number ≤ most_lines) }
-    ensures err { IfErr result (λ fault. IfTold fault
+    ensures err { IfErr result (λ fault. IfReported fault
         (λ cause. read_line takes_value number history.old line.now ≡ Err cause)) }
     ensures unchanged { OnErr result (history.new ≡ history.old) }
 {
@@ -82,7 +81,7 @@ fn take_line(
 ) -> Result<(), LineFault>
     ensures ok { OnOk result (read_line takes_value number history.old line.now ≡ Ok history.new) }
     ensures within { OnOk result (number ≤ most_lines) }
-    ensures err { IfErr result (λ fault. IfTold fault
+    ensures err { IfErr result (λ fault. IfReported fault
         (λ cause. read_line takes_value number history.old line.now ≡ Err cause)) }
     ensures unchanged { OnErr result (history.new ≡ history.old) }
 {
@@ -108,7 +107,7 @@ impl Model for HistoryReader {
     ghost use Rattle.std.specs.Prelude.{◌≤◌, List};
     ghost use Rattle.api_lines.specs.Lines.{most_lines};
     ghost use Rattle.api_lines.specs.Texts.{SoFar, so_far};
-    ghost use Rattle.history.specs.declared.event.Event.{Event};
+    ghost use Rattle.events.specs.declared.event.Event.{Event};
 
     ghost Value = { SoFar (List Event) };
 
@@ -150,8 +149,8 @@ impl HistoryReader {
         // The lines that were taken are 4,194,304 at most.
         ensures within { self.new.lines ≤ most_lines }
         // An error other than `NoMemory` is that of the definition.
-        ensures fault { IfErr result (λ fault. IfTextTold fault
-            (λ told. next_line takes_value self.old line.now ≡ Err told)) }
+        ensures fault { IfErr result (λ fault. IfTextReported fault
+            (λ reported. next_line takes_value self.old line.now ≡ Err reported)) }
         // An error leaves the reader as it was.
         ensures unchanged { OnErr result (self.new ≡ self.old) }
     {
@@ -176,7 +175,7 @@ impl HistoryReader {
 
 impl LineReader for HistoryReader {
     ghost use Rattle.std.specs.Prelude.{List};
-    ghost use Rattle.history.specs.declared.event.Event.{Event};
+    ghost use Rattle.events.specs.declared.event.Event.{Event};
 
     // The state is the events so far.
     ghost State = { List Event };
@@ -205,7 +204,7 @@ pub fn read(alloc: Global, text: &[u8]) -> Result<History, ReadFault>
     // The bytes are a history text of just this history.
     ensures text { IfOk result (IsHistoryText text.now) }
     // An error other than `NoMemory` is the line and the cause that the definition gives.
-    ensures fault { IfErr result (λ fault. IfTextTold fault (λ told. history_text text.now ≡ Err told)) }
+    ensures fault { IfErr result (λ fault. IfTextReported fault (λ reported. history_text text.now ≡ Err reported)) }
 {
     let mut reader = HistoryReader::new(alloc);
     take_text(&mut reader, text)?;

@@ -5,9 +5,8 @@ ghost use Rattle.history.specs.Text.{IsHistoryText};
 ghost use Rattle.history.specs.Written.{event_value as value_of_event, id_of, written_text};
 ghost use Rattle.history.specs.aids.Writing.{AreWritten, HasItsCall, IsInRange};
 
-use crate::event::Event;
-use crate::history::History;
 use crate::written_line::{call_value, lost_value, reply_value, write_value};
+use events::{Event, History};
 use serde_json::Value;
 use std::alloc::Global;
 use version_pair::{DocId, NoMemory};

@@ -4,7 +4,7 @@ ghost use Rattle.serde_json.specs.Read.{max_depth};
 ghost use Rattle.serde_json.specs.View.{view};
 ghost use Rattle.serde_json.specs.Written.{has_float};
 ghost use Rattle.api_lines.specs.Written.{number_member};
-ghost use Rattle.history.specs.declared.event.Event.TheVariants.{Call, Reply as Answered};
+ghost use Rattle.events.specs.declared.event.Event.TheVariants.{Call, Reply as Answered};
 ghost use Rattle.history.specs.Written.{call_end, call_value as value_of_call, call_with, condition_members, lost_value as value_of_loss, reply_value as value_of_reply};
 ghost use Rattle.history.specs.aids.Writing.{IsInRange, IsLineAdded};
 

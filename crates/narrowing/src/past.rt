@@ -1,5 +1,5 @@
 use doc_register::{Conflicts, DocState, Op, Reply, exceeds, is_performed, state_after};
-use history::Rec;
+use events::Rec;
 use std::alloc::Global;
 use version_pair::NoMemory;
 

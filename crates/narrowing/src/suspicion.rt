@@ -1,4 +1,4 @@
-use history::{History, Rec};
+use events::{History, Rec};
 use std::alloc::Global;
 use version_pair::{NoMemory, Pair};
 

@@ -1,12 +1,12 @@
 ghost use Rattle.std.specs.Prelude.{◌<◌, length};
-ghost use Rattle.history.specs.Events.{documents_of};
+ghost use Rattle.events.specs.Events.{documents_of};
 
 use crate::past::Past;
 use crate::suspicion::first_contradiction;
 use crate::window::window_of;
 use doc_check::{DocAnswer, answer};
 use doc_register::Conflicts;
-use history::{Front, History, Rec, Seen};
+use events::{Front, History, Rec, Seen};
 use std::alloc::Global;
 use version_pair::{DocId, NoMemory};
 

@@ -1,6 +1,6 @@
 use crate::past::Past;
 use doc_register::{Conflicts, DocState, Reply, exceeds};
-use history::Rec;
+use events::Rec;
 use std::alloc::Global;
 use version_pair::NoMemory;
 

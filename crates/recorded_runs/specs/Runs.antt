@@ -2,7 +2,7 @@
 -- in turns, with a disturbance of the group.
 use Rattle.std.specs.Prelude.{ℕ, ◌*◌, ◌==◌, ◌||◌, Bool, List, is_some, nat_lt}
 use Rattle.doc_register.specs.declared.op.Op.{Op}
-use Rattle.history.specs.declared.event.Event.{Event}
+use Rattle.events.specs.declared.event.Event.{Event}
 use Rattle.history.specs.Text.{IsHistoryText}
 use Rattle.workload.specs.ClientRuns.{AreOfClients}
 use Rattle.workload.specs.Playing.{ArePlayed}
@@ -10,7 +10,7 @@ use Rattle.workload.specs.Drawing.{draw_refusal, plan_drawn}
 use Rattle.workload.specs.declared.target.Progress.{Progress}
 use Rattle.workload.specs.declared.target.Ticket.{Ticket}
 use Rattle.workload.specs.declared.turn.Turn.{Turn}
-use Rattle.disturbances.specs.Disturbed.{DisturbedState, SubmitsTicket, TellsProgress, disturbed_from}
+use Rattle.disturbances.specs.Disturbed.{DisturbedState, SubmitsTicket, ReportsProgress, disturbed_from}
 use Rattle.disturbances.specs.declared.disturbance.Disturbance.{Disturbance}
 use Rattle.recorded_runs.specs.declared.run_setting.RunSetting.{RunSetting}
 use Rattle.stream_io.specs.declared.stream_fault.StreamFault.{StreamFault}
@@ -72,7 +72,7 @@ pub record IsRunInTurns (setting : RunSetting) (disturbance : Disturbance) (even
   -- the group after the run
   pub after : DisturbedState
   -- the clients are played against the group from its start on (`ArePlayed`)
-  pub played : ArePlayed SubmitsTicket TellsProgress run_polls (plan_of setting) (group_at_start setting disturbance) after events
+  pub played : ArePlayed SubmitsTicket ReportsProgress run_polls (plan_of setting) (group_at_start setting disturbance) after events
 
 -- the text is a text of that history
 -- Source: profile.

@@ -12,7 +12,9 @@ mod manner;
 mod recorded_run;
 mod run_fault;
 mod run_setting;
+mod seeds;
 
 pub use manner::{Manner, Playing};
 pub use recorded_run::{RUN_POLLS, run_history, run_played_stream, run_stream};
 pub use run_setting::RunSetting;
+pub use seeds::Seeds;

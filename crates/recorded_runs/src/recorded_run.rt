@@ -1,18 +1,19 @@
 ghost use Rattle.std.specs.Prelude.{◌≡◌, ◌≢◌, ◌↔◌, IfErr, IfOk, IsErrOf, IsTrue, None, is_some};
 ghost use Rattle.std.specs.Io.KnownBytes.{Keeps};
-ghost use Rattle.disturbances.specs.Disturbed.{DisturbedState, SubmitsTicket, TellsProgress};
+ghost use Rattle.disturbances.specs.Disturbed.{DisturbedState, SubmitsTicket, ReportsProgress};
 ghost use Rattle.recorded_runs.specs.Runs.{IsOfRun, IsRunFault, IsRunInTurns, IsRunOf, IsRunText, IsTextInTurns, are_refused, group_at_start, is_refused, plan_of, run_polls};
 ghost use Rattle.workload.specs.Playing.{ArePlayed};
 ghost use Rattle.workload.specs.Drawing.{draw_refusal};
-ghost use Rattle.stream_io.specs.Written.{HasAnswer, HasFront};
-ghost use Rattle.recorded_runs.specs.aids.Recorded.{IsOfRecording, tells_copies};
-ghost use Rattle.workload.specs.Plans.{refusal_told};
+ghost use Rattle.stream_io.specs.Written.{HasAnswer, HasPrefix};
+ghost use Rattle.recorded_runs.specs.aids.Recorded.{IsOfRecording, reports_copies};
+ghost use Rattle.workload.specs.Plans.{refusal_reported};
 
 use crate::manner::{Manner, Playing};
 use crate::run_fault::{play_fault, stream_fault};
 use crate::run_setting::RunSetting;
 use disturbances::{Disturbance, DisturbedCore, DisturbedGroup};
-use history::{History, write};
+use events::History;
+use history::write;
 use recorder::{ClockRecorder, CloseFault, StartFault};
 use repl_group::CoreFault;
 use std::alloc::Global;
@@ -27,14 +28,14 @@ pub const RUN_POLLS: u32 = 1_000;
 
 // Whether a number of the plan is refused.
 fn is_plan_refused(plan: &Result<Plan, PlanFault>) -> bool
-    ensures { result ≡ is_some (refusal_told plan.now) }
+    ensures { result ≡ is_some (refusal_reported plan.now) }
 {
     matches!(plan, Err(PlanFault::Zero | PlanFault::TooMany))
 }
 
 // Whether the number of copies is refused.
 fn is_core_refused(core: &Result<DisturbedCore, CoreFault>) -> bool
-    ensures { result ≡ tells_copies core.now }
+    ensures { result ≡ reports_copies core.now }
 {
     matches!(core, Err(CoreFault::Copies))
 }
@@ -48,7 +49,7 @@ fn core_of(
 ) -> Result<DisturbedCore, CoreFault>
     requires drawn { draw_refusal setting.now.clients setting.now.calls setting.now.docs ≡ None }
     ensures start { IfOk result (λ core. core ≡ group_at_start setting.now disturbance) }
-    ensures copies { tells_copies result ≡ are_refused setting.now.copies }
+    ensures copies { reports_copies result ≡ are_refused setting.now.copies }
 {
     let RunSetting {
         seed,
@@ -70,7 +71,7 @@ fn plan_and_core(
     ensures plan { IfOk result (λ made. made.0 ≡ plan_of setting.now) }
     ensures start { IfOk result (λ made. made.1 ≡ group_at_start setting.now disturbance) }
     ensures setting { IsErrOf result StreamFault.Setting ↔ IsTrue (is_refused setting.now) }
-    ensures told { IfErr result IsOfRun }
+    ensures reported { IfErr result IsOfRun }
 {
     let RunSetting {
         seed,
@@ -101,7 +102,7 @@ fn record_on_threads<T: Threads + Wait + Sync>(
     group: &DisturbedGroup,
 ) -> Result<History, StreamFault>
     ensures run { IfOk result (IsRunOf ⟦<DisturbedGroup as Target>⟧.issued ⟦<DisturbedGroup as Target>⟧.gave plan.now) }
-    ensures told { IfErr result IsOfRecording }
+    ensures reported { IfErr result IsOfRecording }
 {
     let (recorder, pens) = match ClockRecorder::start(alloc, plan.clients()) {
         Ok(started) => started,
@@ -126,9 +127,9 @@ fn record_in_turns(
     mut core: DisturbedCore,
 ) -> Result<History, StreamFault>
     ensures played { IfOk result (λ events. (after : DisturbedState)
-        × ArePlayed SubmitsTicket TellsProgress run_polls plan.now core after events) }
+        × ArePlayed SubmitsTicket ReportsProgress run_polls plan.now core after events) }
     ensures run { IfOk result (IsRunOf ⟦<DisturbedGroup as Target>⟧.issued ⟦<DisturbedGroup as Target>⟧.gave plan.now) }
-    ensures told { IfErr result IsOfRecording }
+    ensures reported { IfErr result IsOfRecording }
 {
     match play_in_turns(alloc, plan, &mut core, RUN_POLLS) {
         Ok(history) => Ok(history),
@@ -158,7 +159,7 @@ pub fn run_history<T: Threads + Wait + Sync>(
     // The error is `Setting` exactly if a number of the plan or of the group is refused.
     ensures setting { IsErrOf result StreamFault.Setting ↔ IsTrue (is_refused setting.now) }
     // The only errors are `NoMemory`, `Recording` and `Setting`.
-    ensures told { IfErr result IsOfRun }
+    ensures reported { IfErr result IsOfRun }
 {
     let (plan, core) = plan_and_core(alloc, setting, manner.disturbance)?;
     match manner.playing {
@@ -186,7 +187,7 @@ fn run_text<T: Threads + Wait + Sync>(
     ensures in_turns { manner.now.playing ≡ Playing.InTurns
         → IfOk result (λ text. IsTextInTurns setting.now manner.now.disturbance text.items) }
     ensures setting { IsErrOf result StreamFault.Setting ↔ IsTrue (is_refused setting.now) }
-    ensures told { IfErr result IsOfRun }
+    ensures reported { IfErr result IsOfRun }
 {
     let history = run_history(rt, alloc, setting, manner)?;
     let text = write(alloc, &history)?;
@@ -222,7 +223,7 @@ pub fn run_played_stream<T: Threads + Wait + Sync, W: Write>(
     ensures in_turns { manner.now.playing ≡ Playing.InTurns → IfOk result (λ _. HasAnswer (IsTextInTurns setting.now
         manner.now.disturbance) (W.contents writer.old) (W.contents writer.new)) }
     // After `Write` the writer holds a prefix of such a text after what it held.
-    ensures cut_off { IsErrOf result StreamFault.Write → HasFront (λ _. IsRunText
+    ensures cut_off { IsErrOf result StreamFault.Write → HasPrefix (λ _. IsRunText
         ⟦<DisturbedGroup as Target>⟧.issued ⟦<DisturbedGroup as Target>⟧.gave setting.now)
         (W.contents writer.old) (W.contents writer.new) }
     // After any error but `Write` the writer holds what it held.
@@ -231,7 +232,7 @@ pub fn run_played_stream<T: Threads + Wait + Sync, W: Write>(
     // The error is `Setting` exactly if a number of the plan or of the group is refused.
     ensures setting { IsErrOf result StreamFault.Setting ↔ IsTrue (is_refused setting.now) }
     // The only errors are `Write`, `NoMemory`, `Recording` and `Setting`.
-    ensures told { IfErr result IsRunFault }
+    ensures reported { IfErr result IsRunFault }
 {
     match run_text(rt, alloc, setting, manner) {
         Ok(text) => {
@@ -257,7 +258,7 @@ pub fn run_stream<T: Threads + Wait + Sync, W: Write>(
         ⟦<DisturbedGroup as Target>⟧.issued ⟦<DisturbedGroup as Target>⟧.gave setting.now)
         (W.contents writer.old) (W.contents writer.new)) }
     // After `Write` the writer holds a prefix of such a text after what it held.
-    ensures cut_off { IsErrOf result StreamFault.Write → HasFront (λ _. IsRunText
+    ensures cut_off { IsErrOf result StreamFault.Write → HasPrefix (λ _. IsRunText
         ⟦<DisturbedGroup as Target>⟧.issued ⟦<DisturbedGroup as Target>⟧.gave setting.now)
         (W.contents writer.old) (W.contents writer.new) }
     // After any error but `Write` the writer holds what it held.
@@ -266,7 +267,7 @@ pub fn run_stream<T: Threads + Wait + Sync, W: Write>(
     // The error is `Setting` exactly if a number of the plan or of the group is refused.
     ensures setting { IsErrOf result StreamFault.Setting ↔ IsTrue (is_refused setting.now) }
     // The only errors are `Write`, `NoMemory`, `Recording` and `Setting`.
-    ensures told { IfErr result IsRunFault }
+    ensures reported { IfErr result IsRunFault }
 {
     let manner = Manner {
         playing: Playing::OnThreads,

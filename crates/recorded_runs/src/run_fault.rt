@@ -1,7 +1,7 @@
 ghost use Rattle.std.specs.Prelude.{◌≡◌};
 ghost use Rattle.recorded_runs.specs.aids.Recorded.{stream_fault_of, stream_fault_of_play};
 
-use history::HistFault;
+use events::HistFault;
 use recorder::RecFault;
 use stream_io::StreamFault;
 use workload::{PlayFault, RunFault, TargetFault};

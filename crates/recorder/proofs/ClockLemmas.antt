@@ -11,7 +11,7 @@ use Rattle.std.proofs.lemmas.List.Sorted.{IsPermutation-append_comm, IsPermutati
 use mathlib.Core.Option.{none, some, some-injective, some-ne-none}
 use lib.ListN.{get_elem?}
 use Rattle.atomic_table.specs.Table.{State, step, keeps, stepped, Allows, Splits, Joins, Seen, Final}
-use Rattle.history.specs.Refusal.{most_events}
+use Rattle.events.specs.Refusal.{most_events}
 use Rattle.recorder.proofs.CountLemmas.{range_more, all_in_row}
 use Rattle.recorder.specs.declared.clock_view.ClockView.{ClockView}
 use Rattle.recorder.specs.declared.clock_view.ClockView.TheVariants.{Maker, Drew, Spent}
@@ -115,7 +115,7 @@ none_past drawn below = list_any_none is_past drawn (All-weaker (λ n. n < most_
 abbrev ClockState : Type 0
 ClockState = State (Unit {0}) ClockView
 
--- the rule, with the numbers told part by part
+-- the rule, with the numbers reported part by part
 clock_of : (s : ClockState) (word k j : ℕ) (g : List ℕ) (others : List ClockView)
     → s.words ≡ word ∷ [] → s.views ≡ Maker k j g ∷ others → All IsOfPen others → length others ≡ k → k ≤ most_pens → how_many is_spent others ≡ j
     → IsPermutation (g ++ flat_map numbers_in others) (numbers_below word) → word ≤ most_events + how_many is_over others → IsClock s

@@ -10,8 +10,8 @@ use Rattle.std.proofs.lemmas.List.FromFn.{length-range_with_len}
 use Rattle.std.proofs.lemmas.List.Sums.{sum_by-cons, sum_by-append, sum_by_push, get_or-le-sum_by}
 use Rattle.std.proofs.lemmas.List.Sorted.{IsPermutation-map, sum_by-IsPermutation}
 use Rattle.std.proofs.lemmas.Option.{get_or_from_slice_get, slice_get_within}
-use Rattle.history.specs.declared.event.Event.{Event}
-use Rattle.history.specs.Refusal.{most_events}
+use Rattle.events.specs.declared.event.Event.{Event}
+use Rattle.events.specs.Refusal.{most_events}
 use Rattle.recorder.specs.Clock.{is_past, numbers_below, one_if}
 use Rattle.recorder.specs.Pens.{IsRising}
 use Rattle.recorder.specs.Recordings.{entries_of}

@@ -7,13 +7,13 @@ use Rattle.std.proofs.lemmas.List.{append-nil}
 use Rattle.std.proofs.lemmas.List.Elements.{All-cons, All-head, All-nil, All-tail, filter-append}
 use Rattle.std.proofs.lemmas.List.Folds.{list_any-append}
 use Rattle.atomic_table.specs.Table.{Me}
-use Rattle.history.specs.declared.event.Event.{Event}
-use Rattle.history.specs.Refusal.{most_events}
+use Rattle.events.specs.declared.event.Event.{Event}
+use Rattle.events.specs.Refusal.{most_events}
 use Rattle.recorder.specs.declared.clock_view.ClockView.{ClockView}
 use Rattle.recorder.specs.declared.fault.RecFault.{RecFault}
 use Rattle.recorder.specs.declared.fault.RecFault.TheVariants.{Full, Rewound}
 use Rattle.recorder.specs.Clock.{is_past, numbers_in}
-use Rattle.recorder.specs.Pens.{IsUnused, PenState, Records, tells_full, told_by_list}
+use Rattle.recorder.specs.Pens.{IsUnused, PenState, Records, reports_full, reported_by_list}
 use Rattle.recorder.specs.aids.Drawing.{HasDrawn, IsSeatFor, numbers_of_events}
 use Rattle.recorder.specs.aids.Notes.{numbers_of}
 use Rattle.version_pair.proofs.TruthLemmas.{or-true}
@@ -48,16 +48,16 @@ seat_for pen seat drew = (
 
 -- a drawn number is not answered by saying that the recording was rewound
 never_rewound : (n : ℕ) (answer : Result ℕ RecFault) → answer ≡ (if nat_lt n most_events then Ok n else Err Full) → (m : ℕ) → answer ≢ Err (Rewound m)
-never_rewound n answer is m told = by_test (nat_lt n most_events) (sym is ∙ told) where
+never_rewound n answer is m reported = by_test (nat_lt n most_events) (sym is ∙ reported) where
   by_test : (b : Bool) → (if b then Ok n else Err Full) ≡ Err (Rewound m) → ⊥
-  by_test true told = let impossible : Ok n ≡ Err (Rewound m) = told in cc
-  by_test false told = let impossible : Err Full ≡ Err (Rewound m) = told in cc
+  by_test true reported = let impossible : Ok n ≡ Err (Rewound m) = reported in cc
+  by_test false reported = let impossible : Err Full ≡ Err (Rewound m) = reported in cc
 
 -- what becomes of the pen
-record IsSettled (old new : PenState) (event : ℕ → Event) (answer : Result ℕ RecFault) : Type 0 where
+record IsComplete (old new : PenState) (event : ℕ → Event) (answer : Result ℕ RecFault) : Type 0 where
   pub ok : IfOk answer (λ n. new.list ≡ old.list ++ (n, event n) ∷ [])
   pub err : OnErr answer (new.list ≡ old.list)
-  pub full : new.is_full ≡ (old.is_full || tells_full answer)
+  pub full : new.is_full ≡ (old.is_full || reports_full answer)
 
 held_of : (old : PenState) (seat : Me (Unit {0}) ClockView) → HasDrawn old seat → old.is_full ≡ false → numbers_in seat.0 ≡ numbers_of old.list
 held_of old seat drew open_ =
@@ -81,7 +81,7 @@ answered_above old seat n answer is drew open_ above =
 -- what is answered then
 pub clock_recorded : (old new : PenState) (event : ℕ → Event) (seat : Me (Unit {0}) ClockView) (n : ℕ) (answer : Result ℕ RecFault)
     → answer ≡ (if nat_lt n most_events then Ok n else Err Full) → HasDrawn old seat → old.is_full ≡ false → All (λ m. m < n) (numbers_in seat.0)
-    → IfOk answer (λ n. new.list ≡ old.list ++ (n, event n) ∷ []) → OnErr answer (new.list ≡ old.list) → new.is_full ≡ (old.is_full || tells_full answer)
+    → IfOk answer (λ n. new.list ≡ old.list ++ (n, event n) ∷ []) → OnErr answer (new.list ≡ old.list) → new.is_full ≡ (old.is_full || reports_full answer)
     → IfOk answer (λ n. IsUnused n old.list) → Records old None event answer new
 clock_recorded old new event seat n answer is drew open_ above ok err full unused = record {
   grows = ok;
@@ -89,15 +89,15 @@ clock_recorded old new event seat n answer is drew open_ above ok err full unuse
   above = answered_above old seat n answer is drew open_ above;
   below = subst (λ a. IfOk a (λ n. n < most_events)) (sym is) (below_most (nat_lt n most_events) refl);
   unused = unused;
-  by_list = ap told_by_list is ∙ no_reason (nat_lt n most_events);
+  by_list = ap reported_by_list is ∙ no_reason (nat_lt n most_events);
   full = λ _ was. absurd (both_ways old.is_full open_ was);
   full_from_then = full;
-  rewound = λ m told. absurd (never_rewound n answer is m told);
+  rewound = λ m reported. absurd (never_rewound n answer is m reported);
 } where
   below_most : (b : Bool) → nat_lt n most_events ≡ b → IfOk (if b then Ok n else Err Full) (λ n. n < most_events)
   below_most true less = ltb-true n most_events less
   below_most false past = tt
 
-  no_reason : (b : Bool) → told_by_list (if b then Ok n else Err Full) ≡ None
+  no_reason : (b : Bool) → reported_by_list (if b then Ok n else Err Full) ≡ None
   no_reason true = refl
   no_reason false = refl

@@ -6,8 +6,8 @@ use Rattle.std.proofs.lemmas.List.{append-nil, map-append, map_push}
 use Rattle.std.proofs.lemmas.List.Elements.{filter-append}
 use Rattle.std.proofs.lemmas.List.Folds.{list_any-append}
 use Rattle.atomic_table.specs.Table.{Me}
-use Rattle.history.specs.declared.event.Event.{Event}
-use Rattle.history.specs.Refusal.{most_events}
+use Rattle.events.specs.declared.event.Event.{Event}
+use Rattle.events.specs.Refusal.{most_events}
 use Rattle.recorder.specs.declared.clock_view.ClockView.{ClockView}
 use Rattle.recorder.specs.declared.clock_view.ClockView.TheVariants.{Drew, Maker}
 use Rattle.recorder.specs.Clock.{ClockPenState, is_past, pens_of, seat_with, with_joined}

@@ -7,13 +7,13 @@ use Rattle.std.proofs.lemmas.List.{append-nil}
 use Rattle.std.proofs.lemmas.List.Elements.{All-head, All-set, All-tail}
 use Rattle.std.proofs.lemmas.Option.{slice_get_within, get_or_from_slice_get}
 use Rattle.std.proofs.lemmas.List.Sorted.{IsPermutation-append_right, IsPermutation-middle, IsPermutation-pop_more, IsPermutation-refl, IsPermutation-trans}
-use Rattle.history.specs.declared.event.Event.{Event}
-use Rattle.history.specs.Events.{HasShard}
+use Rattle.events.specs.declared.event.Event.{Event}
+use Rattle.events.specs.Events.{HasShard}
 use Rattle.recorder.specs.Pens.{IsRising}
 use Rattle.recorder.specs.Recordings.{IsRecordingOf, entries_of}
 use Rattle.version_pair.proofs.ListLemmas.{none_is_not_some, same_some}
 use borrow.Author.Count.{below_more}
-use Rattle.history.proofs.PlaceLemmas.{take_next}
+use Rattle.events.proofs.PlaceLemmas.{take_next}
 use Rattle.recorder.proofs.ListLemmas.{all_at}
 
 -- one strand's first entry is taken out of all

@@ -2,9 +2,9 @@
 use Rattle.std.proofs.Common.{ℕ, ◌≡◌, ◌∙◌, List, [], ◌∷◌, ◌++◌, None, Some, ap, eq-eqb, false, refl}
 use Rattle.std.specs.Prelude.{◌==◌, ◌||◌, if◌then◌else◌}
 use Rattle.doc_register.specs.declared.op.Op.{Op}
-use Rattle.history.specs.declared.event.Event.{Event}
-use Rattle.history.specs.declared.event.Event.TheVariants.{Call}
-use Rattle.history.specs.Refusal.{op_of}
+use Rattle.events.specs.declared.event.Event.{Event}
+use Rattle.events.specs.declared.event.Event.TheVariants.{Call}
+use Rattle.events.specs.Refusal.{op_of}
 use Rattle.recorder.specs.Pens.{IsUnused, events_in, is_ended}
 use Rattle.recorder.proofs.NoteLemmas.{is_ended-snoc, op_of-snoc}
 use Rattle.std.specs.Option.{option_or}

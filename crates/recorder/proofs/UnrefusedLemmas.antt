@@ -11,11 +11,11 @@ use Rattle.std.proofs.lemmas.Option.{slice_get-get_or, slice_get_within, get_or_
 use Rattle.doc_register.specs.declared.op.Op.{Op}
 use Rattle.doc_register.specs.declared.reply.Reply.{Reply as Answer}
 use Rattle.doc_register.specs.Register.{fits}
-use Rattle.history.specs.declared.event.Event.{Event}
-use Rattle.history.specs.declared.event.Event.TheVariants.{Call, Reply, Lost}
-use Rattle.history.specs.declared.fault.HistFault.TheVariants as refused
-use Rattle.history.specs.Events.{is_call, is_call_of, is_ending, place_of}
-use Rattle.history.specs.Refusal.{is_moved, most_events, op_named, op_of, refusal_of, shard_named, when_ended, when_full}
+use Rattle.events.specs.declared.event.Event.{Event}
+use Rattle.events.specs.declared.event.Event.TheVariants.{Call, Reply, Lost}
+use Rattle.events.specs.declared.fault.HistFault.TheVariants as refused
+use Rattle.events.specs.Events.{is_call, is_call_of, is_ending, place_of}
+use Rattle.events.specs.Refusal.{is_moved, most_events, op_named, op_of, refusal_of, shard_named, when_ended, when_full}
 use Rattle.recorder.specs.declared.fault.RecFault.{RecFault}
 use Rattle.recorder.specs.declared.fault.RecFault.TheVariants as recording
 use Rattle.recorder.specs.Pens as pens
@@ -165,8 +165,8 @@ unmoved es d h zeroth named = by_place (place_of (is_call_of d) es) refl where
   zero_is : not (0 == h) ≡ false
   zero_is = ap (λ k. not (0 == k)) zeroth
 
-  told : Option ℕ → Bool
-  told o = option_map_or (λ s. not (s == h)) (option_and_then shard_named (option_and_then (slice_get es) o)) false
+  reported : Option ℕ → Bool
+  reported o = option_map_or (λ s. not (s == h)) (option_and_then shard_named (option_and_then (slice_get es) o)) false
 
   by_place : (o : Option ℕ) → place_of (is_call_of d) es ≡ o → is_moved es d h ≡ false
   by_place None at = ap (λ o. option_map_or (λ s. not (s == h)) (option_and_then shard_named (option_and_then (slice_get es) o)) false) at

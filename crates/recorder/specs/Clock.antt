@@ -3,17 +3,16 @@
 -- which exist in proofs alone: each pen has a seat with a view, and so has the maker, which started the
 -- recorder and closes it. There are three kinds of step, and a rule that each of them keeps:
 --
--- | kind | whose seat | what becomes of its view |
--- |---|---|---|
--- | split | the maker's | one more seat is split off; the new seat's view is empty |
--- | draw, an atomic addition of 1 | a pen's | it gains the number found |
--- | join | the maker's | it gains the joined seat's numbers, and one more is joined; the joined view is spent |
+-- | kind | whose seat | what becomes of its view | |---|---|---| | split | the maker's | one more seat is
+-- split off; the new seat's view is empty | | draw, an atomic addition of 1 | a pen's | it gains the number
+-- found | | join | the maker's | it gains the joined seat's numbers, and one more is joined; the joined view
+-- is spent |
 use Rattle.std.specs.Prelude.{◌≡◌, ℕ, ◌+◌, ◌<◌, ◌≤◌, Bool, true, false, not, List, [], ◌∷◌, ◌++◌, length, All, map, nat_lt}
 use Rattle.std.specs.List.{flat_map, list_any, range_with_len}
 use Rattle.std.specs.List.Sorted.{IsPermutation}
 use Rattle.atomic_table.specs.Seated.{TableId}
 use Rattle.atomic_table.specs.Table.{Me, State, Step}
-use Rattle.history.specs.Refusal.{most_events}
+use Rattle.events.specs.Refusal.{most_events}
 use Rattle.recorder.specs.declared.clock_view.ClockView.{ClockView}
 use Rattle.recorder.specs.declared.clock_view.ClockView.TheVariants.{Maker, Drew, Spent}
 use Rattle.recorder.specs.Pens.{PenState, new_pen}
@@ -104,7 +103,7 @@ with_joined Spent other = Spent
 
 -- ---- the rule
 
--- The rule: what holds of the word and of all views between any two steps. So the word never comes round.
+-- The rule: what holds of the word and of all views between any two steps. So the counter never overflows.
 -- Source: profile.
 pub record IsClock (state : State (Unit {0}) ClockView) : Type 0 where
   -- the clock word

@@ -1,9 +1,9 @@
 -- Laws of recordings of pens.
 use Rattle.std.specs.Prelude.{◌≡◌, ℕ, List, Some, Contains, length, slice_get}
-use Rattle.history.specs.declared.event.Event.{Event}
+use Rattle.events.specs.declared.event.Event.{Event}
 use Rattle.recorder.specs.Recordings.{IsRecordingOf, entries_of}
 
--- the entries have the events by number
+-- each entry (n, e) has the event e at the index n, and each event has one entry
 pub record IsByNumber (entries : List (ℕ × Event)) (events : List Event) : Type 0 where
   -- each entry's event is at its number
   pub placed : (n : ℕ) (e : Event) → Contains entries (n, e) → slice_get events n ≡ Some e

@@ -3,10 +3,10 @@ use Rattle.std.specs.Prelude.{◌≡◌, ℕ, ◌<◌, ◌≤◌, ◌||◌, Bool
 use Rattle.std.specs.List.{list_any}
 use Rattle.std.specs.Option.{option_map_or}
 use Rattle.doc_register.specs.Register.{fits}
-use Rattle.history.specs.declared.event.Event.{Event}
-use Rattle.history.specs.declared.event.Event.TheVariants.{Call, Reply, Lost}
-use Rattle.history.specs.Events.{is_ending}
-use Rattle.history.specs.Refusal.{most_events, op_of}
+use Rattle.events.specs.declared.event.Event.{Event}
+use Rattle.events.specs.declared.event.Event.TheVariants.{Call, Reply, Lost}
+use Rattle.events.specs.Events.{is_ending}
+use Rattle.events.specs.Refusal.{most_events, op_of}
 use Rattle.recorder.specs.declared.fault.RecFault.{RecFault}
 use Rattle.recorder.specs.declared.fault.RecFault.TheVariants.{NotMine, Ended, Kind, Full, NoMemory, Rewound}
 
@@ -52,26 +52,26 @@ refusal_of list (Lost n) =
     option_map_or (λ op. if is_ended list n then Some Ended else None) (op_of (events_in list) n) (Some NotMine)
 
 -- the reason by the pen's list that an answer reports: NotMine, Ended or Kind
-abbrev pub told_by_list : Result ℕ RecFault → Option RecFault
-told_by_list (Ok n) = None
-told_by_list (Err NotMine) = Some NotMine
-told_by_list (Err Ended) = Some Ended
-told_by_list (Err Kind) = Some Kind
-told_by_list (Err Full) = None
-told_by_list (Err NoMemory) = None
-told_by_list (Err (Rewound n)) = None
+abbrev pub reported_by_list : Result ℕ RecFault → Option RecFault
+reported_by_list (Ok n) = None
+reported_by_list (Err NotMine) = Some NotMine
+reported_by_list (Err Ended) = Some Ended
+reported_by_list (Err Kind) = Some Kind
+reported_by_list (Err Full) = None
+reported_by_list (Err NoMemory) = None
+reported_by_list (Err (Rewound n)) = None
 
 -- ---- what a recording reports
 
 -- the answer is that the recording is full
-abbrev pub tells_full : Result ℕ RecFault → Bool
-tells_full (Ok n) = false
-tells_full (Err NotMine) = false
-tells_full (Err Ended) = false
-tells_full (Err Kind) = false
-tells_full (Err Full) = true
-tells_full (Err NoMemory) = false
-tells_full (Err (Rewound n)) = false
+abbrev pub reports_full : Result ℕ RecFault → Bool
+reports_full (Ok n) = false
+reports_full (Err NotMine) = false
+reports_full (Err Ended) = false
+reports_full (Err Kind) = false
+reports_full (Err Full) = true
+reports_full (Err NoMemory) = false
+reports_full (Err (Rewound n)) = false
 
 -- What a recording returns, and how it changes the pen. `recorded` is the event at each number; the reason is
 -- the one for which the pen's list refuses it, if it does.
@@ -88,10 +88,10 @@ pub record Records (old : PenState) (reason : Option RecFault) (recorded : ℕ �
   -- it is the number of no call in the list
   pub unused : IfOk answer (λ n. IsUnused n old.list)
   -- a reason by the list is reported if and only if the list has it
-  pub by_list : told_by_list answer ≡ reason
+  pub by_list : reported_by_list answer ≡ reason
   -- if a pen is full, Full is returned for it whenever its list refuses nothing
   pub full : reason ≡ None → old.is_full ≡ true → answer ≡ Err Full
   -- a pen is full once Full was returned for it
-  pub full_from_then : new.is_full ≡ (old.is_full || tells_full answer)
+  pub full_from_then : new.is_full ≡ (old.is_full || reports_full answer)
   -- Rewound with n is reported only if the pen's list has a number of at least n
   pub rewound : (n : ℕ) → answer ≡ Err (Rewound n) → Any (λ entry. n ≤ entry.0) old.list

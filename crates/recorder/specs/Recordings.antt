@@ -2,7 +2,7 @@
 use Rattle.std.specs.Prelude.{ℕ, List, map}
 use Rattle.std.specs.List.{enumerate_from, flat_map}
 use Rattle.std.specs.List.Sorted.{IsPermutation}
-use Rattle.history.specs.declared.event.Event.{Event}
+use Rattle.events.specs.declared.event.Event.{Event}
 use Rattle.recorder.specs.Pens.{PenState}
 
 -- the lists of pens

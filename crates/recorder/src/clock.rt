@@ -1,6 +1,6 @@
 ghost use Rattle.std.specs.Prelude.{◌≡◌, ◌<◌, ◌≤◌, ◌++◌, ◌∷◌, [], ℕ, List, All, IfOk};
 ghost use Rattle.std.specs.List.Sorted.{IsPermutation};
-ghost use Rattle.history.specs.Refusal.{most_events};
+ghost use Rattle.events.specs.Refusal.{most_events};
 ghost use Rattle.recorder.specs.Clock.{most_pens, nothing_drawn, numbers_below, numbers_in, seat_with, split_once_more, with_joined};
 ghost use Rattle.recorder.specs.declared.clock_view.ClockView.TheVariants.{Maker, Drew};
 
@@ -86,7 +86,7 @@ impl Clock {
         Ok((Clock { table }, maker))
     }
 
-    /// Splits a pen's seat off the maker's, which must have split off fewer than eight.
+    /// Splits a pen's seat off the maker's, which must have split off fewer than eight and joined none.
     pub fn split_off(&self, maker: &mut ClockSeat) -> ClockSeat
         requires clock { maker.old.table_id ≡ self.now }
         requires maker { (k : ℕ) × (k < most_pens) × (maker.old.me ≡ seat_with (Maker k 0 [])) }
@@ -97,8 +97,8 @@ impl Clock {
         self.table.shared.split_seat::<SplitOff>(maker)
     }
 
-    /// Draws the next number. It is above all numbers that the seat drew before, which must all be numbers of
-    /// events.
+    /// Draws the next number. It is above all numbers that the seat drew before, which must all be below
+    /// 1,048,576.
     pub fn draw(&self, pen: &mut ClockSeat) -> u64
         requires clock { pen.old.table_id ≡ self.now }
         requires pen { (drawn : List ℕ) × All (λ n. n < most_events) drawn × (pen.old.me ≡ seat_with (Drew drawn)) }
@@ -120,8 +120,8 @@ impl Clock {
         self.table.shared.join_seat::<Gather>(maker, pen);
     }
 
-    /// Returns how many numbers were drawn, after each seat that the maker split off was joined. The maker's
-    /// seat has exactly the numbers below the result, each once.
+    /// Returns how many numbers were drawn. Each pen's seat must have been joined. The maker's seat then has
+    /// each number below the result exactly once.
     pub fn stop(self, maker: ClockSeat) -> u64
         requires clock { maker.table_id ≡ self }
         requires maker { (k j : ℕ) × (g : List ℕ) × (k ≤ j) × (maker.me ≡ seat_with (Maker k j g)) }

@@ -1,5 +1,5 @@
 ghost use Rattle.std.specs.Prelude.{◌≡◌, ◌≢◌, ℕ, Err, None, Ok, if◌then◌else◌, nat_lt};
-ghost use Rattle.history.specs.Refusal.{most_events};
+ghost use Rattle.events.specs.Refusal.{most_events};
 ghost use Rattle.recorder.specs.declared.fault.RecFault.TheVariants as recording;
 ghost use Rattle.recorder.specs.Clock.{new_clock_pen, nothing_drawn, seat_with};
 ghost use Rattle.recorder.specs.Pens.{Records, refusal_of};
@@ -11,7 +11,7 @@ use crate::fault::RecFault;
 use crate::notes::Notes;
 use crate::strand::Strand;
 use crate::unnumbered::Unnumbered;
-use history::MOST_EVENTS;
+use events::MOST_EVENTS;
 use std::alloc::Global;
 use std::marker::Model;
 

@@ -1,6 +1,6 @@
 ghost use Rattle.std.specs.Prelude.{◌≡◌, ◌≢◌, ℕ, ◌<◌, ◌≤◌, ◌⊎◌, ◌↔◌, All, Err, IfOk, None, length, replicate, true, vec_len};
-ghost use Rattle.history.specs.declared.event.Event.TheVariants.{Call, Reply as Answered, Lost as Missed};
-ghost use Rattle.history.specs.Refusal.{most_events};
+ghost use Rattle.events.specs.declared.event.Event.TheVariants.{Call, Reply as Answered, Lost as Missed};
+ghost use Rattle.events.specs.Refusal.{most_events};
 ghost use Rattle.recorder.specs.declared.fault.RecFault.TheVariants as recording;
 ghost use Rattle.recorder.specs.Clock.{new_clock_pen, pens_of};
 ghost use Rattle.recorder.specs.Closing.{IsPenMissing, has_full};
@@ -17,7 +17,7 @@ use crate::recorder::MOST_PENS;
 use crate::strand::Strand;
 use crate::unnumbered::Unnumbered;
 use doc_register::{Op, Reply};
-use history::{HistFault, History};
+use events::{HistFault, History};
 use std::alloc::Global;
 use std::marker::Model;
 use version_pair::{DocId, NoMemory};
@@ -197,6 +197,3 @@ impl ClockRecorder {
         }
     }
 }
-
-#[cfg(test)]
-mod tests;

@@ -1,7 +1,7 @@
 ghost use Rattle.std.specs.Prelude.{◌≡◌, ◌≤◌, All, IfErr, IfOk, IsTrue, length};
-ghost use Rattle.history.specs.declared.fault.HistFault.TheVariants as refused;
-ghost use Rattle.history.specs.Events.{HasShard};
-ghost use Rattle.history.specs.Refusal.{most_events};
+ghost use Rattle.events.specs.declared.fault.HistFault.TheVariants as refused;
+ghost use Rattle.events.specs.Events.{HasShard};
+ghost use Rattle.events.specs.Refusal.{most_events};
 ghost use Rattle.recorder.specs.Closing.{has_full};
 ghost use Rattle.recorder.specs.Pens.{IsRising};
 ghost use Rattle.recorder.specs.Recordings.{IsRecordingOf, entries_of, lists_of};
@@ -10,7 +10,7 @@ ghost use Rattle.recorder.specs.aids.Merging.{AreAccepted, AreDense};
 use crate::pen::Pen;
 use crate::same_event::is_same_event;
 use crate::strand::{Strand, are_all_met, take_numbered};
-use history::{Event, HistFault, History, MOST_EVENTS};
+use events::{Event, HistFault, History, MOST_EVENTS};
 use std::alloc::Global;
 use version_pair::NoMemory;
 

@@ -24,8 +24,6 @@ mod recorder;
 mod recording;
 mod same_event;
 mod strand;
-#[cfg(test)]
-mod testing;
 mod unnumbered;
 
 pub use clock_pen::ClockPen;

@@ -1,8 +1,8 @@
 ghost use Rattle.std.specs.Prelude.{◌≡◌, ℕ, ◌<◌, ◌≤◌, ◌==◌, ◌++◌, ◌∷◌, ◌||◌, [], All, Any, IfOk, IfSome, None, OnErr, OnOk, Some, true};
 ghost use Rattle.std.specs.Map.{lookup};
-ghost use Rattle.history.specs.declared.event.Event.TheVariants.{Reply as Answered, Lost};
+ghost use Rattle.events.specs.declared.event.Event.TheVariants.{Reply as Answered, Lost};
 ghost use Rattle.indexmap.specs.IndexMap.{spare};
-ghost use Rattle.recorder.specs.Pens.{IsUnused, new_pen, refusal_of, tells_full};
+ghost use Rattle.recorder.specs.Pens.{IsUnused, new_pen, refusal_of, reports_full};
 ghost use Rattle.recorder.specs.declared.own_call.OwnCall.{OwnCall};
 ghost use Rattle.recorder.specs.aids.Notes.{IsNotedAt, IsPenList, NotesEvent, numbered};
 
@@ -11,7 +11,7 @@ use crate::own_call::OwnCall;
 use crate::strand::Strand;
 use crate::unnumbered::Unnumbered;
 use doc_register::Reply;
-use history::Event;
+use events::Event;
 use indexmap::IndexMap;
 use std::alloc::Global;
 use std::marker::Model;
@@ -131,7 +131,7 @@ impl Notes {
         requires accepted { (n : ℕ) → refusal_of self.old.pen.list (numbered event n) ≡ None }
         ensures ok { IfOk answer (λ n. self.new.pen.list ≡ self.old.pen.list ++ (n, numbered event n) ∷ []) }
         ensures err { OnErr answer (self.new.pen.list ≡ self.old.pen.list) }
-        ensures full { self.new.pen.is_full ≡ (self.old.pen.is_full || tells_full answer) }
+        ensures full { self.new.pen.is_full ≡ (self.old.pen.is_full || reports_full answer) }
         ensures unused { IfOk answer (λ n. IsUnused n self.old.pen.list) }
     {
         match answer {

@@ -1,11 +1,11 @@
 ghost use Rattle.std.specs.Prelude.{◌≡◌, ◌<◌, ◌≤◌, ◌++◌, ◌∷◌, [], length, IfOk, OnErr};
-ghost use Rattle.history.specs.Refusal.{most_events as limit};
-ghost use Rattle.recorder.specs.aids.Appending.{append_refusal, append_told};
+ghost use Rattle.events.specs.Refusal.{most_events as limit};
+ghost use Rattle.recorder.specs.aids.Appending.{append_refusal, append_reported};
 ghost use Rattle.recorder.specs.aids.Notes.{numbered};
 
 use crate::fault::RecFault;
 use crate::unnumbered::Unnumbered;
-use history::{Event, MOST_EVENTS};
+use events::{Event, MOST_EVENTS};
 use std::alloc::Global;
 use std::marker::Model;
 
@@ -18,12 +18,12 @@ pub struct Recorded {
 
 impl Model for Recorded {
     ghost use Rattle.std.specs.Prelude.{List};
-    ghost use Rattle.history.specs.declared.event.Event.{Event};
+    ghost use Rattle.events.specs.declared.event.Event.{Event};
 
     ghost Value = { List Event };
 
     ghost use Rattle.std.specs.Prelude.{◌≤◌, length};
-    ghost use Rattle.history.specs.Refusal.{most_events};
+    ghost use Rattle.events.specs.Refusal.{most_events};
 
     ghost view = { λ r. r.events.items };
 
@@ -64,7 +64,7 @@ impl Recorded {
         ensures ok { IfOk result (λ n. self.new ≡ self.old ++ numbered event n ∷ []) }
         ensures number { IfOk result (λ n. (n ≡ length self.old) × (n < limit)) }
         ensures err { OnErr result (self.new ≡ self.old) }
-        ensures reason { append_told result ≡ append_refusal self.old last }
+        ensures reason { append_reported result ≡ append_refusal self.old last }
     {
         if let Some(fault) = self.refusal(last) {
             return Err(fault);

@@ -1,6 +1,6 @@
 ghost use Rattle.std.specs.Prelude.{◌≡◌, ℕ, ◌<◌, ◌⊎◌, ◌↔◌, Err, IfOk, None, length, replicate, true, vec_len};
-ghost use Rattle.history.specs.declared.event.Event.TheVariants.{Call, Reply as Answered, Lost as Missed};
-ghost use Rattle.history.specs.Refusal.{most_events};
+ghost use Rattle.events.specs.declared.event.Event.TheVariants.{Call, Reply as Answered, Lost as Missed};
+ghost use Rattle.events.specs.Refusal.{most_events};
 ghost use Rattle.recorder.specs.Closing.{IsPenMissing, has_full};
 ghost use Rattle.recorder.specs.Pens.{Records, new_pen, refusal_of};
 ghost use Rattle.recorder.specs.Recordings.{IsRecordingOf, lists_of};
@@ -12,7 +12,7 @@ use crate::pen::Pen;
 use crate::recorded::Recorded;
 use crate::unnumbered::Unnumbered;
 use doc_register::{Op, Reply};
-use history::{HistFault, History, MOST_EVENTS};
+use events::{HistFault, History, MOST_EVENTS};
 use std::alloc::Global;
 use std::marker::Model;
 use std::sync::{Mutex, Wait};
@@ -168,6 +168,3 @@ impl Recorder {
         }
     }
 }
-
-#[cfg(test)]
-mod tests;

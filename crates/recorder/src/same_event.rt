@@ -1,7 +1,7 @@
 ghost use Rattle.std.specs.Prelude.{◌≡◌, ◌↔◌, IsTrue};
 
 use doc_register::{Op, Reply};
-use history::Event;
+use events::Event;
 use version_pair::Pair;
 
 // Whether two pairs are the same.

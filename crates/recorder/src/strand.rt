@@ -1,12 +1,12 @@
 ghost use Rattle.std.specs.Prelude.{◌≡◌, ◌≢◌, ◌↔◌, ◌∷◌, [], All, IfNone, IfSome, IsTrue, Some};
 ghost use Rattle.std.specs.List.Sorted.{IsPermutation};
-ghost use Rattle.history.specs.Events.{HasShard};
+ghost use Rattle.events.specs.Events.{HasShard};
 ghost use Rattle.recorder.specs.Pens.{IsRising};
 ghost use Rattle.recorder.specs.Recordings.{entries_of};
 ghost use Rattle.recorder.specs.aids.Notes.{IsEntryAt};
 ghost use Rattle.recorder.specs.aids.Merging.{next_number};
 
-use history::Event;
+use events::Event;
 use std::collections::VecDeque;
 use std::marker::Model;
 
@@ -18,7 +18,7 @@ pub struct Strand {
 
 impl Model for Strand {
     ghost use Rattle.std.specs.Prelude.{List, ℕ};
-    ghost use Rattle.history.specs.declared.event.Event.{Event};
+    ghost use Rattle.events.specs.declared.event.Event.{Event};
 
     ghost Value = { List (ℕ × Event) };
 

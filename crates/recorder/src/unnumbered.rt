@@ -2,7 +2,7 @@ ghost use Rattle.std.specs.Prelude.{◌≡◌, IfOk};
 ghost use Rattle.recorder.specs.aids.Notes.{numbered as event_at};
 
 use doc_register::{Op, Reply};
-use history::Event;
+use events::Event;
 use version_pair::{DocId, NoMemory};
 
 /// An event that has no number yet.

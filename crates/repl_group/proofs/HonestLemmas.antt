@@ -190,7 +190,7 @@ module _ (term primary : ℕ) (requests : List Request) (copies : List ShardCopy
     not_flying y f is flies = nothing_found (sym (ap flight_of (still_queued y.stage is)) ∙ flies)
 
     not_acknowledged : {P : Type 0} (y : Request) (q : Pair) → is_queued y.stage ≡ true → pair_acknowledged y.stage ≡ Some q → P
-    not_acknowledged y q is told = nothing_found (sym (ap pair_acknowledged (still_queued y.stage is)) ∙ told)
+    not_acknowledged y q is reported = nothing_found (sym (ap pair_acknowledged (still_queued y.stage is)) ∙ reported)
 
   -- ---- a copy is changed
 
@@ -253,13 +253,13 @@ module _ (term primary : ℕ) (requests : List Request) (copies : List ShardCopy
         (λ other there. by_places v r' found'
         (λ here' is'. fresh u r p there given (new_pair r' p is' given'))
         (λ other' there'. sound.pairs u v r r' p there there' given given'));
-    acknowledged = λ u c r v p found there told sync. by_places u r found
-        (λ here is. nothing_found (ap (λ (k : Request). pair_acknowledged k.stage) (sym is) ∙ told))
+    acknowledged = λ u c r v p found there reported sync. by_places u r found
+        (λ here is. nothing_found (ap (λ (k : Request). pair_acknowledged k.stage) (sym is) ∙ reported))
         (λ other old. by_copies c v there
         (λ here is. subst (λ (k : ShardCopy). holds k.writes u ≡ true) (sym is)
         (with_write-more y.writes t u (write_of x q)
-        (sound.acknowledged u primary r y p old lead told (ap (λ (k : ShardCopy). k.is_in_sync) (sym is) ∙ sync))))
-        (λ elsewhere before'. sound.acknowledged u c r v p old before' told sync));
+        (sound.acknowledged u primary r y p old lead reported (ap (λ (k : ShardCopy). k.is_in_sync) (sym is) ∙ sync))))
+        (λ elsewhere before'. sound.acknowledged u c r v p old before' reported sync));
   } where
     z : ShardCopy
     z = copy_with y t (write_of x q)
@@ -321,8 +321,8 @@ module _ (term primary : ℕ) (requests : List Request) (copies : List ShardCopy
         nothing_found (sym (ap (λ (k : Request). flight_of k.stage) (sym from.2) ∙ lost_grounded from.0.stage) ∙ flies));
     pairs = λ u v z z' q found found' given given'. (let from = mapped_from lost_request requests u z found in let from' = mapped_from lost_request requests v z' found' in
         sound.pairs u v from.0 from'.0 q from.1 from'.1 (given_before from.0 z q (sym from.2) given) (given_before from'.0 z' q (sym from'.2) given'));
-    acknowledged = λ u d z v q found there told in_sync. (let from = mapped_from lost_request requests u z found in let at = mapped_from (led_by y.writes) copies d v there in
-        let held : holds y.writes u ≡ true = sound.acknowledged u c from.0 y q from.1 lead (sym (ap (λ (k : Request). pair_acknowledged k.stage) (sym from.2) ∙ lost_acknowledged from.0.stage) ∙ told) sync in
+    acknowledged = λ u d z v q found there reported in_sync. (let from = mapped_from lost_request requests u z found in let at = mapped_from (led_by y.writes) copies d v there in
+        let held : holds y.writes u ≡ true = sound.acknowledged u c from.0 y q from.1 lead (sym (ap (λ (k : Request). pair_acknowledged k.stage) (sym from.2) ∙ lost_acknowledged from.0.stage) ∙ reported) sync in
         ap (λ (k : ShardCopy). holds k.writes u) (sym at.2) ∙ (ap (λ ws. holds ws u) (led_whole at.0 (ap (λ (k : ShardCopy). k.is_in_sync) at.2 ∙ in_sync)) ∙ held));
   } where
     lost_given : (s : Stage) → pair_given (lost_from s) ≡ pair_given s

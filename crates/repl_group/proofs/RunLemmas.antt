@@ -68,7 +68,7 @@ flight_given (Lost q) f is = nothing_found is
 -- a queued operation is answered with no pair
 answered_sound : (w : GroupState) (t : ℕ) (x : Request) (r : Reply) → Sound w → slice_get w.requests t ≡ Some x → is_queued x.stage ≡ true → pair_taken r None ≡ None → Sound (answered w t x r)
 answered_sound w t x r sound at queued none =
-    restaged w.term w.primary w.requests w.copies sound t x (Answered r) at (unanswered x.stage r queued none) refl (λ c y q there told sync. nothing_found (sym none ∙ told))
+    restaged w.term w.primary w.requests w.copies sound t x (Answered r) at (unanswered x.stage r queued none) refl (λ c y q there reported sync. nothing_found (sym none ∙ reported))
 
 -- a step that is refused, and one that is done where it may be
 module _ (w n : GroupState) (a : Answer) (sound : Sound w) where
@@ -121,7 +121,7 @@ module _ (w n : GroupState) (a : Answer) (sound : Sound w) where
       (λ u write found. by_write u write flight flies (from_with_write y.writes t u (write_of x flight.0) write found))
       (λ here. in_sync may)
       (λ here u held. with_write-more y.writes t u (write_of x flight.0) held)
-      (λ sync u z q found told. with_write-more y.writes t u (write_of x flight.0) (sound.acknowledged u c z y q found there told (in_sync may))))
+      (λ sync u z q found reported. with_write-more y.writes t u (write_of x flight.0) (sound.acknowledged u c z y q found there reported (in_sync may))))
       rest) where
         in_sync : (y.is_in_sync && not y.is_cut && not (is_primary_cut w)) ≡ true → y.is_in_sync ≡ true
         in_sync may = (both y.is_in_sync (not y.is_cut) (both (y.is_in_sync && not y.is_cut) (not (is_primary_cut w)) may).0).0
@@ -142,7 +142,7 @@ module _ (w n : GroupState) (a : Answer) (sound : Sound w) where
       (λ flight flies rest. where_may (not (is_primary_cut w) && is_held w t) (answered w t x (performed_reply flight.1 x.op flight.0))
       (λ may. restaged w.term w.primary w.requests w.copies sound t x (Answered (performed_reply flight.1 x.op flight.0)) at
       (reply_pair x.op flight.1 flight.0 (sound.writes t x flight.0 flight.1 at flies) ∙ sym (flight_given x.stage flight flies)) refl
-      (λ c y q there told sync. ap (λ b. not b || holds y.writes t) (sym sync) ∙ all_pass (λ z. not z.is_in_sync || holds z.writes t) w.copies c y (sym (ap (λ f. if is_early f then holds (writes_at w w.primary) t else list_all (λ z. not z.is_in_sync || holds z.writes t) w.copies) honest)
+      (λ c y q there reported sync. ap (λ b. not b || holds y.writes t) (sym sync) ∙ all_pass (λ z. not z.is_in_sync || holds z.writes t) w.copies c y (sym (ap (λ f. if is_early f then holds (writes_at w w.primary) t else list_all (λ z. not z.is_in_sync || holds z.writes t) w.copies) honest)
       ∙ (both (not (is_primary_cut w)) (is_held w t) may).1) there))
       rest) where
         reply_pair : (op : Op) (before : DocState) (q : Pair) → is_get op ≡ false → pair_taken (performed_reply before op q) None ≡ Some q
@@ -161,7 +161,7 @@ module _ (w n : GroupState) (a : Answer) (sound : Sound w) where
       (λ t write found. sound.own c t y write there (ap (λ ws. lookup (◌==◌ t) ws) (sym same) ∙ found))
       (λ here. stays here (subst (λ (k : ShardCopy). k.is_in_sync ≡ true) (same_some _ _ (sym sound.leads.1 ∙ (ap (slice_get w.copies) (sym here) ∙ there))) sound.leads.2))
       (λ here t held. ap (λ ws. holds ws t) same ∙ held)
-      (λ sync t x q found told. ap (λ ws. holds ws t) same ∙ sound.acknowledged t c x y q found there told (was sync))
+      (λ sync t x q found reported. ap (λ ws. holds ws t) same ∙ sound.acknowledged t c x y q found there reported (was sync))
 
   heals : (c : ℕ) (y : ShardCopy) → slice_get w.copies c ≡ Some y → Does (healed w c y) a n → Sound n
   heals c y there acts = done (healed w c y) (by_place ((c == w.primary) || is_primary_cut w) refl) acts where
@@ -179,7 +179,7 @@ module _ (w n : GroupState) (a : Answer) (sound : Sound w) where
         (λ t write found. sound.own w.primary t lead write sound.leads.1 (ap (λ ws. lookup (◌==◌ t) ws) (sym taken) ∙ found))
         (λ here. refl)
         (λ here. absurd (true≢false (sym (eq-eqb c w.primary here) ∙ (or_parts (c == w.primary) (is_primary_cut w) is).0)))
-        (λ sync t x q found told. ap (λ ws. holds ws t) taken ∙ sound.acknowledged t w.primary x lead q found sound.leads.1 told sound.leads.2)
+        (λ sync t x q found reported. ap (λ ws. holds ws t) taken ∙ sound.acknowledged t w.primary x lead q found sound.leads.1 reported sound.leads.2)
 
   drops : (c : ℕ) (y : ShardCopy) → slice_get w.copies c ≡ Some y
       → DoesWhere (y.is_in_sync && y.is_cut && not (c == w.primary) && not (is_primary_cut w)) (with_copy w c (record y { is_in_sync = false })) w a n → Sound n
@@ -279,7 +279,7 @@ start_sound (suc count) some = record {
   own = λ c t y write there found. nothing_found (ap (λ (k : ShardCopy). lookup (◌==◌ t) k.writes) (sym (from_replicate (suc count) new_copy c y there)) ∙ found);
   writes = λ t x q before found flies. nothing_found found;
   pairs = λ t u x y q found found' given given'. nothing_found found;
-  acknowledged = λ t c x y q found there told sync. nothing_found found;
+  acknowledged = λ t c x y q found there reported sync. nothing_found found;
 }
 
 pub sound_start : (f : Fault) (count : ℕ) → 0 < count → IsSoundUnlessFaulty (start f count)
@@ -298,20 +298,20 @@ sound_result w n s (Err e) sound gives same = subst IsSoundUnlessFaulty (sym sam
 pub honest_from : (w : GroupState) → Sound w → IsHonest w
 honest_from w sound = record {
   pairs = sound.pairs;
-  acknowledged = λ t c x y q found there told sync. held t c x y q found there told (held_found y.writes t (sound.acknowledged t c x y q found there told sync));
+  acknowledged = λ t c x y q found there reported sync. held t c x y q found there reported (held_found y.writes t (sound.acknowledged t c x y q found there reported sync));
 } where
-  told_given : (s : Stage) (q : Pair) → pair_acknowledged s ≡ Some q → pair_given s ≡ Some q
-  told_given Queued q told = nothing_found told
-  told_given (InFlight p b) q told = nothing_found told
-  told_given (Answered r) q told = told
-  told_given (Lost p) q told = nothing_found told
+  reported_given : (s : Stage) (q : Pair) → pair_acknowledged s ≡ Some q → pair_given s ≡ Some q
+  reported_given Queued q reported = nothing_found reported
+  reported_given (InFlight p b) q reported = nothing_found reported
+  reported_given (Answered r) q reported = reported
+  reported_given (Lost p) q reported = nothing_found reported
 
   held : (t c : ℕ) (x : Request) (y : ShardCopy) (q : Pair) → slice_get w.requests t ≡ Some x → slice_get w.copies c ≡ Some y → pair_acknowledged x.stage ≡ Some q
       → (write : HeldWrite) × (lookup (◌==◌ t) y.writes ≡ Some write) → lookup (◌==◌ t) y.writes ≡ Some (write_of x q)
-  held t c x y q found there told (write, at) =
+  held t c x y q found there reported (write, at) =
       let own = sound.own c t y write there at in
       let is_x : own.request ≡ x = same_some _ _ (sym own.found ∙ found) in
-      let pair : write.pair ≡ q = same_some _ _ (sym own.given ∙ (ap (λ (k : Request). pair_given k.stage) is_x ∙ told_given x.stage q told)) in
+      let pair : write.pair ≡ q = same_some _ _ (sym own.given ∙ (ap (λ (k : Request). pair_given k.stage) is_x ∙ reported_given x.stage q reported)) in
       at ∙ ap Some (own.same ∙ (ap (λ (k : Request). write_of k write.pair) is_x ∙ ap (write_of x) pair))
 
 pub honest_unless_faulty : (w : GroupState) → IsSoundUnlessFaulty w → IsHonestUnlessFaulty w

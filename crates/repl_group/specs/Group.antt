@@ -148,8 +148,8 @@ healed w c y =
     then record y { is_cut = false }
     else record { writes = writes_at w w.primary; is_cut = false; is_in_sync = true })
 
--- a copy after another one that holds these writes became the primary: if it is in sync and not cut, it takes
--- them; if it is in sync and cut, it is not in sync any more
+-- each copy, the new primary included, after a copy that holds these writes became the primary: if it is in
+-- sync and not cut, it takes them; if it is in sync and cut, it is not in sync any more
 -- Source: profile.
 abbrev pub led_by : List (ℕ × HeldWrite) → ShardCopy → ShardCopy
 led_by writes z =
@@ -172,7 +172,7 @@ promoted w c y = record w {
 abbrev pub Refuses : Answer → GroupState → Answer → GroupState → Type 0
 Refuses reason w a n = (a ≡ reason) × (n ≡ w)
 
--- the step is done, and this is the group after it
+-- the answer is Done, and n is the group `after`
 abbrev pub Does : GroupState → Answer → GroupState → Type 0
 Does after a n = (a ≡ Done) × (n ≡ after)
 
@@ -267,7 +267,7 @@ Gives w (step.Drop c) a n =
 Gives w (step.Promote c) a n =
     OnCopy (λ y. DoesWhere (y.is_in_sync && not y.is_cut && not (c == w.primary) && nat_lt w.term greatest) (promoted w c y) w) w c a n
 
--- From w the group takes the step with this answer, and is n: a fact of its own, in which the table is kept.
+-- The step is answered a, and leads from w to n. (A record, so that a proof can name it without the table.)
 pub record Takes (w : GroupState) (s : Step) (a : Answer) (n : GroupState) : Type 0 where
   -- the table gives this answer and this group
   pub gives : Gives w s a n

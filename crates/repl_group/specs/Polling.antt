@@ -58,20 +58,20 @@ progress_of w t = option_map_or progress.Done (result_of w t) progress.Waiting
 
 -- The step is taken, and the poll reports what has become of the ticket; or the step, which the table lets
 -- the group take, is refused memory, which changes nothing.
-abbrev pub TellsAfter : GroupState → Step → ℕ → Result Progress TargetFault → GroupState → Type 0
-TellsAfter w s t told n =
-    MatchResult told (λ p. (a : Answer) × Takes w s a n × (p ≡ progress_of n t))
+abbrev pub ReportsAfter : GroupState → Step → ℕ → Result Progress TargetFault → GroupState → Type 0
+ReportsAfter w s t reported n =
+    MatchResult reported (λ p. (a : Answer) × Takes w s a n × (p ≡ progress_of n t))
     (λ fault. (fault ≡ refusal.NoMemory) × (n ≡ w) × MayTake w s)
 
 -- A poll of a ticket with a result reports it, and changes nothing. Any other poll draws one word, and takes
 -- the step that the word determines, if it determines one.
 -- Source: profile.
 abbrev pub Polls : GroupState → Lcg → ℕ → Result Progress TargetFault → GroupState → Lcg → Type 0
-Polls w random t told n random' =
+Polls w random t reported n random' =
     MatchOption (result_of w t)
     ((random' ≡ (pcg32 random).1)
-    × MatchOption (step_drawn w t (pcg32 random).0) ((told ≡ Ok progress.Waiting) × (n ≡ w)) (λ s. TellsAfter w s t told n))
-    (λ r. (told ≡ Ok (progress.Done r)) × (n ≡ w) × (random' ≡ random))
+    × MatchOption (step_drawn w t (pcg32 random).0) ((reported ≡ Ok progress.Waiting) × (n ≡ w)) (λ s. ReportsAfter w s t reported n))
+    (λ r. (reported ≡ Ok (progress.Done r)) × (n ≡ w) × (random' ≡ random))
 
 -- a submission is refused: with Full, by the step Submit; or, if a ticket is left, with NoMemory, which
 -- changes nothing
@@ -82,5 +82,5 @@ RefusesSubmission w id op refusal.NoMemory n = (n ≡ w) × (length w.requests <
 -- A submission takes the step Submit, and returns its ticket or Full; or, if a ticket is left, it is refused
 -- memory, which changes nothing.
 abbrev pub Submits : GroupState → List ℕ → Op → Result Ticket TargetFault → GroupState → Type 0
-Submits w id op told n =
-    MatchResult told (λ ticket. Takes w (step.Submit id op) (answer.Ticket ticket.0) n) (λ fault. RefusesSubmission w id op fault n)
+Submits w id op reported n =
+    MatchResult reported (λ ticket. Takes w (step.Submit id op) (answer.Ticket ticket.0) n) (λ fault. RefusesSubmission w id op fault n)

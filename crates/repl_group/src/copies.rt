@@ -3,12 +3,12 @@ ghost use Rattle.std.specs.List.{list_all};
 ghost use Rattle.std.specs.Option.{option_map_or};
 ghost use Rattle.repl_group.specs.Copies.{ShardCopy, document_in, holds as is_held, next_seq as next_of};
 ghost use Rattle.repl_group.specs.Group.{copy_with, led_by, new_copy};
-ghost use Rattle.repl_group.specs.aids.Keeping.{standing_of};
+ghost use Rattle.repl_group.specs.aids.Keeping.{flags_of};
 
+use crate::copy_flags::CopyFlags;
 use crate::held_write::HeldWrite;
 use crate::replica::Replica;
 use crate::replicas::{find_replica, follow, new_replicas, renew};
-use crate::standing::Standing;
 use crate::write_log::WriteLog;
 use doc_register::DocState;
 use std::alloc::Global;
@@ -59,11 +59,11 @@ impl Copies {
     }
 
     /// Returns whether the copy of this number is cut off, and whether it is in sync.
-    pub fn find(&self, copy: u32) -> Option<Standing>
-        ensures { result ≡ option_map standing_of (slice_get self.now copy) }
+    pub fn find(&self, copy: u32) -> Option<CopyFlags>
+        ensures { result ≡ option_map flags_of (slice_get self.now copy) }
     {
         let replica = find_replica(&self.list, copy)?;
-        Some(Standing {
+        Some(CopyFlags {
             is_cut: replica.is_cut,
             is_in_sync: replica.is_in_sync,
         })

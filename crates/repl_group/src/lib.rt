@@ -10,6 +10,7 @@
 #![tactic(auto)]
 
 mod copies;
+mod copy_flags;
 mod fault;
 mod group;
 mod group_core;
@@ -22,7 +23,6 @@ mod replica;
 mod replicas;
 mod request;
 mod requests;
-mod standing;
 mod step;
 mod write_log;
 

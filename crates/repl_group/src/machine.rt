@@ -7,10 +7,10 @@ ghost use Rattle.repl_group.specs.declared.step.Step.TheVariants as steps;
 ghost use Rattle.repl_group.specs.declared.step.Answer.TheVariants as answers;
 
 use crate::copies::Copies;
+use crate::copy_flags::CopyFlags;
 use crate::fault::Fault;
 use crate::request::{Request, is_get, unconditional};
 use crate::requests::Requests;
-use crate::standing::Standing;
 use crate::step::{Answer, Step};
 use doc_register::{DocState, Op, Reply, is_performed, performed_reply, shown_reply};
 use indexmap::IndexSet;
@@ -110,7 +110,7 @@ impl Machine {
     }
 
     /// Returns whether a copy may take a write in flight.
-    fn may_take_write(&self, copy: Standing) -> bool
+    fn may_take_write(&self, copy: CopyFlags) -> bool
         ensures { result ≡ (copy.is_in_sync && not copy.is_cut && not (primary_cut self.now)) }
     {
         copy.is_in_sync && !copy.is_cut && !self.is_primary_cut()
@@ -124,14 +124,14 @@ impl Machine {
     }
 
     /// Returns whether the copy of this number may leave those in sync.
-    fn may_drop(&self, number: u32, copy: Standing) -> bool
+    fn may_drop(&self, number: u32, copy: CopyFlags) -> bool
         ensures { result ≡ (copy.is_in_sync && copy.is_cut && not (number == self.now.primary) && not (primary_cut self.now)) }
     {
         copy.is_in_sync && copy.is_cut && number != self.primary && !self.is_primary_cut()
     }
 
     /// Returns whether the copy of this number may become the primary.
-    fn may_lead(&self, number: u32, copy: Standing) -> bool
+    fn may_lead(&self, number: u32, copy: CopyFlags) -> bool
         ensures { result ≡ (copy.is_in_sync && not copy.is_cut && not (number == self.now.primary) && nat_lt self.now.term greatest) }
     {
         copy.is_in_sync && !copy.is_cut && number != self.primary && self.term < GREATEST_TERM

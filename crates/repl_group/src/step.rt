@@ -16,7 +16,7 @@ pub enum Step {
     Cut(u32),
     /// A copy is reached again.
     Heal(u32),
-    /// A copy that is cut off leaves the copies in sync.
+    /// A copy that is cut off is removed from the copies in sync.
     Drop(u32),
     /// A copy becomes the primary.
     Promote(u32),

@@ -2,15 +2,15 @@
 use Rattle.std.proofs.Common.{ℕ, ◌≡◌, None, List, map, sym, subst, ◌∙◌, Option, Some, Ok, Err, inl, inr, codes, Vec, Global}
 use Rattle.std.specs.Prelude.{IfSome}
 use Rattle.doc_register.specs.declared.state.Conflicts.{Conflicts}
-use Rattle.history.specs.declared.event.Event.{Event}
+use Rattle.events.specs.declared.event.Event.{Event}
 use Rattle.api_lines.specs.declared.text_fault.TextFault.{TextFault}
-use Rattle.history.specs.Order.{IsLinearizable}
+use Rattle.events.specs.Order.{IsLinearizable}
 use Rattle.history.specs.Reading.{history_text}
 use Rattle.history.specs.Text.{IsHistoryText}
-use Rattle.witness.specs.Documents.{doc_places, witness_places}
-use Rattle.witness.specs.declared.place.Place.{Place}
+use Rattle.places.specs.Documents.{doc_places, witness_places}
+use Rattle.places.specs.declared.place.Place.{Place}
 use Rattle.witness.specs.Text.{AreWithinLimits, witness_text}
-use Rattle.witness.specs.Witness.{Witness}
+use Rattle.places.specs.Witness.{Witness}
 use Rattle.compose.specs.Covers.{AreCover}
 use Rattle.evidence.specs.Evidence.{Holds, IsOfCalls, IsReported, IsWithoutRuledOut}
 use Rattle.evidence.specs.declared.refuted.Refuted.{Refuted as Evidence}
@@ -34,10 +34,10 @@ use Rattle.report.proofs.WitnessLimits.{within_limits}
 
 -- ---- answers
 
-pub is_refusal : (ruling : RulingOut) (conflicts : Conflicts) (input : List ℕ) (status : Status) (text : List ℕ) (told : TextFault) → status ≡ Refused → text ≡ refused_line told.line told.cause
-    → history_text input ≡ Err told → IsAnswer ruling conflicts input status text × IsWitnessAnswer ruling conflicts input status text
-is_refusal ruling conflicts input status text told is line refused =
-    subst (λ s. IsAnswer ruling conflicts input s text × IsWitnessAnswer ruling conflicts input s text) (sym is) ((told, line, refused), (told, line, refused))
+pub is_refusal : (ruling : RulingOut) (conflicts : Conflicts) (input : List ℕ) (status : Status) (text : List ℕ) (reported : TextFault) → status ≡ Refused → text ≡ refused_line reported.line reported.cause
+    → history_text input ≡ Err reported → IsAnswer ruling conflicts input status text × IsWitnessAnswer ruling conflicts input status text
+is_refusal ruling conflicts input status text reported is line refused =
+    subst (λ s. IsAnswer ruling conflicts input s text × IsWitnessAnswer ruling conflicts input s text) (sym is) ((reported, line, refused), (reported, line, refused))
 
 pub is_undecided : (ruling : RulingOut) (conflicts : Conflicts) (input : List ℕ) (H : List Event) (status : Status) (text : List ℕ) (o : Offence) → status ≡ No
     → text ≡ no_line o → IsHistoryText input H → HasNoOrderFound conflicts H → IsOffence conflicts H o → (ruling ≡ On → IsWithoutRuledOut conflicts H)
@@ -47,13 +47,13 @@ is_undecided ruling conflicts input H status text o is line is_text none_found o
     let undecided : IsUndecided ruling conflicts input o = record { unexplained = unexplained; none = none } in
     (subst (λ s. IsAnswer ruling conflicts input s text) (sym is) (o, line, undecided), subst (λ s. IsWitnessAnswer ruling conflicts input s text) (sym is) (o, line, undecided))
 
-pub is_refuted : (ruling : RulingOut) (conflicts : Conflicts) (input : List ℕ) (H : List Event) (status : Status) (text : List ℕ) (told : Evidence) (o : Offence) → status ≡ Refuted
-    → text ≡ refuted_line told o → IsHistoryText input H → HasNoOrderFound conflicts H → IsOffence conflicts H o → Holds conflicts H told → IsReported ruling conflicts H told → (IsLinearizable conflicts H → ⊥)
+pub is_refuted : (ruling : RulingOut) (conflicts : Conflicts) (input : List ℕ) (H : List Event) (status : Status) (text : List ℕ) (reported : Evidence) (o : Offence) → status ≡ Refuted
+    → text ≡ refuted_line reported o → IsHistoryText input H → HasNoOrderFound conflicts H → IsOffence conflicts H o → Holds conflicts H reported → IsReported ruling conflicts H reported → (IsLinearizable conflicts H → ⊥)
     → IsAnswer ruling conflicts input status text × IsWitnessAnswer ruling conflicts input status text
-is_refuted ruling conflicts input H status text told o is line is_text none_found offence holds reported no_order =
+is_refuted ruling conflicts input H status text reported o is line is_text none_found offence holds reportable no_order =
     let unexplained : IsUnexplained conflicts input o = record { events = H; is_text = is_text; none_found = none_found; offence = offence } in
-    let by : IsRefutedBy ruling conflicts input told o = record { unexplained = unexplained; holds = holds; reported = reported; no_order = no_order } in
-    (subst (λ s. IsAnswer ruling conflicts input s text) (sym is) (told, o, line, by), subst (λ s. IsWitnessAnswer ruling conflicts input s text) (sym is) (told, o, line, by))
+    let by : IsRefutedBy ruling conflicts input reported o = record { unexplained = unexplained; holds = holds; reportable = reportable; no_order = no_order } in
+    (subst (λ s. IsAnswer ruling conflicts input s text) (sym is) (reported, o, line, by), subst (λ s. IsWitnessAnswer ruling conflicts input s text) (sym is) (reported, o, line, by))
 
 pub witnessed : (conflicts : Conflicts) (input : List ℕ) (H : List Event) (ws : List Witness) (text : List ℕ) → IsHistoryText input H → AreWitnesses conflicts H ws → IsLinearizable conflicts H
     → (AreWithinLimits (map witness_places ws) → witness_text text ≡ Ok (map witness_places ws)) → IsWitnessed conflicts input text
@@ -66,7 +66,7 @@ witnessed conflicts input H ws text is are explained reads = record {
   explained = explained;
 }
 
--- ---- what is told of all bytes of a reader
+-- ---- what is said of all bytes of a reader
 
 pub if_any : {P : List ℕ → Type 0} (input : Option (List ℕ)) → ((bytes : List ℕ) → P bytes) → IfSome input P
 if_any None all = tt
@@ -74,22 +74,22 @@ if_any (Some bytes) all = all bytes
 
 -- ---- answers to both texts
 
-pub verify_refused_history : (conflicts : Conflicts) (history witness : List ℕ) (status : Status) (text : List ℕ) (told : TextFault) → status ≡ Refused
-    → text ≡ refused_file_line (codes "history") told.line told.cause → history_text history ≡ Err told → IsVerifyAnswer conflicts history witness status text
-verify_refused_history conflicts history witness status text told is line refused =
-    subst (λ s. IsVerifyAnswer conflicts history witness s text) (sym is) (inl (told, line, refused))
+pub verify_refused_history : (conflicts : Conflicts) (history witness : List ℕ) (status : Status) (text : List ℕ) (reported : TextFault) → status ≡ Refused
+    → text ≡ refused_file_line (codes "history") reported.line reported.cause → history_text history ≡ Err reported → IsVerifyAnswer conflicts history witness status text
+verify_refused_history conflicts history witness status text reported is line refused =
+    subst (λ s. IsVerifyAnswer conflicts history witness s text) (sym is) (inl (reported, line, refused))
 
-pub verify_refused_witness : (conflicts : Conflicts) (history witness : List ℕ) (status : Status) (text : List ℕ) (told : TextFault) → status ≡ Refused
-    → text ≡ refused_file_line (codes "witness") told.line told.cause → IsSomeHistory history → witness_text witness ≡ Err told → IsVerifyAnswer conflicts history witness status text
-verify_refused_witness conflicts history witness status text told is line some refused =
-    subst (λ s. IsVerifyAnswer conflicts history witness s text) (sym is) (inr (told, line, some, refused))
+pub verify_refused_witness : (conflicts : Conflicts) (history witness : List ℕ) (status : Status) (text : List ℕ) (reported : TextFault) → status ≡ Refused
+    → text ≡ refused_file_line (codes "witness") reported.line reported.cause → IsSomeHistory history → witness_text witness ≡ Err reported → IsVerifyAnswer conflicts history witness status text
+verify_refused_witness conflicts history witness status text reported is line some refused =
+    subst (λ s. IsVerifyAnswer conflicts history witness s text) (sym is) (inr (reported, line, some, refused))
 
-pub verify_no : (conflicts : Conflicts) (input witness : List ℕ) (H : List Event) (es : List (List ℕ × Vec Place Global)) (status : Status) (text : List ℕ) (told : VerifyFault)
-    → status ≡ No → text ≡ broken_line told → IsHistoryText input H → witness_text witness ≡ Ok (map doc_places es)
-    → IsFirstVerifyFault conflicts H (map doc_places es) told → (AreCover conflicts H (map doc_places es) → ⊥) → IsVerifyAnswer conflicts input witness status text
-verify_no conflicts input witness H es status text told is line is_text reads first no_cover =
+pub verify_no : (conflicts : Conflicts) (input witness : List ℕ) (H : List Event) (es : List (List ℕ × Vec Place Global)) (status : Status) (text : List ℕ) (reported : VerifyFault)
+    → status ≡ No → text ≡ broken_line reported → IsHistoryText input H → witness_text witness ≡ Ok (map doc_places es)
+    → IsFirstVerifyFault conflicts H (map doc_places es) reported → (AreCover conflicts H (map doc_places es) → ⊥) → IsVerifyAnswer conflicts input witness status text
+verify_no conflicts input witness H es status text reported is line is_text reads first no_cover =
     subst (λ s. IsVerifyAnswer conflicts input witness s text) (sym is) (
-      told,
+      reported,
       line,
       record { events = H; is_text = is_text; entries = map doc_places es; reads = reads; first = first; no_cover = no_cover },
     )
@@ -119,7 +119,7 @@ calls_reported ruling conflicts H (Some (evidence.RuledOut n)) calls = absurd ca
 evidence_holds : (ruling : RulingOut) (conflicts : Conflicts) (H : List Event) (status : Status) (line : List ℕ) (o : Offence) (found : Option Evidence)
     → SaysFailing ruling conflicts H status line o found → IfSome found (Holds conflicts H)
 evidence_holds ruling conflicts H status line o None says = tt
-evidence_holds ruling conflicts H status line o (Some told) says = says.2
+evidence_holds ruling conflicts H status line o (Some reported) says = says.2
 
 pub found_holds : (ruling : RulingOut) (conflicts : Conflicts) (H : List Event) (status : Status) (line : List ℕ) (finding : Finding)
     → IsFindingOf ruling conflicts H status line finding → HasItsEvidence finding

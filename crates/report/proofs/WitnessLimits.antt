@@ -4,17 +4,17 @@ use Rattle.std.specs.Prelude.{fold, if◌then◌else◌}
 use Rattle.std.proofs.lemmas.List.Elements.{All-cons, All-nil}
 use Rattle.std.proofs.lemmas.Option.{slice_get_within}
 use Rattle.doc_register.specs.declared.state.Conflicts.{Conflicts}
-use Rattle.history.specs.declared.event.Event.{Event}
-use Rattle.history.specs.declared.event.Event.TheVariants.{Call, Reply, Lost}
-use Rattle.history.specs.Events.{IsHistory, documents_of, is_same, records_of, with_document, with_event}
-use Rattle.history.specs.Refusal.{most_events}
-use Rattle.history.proofs.CountLemmas.{AreOnce, calls_within, distinct_within, fewer_records}
+use Rattle.events.specs.declared.event.Event.{Event}
+use Rattle.events.specs.declared.event.Event.TheVariants.{Call, Reply, Lost}
+use Rattle.events.specs.Events.{IsHistory, documents_of, is_same, records_of, with_document, with_event}
+use Rattle.events.specs.Refusal.{most_events}
+use Rattle.events.proofs.CountLemmas.{AreOnce, calls_within, distinct_within, fewer_records}
 use Rattle.version_pair.proofs.ListLemmas.{none_is_not_some, same_some}
-use Rattle.witness.specs.Documents.{witness_places}
-use Rattle.witness.specs.Text.{AreWithinLimits, DocPlaces, items_in}
-use Rattle.witness.specs.Witness.{Witness}
-use Rattle.witness.proofs.PlaceLemmas.{small_records}
-use Rattle.compose.specs.Covers.{AreFine, IsKnown}
+use Rattle.places.specs.Documents.{DocPlaces, witness_places}
+use Rattle.witness.specs.Text.{AreWithinLimits, items_in}
+use Rattle.places.specs.Witness.{Witness}
+use Rattle.places.proofs.PlaceLemmas.{small_records}
+use Rattle.compose.specs.Covers.{AreValidEntries, IsKnown}
 use Rattle.compose.specs.Laws.{places_in}
 use Rattle.compose.specs.Verdicts.{AreWitnesses}
 use Rattle.compose.proofs.CountedPlaces.{places_within}
@@ -62,7 +62,7 @@ numbered events (e ∷ es) known =
     let rest = numbered events es (λ i f at. known (suc i) f at) in
     (here.1.0 ∷ rest.0, ap suc rest.1, one_more events e es here.1.0 here.0 rest.0 here.1.1 rest.2)
 
-entries_within : (conflicts : Conflicts) (events : List Event) (es : List DocPlaces) → AreFine conflicts events es → length es ≤ length (documents_of events)
+entries_within : (conflicts : Conflicts) (events : List Event) (es : List DocPlaces) → AreValidEntries conflicts events es → length es ≤ length (documents_of events)
 entries_within conflicts events es fine =
     let ks = numbered events es fine.known in
     let few : length ks.0 ≤ length (documents_of events) = distinct_within ks.0 (length (documents_of events)) (once ks.0 ks.2) (below ks.0 ks.2) in

@@ -14,7 +14,7 @@ abbrev pub IsBulkAnswer : ℕ → List ℕ → List ℕ → Status → List ℕ 
 IsBulkAnswer first body reply Yes text = bulk_history first body 200 reply ≡ Ok text
 IsBulkAnswer first body reply No text = ⊥
 IsBulkAnswer first body reply Refuted text = ⊥
-IsBulkAnswer first body reply Refused line = (told : BulkFault) × (line ≡ bulk_fault_line told) × (bulk_history first body 200 reply ≡ Err told)
+IsBulkAnswer first body reply Refused line = (fault : BulkFault) × (line ≡ bulk_fault_line fault) × (bulk_history first body 200 reply ≡ Err fault)
 
 -- what is written for the bytes that the two readers had, if both are known
 abbrev pub AnswersBulk : ℕ → Option (List ℕ) → Option (List ℕ) → Status → List ℕ → Type 0

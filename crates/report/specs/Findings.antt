@@ -2,7 +2,7 @@
 -- with the evidence and the offence.
 use Rattle.std.specs.Prelude.{◌≡◌, ℕ, List, Option, Some, None, IfSome}
 use Rattle.doc_register.specs.declared.state.Conflicts.{Conflicts}
-use Rattle.history.specs.declared.event.Event.{Event}
+use Rattle.events.specs.declared.event.Event.{Event}
 use Rattle.evidence.specs.Evidence.{Holds, IsReported}
 use Rattle.evidence.specs.declared.refuted.Refuted.{Refuted as Evidence}
 use Rattle.evidence.specs.declared.ruling_out.RulingOut.{RulingOut}
@@ -18,8 +18,8 @@ use Rattle.stream_io.specs.declared.status.Status.TheVariants.{Yes, No, Refuted}
 -- evidence holds (`Holds`) and may be reported (`IsReported`).
 abbrev pub SaysFailing : RulingOut → Conflicts → List Event → Status → List ℕ → Offence → Option Evidence → Type 0
 SaysFailing ruling conflicts events status line offence None = (status ≡ No) × (line ≡ no_line offence)
-SaysFailing ruling conflicts events status line offence (Some told) =
-    (status ≡ Refuted) × (line ≡ refuted_line told offence) × Holds conflicts events told × IsReported ruling conflicts events told
+SaysFailing ruling conflicts events status line offence (Some evidence) =
+    (status ≡ Refuted) × (line ≡ refuted_line evidence offence) × Holds conflicts events evidence × IsReported ruling conflicts events evidence
 
 -- What was found is of this history and this reading of conflicts, and the line reports it: an order and
 -- `yes`, or no order, with the evidence and the offence of the line (`SaysFailing`).

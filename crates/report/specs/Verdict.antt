@@ -1,10 +1,10 @@
 -- What a written line says of the bytes that were read.
 use Rattle.std.specs.Prelude.{◌≡◌, ℕ, ◌+◌, ◌⊎◌, List, codes, length, Ok, Err, Option, IfSome}
 use Rattle.doc_register.specs.declared.state.Conflicts.{Conflicts}
-use Rattle.history.specs.declared.event.Event.{Event}
+use Rattle.events.specs.declared.event.Event.{Event}
 use Rattle.api_lines.specs.declared.text_fault.TextFault.{TextFault}
-use Rattle.history.specs.Events.{documents_of}
-use Rattle.history.specs.Order.{Explains, IsLinearizable, Placed}
+use Rattle.events.specs.Events.{documents_of}
+use Rattle.events.specs.Order.{Explains, IsLinearizable, Placed}
 use Rattle.history.specs.Reading.{history_text}
 use Rattle.history.specs.Text.{IsHistoryText}
 use Rattle.compose.specs.Counts.{calls_of}
@@ -16,11 +16,12 @@ use Rattle.evidence.specs.declared.ruling_out.RulingOut.TheVariants.{On}
 use Rattle.compose.specs.Verdicts.{AreCounts, HasNoOrderFound, HasOrder}
 use Rattle.compose.specs.VerifyFaults.{IsFirstVerifyFault}
 use Rattle.compose.specs.declared.verify_fault.VerifyFault.{VerifyFault}
-use Rattle.witness.specs.Text.{DocPlaces, witness_text}
+use Rattle.places.specs.Documents.{DocPlaces}
+use Rattle.witness.specs.Text.{witness_text}
 use Rattle.compose.specs.Offences.{IsOffence}
 use Rattle.compose.specs.declared.offence.Offence.{Offence}
 use Rattle.result_lines.specs.Lines.{broken_line, no_line, refused_file_line, refused_line, refuted_line, verified_line, yes_line}
-use Rattle.stream_io.specs.Written.{HasAnswer, HasFront}
+use Rattle.stream_io.specs.Written.{HasAnswer, HasPrefix}
 use Rattle.stream_io.specs.declared.status.Status.{Status}
 use Rattle.stream_io.specs.declared.status.Status.TheVariants.{Yes, No, Refuted, Refused}
 
@@ -42,7 +43,7 @@ pub record IsExplained (conflicts : Conflicts) (input : List ℕ) (docs calls le
   pub the_rest : length order + left_out ≡ calls
 
 -- The input is a text of a history for which no order was found: no entries without a given pair cover it; it
--- is not legal in response order; and if it is complete (settled), no order explains it. The offence is one
+-- is not legal in response order; and if it is complete, no order explains it. The offence is one
 -- of that history.
 -- Source: profile.
 pub record IsUnexplained (conflicts : Conflicts) (input : List ℕ) (o : Offence) : Type 0 where
@@ -65,14 +66,14 @@ pub record IsUndecided (ruling : RulingOut) (conflicts : Conflicts) (input : Lis
 -- The input is unexplained, and provably not linearizable: no order of the calls explains the history,
 -- however those of unknown outcome are completed or left out.
 -- Source: Herlihy and Wing, section 2 (`no_order`); profile (the evidence).
-pub record IsRefutedBy (ruling : RulingOut) (conflicts : Conflicts) (input : List ℕ) (told : Evidence) (o : Offence) : Type 0 where
+pub record IsRefutedBy (ruling : RulingOut) (conflicts : Conflicts) (input : List ℕ) (evidence : Evidence) (o : Offence) : Type 0 where
   -- the input is unexplained, with the offence, just as for a `no`
   pub unexplained : IsUnexplained conflicts input o
   -- the evidence holds in the history that it is a text of (`Holds`)
-  pub holds : Holds conflicts unexplained.events told
+  pub holds : Holds conflicts unexplained.events evidence
   -- it may be reported (`IsReported`): that a document is ruled out only if that was asked for, and by the
   -- least call at which one is
-  pub reported : IsReported ruling conflicts unexplained.events told
+  pub reportable : IsReported ruling conflicts unexplained.events evidence
   -- the history is not linearizable
   pub no_order : ¬ IsLinearizable conflicts unexplained.events
 
@@ -80,7 +81,7 @@ pub record IsRefutedBy (ruling : RulingOut) (conflicts : Conflicts) (input : Lis
 -- with its first cause (`history_text`)
 -- Source: profile.
 abbrev pub IsRefused : List ℕ → List ℕ → Type 0
-IsRefused input line = (told : TextFault) × (line ≡ refused_line told.line told.cause) × (history_text input ≡ Err told)
+IsRefused input line = (fault : TextFault) × (line ≡ refused_line fault.line fault.cause) × (history_text input ≡ Err fault)
 
 -- The headline: the line that a check writes, and what it says of the input.
 --
@@ -94,7 +95,7 @@ IsRefused input line = (told : TextFault) × (line ≡ refused_line told.line to
 abbrev pub IsAnswer : RulingOut → Conflicts → List ℕ → Status → List ℕ → Type 0
 IsAnswer ruling conflicts input Yes line = (docs calls left_out : ℕ) × (line ≡ yes_line docs calls left_out) × IsExplained conflicts input docs calls left_out
 IsAnswer ruling conflicts input No line = (o : Offence) × (line ≡ no_line o) × IsUndecided ruling conflicts input o
-IsAnswer ruling conflicts input Refuted line = (told : Evidence) × (o : Offence) × (line ≡ refuted_line told o) × IsRefutedBy ruling conflicts input told o
+IsAnswer ruling conflicts input Refuted line = (evidence : Evidence) × (o : Offence) × (line ≡ refuted_line evidence o) × IsRefutedBy ruling conflicts input evidence o
 IsAnswer ruling conflicts input Refused line = IsRefused input line
 
 -- The input is a text of a history, and what is written reads as entries that cover it; so an order explains
@@ -118,7 +119,7 @@ pub record IsWitnessed (conflicts : Conflicts) (input text : List ℕ) : Type 0 
 abbrev pub IsWitnessAnswer : RulingOut → Conflicts → List ℕ → Status → List ℕ → Type 0
 IsWitnessAnswer ruling conflicts input Yes text = IsWitnessed conflicts input text
 IsWitnessAnswer ruling conflicts input No text = (o : Offence) × (text ≡ no_line o) × IsUndecided ruling conflicts input o
-IsWitnessAnswer ruling conflicts input Refuted text = (told : Evidence) × (o : Offence) × (text ≡ refuted_line told o) × IsRefutedBy ruling conflicts input told o
+IsWitnessAnswer ruling conflicts input Refuted text = (evidence : Evidence) × (o : Offence) × (text ≡ refuted_line evidence o) × IsRefutedBy ruling conflicts input evidence o
 IsWitnessAnswer ruling conflicts input Refused text = IsRefused input text
 
 -- The one input is a text of a history, and the other reads as entries that cover it; that many of its calls
@@ -159,7 +160,7 @@ pub record IsBroken (conflicts : Conflicts) (history witness : List ℕ) (fault 
 -- Source: profile.
 abbrev pub IsRefusedHistory : List ℕ → List ℕ → Type 0
 IsRefusedHistory history line =
-    (told : TextFault) × (line ≡ refused_file_line (codes "history") told.line told.cause) × (history_text history ≡ Err told)
+    (fault : TextFault) × (line ≡ refused_file_line (codes "history") fault.line fault.cause) × (history_text history ≡ Err fault)
 
 -- the input is a text of some history
 -- Source: profile.
@@ -171,7 +172,7 @@ IsSomeHistory input = (events : List Event) × IsHistoryText input events
 -- Source: profile.
 abbrev pub IsRefusedWitness : List ℕ → List ℕ → List ℕ → Type 0
 IsRefusedWitness history witness line =
-    (told : TextFault) × (line ≡ refused_file_line (codes "witness") told.line told.cause) × IsSomeHistory history × (witness_text witness ≡ Err told)
+    (fault : TextFault) × (line ≡ refused_file_line (codes "witness") fault.line fault.cause) × IsSomeHistory history × (witness_text witness ≡ Err fault)
 
 -- The line that `verify` writes, and what it says of both inputs. Yes: the line is a `verified_line` of three
 -- numbers (`IsVerified`). No: it is the `broken_line` of a fault (`IsBroken`); a witness that does not cover
@@ -188,7 +189,7 @@ IsVerifyAnswer conflicts history witness Refused line = IsRefusedHistory history
 -- if the bytes of the history are known and refused, nothing is taken of the witness
 -- Source: profile.
 abbrev pub LeavesUnread : Option (List ℕ) → Option (List ℕ) → Option (List ℕ) → Type 0
-LeavesUnread history old new = IfSome history (λ h. (told : TextFault) → history_text h ≡ Err told → new ≡ old)
+LeavesUnread history old new = IfSome history (λ h. (fault : TextFault) → history_text h ≡ Err fault → new ≡ old)
 
 -- ---- what the writer holds
 
@@ -214,4 +215,4 @@ IsAnswered ruling conflicts input old new status = HasAnswer (AnswersInput rulin
 -- The writer holds a prefix of such a line after what it held.
 -- Source: profile.
 abbrev pub IsCutOff : RulingOut → Conflicts → Option (List ℕ) → Option (List ℕ) → Option (List ℕ) → Type 0
-IsCutOff ruling conflicts input old new = HasFront (AnswersInput ruling conflicts input) old new
+IsCutOff ruling conflicts input old new = HasPrefix (AnswersInput ruling conflicts input) old new

@@ -1,7 +1,7 @@
 -- Which documents a fault of a stream names.
 use Rattle.std.specs.Prelude.{◌<◌, ℕ, List, Option, IfSome, length}
-use Rattle.history.specs.declared.event.Event.{Event}
-use Rattle.history.specs.Events.{documents_of}
+use Rattle.events.specs.declared.event.Event.{Event}
+use Rattle.events.specs.Events.{documents_of}
 use Rattle.history.specs.Text.{IsHistoryText}
 use Rattle.stream_io.specs.declared.stream_fault.StreamFault.{StreamFault}
 use Rattle.stream_io.specs.declared.stream_fault.StreamFault.TheVariants.{Read, Write, NoMemory, Worker, Recording, Setting}

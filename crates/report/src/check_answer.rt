@@ -5,7 +5,7 @@ ghost use Rattle.history.specs.Text.{IsHistoryText};
 ghost use Rattle.compose.specs.Checked.{IsVerdictOn};
 ghost use Rattle.evidence.specs.Evidence.{Holds, IsReported, IsWithoutRuledOut};
 ghost use Rattle.evidence.specs.declared.ruling_out.RulingOut.{RulingOut as Ruling};
-ghost use Rattle.result_lines.specs.Lines.{refused_line as told_refused};
+ghost use Rattle.result_lines.specs.Lines.{refused_line as reported_refused};
 ghost use Rattle.stream_io.specs.Faults.{IsCheckFault, IsReadingFault};
 ghost use Rattle.stream_io.specs.Taken.{TakesHistory};
 ghost use Rattle.report.specs.Findings.{IsFindingOf, SaysFailing};
@@ -19,8 +19,8 @@ use compose::{
     check_alone, first_offence, refute, rule_out,
 };
 use doc_register::Conflicts;
+use events::{HashKeys, History};
 use evidence::laws::evidence_refutes;
-use history::{HashKeys, History};
 use result_lines::{no_line, refused_line, refuted_line, yes_line};
 use std::alloc::Global;
 use std::io::Read;
@@ -37,7 +37,7 @@ fn evidence_against(
     ruling_out: RulingOut,
 ) -> Result<Option<Refuted>, NoMemory>
     ensures holds { IfOk result (λ found. IfSome found (Holds case.now.conflicts case.now.events)) }
-    ensures reported { IfOk result (λ found. IfSome found (IsReported ruling_out case.now.conflicts case.now.events)) }
+    ensures reportable { IfOk result (λ found. IfSome found (IsReported ruling_out case.now.conflicts case.now.events)) }
     ensures none { IfOk result (λ found. found ≡ Nothing → ruling_out ≡ RulingOut.On
         → IsWithoutRuledOut case.now.conflicts case.now.events) }
 {
@@ -85,7 +85,7 @@ pub fn case_answer(
 /// Returns the answer to a text that was refused.
 pub fn refusal(alloc: Global, fault: TextFault) -> Result<Answer, NoMemory>
     ensures status { IfOk result (λ answer. answer.status ≡ Status.Refused) }
-    ensures line { IfOk result (λ answer. answer.text.items ≡ told_refused fault.line fault.cause) }
+    ensures line { IfOk result (λ answer. answer.text.items ≡ reported_refused fault.line fault.cause) }
     ensures answers { IfOk result (λ answer. (ruling : Ruling) (conflicts : Reading) (input : List ℕ)
         → history_text input ≡ Err fault → IsAnswer ruling conflicts input answer.status answer.text.items) }
     ensures witness { IfOk result (λ answer. (ruling : Ruling) (conflicts : Reading) (input : List ℕ)
@@ -107,7 +107,7 @@ fn verdict_by<R: Threads + Wait + Sync>(
     requires some { 1 ≤ workers }
     requires few { workers ≤ 16 }
     ensures verdict { IfOk result (IsVerdictOn conflicts history) }
-    ensures told { IfErr result IsCheckFault }
+    ensures reported { IfErr result IsCheckFault }
     ensures unread { IfErr result (λ fault. fault ≢ StreamFault.Read) }
     ensures alone { workers ≡ 1 → IfErr result (λ fault. fault ≡ StreamFault.NoMemory) }
     ensures named { IfErr result (HasDocument history) }
@@ -154,8 +154,8 @@ pub fn history_answer<R: Threads + Wait + Sync>(
     // reported.
     ensures found { IfOk result (λ made. IsFindingOf ruling_out conflicts history made.0.status made.0.text.items
         made.1) }
-    // `told`, `unread`: The only errors are `NoMemory` and `Worker`: nothing is read.
-    ensures told { IfErr result IsCheckFault }
+    // `reported`, `unread`: the only errors are `NoMemory` and `Worker`: nothing is read.
+    ensures reported { IfErr result IsCheckFault }
     ensures unread { IfErr result (λ fault. fault ≢ StreamFault.Read) }
     // With one worker, the caller's thread, the only error is `NoMemory`.
     ensures alone { workers ≡ 1 → IfErr result (λ fault. fault ≡ StreamFault.NoMemory) }
@@ -189,7 +189,7 @@ pub fn check_answer<T: Threads + Wait + Sync, R: Read>(
     requires few { workers ≤ 16 }
     ensures answer { IfOk result (λ answer. AnswersInput ruling_out conflicts (R.remaining reader.old) answer.status
         answer.text.items) }
-    ensures told { IfErr result IsCheckFault }
+    ensures reported { IfErr result IsCheckFault }
     ensures alone { workers ≡ 1 → IfErr result IsReadingFault }
     ensures named { IfErr result (NamesOwnDocument (R.remaining reader.old)) }
     ensures taken { TakesHistory (R.remaining reader.old) (R.remaining reader.new) }

@@ -2,7 +2,7 @@
 
 ghost use Rattle.std.specs.Prelude.{◌≡◌, ◌≢◌, ◌≤◌, ◌++◌, ℕ, List, IfErr, IfOk, IfSome};
 ghost use Rattle.evidence.specs.Evidence.{Holds};
-ghost use Rattle.history.specs.Order.{IsLinearizable};
+ghost use Rattle.events.specs.Order.{IsLinearizable};
 ghost use Rattle.compose.specs.Certainties.{Says};
 ghost use Rattle.page.specs.Pages.{IsPage};
 ghost use Rattle.stream_io.specs.Faults.{IsCheckFault, IsReadingFault};
@@ -13,10 +13,11 @@ ghost use Rattle.report.specs.Verdict.{AnswersInput};
 ghost use Rattle.report.specs.Workers.{NamesOwnDocument};
 
 use crate::check_answer::{history_answer, refusal};
+use crate::document_search::DocumentSearch;
 use crate::numbered_input::read_numbered;
 use compose::{Case, Certainty, Counts, Failing, Finding, RulingOut, certainty_of};
 use doc_register::Conflicts;
-use history::HashKeys;
+use events::HashKeys;
 use std::alloc::Global;
 use std::io::Read;
 use std::sync::Wait;
@@ -72,7 +73,7 @@ fn story_of(alloc: Global, finding: &Finding, lines: &EventLines) -> Result<Stor
         }
         Finding::Unexplained(case, failing) => {
             let unexplained = unexplained_of(alloc, case, failing)?;
-            failing_story(alloc, &unexplained, lines)
+            failing_story(alloc, &unexplained, lines, &DocumentSearch)
         }
     }
 }
@@ -91,7 +92,7 @@ fn explain<T: Threads + Wait + Sync, R: Read>(
     requires few { workers ≤ 16 }
     ensures answer { IfOk result (λ found. AnswersInput ruling_out conflicts (R.remaining reader.old) found.0.status
         found.0.text.items) }
-    ensures told { IfErr result IsCheckFault }
+    ensures reported { IfErr result IsCheckFault }
     ensures alone { workers ≡ 1 → IfErr result IsReadingFault }
     ensures named { IfErr result (NamesOwnDocument (R.remaining reader.old)) }
     ensures taken { TakesHistory (R.remaining reader.old) (R.remaining reader.new) }
@@ -144,7 +145,7 @@ pub fn explained_text<T: Threads + Wait + Sync, R: Read>(
     requires few { workers ≤ 16 }
     ensures answer { IfOk result (λ made. ExplainsInput ruling_out conflicts (R.remaining reader.old) made.status
         made.text.items) }
-    ensures told { IfErr result IsCheckFault }
+    ensures reported { IfErr result IsCheckFault }
     ensures alone { workers ≡ 1 → IfErr result IsReadingFault }
     ensures named { IfErr result (NamesOwnDocument (R.remaining reader.old)) }
     ensures taken { TakesHistory (R.remaining reader.old) (R.remaining reader.new) }
@@ -176,7 +177,7 @@ pub fn explained_page<T: Threads + Wait + Sync, R: Read>(
     // The page is made of markup of the crate `page`, numbers, and escaped texts.
     ensures page { IfOk result (λ made. IsPage made.1.items) }
     // The only errors are `Read`, `NoMemory` and `Worker`.
-    ensures told { IfErr result IsCheckFault }
+    ensures reported { IfErr result IsCheckFault }
     // With one worker, the caller's thread, the error is never `Worker`.
     ensures alone { workers ≡ 1 → IfErr result IsReadingFault }
     // A document that a `Worker` names is one of the history whose text the reader had.

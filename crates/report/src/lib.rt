@@ -11,6 +11,7 @@
 
 mod bulk_answer;
 mod check_answer;
+mod document_search;
 mod explain;
 mod numbered_input;
 mod streams;

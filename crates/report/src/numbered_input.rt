@@ -4,8 +4,8 @@ ghost use Rattle.history.specs.Text.{IsHistoryText};
 ghost use Rattle.stream_io.specs.Taken.{TakesHistory};
 
 use api_lines::{InputFault, RefusedLine};
+use events::{HashKeys, History};
 use history::laws::texts_are_read;
-use history::{HashKeys, History};
 use std::alloc::Global;
 use std::io::Read;
 use story::{EventLines, read_numbered_from};
@@ -19,9 +19,9 @@ pub fn read_numbered<R: Read>(
     keys: HashKeys,
     reader: &mut R,
 ) -> Result<Result<(History, EventLines), RefusedLine>, InputFault>
-    ensures text { IfOk result (λ told. IfSome (R.remaining reader.old)
-        (λ text. IfOk told (λ read. IsHistoryText text read.0))) }
-    ensures told { IfOk result (λ told. IfSome (R.remaining reader.old) (λ text. MatchResult told
+    ensures text { IfOk result (λ reported. IfSome (R.remaining reader.old)
+        (λ text. IfOk reported (λ read. IsHistoryText text read.0))) }
+    ensures reported { IfOk result (λ reported. IfSome (R.remaining reader.old) (λ text. MatchResult reported
         (λ read. history_text text ≡ Ok read.0)
         (λ refused. history_text text ≡ Err refused.fault))) }
     ensures taken { TakesHistory (R.remaining reader.old) (R.remaining reader.new) }

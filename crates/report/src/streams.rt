@@ -6,7 +6,7 @@ ghost use Rattle.report.specs.Verdict.{IsAnswered, IsCutOff, LeavesUnread, Verif
 ghost use Rattle.report.specs.Workers.{NamesOwnDocument};
 ghost use Rattle.stream_io.specs.Faults.{IsStreamFault, IsWorkedFault};
 ghost use Rattle.stream_io.specs.Taken.{TakesHistory, TakesWitness};
-ghost use Rattle.stream_io.specs.Written.{HasAnswer, HasFront};
+ghost use Rattle.stream_io.specs.Written.{HasAnswer, HasPrefix};
 
 use crate::bulk_answer::bulk_answer;
 use crate::check_answer::check_answer;
@@ -15,7 +15,7 @@ use crate::verify_input::verify_input;
 use crate::witness_answer::witness_answer;
 use compose::RulingOut;
 use doc_register::Conflicts;
-use history::HashKeys;
+use events::HashKeys;
 use std::alloc::Global;
 use std::io::{Read, Write};
 use std::sync::Wait;
@@ -61,7 +61,7 @@ pub fn check_stream<T: Threads + Wait + Sync, R: Read, W: Write>(
     // If it answers yes, the bytes of the reader to its end are a text of a history that an order of calls
     // explains, over all its documents, with the counts of the line. If it answers no, they are a text of a
     // history that no entries without a given pair cover: it is not legal in response order, and if it is
-    // complete (settled), so that each write was answered, no order explains it. Also, if documents were
+    // complete, so that each write was answered, no order explains it. Also, if documents were
     // checked for being ruled out, none is. If it answers refuted, all that is true as well, except the last,
     // and the evidence of the line holds in the history: no order explains it, however its unanswered calls
     // are completed. If it refuses, they are a text of no history, and the line reports the first line that
@@ -76,7 +76,7 @@ pub fn check_stream<T: Threads + Wait + Sync, R: Read, W: Write>(
     ensures kept { IfErr result (λ fault. fault ≢ StreamFault.Write
         → Keeps (W.contents writer.old) (W.contents writer.new)) }
     // The only errors are `Read`, `Write`, `NoMemory` and `Worker`.
-    ensures told { IfErr result IsWorkedFault }
+    ensures reported { IfErr result IsWorkedFault }
     // With one worker, the caller's thread, the error is never `Worker`.
     ensures alone { workers ≡ 1 → IfErr result IsStreamFault }
     // A document that a `Worker` names is one of the history whose text the reader had.
@@ -117,13 +117,13 @@ pub fn explain_stream<T: Threads + Wait + Sync, R: Read, W: Write>(
         (W.contents writer.old) (W.contents writer.new)) }
     // After `Write` the writer holds a prefix of such a text after what it held.
     ensures cut_off { IsErrOf result StreamFault.Write
-        → HasFront (ExplainsInput ruling_out conflicts (R.remaining reader.old)) (W.contents writer.old)
+        → HasPrefix (ExplainsInput ruling_out conflicts (R.remaining reader.old)) (W.contents writer.old)
         (W.contents writer.new) }
     // After any other error the writer holds what it held.
     ensures kept { IfErr result (λ fault. fault ≢ StreamFault.Write
         → Keeps (W.contents writer.old) (W.contents writer.new)) }
     // The only errors are `Read`, `Write`, `NoMemory` and `Worker`.
-    ensures told { IfErr result IsWorkedFault }
+    ensures reported { IfErr result IsWorkedFault }
     // With one worker, the caller's thread, the error is never `Worker`.
     ensures alone { workers ≡ 1 → IfErr result IsStreamFault }
     // A document that a `Worker` names is one of the history whose text the reader had.
@@ -157,13 +157,13 @@ pub fn witness_stream<R: Read, W: Write>(
         (W.contents writer.old) (W.contents writer.new)) }
     // After `Write` the writer holds a prefix of such a text after what it held.
     ensures cut_off { IsErrOf result StreamFault.Write
-        → HasFront (WitnessesInput ruling_out conflicts (R.remaining reader.old)) (W.contents writer.old)
+        → HasPrefix (WitnessesInput ruling_out conflicts (R.remaining reader.old)) (W.contents writer.old)
         (W.contents writer.new) }
     // After any other error the writer holds what it held.
     ensures kept { IfErr result (λ fault. fault ≢ StreamFault.Write
         → Keeps (W.contents writer.old) (W.contents writer.new)) }
     // The only errors are `Read`, `Write` and `NoMemory`.
-    ensures told { IfErr result IsStreamFault }
+    ensures reported { IfErr result IsStreamFault }
     // No bytes after the first refused line are taken but those that the last read returned, as by
     // `check_stream`.
     ensures taken { TakesHistory (R.remaining reader.old) (R.remaining reader.new) }
@@ -199,13 +199,13 @@ pub fn verify_stream<R: Read, Q: Read, W: Write>(
         (W.contents writer.old) (W.contents writer.new)) }
     // After `Write` the writer holds a prefix of such a line after what it held.
     ensures cut_off { IsErrOf result StreamFault.Write
-        → HasFront (VerifiesInputs conflicts (R.remaining history.old) (Q.remaining witness.old))
+        → HasPrefix (VerifiesInputs conflicts (R.remaining history.old) (Q.remaining witness.old))
         (W.contents writer.old) (W.contents writer.new) }
     // After any other error the writer holds what it held.
     ensures kept { IfErr result (λ fault. fault ≢ StreamFault.Write
         → Keeps (W.contents writer.old) (W.contents writer.new)) }
     // The only errors are `Read`, `Write` and `NoMemory`.
-    ensures told { IfErr result IsStreamFault }
+    ensures reported { IfErr result IsStreamFault }
     // No bytes after the first refused line of the history are taken but those that the last read returned,
     // as by `check_stream`.
     ensures taken { TakesHistory (R.remaining history.old) (R.remaining history.new) }
@@ -241,13 +241,13 @@ pub fn bulk_stream<R: Read, Q: Read, W: Write>(
         (W.contents writer.old) (W.contents writer.new)) }
     // After `Write` the writer holds a prefix of such a text after what it held.
     ensures cut_off { IsErrOf result StreamFault.Write
-        → HasFront (AnswersBulk first (R.remaining body.old) (Q.remaining reply.old))
+        → HasPrefix (AnswersBulk first (R.remaining body.old) (Q.remaining reply.old))
         (W.contents writer.old) (W.contents writer.new) }
     // After any other error the writer holds what it held.
     ensures kept { IfErr result (λ fault. fault ≢ StreamFault.Write
         → Keeps (W.contents writer.old) (W.contents writer.new)) }
     // The only errors are `Read`, `Write` and `NoMemory`.
-    ensures told { IfErr result IsStreamFault }
+    ensures reported { IfErr result IsStreamFault }
     // If there is no error, both were read to their ends.
     ensures end { OnOk result (OnSome (R.remaining body.old) (IsAtEnd (R.remaining body.new))
         × OnSome (Q.remaining reply.old) (IsAtEnd (Q.remaining reply.new))) }

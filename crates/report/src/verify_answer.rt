@@ -1,5 +1,5 @@
 ghost use Rattle.std.specs.Prelude.{◌≡◌, IfOk, ℕ, List, Ok, Err, codes, map};
-ghost use Rattle.witness.specs.Documents.{doc_places};
+ghost use Rattle.places.specs.Documents.{doc_places};
 ghost use Rattle.witness.specs.Text.{witness_text};
 ghost use Rattle.doc_register.specs.declared.state.Conflicts.{Conflicts as Reading};
 ghost use Rattle.history.specs.Reading.{history_text};
@@ -10,12 +10,12 @@ ghost use Rattle.report.specs.Verdict.{IsSomeHistory, IsVerifyAnswer};
 use api_lines::TextFault;
 use compose::{Counts, VerifyFault, verify};
 use doc_register::Conflicts;
-use history::History;
+use events::History;
+use places::Place;
 use result_lines::{broken_line, refused_history_line, refused_witness_line, verified_line};
 use std::alloc::{AllocError, Global};
 use stream_io::{Answer, Status};
 use version_pair::{DocId, NoMemory};
-use witness::Place;
 
 /// Returns the answer to a history text that was refused.
 pub fn refused_history(alloc: Global, fault: TextFault) -> Result<Answer, NoMemory>
@@ -59,8 +59,8 @@ pub fn entries_answer(
         }
         Err((fault, _)) => match fault {
             VerifyFault::NoMemory => Err(AllocError),
-            told => {
-                let line = broken_line(alloc, told)?;
+            reported => {
+                let line = broken_line(alloc, reported)?;
                 Ok(Answer::of(Status::No, line))
             }
         },

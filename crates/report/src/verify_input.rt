@@ -6,7 +6,7 @@ ghost use Rattle.report.specs.Verdict.{IsVerifyAnswer, LeavesUnread, VerifiesInp
 
 use crate::verify_answer::{entries_answer, refused_history, refused_witness};
 use doc_register::Conflicts;
-use history::{HashKeys, History};
+use events::{HashKeys, History};
 use std::alloc::Global;
 use std::io::Read;
 use stream_io::{Answer, StreamFault, read_entries, read_history};
@@ -21,7 +21,7 @@ fn read_witness_answer<Q: Read>(
     ensures answer { IfOk result (λ answer. (input : List ℕ) → IsHistoryText input history
         → IfSome (Q.remaining witness.old) (λ w. IsVerifyAnswer conflicts input w answer.status
         answer.text.items)) }
-    ensures told { IfErr result IsReadingFault }
+    ensures reported { IfErr result IsReadingFault }
     ensures taken { TakesWitness (Q.remaining witness.old) (Q.remaining witness.new) }
 {
     match read_entries(alloc, witness)? {
@@ -41,7 +41,7 @@ pub fn verify_input<R: Read, Q: Read>(
 ) -> Result<Answer, StreamFault>
     ensures answer { IfOk result (λ answer. VerifiesInputs conflicts (R.remaining history.old)
         (Q.remaining witness.old) answer.status answer.text.items) }
-    ensures told { IfErr result IsReadingFault }
+    ensures reported { IfErr result IsReadingFault }
     ensures taken { TakesHistory (R.remaining history.old) (R.remaining history.new) }
     ensures witness_taken { TakesWitness (Q.remaining witness.old) (Q.remaining witness.new) }
     ensures unread { LeavesUnread (R.remaining history.old) (Q.remaining witness.old) (Q.remaining witness.new) }

@@ -7,7 +7,7 @@ ghost use Rattle.report.specs.Verdict.{IsWitnessAnswer, WitnessesInput};
 use crate::check_answer::{case_answer, refusal};
 use compose::{RulingOut, Verdict, check_alone};
 use doc_register::Conflicts;
-use history::{HashKeys, History};
+use events::{HashKeys, History};
 use std::alloc::{AllocError, Global};
 use std::io::Read;
 use stream_io::{Answer, Status, StreamFault, read_history};
@@ -51,7 +51,7 @@ pub fn witness_answer<R: Read>(
 ) -> Result<Answer, StreamFault>
     ensures answer { IfOk result (λ answer. WitnessesInput ruling_out conflicts (R.remaining reader.old) answer.status
         answer.text.items) }
-    ensures told { IfErr result IsReadingFault }
+    ensures reported { IfErr result IsReadingFault }
     ensures taken { TakesHistory (R.remaining reader.old) (R.remaining reader.new) }
 {
     match read_history(alloc, keys, reader)? {

@@ -4,8 +4,8 @@ use Rattle.api_lines.specs.declared.text_fault.TextCause.{TextCause}
 use Rattle.api_lines.specs.declared.text_fault.TextCause.TheVariants.{Long, Lines, Json, Shape, Id, Range, Half, Stranger, SecondCall, NoCall, Ended, Full, ShardMoved}
 use Rattle.api_lines.specs.declared.bulk_fault.BulkFault.{BulkFault}
 use Rattle.api_lines.specs.declared.bulk_fault.BulkFault.TheVariants as bulk
-use Rattle.witness.specs.declared.broken.Broken.{Broken}
-use Rattle.witness.specs.declared.broken.Broken.TheVariants.{Stranger as StrangePlace, Twice, Absent, Late, PairMissing, PairGiven, Illegal, NoMemory}
+use Rattle.places.specs.declared.broken.Broken.{Broken}
+use Rattle.places.specs.declared.broken.Broken.TheVariants.{Stranger as StrangePlace, Twice, Absent, Late, PairMissing, PairGiven, Illegal, NoMemory}
 use Rattle.evidence.specs.declared.refuted.Refuted.{Refuted}
 use Rattle.evidence.specs.declared.refuted.Refuted.TheVariants as evidence
 use Rattle.compose.specs.declared.verify_fault.VerifyFault.{VerifyFault}

@@ -1,10 +1,10 @@
 ghost use Rattle.std.specs.Prelude.{◌≡◌, IfOk, string_bytes};
-ghost use Rattle.result_lines.specs.Lines.{broken_entry_line, broken_line as told_line, broken_place_line, broken_places_line, shard_end as told_shard};
+ghost use Rattle.result_lines.specs.Lines.{broken_entry_line, broken_line as reported_line, broken_place_line, broken_places_line, shard_end as reported_shard};
 
 use compose::VerifyFault;
+use places::Broken;
 use std::alloc::{AllocError, Global};
 use version_pair::{NoMemory, Pair};
-use witness::Broken;
 
 // Returns the line of a fault at a place of an entry.
 fn place_line(alloc: Global, entry: usize, cause: &str, place: usize) -> Result<String, NoMemory>
@@ -38,7 +38,7 @@ fn entry_line(alloc: Global, entry: usize, cause: &str) -> Result<String, NoMemo
 
 // Returns the end of the line of a pair: its shard, if that is not 0, and the line feed.
 fn shard_end(alloc: Global, shard: u32) -> Result<String, NoMemory>
-    ensures { IfOk result (λ text. string_bytes text ≡ told_shard shard) }
+    ensures { IfOk result (λ text. string_bytes text ≡ reported_shard shard) }
 {
     if shard == 0 {
         String::from_str(alloc, "\n")
@@ -50,7 +50,7 @@ fn shard_end(alloc: Global, shard: u32) -> Result<String, NoMemory>
 // Returns the line of a pair that two calls take.
 fn pair_line(alloc: Global, shard: u32, pair: Pair) -> Result<String, NoMemory>
     ensures { IfOk result (λ line. string_bytes line
-        ≡ told_line (VerifyFault.PairTwice shard pair)) }
+        ≡ reported_line (VerifyFault.PairTwice shard pair)) }
 {
     let term = pair.term();
     let seq = pair.seq();
@@ -61,7 +61,7 @@ fn pair_line(alloc: Global, shard: u32, pair: Pair) -> Result<String, NoMemory>
 
 /// Returns the line of a fault of a witness. A fault that is `NoMemory` has no line.
 pub fn broken_line(alloc: Global, fault: VerifyFault) -> Result<String, NoMemory>
-    ensures { IfOk result (λ line. string_bytes line ≡ told_line fault) }
+    ensures { IfOk result (λ line. string_bytes line ≡ reported_line fault) }
 {
     match fault {
         VerifyFault::DocMissing(doc) => format!(in alloc; "broken doc={doc} cause=doc-missing\n"),

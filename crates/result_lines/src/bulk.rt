@@ -1,5 +1,5 @@
 ghost use Rattle.std.specs.Prelude.{◌≡◌, IfOk, string_bytes};
-ghost use Rattle.result_lines.specs.Lines.{bulk_fault_line as told_line, refused_bulk_line};
+ghost use Rattle.result_lines.specs.Lines.{bulk_fault_line as reported_line, refused_bulk_line};
 
 use api_lines::BulkFault;
 use std::alloc::{AllocError, Global};
@@ -14,7 +14,7 @@ fn refused_line(alloc: Global, line: u64, cause: &str) -> Result<String, NoMemor
 
 /// Returns the line of a fault of a bulk request or its reply. A fault that is `NoMemory` has no line.
 pub fn bulk_fault_line(alloc: Global, fault: BulkFault) -> Result<String, NoMemory>
-    ensures { IfOk result (λ text. string_bytes text ≡ told_line fault) }
+    ensures { IfOk result (λ text. string_bytes text ≡ reported_line fault) }
 {
     match fault {
         BulkFault::Syntax(line) => refused_line(alloc, line, "syntax"),

@@ -1,5 +1,5 @@
 ghost use Rattle.std.specs.Prelude.{◌≡◌, IfOk, string_bytes};
-ghost use Rattle.result_lines.specs.Lines.{before_name as shown_name, no_line as told_no, refused_line as told_refused, yes_line as told_yes};
+ghost use Rattle.result_lines.specs.Lines.{before_name as shown_name, no_line as reported_no, refused_line as reported_refused, yes_line as reported_yes};
 
 use crate::cause_name::cause_name;
 use api_lines::TextFault;
@@ -17,7 +17,7 @@ pub fn before_name(before_shown: bool) -> &'static str
 /// Returns the line of a history that an order explains.
 pub fn yes_line(alloc: Global, counts: Counts) -> Result<String, NoMemory>
     ensures { IfOk result (λ line. string_bytes line
-        ≡ told_yes counts.docs counts.calls counts.left_out) }
+        ≡ reported_yes counts.docs counts.calls counts.left_out) }
 {
     let Counts {
         docs,
@@ -30,7 +30,7 @@ pub fn yes_line(alloc: Global, counts: Counts) -> Result<String, NoMemory>
 /// Returns the line of a history for which no order was found. It reports the reply at which the search first
 /// failed.
 pub fn no_line(alloc: Global, offence: Offence) -> Result<String, NoMemory>
-    ensures { IfOk result (λ line. string_bytes line ≡ told_no offence) }
+    ensures { IfOk result (λ line. string_bytes line ≡ reported_no offence) }
 {
     let Offence {
         event,
@@ -43,7 +43,7 @@ pub fn no_line(alloc: Global, offence: Offence) -> Result<String, NoMemory>
 
 /// Returns the line of a text that is refused.
 pub fn refused_line(alloc: Global, fault: TextFault) -> Result<String, NoMemory>
-    ensures { IfOk result (λ line. string_bytes line ≡ told_refused fault.line fault.cause) }
+    ensures { IfOk result (λ line. string_bytes line ≡ reported_refused fault.line fault.cause) }
 {
     let number = fault.line;
     let cause = cause_name(fault.cause);

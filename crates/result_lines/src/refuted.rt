@@ -1,5 +1,5 @@
 ghost use Rattle.std.specs.Prelude.{◌≡◌, IfOk, string_bytes};
-ghost use Rattle.result_lines.specs.Lines.{both_numbers, kind_name as told_kind, named_calls as told_calls, refuted_line as told_line};
+ghost use Rattle.result_lines.specs.Lines.{both_numbers, kind_name as reported_kind, named_calls as reported_calls, refuted_line as reported_line};
 
 use crate::checked::before_name;
 use compose::{Offence, Refuted};
@@ -8,7 +8,7 @@ use version_pair::NoMemory;
 
 // Returns the printed name of a kind of evidence.
 fn kind_name(evidence: Refuted) -> &'static str
-    ensures { result.now ≡ told_kind evidence }
+    ensures { result.now ≡ reported_kind evidence }
 {
     match evidence {
         Refuted::PairTwice(_, _) => "pair-twice",
@@ -28,7 +28,7 @@ fn numbers(alloc: Global, one: u64, two: u64) -> Result<String, NoMemory>
 
 // Returns the numbers of the calls that evidence names.
 fn named_calls(alloc: Global, evidence: Refuted) -> Result<String, NoMemory>
-    ensures { IfOk result (λ text. string_bytes text ≡ told_calls evidence) }
+    ensures { IfOk result (λ text. string_bytes text ≡ reported_calls evidence) }
 {
     match evidence {
         Refuted::PairTwice(one, two) => numbers(alloc, one, two),
@@ -41,7 +41,7 @@ fn named_calls(alloc: Global, evidence: Refuted) -> Result<String, NoMemory>
 /// Returns the line of evidence against a history. It also reports the reply at which the search first
 /// failed.
 pub fn refuted_line(alloc: Global, evidence: Refuted, offence: Offence) -> Result<String, NoMemory>
-    ensures { IfOk result (λ line. string_bytes line ≡ told_line evidence offence) }
+    ensures { IfOk result (λ line. string_bytes line ≡ reported_line evidence offence) }
 {
     let Offence {
         event,

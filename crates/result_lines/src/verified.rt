@@ -1,5 +1,5 @@
 ghost use Rattle.std.specs.Prelude.{◌≡◌, IfOk, codes, string_bytes};
-ghost use Rattle.result_lines.specs.Lines.{refused_file_line, verified_line as told_line};
+ghost use Rattle.result_lines.specs.Lines.{refused_file_line, verified_line as reported_line};
 
 use crate::cause_name::cause_name;
 use api_lines::TextFault;
@@ -10,7 +10,7 @@ use version_pair::NoMemory;
 /// Returns the line of a witness that covers its history.
 pub fn verified_line(alloc: Global, counts: Counts) -> Result<String, NoMemory>
     ensures { IfOk result (λ line. string_bytes line
-        ≡ told_line counts.docs counts.calls counts.left_out) }
+        ≡ reported_line counts.docs counts.calls counts.left_out) }
 {
     let Counts {
         docs,

@@ -6,8 +6,8 @@ use Rattle.std.proofs.lemmas.Option.{get_or_from_slice_get, slice_get-get_or, sl
 use Rattle.version_pair.specs.declared.pair.Pair.{Pair}
 use Rattle.doc_register.specs.declared.reply.Reply.{Reply}
 use Rattle.doc_register.specs.Register.{value_of}
-use Rattle.history.specs.declared.record.Rec.{Rec}
-use Rattle.history.specs.Heard.{pair_of}
+use Rattle.events.specs.declared.record.Rec.{Rec}
+use Rattle.events.specs.Heard.{pair_of}
 use Rattle.ruled_out.specs.declared.walk.Walk.{Walk}
 use Rattle.ruled_out.specs.Positions.{gap_of, position_after, version_of}
 use Rattle.ruled_out.specs.Placings.{AreInOrder, HasWriter, IsReached, MayAnswer, MayBeAbsent, MayBePresent, MayChange, MayStand, MayTake}
@@ -79,8 +79,8 @@ present_is records floors reached event n passed = (forth, back) where
 
 pub reached_is : (records : List Rec) (floors : List ℕ) (reached event n : ℕ) → HasPassed records floors event → IsReachedBy records floors n ↔ IsReached records (At floors reached) event n
 reached_is records floors reached event n passed = (
-  λ by v known untold within. forth v (by v known untold within),
-  λ is v known untold within. (let w = is v known untold within in (w.call, w.value, w.gives, w.found, has_taken records floors reached event w.number w.call v passed w.takes)),
+  λ by v known unreported within. forth v (by v known unreported within),
+  λ is v known unreported within. (let w = is v known unreported within in (w.call, w.value, w.gives, w.found, has_taken records floors reached event w.number w.call v passed w.takes)),
 ) where
   forth : (v : Pair) → IsWritten records floors v → HasWriter records (At floors reached) event v
   forth v (w, k, gives, found, taken) = record { number = taken.number; call = w; takes = may_take records floors reached event w v passed taken; value = k; gives = gives; found = found }
@@ -112,7 +112,7 @@ pub earliest_not : (records : List Rec) (floor : ℕ → ℕ) (i y from n : ℕ)
     → (l : ℕ) → ¬ MayStand records floor i c y reply l
 earliest_not records floor i y from n c reply is least not l s =
     let up : n ≤ l = least.2 l s.answers (subst (λ m. m ≤ l) (sym is) s.above) in
-    not (λ v known untold within. s.reached v known untold (let low : version_of records v ≤ n = within in omega arith))
+    not (λ v known unreported within. s.reached v known unreported (let low : version_of records v ≤ n = within in omega arith))
 
 -- ---- the floors behind it
 

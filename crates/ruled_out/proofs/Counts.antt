@@ -6,9 +6,9 @@ use Rattle.version_pair.specs.declared.pair.Pair.{Pair}
 use Rattle.version_pair.specs.PairOrder.{IsBelow}
 use Rattle.version_pair.proofs.PairLemmas.{same_pair}
 use Rattle.doc_register.proofs.RunLemmas.{below_trans, not_below_itself}
-use Rattle.history.specs.declared.record.Rec.{Rec}
+use Rattle.events.specs.declared.record.Rec.{Rec}
 use Rattle.version_pair.proofs.ListLemmas.{get_front, none_is_not_some, same_some}
-use Rattle.ruled_out.specs.Told.{IsKnown, IsListed, condition_met, known_pairs, pair_shown}
+use Rattle.ruled_out.specs.Reported.{IsKnown, IsListed, condition_met, known_pairs, pair_shown}
 use Rattle.ruled_out.specs.Positions.{count_below, gap_of, is_below, version_of}
 
 -- ---- the test

@@ -10,7 +10,7 @@ use Rattle.doc_register.specs.declared.state.DocState.TheVariants.{Never, Gone, 
 use Rattle.doc_register.specs.Register.{DocStep, Exceeds, HasPair, Performs, condition_of, is_here, last_pair, performed_state}
 use Rattle.doc_register.specs.Run.{Entry, IsRun, State, Step, pair_taken}
 use Rattle.doc_register.proofs.RunLemmas.{AtMost, IsKind, below_new, leaves_pair, step_kind}
-use Rattle.history.specs.Events.{is_same}
+use Rattle.events.specs.Events.{is_same}
 use Rattle.version_pair.proofs.ListLemmas.{none_is_not_some, same_some}
 
 -- ---- states and pairs

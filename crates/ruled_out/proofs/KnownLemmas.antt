@@ -14,8 +14,8 @@ use Rattle.std.proofs.lemmas.Option.{get_or_from_slice_get, slice_get-get_or, sl
 use Rattle.version_pair.specs.declared.pair.Pair.{Pair}
 use Rattle.version_pair.specs.PairOrder.{IsBelow}
 use Rattle.doc_register.proofs.RunLemmas.{below_trans, not_below_itself}
-use Rattle.history.specs.declared.record.Rec.{Rec}
-use Rattle.ruled_out.specs.Told.{IsKnown, known_pairs}
+use Rattle.events.specs.declared.record.Rec.{Rec}
+use Rattle.ruled_out.specs.Reported.{IsKnown, known_pairs}
 use Rattle.ruled_out.specs.Positions.{count_below, is_below}
 use Rattle.ruled_out.specs.aids.KnownPairs.{AreKnown, pair_cmp}
 use Rattle.ruled_out.proofs.Counts.{below_tested, pair_order, tested_below}

@@ -1,11 +1,11 @@
 pub mod DocumentSteps
 mod Counts
 pub mod OrderedSteps
-pub mod ToldStates
+pub mod ReportedStates
 mod OrderedPositions
 pub mod PlacingLaws
 pub mod WalkLemmas
-mod ToldRecords
+mod ReportedRecords
 mod KnownLemmas
 mod PlaceLemmas
 mod RoomLemmas

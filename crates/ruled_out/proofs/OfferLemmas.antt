@@ -4,7 +4,7 @@ use Rattle.std.specs.Prelude.{◌↔◌}
 use Rattle.std.specs.BTreeSet.{BTreeSet}
 use Rattle.version_pair.specs.declared.pair.Pair.{Pair}
 use Rattle.version_pair.specs.PairOrder.{IsBelow}
-use Rattle.history.specs.declared.record.Rec.{Rec}
+use Rattle.events.specs.declared.record.Rec.{Rec}
 use Rattle.version_pair.proofs.ListLemmas.{get_front, get_last, get_snoc, same_some, take_one_more}
 use Rattle.ruled_out.specs.Positions.{IsNext}
 use Rattle.ruled_out.specs.aids.KnownPairs.{HasRoom, IsGapAbove}

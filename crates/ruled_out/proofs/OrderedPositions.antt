@@ -10,19 +10,19 @@ use Rattle.doc_register.specs.declared.state.DocState.{DocState}
 use Rattle.doc_register.specs.Register.{Exceeds, Performs, condition_of, last_pair}
 use Rattle.doc_register.specs.Run.{pair_taken}
 use Rattle.doc_register.proofs.RunLemmas.{AtMost, not_below_itself, not_both_below}
-use Rattle.history.specs.declared.event.Event.TheVariants.{Call, Reply}
-use Rattle.history.specs.declared.record.Rec.{Rec}
-use Rattle.history.specs.Events.{IsReplyAt}
-use Rattle.history.specs.Heard.{pair_of}
-use Rattle.history.specs.Order.{Placed}
+use Rattle.events.specs.declared.event.Event.TheVariants.{Call, Reply}
+use Rattle.events.specs.declared.record.Rec.{Rec}
+use Rattle.events.specs.Events.{IsReplyAt}
+use Rattle.events.specs.Heard.{pair_of}
+use Rattle.events.specs.Order.{Placed}
 use Rattle.version_pair.proofs.ListLemmas.{none_is_not_some, same_some}
-use Rattle.ruled_out.specs.Told.{IsKnown}
+use Rattle.ruled_out.specs.Reported.{IsKnown}
 use Rattle.ruled_out.specs.Positions.{IsNext, gap_of, version_of}
 use Rattle.ruled_out.specs.Placings.{MayTake}
 use Rattle.ruled_out.proofs.Counts.{gap_grows, known_or_not, version_before_gap}
 use Rattle.ruled_out.proofs.DocumentSteps.{exceeds_above, meets, met_pair, pair_reached, reached_pair}
-use Rattle.ruled_out.proofs.OrderedSteps.{Explained, IsEntry, IsRecordOf, IsTaken, call_of, doc_at, heard_told, lesser_first, performs_at, place_found, place_in, reached_after, reached_later, recs, same_reply, stands_first}
-use Rattle.ruled_out.proofs.ToldStates.{known_taken}
+use Rattle.ruled_out.proofs.OrderedSteps.{Explained, IsEntry, IsRecordOf, IsTaken, call_of, doc_at, heard_reported, lesser_first, performs_at, place_found, place_in, reached_after, reached_later, recs, same_reply, stands_first}
+use Rattle.ruled_out.proofs.ReportedStates.{known_taken}
 
 -- ---- positions
 
@@ -167,13 +167,13 @@ called_before x i j p r w c replied reply of with_it heard before = by_order (ca
       absurd (omega arith)
   by_order (inr not) (inr nor) =
       let same : replied ≡ w.call_at = omega arith in
-      let told : IsReplyAt x.events replied c.no reply = (heard_told x with_it.listed.0 c replied reply with_it.listed.1 heard).0 in
+      let reported : IsReplyAt x.events replied c.no reply = (heard_reported x with_it.listed.0 c replied reply with_it.listed.1 heard).0 in
       let call = call_of x of.listed.0 w of.listed.1 in
-      absurd (not_both (sym told ∙ (ap (slice_get x.events) same ∙ call.1)))
+      absurd (not_both (sym reported ∙ (ap (slice_get x.events) same ∙ call.1)))
 
 -- ---- calls without a reply
 
--- a call without a told reply that takes a pair in the order may take it
+-- a call without a reported reply that takes a pair in the order may take it
 pub may_take : (x : Explained) (k : ℕ) (p : Placed) (w : Rec) (q : Pair) (event : ℕ) (of : IsRecordOf x k p w) → pair_taken p.entry.reply p.entry.hidden ≡ Some q
     → w.heard ≡ None → w.call_at < event → MayTake (recs x) (floor_of x) event of.listed.0 w q
 may_take x k p w q event of takes unanswered called = record {
@@ -193,10 +193,10 @@ may_take x k p w q event of takes unanswered called = record {
   performs : Performs (doc_at x k) p.entry.op q (doc_at x (suc k))
   performs = performs_at x k p q of.entry takes
 
--- a told call that takes a pair is told of it
-pub takes_as_told : (x : Explained) (k : ℕ) (p : Placed) (w : Rec) (q : Pair) → IsRecordOf x k p w → pair_taken p.entry.reply p.entry.hidden ≡ Some q
+-- a reported call that takes a pair is said of it
+pub takes_as_reported : (x : Explained) (k : ℕ) (p : Placed) (w : Rec) (q : Pair) → IsRecordOf x k p w → pair_taken p.entry.reply p.entry.hidden ≡ Some q
     → (w.heard ≡ None) ⊎ (pair_of w.heard ≡ Some q)
-takes_as_told x k p w q of takes = by_heard w.heard refl where
+takes_as_reported x k p w q of takes = by_heard w.heard refl where
   shows : (y : ℕ) (reply : Answer) → w.heard ≡ Some (y, reply) → pair_taken reply p.entry.hidden ≡ Some q
   shows y reply heard = ap (λ a. pair_taken a p.entry.hidden) (sym (same_reply x k p w y reply of heard)) ∙ takes
 
@@ -207,5 +207,5 @@ takes_as_told x k p w q of takes = by_heard w.heard refl where
   by_heard (Some (y, Found v k)) heard = absurd (none_is_not_some q (shows y (Found v k) heard))
   by_heard (Some (y, Missing)) heard = absurd (none_is_not_some q (shows y Missing heard))
   by_heard (Some (y, Conflict)) heard =
-      let plain : p.entry.hidden ≡ None = x.explains.plain ((heard_told x of.listed.0 w y Conflict of.listed.1 heard).1 refl) k p of.entry.at in
+      let plain : p.entry.hidden ≡ None = x.explains.plain ((heard_reported x of.listed.0 w y Conflict of.listed.1 heard).1 refl) k p of.entry.at in
       absurd (none_is_not_some q (sym plain ∙ shows y Conflict heard))

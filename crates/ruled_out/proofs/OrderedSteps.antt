@@ -16,17 +16,17 @@ use Rattle.doc_register.specs.Register.{DocStep, Performs, last_pair}
 use Rattle.doc_register.specs.Run.{Entry, pair_taken, start}
 use Rattle.doc_register.proofs.RunLemmas.{AtMost, below_new, not_below_itself, step_kind}
 use Rattle.doc_register.proofs.RunLaws.{pair_performs}
-use Rattle.history.specs.declared.event.Event.{Event}
-use Rattle.history.specs.declared.record.Rec.{Rec}
-use Rattle.history.specs.Events.{IsCallAt, IsHistory, IsReplyAt, PassesAt, Precedes, is_call, records_of}
-use Rattle.history.specs.Laws.{IsSplitByDocument}
-use Rattle.history.specs.Order.{IsOfCall, Placed, run_of}
-use Rattle.history.proofs.EventLemmas.{same_call}
-use Rattle.history.proofs.HistoryLemmas.{call_passes}
+use Rattle.events.specs.declared.event.Event.{Event}
+use Rattle.events.specs.declared.record.Rec.{Rec}
+use Rattle.events.specs.Events.{IsCallAt, IsHistory, IsReplyAt, PassesAt, Precedes, is_call, records_of}
+use Rattle.events.specs.Laws.{IsSplitByDocument}
+use Rattle.events.specs.Order.{IsOfCall, Placed, run_of}
+use Rattle.events.proofs.EventLemmas.{same_call}
+use Rattle.events.proofs.HistoryLemmas.{call_passes}
 use Rattle.version_pair.proofs.ListLemmas.{compare, mapped_from, none_is_not_some, same_some}
-use Rattle.history.proofs.RecordLaws.{split_by_document}
+use Rattle.events.proofs.RecordLaws.{split_by_document}
 use Rattle.ruled_out.specs.Laws.{ExplainsWithin}
-use Rattle.ruled_out.specs.Told.{IsListed, as_told, told, told_of}
+use Rattle.ruled_out.specs.Reported.{IsListed, as_reported, reported, reported_of}
 use Rattle.ruled_out.proofs.DocumentSteps.{IsTakenBefore, at_place, came, keeps, leaves_it, never_written, own_step, pair_reached}
 
 -- ---- a document that an order explains
@@ -39,9 +39,9 @@ pub record Explained : Type 0 where
   pub history : IsHistory events
   pub explains : ExplainsWithin conflicts events doc order
 
--- the records of the document, as they are told
+-- the records of the document, as they are reported
 abbrev pub recs : Explained → List Rec
-recs x = told x.conflicts (records_of x.events x.doc)
+recs x = reported x.conflicts (records_of x.events x.doc)
 
 -- what the document is before a place of the order
 abbrev pub doc_at : Explained → ℕ → DocState
@@ -171,38 +171,38 @@ place_is (r ∷ rs) n p at = by_test (r.no == n) refl (sym (here (r.no == n) ref
 pub split : (x : Explained) → IsSplitByDocument x.events
 split x = split_by_document x.events x.history
 
--- the record that is told so
-pub record IsToldFrom (x : Explained) (j : ℕ) (r : Rec) : Type 0 where
+-- the record that is reported so
+pub record IsReportedFrom (x : Explained) (j : ℕ) (r : Rec) : Type 0 where
   pub own : Rec
   pub at : slice_get (records_of x.events x.doc) j ≡ Some own
-  pub is : as_told x.conflicts own ≡ r
+  pub is : as_reported x.conflicts own ≡ r
 
-pub told_from : (x : Explained) (j : ℕ) (r : Rec) → slice_get (recs x) j ≡ Some r → IsToldFrom x j r
-told_from x j r at = let m = mapped_from (as_told x.conflicts) (records_of x.events x.doc) j r at in record { own = m.0; at = m.1; is = m.2 }
+pub reported_from : (x : Explained) (j : ℕ) (r : Rec) → slice_get (recs x) j ≡ Some r → IsReportedFrom x j r
+reported_from x j r at = let m = mapped_from (as_reported x.conflicts) (records_of x.events x.doc) j r at in record { own = m.0; at = m.1; is = m.2 }
 
 -- the call of a record
 pub call_of : (x : Explained) (j : ℕ) (r : Rec) → slice_get (recs x) j ≡ Some r → (h : ℕ) × IsCallAt x.events r.call_at r.no h x.doc r.op
 call_of x j r at =
-    let o = told_from x j r at in
+    let o = reported_from x j r at in
     subst (λ (s : Rec). (h : ℕ) × IsCallAt x.events s.call_at s.no h x.doc s.op) o.is ((split x).of_call x.doc j o.own o.at)
 
--- what is told was heard, and under Maybe it is no conflict
-pub told_heard : (conflicts : Conflicts) (heard : Option (ℕ × Answer)) (replied : ℕ) (reply : Answer) → told_of conflicts heard ≡ Some (replied, reply)
+-- what is reported was heard, and under Maybe it is no conflict
+pub reported_heard : (conflicts : Conflicts) (heard : Option (ℕ × Answer)) (replied : ℕ) (reply : Answer) → reported_of conflicts heard ≡ Some (replied, reply)
     → (heard ≡ Some (replied, reply)) × (reply ≡ Conflict → conflicts ≡ Plain)
-told_heard conflicts None replied reply is = absurd (none_is_not_some (replied, reply) is)
-told_heard conflicts (Some (at, Indexed q created)) replied reply is = (is, λ conflict. let same : Indexed q created ≡ reply = ap (λ (y : ℕ × Answer). y.1) (same_some (at, Indexed q created) (replied, reply) is) in absurd (cc))
-told_heard conflicts (Some (at, Deleted q found)) replied reply is = (is, λ conflict. let same : Deleted q found ≡ reply = ap (λ (y : ℕ × Answer). y.1) (same_some (at, Deleted q found) (replied, reply) is) in absurd (cc))
-told_heard conflicts (Some (at, Found p k)) replied reply is = (is, λ conflict. let same : Found p k ≡ reply = ap (λ (y : ℕ × Answer). y.1) (same_some (at, Found p k) (replied, reply) is) in absurd (cc))
-told_heard conflicts (Some (at, Missing)) replied reply is = (is, λ conflict. let same : Missing ≡ reply = ap (λ (y : ℕ × Answer). y.1) (same_some (at, Missing) (replied, reply) is) in absurd (cc))
-told_heard Plain (Some (at, Conflict)) replied reply is = (is, λ conflict. refl)
-told_heard Maybe (Some (at, Conflict)) replied reply is = absurd (none_is_not_some (replied, reply) is)
+reported_heard conflicts None replied reply is = absurd (none_is_not_some (replied, reply) is)
+reported_heard conflicts (Some (at, Indexed q created)) replied reply is = (is, λ conflict. let same : Indexed q created ≡ reply = ap (λ (y : ℕ × Answer). y.1) (same_some (at, Indexed q created) (replied, reply) is) in absurd (cc))
+reported_heard conflicts (Some (at, Deleted q found)) replied reply is = (is, λ conflict. let same : Deleted q found ≡ reply = ap (λ (y : ℕ × Answer). y.1) (same_some (at, Deleted q found) (replied, reply) is) in absurd (cc))
+reported_heard conflicts (Some (at, Found p k)) replied reply is = (is, λ conflict. let same : Found p k ≡ reply = ap (λ (y : ℕ × Answer). y.1) (same_some (at, Found p k) (replied, reply) is) in absurd (cc))
+reported_heard conflicts (Some (at, Missing)) replied reply is = (is, λ conflict. let same : Missing ≡ reply = ap (λ (y : ℕ × Answer). y.1) (same_some (at, Missing) (replied, reply) is) in absurd (cc))
+reported_heard Plain (Some (at, Conflict)) replied reply is = (is, λ conflict. refl)
+reported_heard Maybe (Some (at, Conflict)) replied reply is = absurd (none_is_not_some (replied, reply) is)
 
--- the reply that a record tells is heard of its call
-pub heard_told : (x : Explained) (j : ℕ) (r : Rec) (replied : ℕ) (reply : Answer) → slice_get (recs x) j ≡ Some r → r.heard ≡ Some (replied, reply)
+-- the reply that a record says is heard of its call
+pub heard_reported : (x : Explained) (j : ℕ) (r : Rec) (replied : ℕ) (reply : Answer) → slice_get (recs x) j ≡ Some r → r.heard ≡ Some (replied, reply)
     → IsReplyAt x.events replied r.no reply × (reply ≡ Conflict → x.conflicts ≡ Plain)
-heard_told x j r replied reply at heard =
-    let o = told_from x j r at in
-    let was = told_heard x.conflicts o.own.heard replied reply (ap (λ (s : Rec). s.heard) o.is ∙ heard) in
+heard_reported x j r replied reply at heard =
+    let o = reported_from x j r at in
+    let was = reported_heard x.conflicts o.own.heard replied reply (ap (λ (s : Rec). s.heard) o.is ∙ heard) in
     (subst (λ n. IsReplyAt x.events replied n reply) (ap (λ (s : Rec). s.no) o.is) (((split x).heard x.doc j o.own o.at replied reply).0 was.0), was.1)
 
 -- two records of the document with one number are one
@@ -212,8 +212,8 @@ same_record x j k r s at bt number =
     let b = call_of x k s bt in
     let place : r.call_at ≡ s.call_at = x.history.called_once r.no r.call_at s.call_at (call_passes x.events r.call_at r.no a.0 x.doc r.op a.1)
     (subst (λ n. PassesAt (is_call n) x.events s.call_at) (sym number) (call_passes x.events s.call_at s.no b.0 x.doc s.op b.1)) in
-    let o = told_from x j r at in
-    let p = told_from x k s bt in
+    let o = reported_from x j r at in
+    let p = reported_from x k s bt in
     let called : o.own.call_at ≡ p.own.call_at = ap (λ (y : Rec). y.call_at) o.is ∙ (place ∙ sym (ap (λ (y : Rec). y.call_at) p.is)) in
     let here : j ≡ k = ((split x).once x.doc x.doc j k o.own p.own o.at p.at called).1 in
     same_some r s (sym at ∙ (ap (slice_get (recs x)) here ∙ bt))
@@ -246,7 +246,7 @@ record_of x i p e =
     let own = (split x).of_call x.doc r.0 r.1 r.2 in
     let same = same_call x.events of.0 p.no r.1.no p.entry.shard own.0 x.doc x.doc p.entry.op r.1.op call
     (subst (λ c. IsCallAt x.events c r.1.no own.0 x.doc r.1.op) r.3 own.1) in
-    (as_told x.conflicts r.1, record { entry = e; listed = (r.0, mapped_at (as_told x.conflicts) (records_of x.events x.doc) r.0 r.1 r.2); number = same.0; op = same.2 })
+    (as_reported x.conflicts r.1, record { entry = e; listed = (r.0, mapped_at (as_reported x.conflicts) (records_of x.events x.doc) r.0 r.1 r.2); number = same.0; op = same.2 })
 
 -- an answered call stands in the order, with its reply
 pub record IsAnswered (x : Explained) (r : Rec) (reply : Answer) : Type 0 where
@@ -257,7 +257,7 @@ pub record IsAnswered (x : Explained) (r : Rec) (reply : Answer) : Type 0 where
 pub answered : (x : Explained) (r : Rec) (replied : ℕ) (reply : Answer) → IsListed (recs x) r → r.heard ≡ Some (replied, reply) → IsAnswered x r reply
 answered x r replied reply listed heard =
     let call = call_of x listed.0 r listed.1 in
-    let a = x.explains.answered replied r.call_at r.no call.0 r.op reply (heard_told x listed.0 r replied reply listed.1 heard).0 call.1 in
+    let a = x.explains.answered replied r.call_at r.no call.0 r.op reply (heard_reported x listed.0 r replied reply listed.1 heard).0 call.1 in
     let q = place_found x.order r.no a.0 a.1 a.2 a.3 in
     let place : place_in x.order r.no ≡ a.0 = x.explains.once (place_in x.order r.no) a.0 q.0 a.1 q.1 a.2 (q.2 ∙ sym a.3) in
     let same : q.0 ≡ a.1 = same_some q.0 a.1 (sym q.1 ∙ (ap (slice_get x.order) place ∙ a.2)) in
@@ -284,7 +284,7 @@ stands_first x i j p q r s replied reply of with_it heard before =
       answered = replied;
       called = s.call_at;
       before = before;
-      reply = (reply, (heard_told x of.listed.0 r replied reply of.listed.1 heard).0);
+      reply = (reply, (heard_reported x of.listed.0 r replied reply of.listed.1 heard).0);
       call = call_passes x.events s.call_at s.no call.0 x.doc s.op call.1;
     } in
     x.explains.respects i j p q of.entry.at with_it.entry.at

@@ -7,11 +7,11 @@ use Rattle.std.proofs.lemmas.Option.{slice_get_within}
 use Rattle.version_pair.specs.declared.pair.Pair.{Pair}
 use Rattle.doc_register.specs.declared.op.Op.TheVariants.{Delete}
 use Rattle.doc_register.specs.Register.{condition_of, value_of}
-use Rattle.history.specs.declared.record.Rec.{Rec}
+use Rattle.events.specs.declared.record.Rec.{Rec}
 use Rattle.version_pair.proofs.ListLemmas.{get_snoc, none_is_not_some, same_some}
 use Rattle.ruled_out.specs.declared.walk.Walk.{Walk}
 use Rattle.ruled_out.specs.declared.writers.Writers.{Writers}
-use Rattle.ruled_out.specs.Told.{IsGone, IsKnown, IsToldOf}
+use Rattle.ruled_out.specs.Reported.{IsGone, IsKnown, IsReportedOf}
 use Rattle.ruled_out.specs.Positions.{version_of}
 use Rattle.ruled_out.specs.aids.Offers.{IsOfferedTo, KeepsRooms}
 use Rattle.ruled_out.specs.aids.Sets.{IsIn}
@@ -19,7 +19,7 @@ use Rattle.ruled_out.specs.aids.Standing.{AreTaken, IsTaken, IsUntaken}
 use Rattle.ruled_out.specs.aids.States.{AreEarlier, HasPassed, Knows}
 use Rattle.ruled_out.specs.Placings.{AreInOrder}
 use Rattle.ruled_out.specs.aids.VersionsOf.{AreOf}
-use Rattle.ruled_out.specs.aids.Wild.{HasChanged, HasTaken, IsAbsent, IsOffered, IsPresent, IsToldAbsent, IsToldPresent, IsWritten}
+use Rattle.ruled_out.specs.aids.Wild.{HasChanged, HasTaken, IsAbsent, IsOffered, IsPresent, IsReportedAbsent, IsReportedPresent, IsWritten}
 use Rattle.ruled_out.specs.aids.Writing.{AreWriters, IsGiven, IsSwapped}
 use Rattle.ruled_out.proofs.WriterLemmas.{IsNextCall, TakesNext, given_kept, swapped_kept, taken_kept, taken_more, taken_next}
 
@@ -119,8 +119,8 @@ present_write records floors f w k c old new next gives asks are offered n = (λ
 
 -- ---- what may have been written
 
-written_kept : (records : List Rec) (floors : List ℕ) (f : ℕ) (v : Pair) → IsToldOf records v ⊎ IsWritten records floors v → IsToldOf records v ⊎ IsWritten records (floors ++ f ∷ []) v
-written_kept records floors f v (inl told) = inl told
+written_kept : (records : List Rec) (floors : List ℕ) (f : ℕ) (v : Pair) → IsReportedOf records v ⊎ IsWritten records floors v → IsReportedOf records v ⊎ IsWritten records (floors ++ f ∷ []) v
+written_kept records floors f v (inl reported) = inl reported
 written_kept records floors f v (inr (u, k, gives, found, taken)) = inr (u, k, gives, found, taken_kept records floors f u v taken)
 
 -- a call that gives no number, or was answered, writes nothing
@@ -158,7 +158,7 @@ writers_same records floors f w writers at not are = record {
 
 -- ---- what the walk knows
 
--- where the next call may do nothing that isn't told, the walk knows all of it
+-- where the next call may do nothing that isn't reported, the walk knows all of it
 pub knows_nothing : (records : List Rec) (floors : List ℕ) (f : ℕ) (w : Rec) (walk : Walk) → slice_get records (length floors) ≡ Some w → ((c : Option Pair) → w.heard ≡ None → w.op ≡ Delete c → ⊥) → ((k : ℕ) → w.heard ≡ None → value_of w.op ≡ Some k → ⊥)
     → Knows records floors walk → Knows records (floors ++ f ∷ []) walk
 knows_nothing records floors f w walk at no_delete no_write knows = record {
@@ -203,12 +203,12 @@ knows_write records floors f w k old new next gives same rooms offered writers k
 
 -- ---- the start
 
-pub knows_first : (records : List Rec) (walk : Walk) → AreOf records walk.versions → IsToldAbsent records walk.absent.positions → IsToldPresent records walk.present.positions → KeepsRooms records walk.absent → KeepsRooms records walk.present
+pub knows_first : (records : List Rec) (walk : Walk) → AreOf records walk.versions → IsReportedAbsent records walk.absent.positions → IsReportedPresent records walk.present.positions → KeepsRooms records walk.absent → KeepsRooms records walk.present
     → AreWriters records [] walk.writers → walk.settled ≡ 0 → Knows records [] walk
 knows_first records walk versions away there away_rooms there_rooms writers start = record {
   versions = versions;
-  absent = λ n. (λ is. absent_told n ((away n).0 is), λ may. (away n).1 (told_absent n may));
-  present = λ n. (λ is. inl ((there n).0 is), λ may. (there n).1 (told_present n may));
+  absent = λ n. (λ is. absent_reported n ((away n).0 is), λ may. (away n).1 (reported_absent n may));
+  present = λ n. (λ is. inl ((there n).0 is), λ may. (there n).1 (reported_present n may));
   absent_rooms = away_rooms;
   present_rooms = there_rooms;
   writers = writers;
@@ -217,18 +217,18 @@ knows_first records walk versions away there away_rooms there_rooms writers star
   nothing : (j : ℕ) → j < walk.settled → walk.settled ≡ 0 → ⊥
   nothing j low none = omega arith
 
-  absent_told : (n : ℕ) → (n ≡ 0) ⊎ ((v : Pair) × IsGone records v × (n ≡ version_of records v)) → IsAbsent records [] n
-  absent_told n (inl never) = inl never
-  absent_told n (inr gone) = inr (inl gone)
+  absent_reported : (n : ℕ) → (n ≡ 0) ⊎ ((v : Pair) × IsGone records v × (n ≡ version_of records v)) → IsAbsent records [] n
+  absent_reported n (inl never) = inl never
+  absent_reported n (inr gone) = inr (inl gone)
 
-  told_absent : (n : ℕ) → IsAbsent records [] n → (n ≡ 0) ⊎ ((v : Pair) × IsGone records v × (n ≡ version_of records v))
-  told_absent n (inl never) = inl never
-  told_absent n (inr (inl gone)) = inr gone
-  told_absent n (inr (inr (u, c, is, changed))) = absurd (none_is_not_some changed.taken.floor changed.taken.made)
+  reported_absent : (n : ℕ) → IsAbsent records [] n → (n ≡ 0) ⊎ ((v : Pair) × IsGone records v × (n ≡ version_of records v))
+  reported_absent n (inl never) = inl never
+  reported_absent n (inr (inl gone)) = inr gone
+  reported_absent n (inr (inr (u, c, is, changed))) = absurd (none_is_not_some changed.taken.floor changed.taken.made)
 
-  told_present : (n : ℕ) → IsPresent records [] n → (v : Pair) × IsKnown records v × (¬ IsGone records v) × (n ≡ version_of records v)
-  told_present n (inl known) = known
-  told_present n (inr (u, k, is, changed)) = absurd (none_is_not_some changed.taken.floor changed.taken.made)
+  reported_present : (n : ℕ) → IsPresent records [] n → (v : Pair) × IsKnown records v × (¬ IsGone records v) × (n ≡ version_of records v)
+  reported_present n (inl known) = known
+  reported_present n (inr (u, k, is, changed)) = absurd (none_is_not_some changed.taken.floor changed.taken.made)
 
 -- ---- known pairs that were taken
 

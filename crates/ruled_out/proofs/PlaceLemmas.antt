@@ -5,14 +5,14 @@ use Rattle.std.proofs.lemmas.Option.{get_or_from_slice_get, slice_get-get_or, sl
 use Rattle.version_pair.specs.declared.pair.Pair.{Pair}
 use Rattle.version_pair.specs.PairOrder.{IsBelow}
 use Rattle.doc_register.proofs.RunLemmas.{below_trans}
-use Rattle.history.specs.declared.record.Rec.{Rec}
+use Rattle.events.specs.declared.record.Rec.{Rec}
 use Rattle.version_pair.proofs.ListLemmas.{get_last, none_is_not_some, same_some, take_one_more}
-use Rattle.ruled_out.specs.Told.{IsKnown, known_pairs}
+use Rattle.ruled_out.specs.Reported.{IsKnown, known_pairs}
 use Rattle.ruled_out.specs.Positions.{count_below, is_below}
 use Rattle.ruled_out.specs.declared.version.Version.{Version}
 use Rattle.ruled_out.specs.aids.KnownPairs.{AreKnown, HasRoom, IsGapAbove}
 use Rattle.ruled_out.specs.aids.Places.{Gives, GoneAt, IsAmongFirst, IsRepeated, IsVersionAt, PresentAt, RoomBehind}
-use Rattle.ruled_out.specs.aids.Versions.{AreVersions, untold, version_told}
+use Rattle.ruled_out.specs.aids.Versions.{AreVersions, unreported, version_reported}
 use Rattle.ruled_out.proofs.Counts.{below_tested, pair_order, tested_below}
 use Rattle.ruled_out.proofs.VersionLemmas.{gone_version}
 use Rattle.ruled_out.proofs.KnownLemmas.{count_moved, count_parted, later_not_below, there_known}
@@ -23,7 +23,7 @@ repeated pairs i place p v next at same = (length (take i pairs), subst (λ (xs 
   front : take place pairs ≡ take i pairs ++ v ∷ []
   front = let is : place ≡ suc i = omega arith in ap (λ n. take n pairs) is ∙ take_one_more pairs i v at
 
--- a test whether the two pairs are the same tells whether the pair is repeated
+-- a test whether the two pairs are the same says whether the pair is repeated
 pub repeated_by : (pairs : List Pair) (i place : ℕ) (p v : Pair) (b : Bool) → i + 1 ≡ place → slice_get pairs i ≡ Some v → slice_get pairs place ≡ Some p → (b ≡ true → v ≡ p) → (v ≡ p → b ≡ true) → IsRepeated pairs place b
 repeated_by pairs i place p v true next there at is back = λ q same. subst (IsAmongFirst pairs place) (same_some p q (sym at ∙ same)) (repeated pairs i place p v next there (is refl))
 repeated_by pairs i place p v false next there at is back = λ q u j same before other one. other_place q u j same before other one where
@@ -80,16 +80,16 @@ first_count records vs place p known at other = count_parted vs p place inside l
 pub known_here : (records : List Rec) (vs : List Pair) (place : ℕ) (p : Pair) → AreKnown records vs → slice_get vs place ≡ Some p → IsKnown records p
 known_here records vs place p known at = there_known records vs p known (place, at)
 
--- what is told of a pair stands at the place where the pair stands first
-pub told_first : (records : List Rec) (vs : List Pair) (versions : List Version) (place : ℕ) (p : Pair) (o : Option Version) → AreKnown records vs → AreVersions records versions → o ≡ slice_get versions place
-    → IsRepeated vs place false → slice_get vs place ≡ Some p → o ≡ Some (version_told untold p records)
-told_first records vs versions place p o known are is other at = is ∙ (ap (slice_get versions) (first_count records vs place p known at other) ∙ are.each p (known_here records vs place p known at))
+-- what is said of a pair stands at the place where the pair stands first
+pub reported_first : (records : List Rec) (vs : List Pair) (versions : List Version) (place : ℕ) (p : Pair) (o : Option Version) → AreKnown records vs → AreVersions records versions → o ≡ slice_get versions place
+    → IsRepeated vs place false → slice_get vs place ≡ Some p → o ≡ Some (version_reported unreported p records)
+reported_first records vs versions place p o known are is other at = is ∙ (ap (slice_get versions) (first_count records vs place p known at other) ∙ are.each p (known_here records vs place p known at))
 
 pub version_first : (records : List Rec) (vs : List Pair) (versions : List Version) (place : ℕ) (o : Option Version) → AreKnown records vs → AreVersions records versions → o ≡ slice_get versions place → IsRepeated vs place false → IsVersionAt records vs place o
-version_first records vs versions place None known are is other = λ p at. absurd (none_is_not_some (version_told untold p records) (told_first records vs versions place p None known are is other at))
+version_first records vs versions place None known are is other = λ p at. absurd (none_is_not_some (version_reported unreported p records) (reported_first records vs versions place p None known are is other at))
 version_first records vs versions place (Some x) known are is other = λ p at. (
   first_count records vs place p known at other,
-  same_some x (version_told untold p records) (told_first records vs versions place p (Some x) known are is other at),
+  same_some x (version_reported unreported p records) (reported_first records vs versions place p (Some x) known are is other at),
 )
 
 -- ---- what a place gives

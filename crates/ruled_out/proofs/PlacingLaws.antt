@@ -12,21 +12,21 @@ use Rattle.doc_register.specs.declared.state.DocState.TheVariants.{Never, Gone, 
 use Rattle.doc_register.specs.Register.{DocStep, HasPair, IsPerformed, Performs, condition_of, is_here, last_pair, performed_state, value_of}
 use Rattle.doc_register.specs.Run.{pair_taken}
 use Rattle.doc_register.specs.declared.state.Conflicts.{Conflicts}
-use Rattle.history.specs.declared.event.Event.{Event}
-use Rattle.history.specs.declared.record.Rec.{Rec}
-use Rattle.history.specs.Events.{IsHistory, records_of}
-use Rattle.history.specs.Heard.{pair_of}
-use Rattle.history.specs.Order.{Explains, Placed}
+use Rattle.events.specs.declared.event.Event.{Event}
+use Rattle.events.specs.declared.record.Rec.{Rec}
+use Rattle.events.specs.Events.{IsHistory, records_of}
+use Rattle.events.specs.Heard.{pair_of}
+use Rattle.events.specs.Order.{Explains, Placed}
 use Rattle.version_pair.proofs.ListLemmas.{get_within, none_is_not_some, same_some}
-use Rattle.ruled_out.specs.Told.{IsGone, IsKnown, IsListed, IsToldOf, pair_shown, told}
+use Rattle.ruled_out.specs.Reported.{IsGone, IsKnown, IsListed, IsReportedOf, pair_shown, reported}
 use Rattle.ruled_out.specs.Positions.{position_after, version_of}
 use Rattle.ruled_out.specs.Placings.{IsPlacing, IsReached, Lifts, MayAnswer, MayBeAbsent, MayBePresent, MayChange, MayConflict, MayRefuse, MayStand, MayWrite}
 use Rattle.ruled_out.specs.Laws.{ExplainedHavePlacings, ExplainsWithin, OrderedAreNotRuledOut, RuledOutHaveNoOrder}
 use Rattle.ruled_out.proofs.Counts.{known_or_not, no_gap_is_version, same_version, shown_known}
 use Rattle.ruled_out.proofs.DocumentSteps.{exceeds_above, leaves_it, meets, met_pair}
-use Rattle.ruled_out.proofs.OrderedSteps.{Explained, IsAnswered, IsRecordOf, IsTaken, answered, doc_at, heard_told, of_record, performs_at, place_in, place_is, reached_after, record_of, recs, same_state, stands_first, taken_for}
-use Rattle.ruled_out.proofs.ToldStates.{TakesShown, did_delete, did_index, found_has, gone_told, known_taken, state_at, takes_shown, state_shown, takes_told, told_step, untold_here}
-use Rattle.ruled_out.proofs.OrderedPositions.{called_before, floor_is, floor_of, may_take, position, position_at, position_below, position_grows, position_known, position_unknown, reached_position, taken_below, taken_earlier, takes_as_told}
+use Rattle.ruled_out.proofs.OrderedSteps.{Explained, IsAnswered, IsRecordOf, IsTaken, answered, doc_at, heard_reported, of_record, performs_at, place_in, place_is, reached_after, record_of, recs, same_state, stands_first, taken_for}
+use Rattle.ruled_out.proofs.ReportedStates.{TakesShown, did_delete, did_index, found_has, gone_reported, known_taken, state_at, takes_shown, state_shown, takes_reported, reported_step, unreported_here}
+use Rattle.ruled_out.proofs.OrderedPositions.{called_before, floor_is, floor_of, may_take, position, position_at, position_below, position_grows, position_known, position_unknown, reached_position, taken_below, taken_earlier, takes_as_reported}
 
 -- ---- an answered call that stands in the order
 
@@ -52,16 +52,16 @@ takes_before x q k j c replied reply s before =
       called = called_before x k.place (place_in x.order c.no) k.placed s.answered.placed w.0 c replied reply w.1 s.answered.own s.heard first;
     }
 
--- a call that took an untold pair has no told reply
-unanswered_taker : (x : Explained) (q : Pair) (k : IsTaken x q) (w : Rec) → IsRecordOf x k.place k.placed w → (¬ IsToldOf (recs x) q) → w.heard ≡ None
-unanswered_taker x q k w of untold = by_case (takes_as_told x k.place k.placed w q of k.takes) where
+-- a call that took an unreported pair has no reported reply
+unanswered_taker : (x : Explained) (q : Pair) (k : IsTaken x q) (w : Rec) → IsRecordOf x k.place k.placed w → (¬ IsReportedOf (recs x) q) → w.heard ≡ None
+unanswered_taker x q k w of unreported = by_case (takes_as_reported x k.place k.placed w q of k.takes) where
   by_case : (w.heard ≡ None) ⊎ (pair_of w.heard ≡ Some q) → w.heard ≡ None
   by_case (inl none) = none
-  by_case (inr is) = absurd (untold (w, of.listed, is))
+  by_case (inr is) = absurd (unreported (w, of.listed, is))
 
--- a told pair is known
-pub told_known : (records : List Rec) (q : Pair) → IsToldOf records q → IsKnown records q
-told_known records q (r, listed, is) = shown_known records q (record { call = r; listed = listed; shows = inl (by_heard r.heard is) }) where
+-- a reported pair is known
+pub reported_known : (records : List Rec) (q : Pair) → IsReportedOf records q → IsKnown records q
+reported_known records q (r, listed, is) = shown_known records q (record { call = r; listed = listed; shows = inl (by_heard r.heard is) }) where
   by_reply : (y : ℕ) (reply : Answer) → pair_taken reply None ≡ Some q → pair_shown (Some (y, reply)) ≡ Some q
   by_reply y (Indexed v created) is = is
   by_reply y (Deleted v found) is = is
@@ -79,7 +79,7 @@ may_change : (x : Explained) (j : ℕ) (c : Rec) (replied : ℕ) (reply : Answer
 may_change x j c replied reply p s is unknown =
     let k = taken_for x j p is in
     let w = takes_before x p k.own j c replied reply s k.before in
-    let none : w.call.heard ≡ None = unanswered_taker x p k.own w.call w.own (λ told. unknown (told_known (recs x) p told)) in
+    let none : w.call.heard ≡ None = unanswered_taker x p k.own w.call w.own (λ reported. unknown (reported_known (recs x) p reported)) in
     let left = leaves_it (doc_at x k.own.place) k.own.placed.entry.op p (doc_at x (suc k.own.place)) (performs_at x k.own.place k.own.placed p k.own.entry k.own.takes) in (
       record {
         number = w.own.listed.0;
@@ -111,7 +111,7 @@ gives (Create k) p q n is = let same : Here q n ≡ Here p k = is in let one : k
 absent_there : (x : Explained) (j : ℕ) (c : Rec) (replied : ℕ) (reply : Answer) → StandsBefore x j c replied reply → is_here (doc_at x j) ≡ false → MayBeAbsent (recs x) (floor_of x) replied (position_at x j)
 absent_there x j c replied reply s away = by_state (doc_at x j) refl where
   by_known : (p : Pair) → doc_at x j ≡ Gone p → IsKnown (recs x) p ⊎ (¬ IsKnown (recs x) p) → MayBeAbsent (recs x) (floor_of x) replied (position_at x j)
-  by_known p is (inl known) = inr (inl (p, gone_told x p j known is, ap (λ t. position (recs x) (last_pair t)) is ∙ position_known (recs x) p known))
+  by_known p is (inl known) = inr (inl (p, gone_reported x p j known is, ap (λ t. position (recs x) (last_pair t)) is ∙ position_known (recs x) p known))
   by_known p is (inr unknown) =
       let m = may_change x j c replied reply p s (ap last_pair is) unknown in
       let d = deletes m.0.call.op p p (sym is ∙ m.1) in
@@ -128,7 +128,7 @@ present_there x j c replied reply s there = by_state (doc_at x j) refl where
   not_gone p k is gone =
       let a = answered x gone.call gone.replied (Deleted p gone.found) gone.listed gone.heard in
       let i : ℕ = place_in x.order gone.call.no in
-      let did = did_delete (doc_at x i) gone.call.op p gone.found a.placed.entry.hidden (doc_at x (suc i)) (told_step x gone.call (Deleted p gone.found) a) in
+      let did = did_delete (doc_at x i) gone.call.op p gone.found a.placed.entry.hidden (doc_at x (suc i)) (reported_step x gone.call (Deleted p gone.found) a) in
       let impossible : Here p k ≡ Gone p = sym is ∙ (same_state x j (suc i) (ap last_pair is ∙ ap last_pair (sym did.left)) ∙ did.left) in
       cc
 
@@ -145,13 +145,13 @@ present_there x j c replied reply s there = by_state (doc_at x j) refl where
 
 -- each known pair that the document has reached before an answered call has a call that took it
 reached_there : (x : Explained) (j : ℕ) (c : Rec) (replied : ℕ) (reply : Answer) → StandsBefore x j c replied reply → IsReached (recs x) (floor_of x) replied (position_at x j)
-reached_there x j c replied reply s v known untold reached =
+reached_there x j c replied reply s v known unreported reached =
     let k = known_taken x v known in
     let w = takes_before x v k j c replied reply s (taken_earlier x v k j reached) in
-    let none : w.call.heard ≡ None = unanswered_taker x v k w.call w.own untold in
+    let none : w.call.heard ≡ None = unanswered_taker x v k w.call w.own unreported in
     let left = leaves_it (doc_at x k.place) k.placed.entry.op v (doc_at x (suc k.place)) (performs_at x k.place k.placed v k.entry k.takes) in
     let is : doc_at x (suc k.place) ≡ performed_state Never w.call.op v = left.0 ∙ ap (λ o. performed_state Never o v) w.own.op in
-    let given = number_given (doc_at x (suc k.place)) w.call.op is left.1 (untold_here x v (suc k.place) known untold left.1) in
+    let given = number_given (doc_at x (suc k.place)) w.call.op is left.1 (unreported_here x v (suc k.place) known unreported left.1) in
     record {
       number = w.own.listed.0;
       call = w.call;
@@ -186,7 +186,7 @@ may_write x c replied reply q absent listed s shows flag = record {
   was_present = λ is. present_there x j c replied reply s (there (is_here (doc_at x j)) (sym is ∙ flag));
   condition = λ b is. (
       let met = met_pair (doc_at x j) b (meets (doc_at x j) t.placed.entry.op q (doc_at x (suc j)) b performs (ap condition_of t.own.op ∙ is)) in
-      let known : IsKnown (recs x) b = shown_known (recs x) b (record { call = c; listed = listed; shows = inr (ap (option_and_then (λ (p : Pair). condition_of c.op)) told ∙ is) }) in (
+      let known : IsKnown (recs x) b = shown_known (recs x) b (record { call = c; listed = listed; shows = inr (ap (option_and_then (λ (p : Pair). condition_of c.op)) reported ∙ is) }) in (
         exceeds_above (doc_at x j) b q met.0 performs.rises,
         ap (position (recs x)) met.0 ∙ position_known (recs x) b known,
         flag ∙ ap not met.1,
@@ -196,8 +196,8 @@ may_write x c replied reply q absent listed s shows flag = record {
   j : ℕ
   j = place_in x.order c.no
 
-  told : pair_of c.heard ≡ Some q
-  told = ap pair_of s.heard ∙ shows
+  reported : pair_of c.heard ≡ Some q
+  reported = ap pair_of s.heard ∙ shows
 
   t : TakesShown x c q
   t = takes_shown x c replied reply q listed s.heard shows
@@ -256,7 +256,7 @@ may_refuse x j c replied reply b s other = record {
   by_state Never is known stays same = let impossible : 0 ≡ version_of (recs x) b = sym (ap (λ t. position (recs x) (last_pair t)) is) ∙ same in omega arith
   by_state (Gone p) is known stays same =
       let one : p ≡ b = by_pair (Gone p) p is refl known same (known_or_not (recs x) p) in
-      stays (gone_told x b j known (is ∙ ap (λ v. Gone v) one))
+      stays (gone_reported x b j known (is ∙ ap (λ v. Gone v) one))
   by_state (Here p k) is known stays same =
       let one : p ≡ b = by_pair (Here p k) p is refl known same (known_or_not (recs x) p) in
       other (subst (λ t. HasPair t b) (sym is) one)
@@ -275,21 +275,21 @@ may_answer : (x : Explained) (c : Rec) (replied : ℕ) (reply : Answer) → IsLi
     → MayAnswer (recs x) (floor_of x) replied c reply (position_at x (place_in x.order c.no))
 may_answer x c replied (Indexed q created) listed s =
     may_write x c replied (Indexed q created) q created listed s refl
-    (did_index (doc_at x (place_in x.order c.no)) c.op q created s.answered.placed.entry.hidden (doc_at x (suc (place_in x.order c.no))) (told_step x c (Indexed q created) s.answered)).flag
+    (did_index (doc_at x (place_in x.order c.no)) c.op q created s.answered.placed.entry.hidden (doc_at x (suc (place_in x.order c.no))) (reported_step x c (Indexed q created) s.answered)).flag
 may_answer x c replied (Deleted q found) listed s =
     may_write x c replied (Deleted q found) q (not found) listed s refl
-    (ap not (did_delete (doc_at x (place_in x.order c.no)) c.op q found s.answered.placed.entry.hidden (doc_at x (suc (place_in x.order c.no))) (told_step x c (Deleted q found) s.answered)).flag)
+    (ap not (did_delete (doc_at x (place_in x.order c.no)) c.op q found s.answered.placed.entry.hidden (doc_at x (suc (place_in x.order c.no))) (reported_step x c (Deleted q found) s.answered)).flag)
 may_answer x c replied (Found p k) listed s =
-    let here = found_has (doc_at x (place_in x.order c.no)) c.op s.answered.placed.entry.hidden (doc_at x (suc (place_in x.order c.no))) p k (told_step x c (Found p k) s.answered) in
+    let here = found_has (doc_at x (place_in x.order c.no)) c.op s.answered.placed.entry.hidden (doc_at x (suc (place_in x.order c.no))) p k (reported_step x c (Found p k) s.answered) in
     let known : IsKnown (recs x) p = shown_known (recs x) p (record { call = c; listed = listed; shows = inl (ap pair_shown s.heard) }) in
     ap (λ t. position (recs x) (last_pair t)) here ∙ position_known (recs x) p known
 may_answer x c replied Missing listed s =
     absent_there x (place_in x.order c.no) c replied Missing s
-    (missing_away (doc_at x (place_in x.order c.no)) c.op s.answered.placed.entry.hidden (doc_at x (suc (place_in x.order c.no))) (told_step x c Missing s.answered))
+    (missing_away (doc_at x (place_in x.order c.no)) c.op s.answered.placed.entry.hidden (doc_at x (suc (place_in x.order c.no))) (reported_step x c Missing s.answered))
 may_answer x c replied Conflict listed s =
-    let plain : s.answered.placed.entry.hidden ≡ None = x.explains.plain ((heard_told x listed.0 c replied Conflict listed.1 s.heard).1 refl) (place_in x.order c.no) s.answered.placed s.answered.own.entry.at in
+    let plain : s.answered.placed.entry.hidden ≡ None = x.explains.plain ((heard_reported x listed.0 c replied Conflict listed.1 s.heard).1 refl) (place_in x.order c.no) s.answered.placed s.answered.own.entry.at in
     may_conflict x (place_in x.order c.no) c replied Conflict c.op (doc_at x (suc (place_in x.order c.no))) s
-    (subst (λ h. DocStep (doc_at x (place_in x.order c.no)) c.op Conflict h (doc_at x (suc (place_in x.order c.no)))) plain (told_step x c Conflict s.answered))
+    (subst (λ h. DocStep (doc_at x (place_in x.order c.no)) c.op Conflict h (doc_at x (suc (place_in x.order c.no)))) plain (reported_step x c Conflict s.answered))
 
 -- ---- the placing
 
@@ -310,11 +310,11 @@ after_reached : (x : Explained) (c : Rec) (replied : ℕ) (reply : Answer) → I
     → position_after (recs x) (pair_of c.heard) (position_at x (place_in x.order c.no)) ≤ position_at x (suc (place_in x.order c.no))
 after_reached x c replied reply listed heard = by_pair (pair_of c.heard) refl where
   by_pair : (o : Option Pair) → pair_of c.heard ≡ o → position_after (recs x) o (position_at x (place_in x.order c.no)) ≤ position_at x (suc (place_in x.order c.no))
-  by_pair None told = position_grows x (place_in x.order c.no) (suc (place_in x.order c.no)) (omega arith)
-  by_pair (Some q) told =
-      let t = takes_told x c q listed told in
+  by_pair None reported = position_grows x (place_in x.order c.no) (suc (place_in x.order c.no)) (omega arith)
+  by_pair (Some q) reported =
+      let t = takes_reported x c q listed reported in
       let left = leaves_it (doc_at x (place_in x.order c.no)) t.placed.entry.op q (doc_at x (suc (place_in x.order c.no))) (performs_at x (place_in x.order c.no) t.placed q t.own.entry t.takes) in
-      let same : position_at x (suc (place_in x.order c.no)) ≡ version_of (recs x) q = ap (position (recs x)) left.1 ∙ position_known (recs x) q (told_known (recs x) q (c, listed, told)) in
+      let same : position_at x (suc (place_in x.order c.no)) ≡ version_of (recs x) q = ap (position (recs x)) left.1 ∙ position_known (recs x) q (reported_known (recs x) q (c, listed, reported)) in
       omega arith
 
 -- the positions at which the calls of an explained document stand in the order are a placing
@@ -361,7 +361,7 @@ explains_within conflicts events d order explains = record {
 }
 
 placing_within : (conflicts : Conflicts) (events : List Event) (order : List Placed) (d : List ℕ) → IsHistory events → ExplainsWithin conflicts events d order
-    → (floor : ℕ → ℕ) × ((event : ℕ) → IsPlacing (told conflicts (records_of events d)) event floor)
+    → (floor : ℕ → ℕ) × ((event : ℕ) → IsPlacing (reported conflicts (records_of events d)) event floor)
 placing_within conflicts events order d history explains =
     let x : Explained = record { conflicts = conflicts; events = events; order = order; doc = d; history = history; explains = explains } in
     (floor_of x, λ event. explained_placing x event)

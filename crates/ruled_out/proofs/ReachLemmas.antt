@@ -4,10 +4,10 @@ use Rattle.std.proofs.lemmas.Bool.{cases_lt}
 use Rattle.std.proofs.lemmas.Option.{get_or_from_slice_get, slice_get_within}
 use Rattle.version_pair.specs.declared.pair.Pair.{Pair}
 use Rattle.version_pair.specs.PairOrder.{IsBelow}
-use Rattle.history.specs.declared.record.Rec.{Rec}
+use Rattle.events.specs.declared.record.Rec.{Rec}
 use Rattle.version_pair.proofs.ListLemmas.{none_is_not_some}
 use Rattle.ruled_out.specs.declared.walk.Walk.{Walk}
-use Rattle.ruled_out.specs.Told.{IsKnown, IsToldOf}
+use Rattle.ruled_out.specs.Reported.{IsKnown, IsReportedOf}
 use Rattle.ruled_out.specs.Positions.{version_of}
 use Rattle.ruled_out.specs.aids.Standing.{IsReachedBy, IsTaken}
 use Rattle.ruled_out.specs.aids.States.{Knows}
@@ -15,20 +15,20 @@ use Rattle.ruled_out.specs.aids.Wild.{IsWritten}
 use Rattle.ruled_out.proofs.KnownLemmas.{known_there, later_not_below}
 use Rattle.ruled_out.proofs.RoomLemmas.{version_grows}
 
-untold_written : (records : List Rec) (floors : List ℕ) (v : Pair) → ¬ IsToldOf records v → IsToldOf records v ⊎ IsWritten records floors v → IsWritten records floors v
-untold_written records floors v not (inl told) = absurd (not told)
-untold_written records floors v not (inr written) = written
+unreported_written : (records : List Rec) (floors : List ℕ) (v : Pair) → ¬ IsReportedOf records v → IsReportedOf records v ⊎ IsWritten records floors v → IsWritten records floors v
+unreported_written records floors v not (inl reported) = absurd (not reported)
+unreported_written records floors v not (inr written) = written
 
 -- where all known pairs were passed each position is reached
 pub reached_end : (records : List Rec) (floors : List ℕ) (walk : Walk) (n : ℕ) → Knows records floors walk → length walk.versions.known.pairs.items ≤ walk.settled → IsReachedBy records floors n
-reached_end records floors walk n knows past v known untold within =
+reached_end records floors walk n knows past v known unreported within =
     let there = known_there records walk.versions.known.pairs.items v knows.versions.known known in
     let inside : there.0 < length walk.versions.known.pairs.items = slice_get_within walk.versions.known.pairs.items there.0 v there.1 in
-    untold_written records floors v untold (knows.settled there.0 v (omega arith) there.1)
+    unreported_written records floors v unreported (knows.settled there.0 v (omega arith) there.1)
 
 -- else the positions before that of the first pair that wasn't passed
 pub reached_below : (records : List Rec) (floors : List ℕ) (walk : Walk) (p : Pair) (n : ℕ) → Knows records floors walk → slice_get walk.versions.known.pairs.items walk.settled ≡ Some p → n < version_of records p → IsReachedBy records floors n
-reached_below records floors walk p n knows at below v is untold within = by_place (cases_lt there.0 walk.settled) where
+reached_below records floors walk p n knows at below v is unreported within = by_place (cases_lt there.0 walk.settled) where
   vs : List Pair
   vs = walk.versions.known.pairs.items
 
@@ -36,7 +36,7 @@ reached_below records floors walk p n knows at below v is untold within = by_pla
   there = known_there records vs v knows.versions.known is
 
   by_place : ((there.0 < walk.settled) ⊎ (walk.settled ≤ there.0)) → IsWritten records floors v
-  by_place (inl before) = untold_written records floors v untold (knows.settled there.0 v before there.1)
+  by_place (inl before) = unreported_written records floors v unreported (knows.settled there.0 v before there.1)
   by_place (inr not) =
       let inside : there.0 < length vs = slice_get_within vs there.0 v there.1 in
       let here : get_or vs walk.settled v ≡ p = get_or_from_slice_get vs walk.settled p v at in
@@ -50,7 +50,7 @@ pub below_reached : (records : List Rec) (floors : List ℕ) (p : Pair) (n : ℕ
 below_reached records floors p n known none reached = by_order (cases_lt n (version_of records p)) where
   by_order : ((n < version_of records p) ⊎ (version_of records p ≤ n)) → n < version_of records p
   by_order (inl below) = below
-  by_order (inr not) = absurd (none (inr (reached p known (λ told. none (inl told)) not)))
+  by_order (inr not) = absurd (none (inr (reached p known (λ reported. none (inl reported)) not)))
 
 -- ---- small steps
 

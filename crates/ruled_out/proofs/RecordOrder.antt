@@ -1,20 +1,20 @@
--- The records of a document of a history, as they are told, are in order.
+-- The records of a document of a history, as they are reported, are in order.
 use Rattle.std.proofs.Common.{ℕ, ◌≡◌, ◌<◌, List, sym, ap, subst, ◌∙◌, Some, slice_get}
 use Rattle.doc_register.specs.declared.op.Op.{Op}
 use Rattle.doc_register.specs.declared.reply.Reply.{Reply as Answer}
 use Rattle.doc_register.specs.declared.state.Conflicts.{Conflicts}
-use Rattle.history.specs.declared.event.Event.{Event}
-use Rattle.history.specs.declared.event.Event.TheVariants.{Call, Reply}
-use Rattle.history.specs.declared.record.Rec.{Rec}
-use Rattle.history.specs.Events.{IsCallAt, IsHistory, IsReplyAt, PassesAt, is_call, records_of}
-use Rattle.history.proofs.HistoryLemmas.{call_passes, reply_passes}
+use Rattle.events.specs.declared.event.Event.{Event}
+use Rattle.events.specs.declared.event.Event.TheVariants.{Call, Reply}
+use Rattle.events.specs.declared.record.Rec.{Rec}
+use Rattle.events.specs.Events.{IsCallAt, IsHistory, IsReplyAt, PassesAt, is_call, records_of}
+use Rattle.events.proofs.HistoryLemmas.{call_passes, reply_passes}
 use Rattle.version_pair.proofs.ListLemmas.{mapped_from}
-use Rattle.history.proofs.RecordLaws.{split_by_document}
-use Rattle.ruled_out.specs.Told.{as_told, told}
+use Rattle.events.proofs.RecordLaws.{split_by_document}
+use Rattle.ruled_out.specs.Reported.{as_reported, reported}
 use Rattle.ruled_out.specs.Placings.{AreInOrder}
-use Rattle.ruled_out.proofs.OrderedSteps.{told_heard}
+use Rattle.ruled_out.proofs.OrderedSteps.{reported_heard}
 
--- the record that is told so, its call, and the reply to it
+-- the record that is reported so, its call, and the reply to it
 record IsOf (conflicts : Conflicts) (events : List Event) (d : List ℕ) (i : ℕ) (r : Rec) : Type 0 where
   pub own : Rec
   pub at : slice_get (records_of events d) i ≡ Some own
@@ -23,9 +23,9 @@ record IsOf (conflicts : Conflicts) (events : List Event) (d : List ℕ) (i : �
   pub call : IsCallAt events r.call_at r.no shard d r.op
   pub replied : (y : ℕ) (reply : Answer) → r.heard ≡ Some (y, reply) → IsReplyAt events y r.no reply
 
-record_is : (conflicts : Conflicts) (events : List Event) (d : List ℕ) → IsHistory events → (i : ℕ) (r : Rec) → slice_get (told conflicts (records_of events d)) i ≡ Some r → IsOf conflicts events d i r
+record_is : (conflicts : Conflicts) (events : List Event) (d : List ℕ) → IsHistory events → (i : ℕ) (r : Rec) → slice_get (reported conflicts (records_of events d)) i ≡ Some r → IsOf conflicts events d i r
 record_is conflicts events d history i r at =
-    let m = mapped_from (as_told conflicts) (records_of events d) i r at in
+    let m = mapped_from (as_reported conflicts) (records_of events d) i r at in
     let split = split_by_document events history in
     let call = subst (λ (s : Rec). (h : ℕ) × IsCallAt events s.call_at s.no h d s.op) m.2 (split.of_call d i m.0 m.1) in
     record {
@@ -35,7 +35,7 @@ record_is conflicts events d history i r at =
       shard = call.0;
       call = call.1;
       replied = λ y reply heard. (
-          let was = told_heard conflicts m.0.heard y reply (ap (λ (s : Rec). s.heard) m.2 ∙ heard) in
+          let was = reported_heard conflicts m.0.heard y reply (ap (λ (s : Rec). s.heard) m.2 ∙ heard) in
           subst (λ n. IsReplyAt events y n reply) (ap (λ (s : Rec). s.no) m.2) ((split.heard d i m.0 m.1 y reply).0 was.0)
           );
     }
@@ -46,7 +46,7 @@ not_both is = cc
 same_number : {m n : ℕ} {a b : Answer} → Some (Reply m a) ≡ Some (Reply n b) → m ≡ n
 same_number is = cc
 
-pub records_in_order : (conflicts : Conflicts) (events : List Event) (d : List ℕ) → IsHistory events → AreInOrder (told conflicts (records_of events d))
+pub records_in_order : (conflicts : Conflicts) (events : List Event) (d : List ℕ) → IsHistory events → AreInOrder (reported conflicts (records_of events d))
 records_in_order conflicts events d history = record {
   calls = λ i j r s at bt less. (
       let a = record_is conflicts events d history i r at in

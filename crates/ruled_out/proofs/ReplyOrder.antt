@@ -11,7 +11,7 @@ use Rattle.std.proofs.lemmas.List.Sorted.{Contains-permutation, IsPermutation-sy
 use Rattle.std.proofs.lemmas.Map.Keys.{IsDistinct-IsPermutation, IsDistinct-from_apart, apart_from_distinct}
 use Rattle.std.proofs.lemmas.Option.{get_or_from_slice_get, slice_get-get_or, slice_get_within}
 use Rattle.doc_register.specs.declared.reply.Reply.{Reply}
-use Rattle.history.specs.declared.record.Rec.{Rec}
+use Rattle.events.specs.declared.record.Rec.{Rec}
 use Rattle.version_pair.proofs.ListLemmas.{none_is_not_some, same_some}
 use Rattle.ruled_out.specs.aids.Answers.{AreAnswers, answer_at, answers_from, by_reply}
 use Rattle.ruled_out.specs.Placings.{AreInOrder}

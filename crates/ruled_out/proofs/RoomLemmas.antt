@@ -6,11 +6,11 @@ use Rattle.std.proofs.lemmas.Option.{get_or_from_slice_get, slice_get-get_or, sl
 use Rattle.version_pair.specs.declared.pair.Pair.{Pair}
 use Rattle.version_pair.specs.PairOrder.{IsBelow}
 use Rattle.doc_register.proofs.RunLemmas.{below_trans, not_below_itself, not_both_below}
-use Rattle.history.specs.declared.record.Rec.{Rec}
-use Rattle.history.proofs.PlaceLemmas.{take_next}
+use Rattle.events.specs.declared.record.Rec.{Rec}
+use Rattle.events.proofs.PlaceLemmas.{take_next}
 use Rattle.version_pair.proofs.ListLemmas.{get_front, get_last, get_snoc, get_within, none_is_not_some, same_some}
 use Rattle.std.specs.Option.{option_to_list}
-use Rattle.ruled_out.specs.Told.{IsKnown, known_pairs}
+use Rattle.ruled_out.specs.Reported.{IsKnown, known_pairs}
 use Rattle.ruled_out.specs.Positions.{count_below, gap_of, version_of}
 use Rattle.ruled_out.specs.aids.Above.{IsAbove, IsLeastAbove}
 use Rattle.ruled_out.specs.aids.KnownPairs.{AreKnown, HasRoom, IsGapAbove, IsLastKnown, IsNextKnown, IsVersionOf}

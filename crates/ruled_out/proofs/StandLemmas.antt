@@ -4,17 +4,17 @@ use Rattle.std.proofs.lemmas.Bool.{cases_lt, eq-eqb, eqb-true}
 use Rattle.version_pair.specs.declared.pair.Pair.{Pair}
 use Rattle.version_pair.specs.PairOrder.{IsBelow}
 use Rattle.doc_register.specs.Register.{condition_of}
-use Rattle.history.specs.declared.record.Rec.{Rec}
+use Rattle.events.specs.declared.record.Rec.{Rec}
 use Rattle.std.specs.Option.{option_eq}
 use Rattle.doc_register.specs.Run.{pair_taken}
 use Rattle.doc_register.specs.declared.op.Op.{Op}
 use Rattle.doc_register.specs.declared.op.Op.TheVariants.{Get, Index, Delete, Create}
 use Rattle.doc_register.specs.declared.reply.Reply.{Reply}
 use Rattle.doc_register.specs.declared.reply.Reply.TheVariants.{Found}
-use Rattle.history.specs.Heard.{pair_of}
+use Rattle.events.specs.Heard.{pair_of}
 use Rattle.version_pair.proofs.ListLemmas.{none_is_not_some, same_some}
 use Rattle.ruled_out.specs.declared.walk.Walk.{Walk}
-use Rattle.ruled_out.specs.Told.{IsGone, IsKnown, IsListed, pair_shown}
+use Rattle.ruled_out.specs.Reported.{IsGone, IsKnown, IsListed, pair_shown}
 use Rattle.ruled_out.specs.Positions.{gap_of, version_of}
 use Rattle.ruled_out.specs.Placings.{MayBeAbsent, MayBePresent, MayConflict, MayRefuse, MayWrite}
 use Rattle.ruled_out.specs.aids.Sets.{IsLeastFrom}
@@ -76,7 +76,7 @@ refused_next records floors event floor n walk b (Some m) knows least is next = 
 
 -- ---- a performed write
 
--- the document was so as is told
+-- the document was so as is reported
 written_so : (records : List Rec) (floors : ℕ → ℕ) (event : ℕ) (c : Rec) (q : Pair) (absent : Bool) (m : ℕ) → MayWrite records floors event c q absent m → MayBeSo records floors event absent m
 written_so records floors event c q true m w = w.was_absent refl
 written_so records floors event c q false m w = w.was_present refl

@@ -1,17 +1,17 @@
--- The positions at which a document may be by what replies tell alone, pair by pair.
+-- The positions at which a document may be by what replies say alone, pair by pair.
 use Rattle.std.proofs.Common.{ℕ, ◌≡◌, ◌<◌, ◌+◌, ◌⊎◌, inl, inr, List, [], ◌∷◌, ◌++◌, length, sym, ap, subst, Option, Some, slice_get, take}
 use Rattle.std.specs.Prelude.{◌↔◌}
 use Rattle.std.specs.BTreeSet.{BTreeSet}
 use Rattle.version_pair.specs.declared.pair.Pair.{Pair}
-use Rattle.history.specs.declared.record.Rec.{Rec}
-use Rattle.history.proofs.PlaceLemmas.{take_next}
+use Rattle.events.specs.declared.record.Rec.{Rec}
+use Rattle.events.proofs.PlaceLemmas.{take_next}
 use Rattle.version_pair.proofs.ListLemmas.{get_front, get_last, get_snoc, get_within, none_is_not_some}
-use Rattle.ruled_out.specs.Told.{IsGone, IsKnown, pair_shown}
+use Rattle.ruled_out.specs.Reported.{IsGone, IsKnown, pair_shown}
 use Rattle.ruled_out.specs.Positions.{version_of}
 use Rattle.ruled_out.specs.aids.KnownPairs.{AreKnown}
 use Rattle.ruled_out.specs.aids.Sets.{IsIn, IsWithSome}
 use Rattle.ruled_out.specs.aids.Places.{Gives, GoneAt, PresentAt}
-use Rattle.ruled_out.specs.aids.Wild.{IsToldAbsent, IsToldPresent}
+use Rattle.ruled_out.specs.aids.Wild.{IsReportedAbsent, IsReportedPresent}
 use Rattle.ruled_out.proofs.Counts.{shown_known}
 use Rattle.ruled_out.proofs.KnownLemmas.{Has, known_there}
 
@@ -54,10 +54,10 @@ gathers_next P Base vs place o old new within gives adds are = by_pair (get_with
 
 -- ---- absent
 
-abbrev pub IsToldAbsentSo : List Rec → List Pair → BTreeSet ℕ → Type 0
-IsToldAbsentSo records pairs set = Gathers (GoneAt records) (λ n. n ≡ 0) pairs set
+abbrev pub IsReportedAbsentSo : List Rec → List Pair → BTreeSet ℕ → Type 0
+IsReportedAbsentSo records pairs set = Gathers (GoneAt records) (λ n. n ≡ 0) pairs set
 
-pub absent_first : (records : List Rec) (empty set : BTreeSet ℕ) → ((n : ℕ) → ¬ IsIn empty n) → ((n : ℕ) → IsIn set n ↔ ((n ≡ 0) ⊎ IsIn empty n)) → IsToldAbsentSo records [] set
+pub absent_first : (records : List Rec) (empty set : BTreeSet ℕ) → ((n : ℕ) → ¬ IsIn empty n) → ((n : ℕ) → IsIn set n ↔ ((n ≡ 0) ⊎ IsIn empty n)) → IsReportedAbsentSo records [] set
 absent_first records empty set none adds n = (λ is. forth ((adds n).0 is), λ g. (adds n).1 (back g)) where
   forth : (n ≡ 0) ⊎ IsIn empty n → (n ≡ 0) ⊎ ((i : ℕ) × (v : Pair) × (slice_get [] i ≡ Some v) × GoneAt records v n)
   forth (inl is) = inl is
@@ -67,14 +67,14 @@ absent_first records empty set none adds n = (λ is. forth ((adds n).0 is), λ g
   back (inl is) = inl is
   back (inr (i, v, at, g)) = absurd (none_is_not_some v at)
 
-pub absent_more : (records : List Rec) (vs : List Pair) (place : ℕ) (o : Option ℕ) (old new : BTreeSet ℕ) → place < length vs → Gives (GoneAt records) vs place o → IsWithSome old new o → IsToldAbsentSo records (take place vs) old
-    → IsToldAbsentSo records (take (place + 1) vs) new
+pub absent_more : (records : List Rec) (vs : List Pair) (place : ℕ) (o : Option ℕ) (old new : BTreeSet ℕ) → place < length vs → Gives (GoneAt records) vs place o → IsWithSome old new o → IsReportedAbsentSo records (take place vs) old
+    → IsReportedAbsentSo records (take (place + 1) vs) new
 absent_more records vs place o old new within gives adds are = gathers_next (GoneAt records) (λ n. n ≡ 0) vs place o old new within gives adds are
 
 pub gone_known : (records : List Rec) (v : Pair) → IsGone records v → IsKnown records v
 gone_known records v g = shown_known records v (record { call = g.call; listed = g.listed; shows = inl (ap pair_shown g.heard) })
 
-pub absent_all : (records : List Rec) (pairs : List Pair) (set : BTreeSet ℕ) → AreKnown records pairs → IsToldAbsentSo records pairs set → IsToldAbsent records set
+pub absent_all : (records : List Rec) (pairs : List Pair) (set : BTreeSet ℕ) → AreKnown records pairs → IsReportedAbsentSo records pairs set → IsReportedAbsent records set
 absent_all records pairs set known are n = (λ is. forth ((are n).0 is), λ g. (are n).1 (back g)) where
   forth : (n ≡ 0) ⊎ ((i : ℕ) × (v : Pair) × (slice_get pairs i ≡ Some v) × GoneAt records v n) → (n ≡ 0) ⊎ ((v : Pair) × IsGone records v × (n ≡ version_of records v))
   forth (inl is) = inl is
@@ -86,14 +86,14 @@ absent_all records pairs set known are n = (λ is. forth ((are n).0 is), λ g. (
 
 -- ---- there
 
-abbrev pub IsToldPresentSo : List Rec → List Pair → BTreeSet ℕ → Type 0
-IsToldPresentSo records pairs set = Gathers (PresentAt records) (λ n. ⊥) pairs set
+abbrev pub IsReportedPresentSo : List Rec → List Pair → BTreeSet ℕ → Type 0
+IsReportedPresentSo records pairs set = Gathers (PresentAt records) (λ n. ⊥) pairs set
 
-pub present_more : (records : List Rec) (vs : List Pair) (place : ℕ) (o : Option ℕ) (old new : BTreeSet ℕ) → place < length vs → Gives (PresentAt records) vs place o → IsWithSome old new o → IsToldPresentSo records (take place vs) old
-    → IsToldPresentSo records (take (place + 1) vs) new
+pub present_more : (records : List Rec) (vs : List Pair) (place : ℕ) (o : Option ℕ) (old new : BTreeSet ℕ) → place < length vs → Gives (PresentAt records) vs place o → IsWithSome old new o → IsReportedPresentSo records (take place vs) old
+    → IsReportedPresentSo records (take (place + 1) vs) new
 present_more records vs place o old new within gives adds are = gathers_next (PresentAt records) (λ n. ⊥) vs place o old new within gives adds are
 
-pub present_all : (records : List Rec) (pairs : List Pair) (set : BTreeSet ℕ) → AreKnown records pairs → IsToldPresentSo records pairs set → IsToldPresent records set
+pub present_all : (records : List Rec) (pairs : List Pair) (set : BTreeSet ℕ) → AreKnown records pairs → IsReportedPresentSo records pairs set → IsReportedPresent records set
 present_all records pairs set known are n = (λ is. forth ((are n).0 is), λ t. (are n).1 (back t)) where
   forth : ⊥ ⊎ ((i : ℕ) × (v : Pair) × (slice_get pairs i ≡ Some v) × PresentAt records v n) → (v : Pair) × IsKnown records v × (¬ IsGone records v) × (n ≡ version_of records v)
   forth (inl never) = absurd never

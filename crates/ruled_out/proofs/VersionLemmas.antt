@@ -1,4 +1,4 @@
--- What replies tell of the known pairs, as the code keeps it.
+-- What replies say of the known pairs, as the code keeps it.
 use Rattle.std.proofs.Common.{ℕ, zero, suc, ◌≡◌, ◌<◌, ◌≤◌, ◌⊎◌, ◌==◌, inl, inr, List, [], ◌∷◌, length, drop, refl, sym, ap, subst, ◌∙◌, arith, Bool, true, false, cond, true≢false, Option, Some, None, slice_get, length-set}
 use Rattle.std.specs.Prelude.{◌↔◌, set, replicate}
 use Rattle.std.proofs.lemmas.Bool.{and_from, and_parts, eq-eqb, eqb-true, false_from_ne_true}
@@ -12,15 +12,15 @@ use Rattle.doc_register.specs.Run.{pair_taken}
 use Rattle.doc_register.specs.declared.reply.Reply.{Reply}
 use Rattle.doc_register.specs.declared.reply.Reply.TheVariants.{Indexed, Deleted, Found, Missing, Conflict}
 use Rattle.doc_register.proofs.RunLemmas.{not_below_itself}
-use Rattle.history.specs.declared.record.Rec.{Rec}
-use Rattle.history.specs.Heard.{pair_of}
+use Rattle.events.specs.declared.record.Rec.{Rec}
+use Rattle.events.specs.Heard.{pair_of}
 use Rattle.version_pair.proofs.ListLemmas.{none_is_not_some, same_some, slice_get-set_other, slice_get-set_same}
 use Rattle.ruled_out.specs.declared.version.Number.{Number}
 use Rattle.ruled_out.specs.declared.version.Number.TheVariants.{Unseen, One, Several}
 use Rattle.ruled_out.specs.declared.version.Version.{Version}
-use Rattle.ruled_out.specs.Told.{IsFoundWith, IsGone, IsKnown, IsListed, IsToldOf, known_pairs, pair_shown}
+use Rattle.ruled_out.specs.Reported.{IsFoundWith, IsGone, IsKnown, IsListed, IsReportedOf, known_pairs, pair_shown}
 use Rattle.ruled_out.specs.Positions.{count_below, is_below}
-use Rattle.ruled_out.specs.aids.Versions.{AreVersions, IsNoted, allows, number_with, shows, untold, version_heard, version_told, version_with}
+use Rattle.ruled_out.specs.aids.Versions.{AreVersions, IsNoted, allows, number_with, shows, unreported, version_heard, version_reported, version_with}
 use Rattle.ruled_out.proofs.Counts.{count_at_most, count_passes, counted_here, counted_less, pair_order, shown_known, tested_below}
 
 -- ---- the pair that is shown
@@ -58,7 +58,7 @@ same_count records p q known too same = by_order (pair_order p q) where
   by_order (inr (inl is)) = is
   by_order (inr (inr below)) = let less : count_below (known_pairs records) q < count_below (known_pairs records) p = count_passes (known_pairs records) too.0 q p too.1 below in absurd (omega arith)
 
--- what is told of a pair that isn't shown stays
+-- what is said of a pair that isn't shown stays
 stays : (x : Version) (p q : Pair) (h : ℕ × Reply) → pair_of_reply h.1 ≡ Some q → ((q ≡ p) → ⊥) → version_heard x p (Some h) ≡ x
 stays x p q h is other = ap (λ o. cond (shows o p) (version_with x h.1) x) is ∙ ap (λ b. cond b (version_with x h.1) x) (shows_other q p other)
 
@@ -112,17 +112,17 @@ shown_by records i call at q is = shown_known records q (record { call = call; l
 -- so many calls of the records were noted
 pub record AreNoted (records : List Rec) (i : ℕ) (versions : List Version) : Type 0 where
   pub all : length versions ≡ length (known_pairs records)
-  pub each : (p : Pair) → IsKnown records p → (x : Version) × (slice_get versions (count_below (known_pairs records) p) ≡ Some x) × (version_told x p (drop i records) ≡ version_told untold p records)
+  pub each : (p : Pair) → IsKnown records p → (x : Version) × (slice_get versions (count_below (known_pairs records) p) ≡ Some x) × (version_reported x p (drop i records) ≡ version_reported unreported p records)
 
 pub get_replicate : {X : Type 0} (n i : ℕ) (x : X) → i < n → slice_get (replicate n x) i ≡ Some x
 get_replicate zero i x within = absurd (omega arith)
 get_replicate (suc n) zero x within = refl
 get_replicate (suc n) (suc i) x within = get_replicate n i x (omega arith)
 
-pub noted_first : (records : List Rec) (n : ℕ) → n ≡ length (known_pairs records) → AreNoted records 0 (replicate n untold)
+pub noted_first : (records : List Rec) (n : ℕ) → n ≡ length (known_pairs records) → AreNoted records 0 (replicate n unreported)
 noted_first records n is = record {
-  all = length-replicate n untold ∙ is;
-  each = λ p known. (untold, get_replicate n (count_below (known_pairs records) p) untold (let inside : count_below (known_pairs records) p < length (known_pairs records) = count_inside records p known in omega arith), refl);
+  all = length-replicate n unreported ∙ is;
+  each = λ p known. (unreported, get_replicate n (count_below (known_pairs records) p) unreported (let inside : count_below (known_pairs records) p < length (known_pairs records) = count_inside records p known in omega arith), refl);
 }
 
 pub noted_more : (records : List Rec) (i : ℕ) (call : Rec) (old new : List Version) → slice_get records i ≡ Some call → ((q : Pair) → pair_shown call.heard ≡ Some q → IsKnown records q)
@@ -133,7 +133,7 @@ noted_more records i call old new at shown noted are = record {
       let e = are.each p known in (
         version_heard e.0 p call.heard,
         (noted shown).1 p e.0 known e.1,
-        sym (ap (version_told e.0 p) (drop_at records i call at)) ∙ e.2,
+        sym (ap (version_reported e.0 p) (drop_at records i call at)) ∙ e.2,
       )
       );
 } where
@@ -145,7 +145,7 @@ noted_more records i call old new at shown noted are = record {
 pub noted_all : (records : List Rec) (versions : List Version) → AreNoted records (length records) versions → AreVersions records versions
 noted_all records versions are = record {
   all = are.all;
-  each = λ p known. (let e = are.each p known in e.1 ∙ ap (λ v. Some v) (sym (ap (version_told e.0 p) (drop_all records)) ∙ e.2));
+  each = λ p known. (let e = are.each p known in e.1 ∙ ap (λ v. Some v) (sym (ap (version_reported e.0 p) (drop_all records)) ∙ e.2));
 } where
   drop_all : (xs : List Rec) → drop (length xs) xs ≡ []
   drop_all [] = refl
@@ -155,15 +155,15 @@ noted_all records versions are = record {
 
 -- one more reply
 
-told_with : (x : Version) (reply : Reply) (p : Pair) → pair_of_reply reply ≡ Some p → ((version_with x reply).told ≡ true) ↔ ((x.told ≡ true) ⊎ (pair_taken reply None ≡ Some p))
-told_with x (Indexed q created) p shows = (λ is. inr shows, λ is. refl)
-told_with x (Deleted q found) p shows = (λ is. inr shows, λ is. refl)
-told_with x (Found q k) p shows = (λ is. inl is, by_case) where
-  by_case : (x.told ≡ true) ⊎ (None ≡ Some p) → x.told ≡ true
+reported_with : (x : Version) (reply : Reply) (p : Pair) → pair_of_reply reply ≡ Some p → ((version_with x reply).reported ≡ true) ↔ ((x.reported ≡ true) ⊎ (pair_taken reply None ≡ Some p))
+reported_with x (Indexed q created) p shows = (λ is. inr shows, λ is. refl)
+reported_with x (Deleted q found) p shows = (λ is. inr shows, λ is. refl)
+reported_with x (Found q k) p shows = (λ is. inl is, by_case) where
+  by_case : (x.reported ≡ true) ⊎ (None ≡ Some p) → x.reported ≡ true
   by_case (inl is) = is
   by_case (inr is) = absurd (none_is_not_some p is)
-told_with x Missing p shows = absurd (none_is_not_some p shows)
-told_with x Conflict p shows = absurd (none_is_not_some p shows)
+reported_with x Missing p shows = absurd (none_is_not_some p shows)
+reported_with x Conflict p shows = absurd (none_is_not_some p shows)
 
 -- the reply is that of a delete with the pair
 abbrev Deletes : Reply → Pair → Type 0
@@ -205,16 +205,16 @@ number_after x Conflict p k shows = absurd (none_is_not_some p shows)
 
 -- what was heard of one more call
 
-pub told_heard : (x : Version) (p : Pair) (heard : Option (ℕ × Reply)) → ((version_heard x p heard).told ≡ true) ↔ ((x.told ≡ true) ⊎ (pair_of heard ≡ Some p))
-told_heard x p None = (λ is. inl is, by_case) where
-  by_case : (x.told ≡ true) ⊎ (None ≡ Some p) → x.told ≡ true
+pub reported_heard : (x : Version) (p : Pair) (heard : Option (ℕ × Reply)) → ((version_heard x p heard).reported ≡ true) ↔ ((x.reported ≡ true) ⊎ (pair_of heard ≡ Some p))
+reported_heard x p None = (λ is. inl is, by_case) where
+  by_case : (x.reported ≡ true) ⊎ (None ≡ Some p) → x.reported ≡ true
   by_case (inl is) = is
   by_case (inr is) = absurd (none_is_not_some p is)
-told_heard x p (Some h) = by_test (shows (pair_of_reply h.1) p) refl where
-  by_test : (b : Bool) → shows (pair_of_reply h.1) p ≡ b → ((cond b (version_with x h.1) x).told ≡ true) ↔ ((x.told ≡ true) ⊎ (pair_of (Some h) ≡ Some p))
-  by_test true is = told_with x h.1 p (shown_pair (pair_of_reply h.1) p is)
+reported_heard x p (Some h) = by_test (shows (pair_of_reply h.1) p) refl where
+  by_test : (b : Bool) → shows (pair_of_reply h.1) p ≡ b → ((cond b (version_with x h.1) x).reported ≡ true) ↔ ((x.reported ≡ true) ⊎ (pair_of (Some h) ≡ Some p))
+  by_test true is = reported_with x h.1 p (shown_pair (pair_of_reply h.1) p is)
   by_test false is = (λ t. inl t, by_case) where
-    by_case : (x.told ≡ true) ⊎ (pair_of (Some h) ≡ Some p) → x.told ≡ true
+    by_case : (x.reported ≡ true) ⊎ (pair_of (Some h) ≡ Some p) → x.reported ≡ true
     by_case (inl t) = t
     by_case (inr taken) = absurd (true≢false (sym (ap (λ o. shows o p) (taken_shown h.1 p taken) ∙ shows_it p p refl) ∙ is))
 
@@ -267,29 +267,29 @@ listed_more : (r : Rec) (rs : List Rec) (c : Rec) → IsListed (r ∷ rs) c → 
 listed_more r rs c (zero, at) = inl (same_some r c at)
 listed_more r rs c (suc i, at) = inr (i, at)
 
-pub told_is : (records : List Rec) (p : Pair) (x : Version) → ((version_told x p records).told ≡ true) ↔ ((x.told ≡ true) ⊎ IsToldOf records p)
-told_is [] p x = (λ is. inl is, by_case) where
-  by_case : (x.told ≡ true) ⊎ IsToldOf [] p → x.told ≡ true
+pub reported_is : (records : List Rec) (p : Pair) (x : Version) → ((version_reported x p records).reported ≡ true) ↔ ((x.reported ≡ true) ⊎ IsReportedOf records p)
+reported_is [] p x = (λ is. inl is, by_case) where
+  by_case : (x.reported ≡ true) ⊎ IsReportedOf [] p → x.reported ≡ true
   by_case (inl is) = is
   by_case (inr (r, listed, is)) = absurd (none_is_not_some r listed.1)
-told_is (r ∷ rs) p x = (λ is. forth ((told_is rs p (version_heard x p r.heard)).0 is), λ o. (told_is rs p (version_heard x p r.heard)).1 (back o)) where
-  here : (x.told ≡ true) ⊎ (pair_of r.heard ≡ Some p) → (x.told ≡ true) ⊎ IsToldOf (r ∷ rs) p
+reported_is (r ∷ rs) p x = (λ is. forth ((reported_is rs p (version_heard x p r.heard)).0 is), λ o. (reported_is rs p (version_heard x p r.heard)).1 (back o)) where
+  here : (x.reported ≡ true) ⊎ (pair_of r.heard ≡ Some p) → (x.reported ≡ true) ⊎ IsReportedOf (r ∷ rs) p
   here (inl is) = inl is
   here (inr is) = inr (r, (0, refl), is)
 
-  forth : ((version_heard x p r.heard).told ≡ true) ⊎ IsToldOf rs p → (x.told ≡ true) ⊎ IsToldOf (r ∷ rs) p
-  forth (inl is) = here ((told_heard x p r.heard).0 is)
+  forth : ((version_heard x p r.heard).reported ≡ true) ⊎ IsReportedOf rs p → (x.reported ≡ true) ⊎ IsReportedOf (r ∷ rs) p
+  forth (inl is) = here ((reported_heard x p r.heard).0 is)
   forth (inr (c, listed, is)) = inr (c, (suc listed.0, listed.1), is)
 
-  by_place : (c : Rec) → pair_of c.heard ≡ Some p → (r ≡ c) ⊎ IsListed rs c → ((version_heard x p r.heard).told ≡ true) ⊎ IsToldOf rs p
-  by_place c is (inl same) = inl ((told_heard x p r.heard).1 (inr (ap (λ (v : Rec). pair_of v.heard) same ∙ is)))
+  by_place : (c : Rec) → pair_of c.heard ≡ Some p → (r ≡ c) ⊎ IsListed rs c → ((version_heard x p r.heard).reported ≡ true) ⊎ IsReportedOf rs p
+  by_place c is (inl same) = inl ((reported_heard x p r.heard).1 (inr (ap (λ (v : Rec). pair_of v.heard) same ∙ is)))
   by_place c is (inr listed) = inr (c, listed, is)
 
-  back : (x.told ≡ true) ⊎ IsToldOf (r ∷ rs) p → ((version_heard x p r.heard).told ≡ true) ⊎ IsToldOf rs p
-  back (inl is) = inl ((told_heard x p r.heard).1 (inl is))
+  back : (x.reported ≡ true) ⊎ IsReportedOf (r ∷ rs) p → ((version_heard x p r.heard).reported ≡ true) ⊎ IsReportedOf rs p
+  back (inl is) = inl ((reported_heard x p r.heard).1 (inl is))
   back (inr (c, listed, is)) = by_place c is (listed_more r rs c listed)
 
-pub gone_is : (records : List Rec) (p : Pair) (x : Version) → ((version_told x p records).gone ≡ true) ↔ ((x.gone ≡ true) ⊎ IsGone records p)
+pub gone_is : (records : List Rec) (p : Pair) (x : Version) → ((version_reported x p records).gone ≡ true) ↔ ((x.gone ≡ true) ⊎ IsGone records p)
 gone_is [] p x = (λ is. inl is, by_case) where
   by_case : (x.gone ≡ true) ⊎ IsGone [] p → x.gone ≡ true
   by_case (inl is) = is
@@ -311,7 +311,7 @@ gone_is (r ∷ rs) p x = (λ is. forth ((gone_is rs p (version_heard x p r.heard
   back (inl is) = inl ((gone_heard x p r.heard).1 (inl is))
   back (inr g) = by_place g (listed_more r rs g.call g.listed)
 
-pub number_is : (records : List Rec) (p : Pair) (k : ℕ) (x : Version) → (allows (version_told x p records).number k ≡ true) ↔ ((allows x.number k ≡ true) × ((n : ℕ) → IsFoundWith records p n → n ≡ k))
+pub number_is : (records : List Rec) (p : Pair) (k : ℕ) (x : Version) → (allows (version_reported x p records).number k ≡ true) ↔ ((allows x.number k ≡ true) × ((n : ℕ) → IsFoundWith records p n → n ≡ k))
 number_is [] p k x = (λ is. (is, λ n f. absurd (none_is_not_some f.call f.listed.1)), λ both. both.0)
 number_is (r ∷ rs) p k x = (
   λ is. (
@@ -330,17 +330,17 @@ number_is (r ∷ rs) p k x = (
 
 -- ---- of the versions of a document
 
-pub told_version : (records : List Rec) (p : Pair) → ((version_told untold p records).told ≡ true) ↔ IsToldOf records p
-told_version records p = (λ is. by_case ((told_is records p untold).0 is), λ t. (told_is records p untold).1 (inr t)) where
-  by_case : (false ≡ true) ⊎ IsToldOf records p → IsToldOf records p
+pub reported_version : (records : List Rec) (p : Pair) → ((version_reported unreported p records).reported ≡ true) ↔ IsReportedOf records p
+reported_version records p = (λ is. by_case ((reported_is records p unreported).0 is), λ t. (reported_is records p unreported).1 (inr t)) where
+  by_case : (false ≡ true) ⊎ IsReportedOf records p → IsReportedOf records p
   by_case (inl never) = absurd (true≢false (sym never))
   by_case (inr t) = t
 
-pub gone_version : (records : List Rec) (p : Pair) → ((version_told untold p records).gone ≡ true) ↔ IsGone records p
-gone_version records p = (λ is. by_case ((gone_is records p untold).0 is), λ g. (gone_is records p untold).1 (inr g)) where
+pub gone_version : (records : List Rec) (p : Pair) → ((version_reported unreported p records).gone ≡ true) ↔ IsGone records p
+gone_version records p = (λ is. by_case ((gone_is records p unreported).0 is), λ g. (gone_is records p unreported).1 (inr g)) where
   by_case : (false ≡ true) ⊎ IsGone records p → IsGone records p
   by_case (inl never) = absurd (true≢false (sym never))
   by_case (inr g) = g
 
-pub number_version : (records : List Rec) (p : Pair) (k : ℕ) → (allows (version_told untold p records).number k ≡ true) ↔ ((n : ℕ) → IsFoundWith records p n → n ≡ k)
-number_version records p k = (λ is. ((number_is records p k untold).0 is).1, λ all. (number_is records p k untold).1 (refl, all))
+pub number_version : (records : List Rec) (p : Pair) (k : ℕ) → (allows (version_reported unreported p records).number k ≡ true) ↔ ((n : ℕ) → IsFoundWith records p n → n ≡ k)
+number_version records p k = (λ is. ((number_is records p k unreported).0 is).1, λ all. (number_is records p k unreported).1 (refl, all))

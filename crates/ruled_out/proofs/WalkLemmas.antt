@@ -8,8 +8,8 @@ use Rattle.doc_register.specs.declared.op.Op.TheVariants.{Get, Index, Delete, Cr
 use Rattle.doc_register.specs.Register.{value_of}
 use Rattle.doc_register.specs.declared.reply.Reply.{Reply}
 use Rattle.doc_register.specs.declared.reply.Reply.TheVariants.{Indexed, Deleted, Found, Missing, Conflict}
-use Rattle.history.specs.declared.record.Rec.{Rec}
-use Rattle.history.specs.Heard.{pair_of}
+use Rattle.events.specs.declared.record.Rec.{Rec}
+use Rattle.events.specs.Heard.{pair_of}
 use Rattle.version_pair.proofs.ListLemmas.{same_some}
 use Rattle.ruled_out.specs.Positions.{gap_of, position_after}
 use Rattle.ruled_out.specs.Placings.{AreInOrder, IsPlacing, IsReached, IsRuledOut, Lifts, MayAnswer, MayBeAbsent, MayBePresent, MayChange, MayConflict, MayRefuse, MayStand, MayTake, MayWrite}
@@ -48,8 +48,8 @@ present_lower records low high event n lower (inr g) =
     inr (record { change = c.0; value = g.value; gives = ap (λ (r : Rec). value_of r.op) c.1 ∙ g.gives })
 
 reached_lower : (records : List Rec) (low high : ℕ → ℕ) (event n : ℕ) → AreLower records event low high → IsReached records high event n → IsReached records low event n
-reached_lower records low high event n lower reached v known untold within =
-    let w = reached v known untold within in
+reached_lower records low high event n lower reached v known unreported within =
+    let w = reached v known unreported within in
     record { number = w.number; call = w.call; takes = take_lower records low high event w.number w.call v lower w.takes; value = w.value; gives = w.gives; found = w.found }
 
 write_lower : (records : List Rec) (low high : ℕ → ℕ) (event : ℕ) (c : Rec) (q : Pair) (absent : Bool) (n : ℕ) → AreLower records event low high → MayWrite records high event c q absent n → MayWrite records low event c q absent n
@@ -166,8 +166,8 @@ walked_step records i c y reply n floor lifted order answer w earliest lift = re
           own : j ≡ i → z ≡ y → (l : ℕ) × MayStand records lifted j r z a l × Lifts records lifted r z l
           own same here =
               let one : r ≡ c = same_some r c (sym at ∙ (ap (slice_get records) same ∙ answer.at)) in
-              let told : Some (z, a) ≡ Some (y, reply) = sym heard ∙ (ap (λ (v : Rec). v.heard) one ∙ answer.heard) in
-              let said : a ≡ reply = ap (λ (v : ℕ × Reply). v.1) (same_some (z, a) (y, reply) told) in (
+              let reported : Some (z, a) ≡ Some (y, reply) = sym heard ∙ (ap (λ (v : Rec). v.heard) one ∙ answer.heard) in
+              let said : a ≡ reply = ap (λ (v : ℕ × Reply). v.1) (same_some (z, a) (y, reply) reported) in (
                 n,
                 stand_on j r z a n at heard (omega arith)
                     (subst (λ k. MayStand records floor k r z a n) (sym same)

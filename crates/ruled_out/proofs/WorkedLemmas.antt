@@ -9,8 +9,8 @@ use Rattle.doc_register.specs.declared.op.Op.{Op}
 use Rattle.doc_register.specs.declared.op.Op.TheVariants.{Get, Index}
 use Rattle.doc_register.specs.declared.reply.Reply.{Reply}
 use Rattle.doc_register.specs.declared.reply.Reply.TheVariants.{Indexed, Deleted, Found, Missing, Conflict}
-use Rattle.history.specs.declared.record.Rec.{Rec}
-use Rattle.ruled_out.specs.Told.{IsGone, IsKnown, IsToldOf, known_pairs}
+use Rattle.events.specs.declared.record.Rec.{Rec}
+use Rattle.ruled_out.specs.Reported.{IsGone, IsKnown, IsReportedOf, known_pairs}
 use Rattle.ruled_out.specs.Positions.{count_below, version_of}
 use Rattle.ruled_out.specs.Placings.{IsPlacing, IsRuledOut, Lifts, MayBeAbsent, MayBePresent, MayChange, MayStand}
 use Rattle.ruled_out.specs.Worked.{WorkedRulings, answered, created, replaced}
@@ -20,16 +20,16 @@ abbrev Stands : List Rec → (ℕ → ℕ) → ℕ → Rec → ℕ → Reply →
 Stands records floor i c replied reply = (n : ℕ) × MayStand records floor i c replied reply n × Lifts records floor c replied n
 
 -- what stands for what a record heard, stands for what it is said to have heard
-stands_as_heard : (records : List Rec) (floor : ℕ → ℕ) (i : ℕ) (c d : Rec) (at replied : ℕ) (told reply : Reply) → c ≡ d → c.heard ≡ Some (at, told) → d.heard ≡ Some (replied, reply)
-    → Stands records floor i c at told → Stands records floor i d replied reply
-stands_as_heard records floor i c d at replied told reply same heard said stands =
-    let one : (at, told) ≡ (replied, reply) = same_some (at, told) (replied, reply) (sym heard ∙ (ap (λ (r : Rec). r.heard) same ∙ said)) in
+stands_as_heard : (records : List Rec) (floor : ℕ → ℕ) (i : ℕ) (c d : Rec) (at replied : ℕ) (reported reply : Reply) → c ≡ d → c.heard ≡ Some (at, reported) → d.heard ≡ Some (replied, reply)
+    → Stands records floor i c at reported → Stands records floor i d replied reply
+stands_as_heard records floor i c d at replied reported reply same heard said stands =
+    let one : (at, reported) ≡ (replied, reply) = same_some (at, reported) (replied, reply) (sym heard ∙ (ap (λ (r : Rec). r.heard) same ∙ said)) in
     subst (λ (r : Rec). Stands records floor i r replied reply) same (subst (λ (h : ℕ × Reply). Stands records floor i c h.0 h.1) one stands)
 
 -- what was heard at an event was heard there
-heard_at : (c d : Rec) (at replied : ℕ) (told reply : Reply) → c ≡ d → c.heard ≡ Some (at, told) → d.heard ≡ Some (replied, reply) → at ≡ replied
-heard_at c d at replied told reply same heard said =
-    ap (λ (h : ℕ × Reply). h.0) (same_some (at, told) (replied, reply) (sym heard ∙ (ap (λ (r : Rec). r.heard) same ∙ said)))
+heard_at : (c d : Rec) (at replied : ℕ) (reported reply : Reply) → c ≡ d → c.heard ≡ Some (at, reported) → d.heard ≡ Some (replied, reply) → at ≡ replied
+heard_at c d at replied reported reply same heard said =
+    ap (λ (h : ℕ × Reply). h.0) (same_some (at, reported) (replied, reply) (sym heard ∙ (ap (λ (r : Rec). r.heard) same ∙ said)))
 
 -- each call has a reply
 abbrev AllHeard : List Rec → Type 0
@@ -60,7 +60,7 @@ only_there records floor event n single (inr give) = absurd (no_change records f
 created_stands : (records : List Rec) (floor : ℕ → ℕ) → floor 0 ≡ 0 → ((v : Pair) → IsKnown records v → IsBelow v one_zero → ⊥) → MayStand records floor 0 created 1 (Indexed one_zero true) 0
 created_stands records floor ground least = record {
   above = omega (arith, ground);
-  reached = λ v known untold low. absurd (omega (arith, low));
+  reached = λ v known unreported low. absurd (omega (arith, low));
   answers = record {
     before = omega arith;
     after = λ v known below. absurd (least v known below);
@@ -214,16 +214,16 @@ known_of_read v (suc zero) at = inr (sym (same_some one_one v at))
 known_of_read v (suc (suc zero)) at = inl (sym (same_some one_zero v at))
 known_of_read v (suc (suc (suc i))) at = absurd (none_is_not_some v at)
 
--- each is told to be a write's
-told_of_read : (v : Pair) → (v ≡ one_zero) ⊎ (v ≡ one_one) → IsToldOf read_back v
-told_of_read v (inl is) = (created, (0, refl), ap (λ (p : Pair). Some p) (sym is))
-told_of_read v (inr is) = (replaced, (1, refl), ap (λ (p : Pair). Some p) (sym is))
+-- each is reported to be a write's
+reported_of_read : (v : Pair) → (v ≡ one_zero) ⊎ (v ≡ one_one) → IsReportedOf read_back v
+reported_of_read v (inl is) = (created, (0, refl), ap (λ (p : Pair). Some p) (sym is))
+reported_of_read v (inr is) = (replaced, (1, refl), ap (λ (p : Pair). Some p) (sym is))
 
 kept_of_read : (v : Pair) → IsGone read_back v → ⊥
 kept_of_read v gone = gone_at gone.listed.0 gone.listed.1 where
-  differs : (at : ℕ) (told : Reply) → ((q : Pair) (found : Bool) → told ≡ Deleted q found → ⊥) → (r : Rec) → r.heard ≡ Some (at, told) → r ≡ gone.call → ⊥
-  differs at told other r heard same = other v gone.found
-      (ap (λ (h : ℕ × Reply). h.1) (same_some (at, told) (gone.replied, Deleted v gone.found) (sym heard ∙ (ap (λ (x : Rec). x.heard) same ∙ gone.heard))))
+  differs : (at : ℕ) (reported : Reply) → ((q : Pair) (found : Bool) → reported ≡ Deleted q found → ⊥) → (r : Rec) → r.heard ≡ Some (at, reported) → r ≡ gone.call → ⊥
+  differs at reported other r heard same = other v gone.found
+      (ap (λ (h : ℕ × Reply). h.1) (same_some (at, reported) (gone.replied, Deleted v gone.found) (sym heard ∙ (ap (λ (x : Rec). x.heard) same ∙ gone.heard))))
 
   gone_at : (i : ℕ) → slice_get read_back i ≡ Some gone.call → ⊥
   gone_at zero at = differs 1 (Indexed one_zero true) (λ q found never. (let impossible : Indexed one_zero true ≡ Deleted q found = never in cc)) created refl (same_some created gone.call at)
@@ -241,7 +241,7 @@ replaced_stands : MayStand read_back floor_of_read 1 replaced 3 (Indexed one_one
 unfolding floor_of_read
 replaced_stands = record {
   above = omega arith;
-  reached = λ v known untold low. absurd (untold (told_of_read v (known_of_read v known.0 known.1)));
+  reached = λ v known unreported low. absurd (unreported (reported_of_read v (known_of_read v known.0 known.1)));
   answers = record {
     before = omega arith;
     after = λ v known below. at_most v (known_of_read v known.0 known.1) below;

@@ -8,11 +8,11 @@ use Rattle.version_pair.specs.declared.pair.Pair.{Pair}
 use Rattle.version_pair.specs.PairOrder.{IsBelow}
 use Rattle.doc_register.specs.Register.{condition_of, value_of}
 use Rattle.doc_register.proofs.RunLemmas.{not_below_itself}
-use Rattle.history.specs.declared.record.Rec.{Rec}
+use Rattle.events.specs.declared.record.Rec.{Rec}
 use Rattle.version_pair.proofs.ListLemmas.{get_front, get_last, get_snoc, none_is_not_some, same_some, slice_get-set_other, slice_get-set_same}
 use Rattle.ruled_out.specs.declared.version.Number.{Number}
 use Rattle.ruled_out.specs.declared.writers.Writers.{Writers}
-use Rattle.ruled_out.specs.Told.{IsFoundWith, IsKnown, known_pairs}
+use Rattle.ruled_out.specs.Reported.{IsFoundWith, IsKnown, known_pairs}
 use Rattle.ruled_out.specs.Positions.{IsNext, count_below, gap_of}
 use Rattle.ruled_out.specs.aids.KnownPairs.{IsNextKnown}
 use Rattle.ruled_out.specs.aids.Sets.{IsFrom}
@@ -303,10 +303,10 @@ pub flags_set : (records : List Rec) (f k : ℕ) (c p : Pair) (place : ℕ) (fla
     → (v : Pair) (b : Bool) → IsKnown records v → slice_get flags (count_below (known_pairs records) v) ≡ Some b
     → (d : Bool) × (slice_get (set flags place true) (count_below (known_pairs records) v) ≡ Some d) × ((d ≡ true) ↔ ((b ≡ true) ⊎ SwapsTo records f k c v))
 flags_set records f k c p place flags is count within may v b known at = by_order (pair_order p v) where
-  Told : Type 0
-  Told = (d : Bool) × (slice_get (set flags place true) (count_below (known_pairs records) v) ≡ Some d) × ((d ≡ true) ↔ ((b ≡ true) ⊎ SwapsTo records f k c v))
+  Reported : Type 0
+  Reported = (d : Bool) × (slice_get (set flags place true) (count_below (known_pairs records) v) ≡ Some d) × ((d ≡ true) ↔ ((b ≡ true) ⊎ SwapsTo records f k c v))
 
-  here : p ≡ v → Told
+  here : p ≡ v → Reported
   here same =
       let there : count_below (known_pairs records) v ≡ place = ap (count_below (known_pairs records)) (sym same) ∙ sym count in
       let to : SwapsTo records f k c p = (may.0, may.1, is.1, is.2) in (
@@ -315,7 +315,7 @@ flags_set records f k c p place flags is count within may v b known at = by_orde
         (λ flag. inr (subst (SwapsTo records f k c) same to), λ o. refl),
       )
 
-  away : ((p ≡ v) → ⊥) → Told
+  away : ((p ≡ v) → ⊥) → Reported
   away apart = (
     b,
     slice_get-set_other flags place (count_below (known_pairs records) v) true (λ same. apart (sym (same_count records v p known is.0 (same ∙ count)))) ∙ at,
@@ -325,7 +325,7 @@ flags_set records f k c p place flags is count within may v b known at = by_orde
     by_case (inl flag) = flag
     by_case (inr to) = absurd (apart (next_one records c p v is known to.2 to.3))
 
-  by_order : IsBelow p v ⊎ ((p ≡ v) ⊎ IsBelow v p) → Told
+  by_order : IsBelow p v ⊎ ((p ≡ v) ⊎ IsBelow v p) → Reported
   by_order (inl below) = away (λ same. not_below_itself v (subst (λ (u : Pair). IsBelow u v) same below))
   by_order (inr (inl same)) = here same
   by_order (inr (inr above)) = away (λ same. not_below_itself v (subst (IsBelow v) same above))

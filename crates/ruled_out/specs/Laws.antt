@@ -5,10 +5,10 @@ use Rattle.doc_register.specs.declared.reply.Reply.{Reply as Answer}
 use Rattle.doc_register.specs.declared.state.Conflicts.{Conflicts}
 use Rattle.doc_register.specs.declared.state.Conflicts.TheVariants.{Plain}
 use Rattle.doc_register.specs.Run.{IsLegalRun}
-use Rattle.history.specs.declared.event.Event.{Event}
-use Rattle.history.specs.Events.{IsCallAt, IsHistory, IsReplyAt, records_of}
-use Rattle.history.specs.Order.{Explains, IsLinearizable, IsOfCall, Placed, Respects, run_of}
-use Rattle.ruled_out.specs.Told.{told}
+use Rattle.events.specs.declared.event.Event.{Event}
+use Rattle.events.specs.Events.{IsCallAt, IsHistory, IsReplyAt, records_of}
+use Rattle.events.specs.Order.{Explains, IsLinearizable, IsOfCall, Placed, Respects, run_of}
+use Rattle.ruled_out.specs.Reported.{reported}
 use Rattle.ruled_out.specs.Placings.{IsPlacing, IsRuledOut}
 
 -- The order explains the document, whether it has calls of other documents or not. An order that explains a
@@ -34,7 +34,7 @@ pub record ExplainsWithin (conflicts : Conflicts) (events : List Event) (d : Lis
 -- Source: profile.
 abbrev pub OrderedAreNotRuledOut : Type 0
 OrderedAreNotRuledOut = (conflicts : Conflicts) (events : List Event) (d : List ℕ) (order : List Placed) (no : ℕ) → IsHistory events
-    → ExplainsWithin conflicts events d order → ¬ IsRuledOut (told conflicts (records_of events d)) no
+    → ExplainsWithin conflicts events d order → ¬ IsRuledOut (reported conflicts (records_of events d)) no
 
 -- if an order explains a history, the records of each of its documents as reported have floors that are a
 -- placing up to each event
@@ -42,11 +42,11 @@ OrderedAreNotRuledOut = (conflicts : Conflicts) (events : List Event) (d : List 
 abbrev pub ExplainedHavePlacings : Type 0
 ExplainedHavePlacings = (conflicts : Conflicts) (events : List Event) (order : List Placed) (d : List ℕ) → IsHistory events
     → Explains conflicts events order
-    → (floor : ℕ → ℕ) × ((event : ℕ) → IsPlacing (told conflicts (records_of events d)) event floor)
+    → (floor : ℕ → ℕ) × ((event : ℕ) → IsPlacing (reported conflicts (records_of events d)) event floor)
 
 -- if the records of a document as reported are ruled out at some call, no order explains the history, however
 -- its pending calls are completed
 -- Source: Herlihy and Wing, section 2 (linearizable); profile (the rest).
 abbrev pub RuledOutHaveNoOrder : Type 0
 RuledOutHaveNoOrder = (conflicts : Conflicts) (events : List Event) (d : List ℕ) (no : ℕ) → IsHistory events
-    → IsRuledOut (told conflicts (records_of events d)) no → ¬ IsLinearizable conflicts events
+    → IsRuledOut (reported conflicts (records_of events d)) no → ¬ IsLinearizable conflicts events

@@ -1,4 +1,4 @@
-pub mod Told
+pub mod Reported
 pub mod Positions
 pub mod Placings
 pub mod Laws

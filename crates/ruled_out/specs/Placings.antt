@@ -9,9 +9,9 @@ use Rattle.doc_register.specs.declared.op.Op.TheVariants.{Get, Index, Delete, Cr
 use Rattle.doc_register.specs.declared.reply.Reply.{Reply}
 use Rattle.doc_register.specs.declared.reply.Reply.TheVariants.{Indexed, Deleted, Found, Missing, Conflict}
 use Rattle.doc_register.specs.Register.{condition_of, value_of}
-use Rattle.history.specs.declared.record.Rec.{Rec}
-use Rattle.history.specs.Heard.{pair_of}
-use Rattle.ruled_out.specs.Told.{IsFoundWith, IsGone, IsKnown, IsToldOf}
+use Rattle.events.specs.declared.record.Rec.{Rec}
+use Rattle.events.specs.Heard.{pair_of}
+use Rattle.ruled_out.specs.Reported.{IsFoundWith, IsGone, IsKnown, IsReportedOf}
 use Rattle.ruled_out.specs.Positions.{IsNext, gap_of, position_after, version_of}
 
 -- The records are those of a document as reported. The floor of each record, by its number, is a position
@@ -97,7 +97,7 @@ pub record HasWriter (records : List Rec) (floor : ℕ → ℕ) (event : ℕ) (v
 -- have taken it (`HasWriter`)
 -- Source: profile.
 abbrev pub IsReached : List Rec → (ℕ → ℕ) → ℕ → ℕ → Type 0
-IsReached records floor event n = (v : Pair) → IsKnown records v → (¬ IsToldOf records v) → version_of records v ≤ n
+IsReached records floor event n = (v : Pair) → IsKnown records v → (¬ IsReportedOf records v) → version_of records v ≤ n
     → HasWriter records floor event v
 
 -- ---- the positions that an answered call may have
@@ -136,8 +136,9 @@ MayConflict records floor event (Delete None) n = ⊥
 MayConflict records floor event (Delete (Some b)) n = MayRefuse records floor event b n
 MayConflict records floor event (Create k) n = MayBePresent records floor event n
 
--- The call c may have this reply at the position n. A get that found a pair is at the position of the pair,
--- and one that found nothing is at a position at which the document may be missing.
+-- The call c may have this reply at the position n. A performed write is there as `MayWrite` states, a
+-- conflict as `MayConflict` does. A get that found a pair is at the position of the pair, and one that found
+-- nothing is at a position at which the document may be missing.
 -- Source: profile.
 abbrev pub MayAnswer : List Rec → (ℕ → ℕ) → ℕ → Rec → Reply → ℕ → Type 0
 MayAnswer records floor event c (Indexed q created) n = MayWrite records floor event c q created n

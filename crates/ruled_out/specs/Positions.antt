@@ -5,8 +5,8 @@
 use Rattle.std.specs.Prelude.{◌*◌, ◌==◌, ◌&&◌, ◌||◌, ℕ, suc, Bool, List, [], ◌∷◌, cond, nat_lt, Option, None, Some}
 use Rattle.version_pair.specs.declared.pair.Pair.{Pair}
 use Rattle.version_pair.specs.PairOrder.{IsBelow}
-use Rattle.history.specs.declared.record.Rec.{Rec}
-use Rattle.ruled_out.specs.Told.{IsKnown, known_pairs}
+use Rattle.events.specs.declared.record.Rec.{Rec}
+use Rattle.ruled_out.specs.Reported.{IsKnown, known_pairs}
 
 -- the first pair is below the second
 abbrev pub is_below : Pair → Pair → Bool

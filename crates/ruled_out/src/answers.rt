@@ -1,7 +1,7 @@
 ghost use Rattle.std.specs.Prelude.{◌≡◌, IfOk};
 ghost use Rattle.ruled_out.specs.aids.Answers.{AreAnswers, answers_from};
 
-use history::Rec;
+use events::Rec;
 use std::alloc::Global;
 use version_pair::NoMemory;
 

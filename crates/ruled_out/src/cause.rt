@@ -1,7 +1,7 @@
 use crate::versions::Versions;
 use crate::walk::Walk;
 use doc_register::{Op, Reply};
-use history::Rec;
+use events::Rec;
 use version_pair::Pair;
 
 /// The reason why a call has no position, for people. No contract covers it.
@@ -62,7 +62,7 @@ fn unmet_by(versions: &Versions, write: Write, asked: Pair) -> Unmet {
     }
     match versions.known.last_below(write.pair) {
         Some(last) if asked.is_below(last) => Unmet::Replaced(last),
-        _ if versions.told_of(asked).gone => Unmet::Deleted,
+        _ if versions.reported_of(asked).gone => Unmet::Deleted,
         _ => Unmet::Changed,
     }
 }

@@ -1,14 +1,14 @@
 ghost use Rattle.std.specs.Prelude.{◌≡◌, ◌≤◌, ◌<◌, ◌+◌, ◌*◌, ◌^◌, ◌++◌, length, IfOk, IfSome, OnOk, IsTrue, List};
 ghost use Rattle.std.specs.Option.{option_to_list};
-ghost use Rattle.history.specs.declared.record.Rec.{Rec as Record};
+ghost use Rattle.events.specs.declared.record.Rec.{Rec as Record};
 ghost use Rattle.ruled_out.specs.Positions.{count_below, gap_of, is_below};
-ghost use Rattle.ruled_out.specs.Told.{condition_met, known_pairs, pair_shown};
+ghost use Rattle.ruled_out.specs.Reported.{condition_met, known_pairs, pair_shown};
 ghost use Rattle.ruled_out.specs.aids.KnownPairs.{AreKnown, IsGapAbove, IsLastKnown, IsNextKnown, IsVersionOf};
 ghost use Rattle.ruled_out.specs.aids.Places.{Gives, IsPlaceOf, IsRepeated, RoomBehind};
 
 use crate::above::least_above;
 use doc_register::Reply;
-use history::Rec;
+use events::Rec;
 use std::alloc::Global;
 use version_pair::{NoMemory, Pair};
 

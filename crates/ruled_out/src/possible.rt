@@ -1,5 +1,5 @@
 ghost use Rattle.std.specs.Prelude.{◌≤◌, ◌⊎◌, ◌↔◌, ℕ, None as Nothing, Some as Just, OnOk, List};
-ghost use Rattle.history.specs.declared.record.Rec.{Rec as Record};
+ghost use Rattle.events.specs.declared.record.Rec.{Rec as Record};
 ghost use Rattle.ruled_out.specs.aids.Rooms.{IsAmong};
 ghost use Rattle.ruled_out.specs.aids.Sets.{IsLeastFrom, IsIn, IsWith, IsWithSome};
 

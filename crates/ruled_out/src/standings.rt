@@ -1,11 +1,11 @@
 use crate::answers::{Answer, answers_of};
 use crate::cause::{Cause, cause_of};
+use crate::reported::reported_records;
 use crate::standing::{Stage, Standing, stage_of};
-use crate::told::told_records;
 use crate::unhelpful::{Unhelpful, Wanted, unhelpful_for};
 use crate::walk::Walk;
 use doc_register::{Conflicts, Op};
-use history::Rec;
+use events::Rec;
 use std::alloc::Global;
 use version_pair::{NoMemory, Pair};
 
@@ -16,7 +16,7 @@ use version_pair::{NoMemory, Pair};
 /// contract of `ruled_out_at` says.
 #[derive(Drop)]
 pub struct Standings {
-    told: Vec<Rec>,
+    reported: Vec<Rec>,
     walk: Walk,
     standings: Vec<Standing>,
     cause: Option<Cause>,
@@ -35,11 +35,11 @@ fn bound_of(raises: &[(usize, usize)], floor: usize) -> Option<usize> {
 impl Standings {
     /// Returns the standings for the records of a document.
     pub fn of(alloc: Global, records: &[Rec], conflicts: Conflicts) -> Result<Standings, NoMemory> {
-        let told = told_records(alloc, records, conflicts)?;
-        let answers = answers_of(alloc, &told)?;
-        let walk = Walk::new(alloc, &told)?;
+        let reported = reported_records(alloc, records, conflicts)?;
+        let answers = answers_of(alloc, &reported)?;
+        let walk = Walk::new(alloc, &reported)?;
         let mut standings = Standings {
-            told,
+            reported,
             walk,
             standings: Vec::new(alloc),
             cause: None,
@@ -52,7 +52,7 @@ impl Standings {
     fn walk_over(&mut self, alloc: Global, answers: &[Answer]) -> Result<(), NoMemory> {
         let mut raises = Vec::new(alloc);
         for answer in answers {
-            self.walk.pass_until(&self.told, answer.0)?;
+            self.walk.pass_until(&self.reported, answer.0)?;
             let before = self.walk.reached();
             let bound = bound_of(&raises, self.walk.floor(answer.1));
             if !self.stand(answer.1, bound)? {
@@ -68,7 +68,7 @@ impl Standings {
     // Gives the answered call with this number its position; that standing bounds it. Returns whether it has
     // a position.
     fn stand(&mut self, number: usize, bound: Option<usize>) -> Result<bool, NoMemory> {
-        let Some(call) = self.told.get(number).copied() else {
+        let Some(call) = self.reported.get(number).copied() else {
             return Ok(false);
         };
         let Some(heard) = call.heard else {
@@ -112,8 +112,8 @@ impl Standings {
 
     /// Returns whether the record is of a write that may have been performed with a pair that no reply
     /// reported.
-    pub fn is_untold(&self, number: usize) -> bool {
-        match self.told.get(number) {
+    pub fn is_unreported(&self, number: usize) -> bool {
+        match self.reported.get(number) {
             Some(call) => call.heard.is_none() && call.op != Op::Get,
             None => false,
         }
@@ -123,8 +123,8 @@ impl Standings {
     /// the call at which the document is ruled out.
     pub fn unhelpful(&self, number: usize) -> Option<Unhelpful> {
         let (stop, cause) = self.stop()?;
-        let event = self.told.get(stop.record)?.heard.map(|heard| heard.0)?;
-        let write = self.told.get(number)?;
+        let event = self.reported.get(stop.record)?.heard.map(|heard| heard.0)?;
+        let write = self.reported.get(number)?;
         let wanted = Wanted {
             cause,
             floor: stop.floor,

@@ -1,7 +1,7 @@
 use crate::cause::Cause;
 use crate::versions::Versions;
 use doc_register::Op;
-use history::Rec;
+use events::Rec;
 use version_pair::Pair;
 
 /// The reason why a write without a reply gives no position to the call at which a document is ruled out, for
@@ -51,7 +51,7 @@ fn other_kind(cause: Cause, op: Op) -> Option<Unhelpful> {
 // Why the write, which was made when the document had reached this floor, can't have taken the known pair.
 fn not_written(versions: &Versions, write: &Rec, floor: usize, pair: Pair) -> Unhelpful {
     if let Some(k) = write.op.value()
-        && !versions.told_of(pair).number.allows(k)
+        && !versions.reported_of(pair).number.allows(k)
     {
         return Unhelpful::OtherNumber;
     }

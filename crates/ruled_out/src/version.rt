@@ -17,7 +17,7 @@ pub enum Number {
 #[derive(Clone, Copy)]
 pub struct Version {
     /// Whether a reply says which call took the pair.
-    pub told: bool,
+    pub reported: bool,
     /// Whether a reply says that the document was deleted with the pair.
     pub gone: bool,
     /// What gets found with the pair.
@@ -25,8 +25,8 @@ pub struct Version {
 }
 
 /// The version of a pair of which no reply says anything.
-pub const UNTOLD: Version = Version {
-    told: false,
+pub const UNREPORTED: Version = Version {
+    reported: false,
     gone: false,
     number: Number::Unseen,
 };
@@ -71,9 +71,12 @@ impl Version {
         ensures { result ≡ version_with self reply }
     {
         match reply {
-            Reply::Indexed { .. } => Version { told: true, ..self },
+            Reply::Indexed { .. } => Version {
+                reported: true,
+                ..self
+            },
             Reply::Deleted { .. } => Version {
-                told: true,
+                reported: true,
                 gone: true,
                 ..self
             },

@@ -1,14 +1,14 @@
 ghost use Rattle.std.specs.Prelude.{◌≡◌, ◌+◌, ◌<◌, ◌^◌, ◌++◌, IfOk, IfSome, OnOk, List, length};
 ghost use Rattle.std.specs.Option.{option_to_list};
-ghost use Rattle.history.specs.declared.record.Rec.{Rec as Record};
-ghost use Rattle.ruled_out.specs.Told.{IsKnown};
+ghost use Rattle.events.specs.declared.record.Rec.{Rec as Record};
+ghost use Rattle.ruled_out.specs.Reported.{IsKnown};
 ghost use Rattle.ruled_out.specs.aids.KnownPairs.{AreKnown};
 ghost use Rattle.ruled_out.specs.aids.Rooms.{AreRooms};
-ghost use Rattle.ruled_out.specs.aids.Versions.{AreVersions, IsNoted, version_told, untold};
+ghost use Rattle.ruled_out.specs.aids.Versions.{AreVersions, IsNoted, version_reported, unreported};
 
 use crate::known::Known;
-use crate::version::{UNTOLD, Version};
-use history::Rec;
+use crate::version::{UNREPORTED, Version};
+use events::Rec;
 use std::alloc::Global;
 use version_pair::{NoMemory, Pair};
 
@@ -17,7 +17,7 @@ use version_pair::{NoMemory, Pair};
 pub struct Versions {
     pub known: Known,
     // What replies say of each known pair, by the number of known pairs below it.
-    told: Vec<Version>,
+    reported: Vec<Version>,
     /// The positions of calls that may take an unknown pair.
     pub rooms: Vec<usize>,
 }
@@ -38,11 +38,15 @@ fn note_reply(versions: &mut Vec<Version>, known: &Known, call: Rec)
 }
 
 // What the replies say of the known pairs.
-fn versions_told(alloc: Global, known: &Known, records: &[Rec]) -> Result<Vec<Version>, NoMemory>
+fn versions_reported(
+    alloc: Global,
+    known: &Known,
+    records: &[Rec],
+) -> Result<Vec<Version>, NoMemory>
     ensures { IfOk result (λ versions. AreKnown records.now known.now.pairs.items
         → AreVersions records.now versions.items) }
 {
-    let mut versions = vec![in alloc; UNTOLD; known.pairs().len()]?;
+    let mut versions = vec![in alloc; UNREPORTED; known.pairs().len()]?;
     for call in records {
         note_reply(&mut versions, known, *call);
     }
@@ -81,20 +85,24 @@ impl Versions {
         ensures { IfOk result (AreOf records.now) }
     {
         let known = Known::of(alloc, records)?;
-        let told = versions_told(alloc, &known, records)?;
+        let reported = versions_reported(alloc, &known, records)?;
         let rooms = rooms_among(alloc, &known)?;
-        Ok(Versions { known, told, rooms })
+        Ok(Versions {
+            known,
+            reported,
+            rooms,
+        })
     }
 
     /// Returns what replies say of a pair, if the pair is known.
-    pub fn told_of(&self, pair: Pair) -> Version
+    pub fn reported_of(&self, pair: Pair) -> Version
         ensures { (records : List Record) → AreOf records self.now → IsKnown records pair
-            → result ≡ version_told untold pair records }
+            → result ≡ version_reported unreported pair records }
     {
         let below = self.known.count_below(pair);
-        match self.told.get(below) {
+        match self.reported.get(below) {
             Some(version) => *version,
-            None => UNTOLD,
+            None => UNREPORTED,
         }
     }
 
@@ -107,7 +115,7 @@ impl Versions {
         if self.known.is_repeated(place) {
             None
         } else {
-            self.told.get(place).copied()
+            self.reported.get(place).copied()
         }
     }
 
@@ -148,7 +156,7 @@ impl Versions {
         ensures fits { IfSome result (λ n. n + 1 < 2 ^ 64) }
     {
         let n = self.known.version_of(pair)?;
-        if self.told_of(pair).gone {
+        if self.reported_of(pair).gone {
             None
         } else {
             Some(n)

@@ -1,21 +1,21 @@
 mod answering;
+mod describing;
 mod reached;
 mod standing;
-mod telling;
 
 ghost use Rattle.std.specs.Prelude.{◌≡◌, List, None as Nothing, Some as Just, IfOk, OnOk, length, slice_get};
 ghost use Rattle.doc_register.specs.Register.{condition_of, value_of};
-ghost use Rattle.history.specs.declared.record.Rec.{Rec as Record};
+ghost use Rattle.events.specs.declared.record.Rec.{Rec as Record};
 ghost use Rattle.ruled_out.specs.Placings.{AreInOrder};
 ghost use Rattle.ruled_out.specs.aids.Offers.{KeepsRooms};
-ghost use Rattle.ruled_out.specs.aids.Wild.{IsToldAbsent, IsToldPresent};
+ghost use Rattle.ruled_out.specs.aids.Wild.{IsReportedAbsent, IsReportedPresent};
 ghost use Rattle.ruled_out.specs.aids.VersionsOf.{AreOf};
 
 use crate::possible::Possible;
 use crate::versions::Versions;
 use crate::writers::Writers;
 use doc_register::Op;
-use history::Rec;
+use events::Rec;
 use std::alloc::Global;
 use version_pair::{NoMemory, Pair};
 
@@ -36,10 +36,10 @@ pub struct Walk {
 }
 
 // The positions at which the document may be absent, by the replies alone.
-fn told_absent(alloc: Global, versions: &Versions) -> Result<Possible, NoMemory>
+fn reported_absent(alloc: Global, versions: &Versions) -> Result<Possible, NoMemory>
     ensures rooms { IfOk result (λ away. (records : List Record) → KeepsRooms records away) }
-    ensures told { IfOk result (λ away. (records : List Record) → AreOf records versions.now
-        → IsToldAbsent records away.positions) }
+    ensures reported { IfOk result (λ away. (records : List Record) → AreOf records versions.now
+        → IsReportedAbsent records away.positions) }
 {
     let mut away = Possible::new(alloc);
     away.insert(0)?;
@@ -50,10 +50,10 @@ fn told_absent(alloc: Global, versions: &Versions) -> Result<Possible, NoMemory>
 }
 
 // The positions at which it may exist, by the replies alone.
-fn told_present(alloc: Global, versions: &Versions) -> Result<Possible, NoMemory>
+fn reported_present(alloc: Global, versions: &Versions) -> Result<Possible, NoMemory>
     ensures rooms { IfOk result (λ there. (records : List Record) → KeepsRooms records there) }
-    ensures told { IfOk result (λ there. (records : List Record) → AreOf records versions.now
-        → IsToldPresent records there.positions) }
+    ensures reported { IfOk result (λ there. (records : List Record) → AreOf records versions.now
+        → IsReportedPresent records there.positions) }
 {
     let mut there = Possible::new(alloc);
     for place in 0..versions.known.pairs().len() {
@@ -71,8 +71,8 @@ impl Walk {
         ensures start { IfOk result (λ walk. (length walk.floors.items ≡ 0) × (walk.reached ≡ 0)) }
     {
         let versions = Versions::of(alloc, records)?;
-        let absent = told_absent(alloc, &versions)?;
-        let present = told_present(alloc, &versions)?;
+        let absent = reported_absent(alloc, &versions)?;
+        let present = reported_present(alloc, &versions)?;
         let writers = Writers::new(alloc, &versions)?;
         Ok(Walk {
             versions,

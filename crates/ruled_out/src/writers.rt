@@ -2,8 +2,8 @@ ghost use Rattle.std.specs.Prelude.{◌≡◌, ◌≢◌, ◌≤◌, ◌⊎◌, 
 ghost use Rattle.std.specs.BTreeMap.{get};
 ghost use Rattle.std.specs.Ordering.{nat_cmp};
 ghost use Rattle.doc_register.specs.Register.{condition_of, value_of};
-ghost use Rattle.history.specs.declared.record.Rec.{Rec as Record};
-ghost use Rattle.ruled_out.specs.Told.{IsFoundWith, IsKnown};
+ghost use Rattle.events.specs.declared.record.Rec.{Rec as Record};
+ghost use Rattle.ruled_out.specs.Reported.{IsFoundWith, IsKnown};
 ghost use Rattle.ruled_out.specs.Positions.{gap_of};
 ghost use Rattle.ruled_out.specs.aids.VersionsOf.{AreOf};
 ghost use Rattle.ruled_out.specs.aids.Sets.{IsFrom};
@@ -61,7 +61,7 @@ fn may_take(versions: &Versions, pair: Pair, k: u64, floor: usize) -> bool
     ensures { (records : List Record) → AreOf records versions.now → IsKnown records pair
         → (IsTrue result ↔ ((floor ≤ gap_of records pair) × ((n : ℕ) → IsFoundWith records pair n → n ≡ k))) }
 {
-    floor <= versions.known.gap_of(pair) && versions.told_of(pair).number.allows(k)
+    floor <= versions.known.gap_of(pair) && versions.reported_of(pair).number.allows(k)
 }
 
 impl Writers {
@@ -167,6 +167,9 @@ impl Writers {
         if self.may_swap(versions, pair) {
             return true;
         }
-        self.may_give(versions.told_of(pair).number, versions.known.gap_of(pair))
+        self.may_give(
+            versions.reported_of(pair).number,
+            versions.known.gap_of(pair),
+        )
     }
 }

@@ -1,2 +1,2 @@
 pub mod Found
-pub mod Range
+pub use Rattle.recorded_runs.specs.Range

@@ -8,10 +8,9 @@
 
 mod found_run;
 mod search;
-mod seeds;
 mod watch;
 
 pub use found_run::FoundRun;
+pub use recorded_runs::Seeds;
 pub use search::{first_found, search_stream};
-pub use seeds::Seeds;
 pub use watch::Watch;

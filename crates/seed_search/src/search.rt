@@ -1,16 +1,15 @@
 ghost use Rattle.std.specs.Prelude.{◌≡◌, ◌≢◌, ◌↔◌, ◌+◌, IfErr, IfNone, IfOk, IfSome, IsErrOf, IsTrue};
 ghost use Rattle.std.specs.Io.KnownBytes.{Keeps};
 ghost use Rattle.recorded_runs.specs.Runs.{IsOfRun, IsRunFault, is_refused};
-ghost use Rattle.stream_io.specs.Written.{HasFront};
+ghost use Rattle.stream_io.specs.Written.{HasPrefix};
 ghost use Rattle.seed_search.specs.Found.{AreCleared, IsCleared, IsFoundRun, IsFoundText, IsJudgedRun, IsSearched, with_seed};
 
 use crate::found_run::FoundRun;
-use crate::seeds::Seeds;
 use crate::watch::Watch;
 use disturbances::{Disturbance, DisturbedGroup};
 use doc_register::Conflicts;
 use history::write;
-use recorded_runs::{Manner, Playing, RunSetting, run_history};
+use recorded_runs::{Manner, Playing, RunSetting, Seeds, run_history};
 use report::{RulingOut, history_answer};
 use std::alloc::Global;
 use std::io::Write;
@@ -33,7 +32,7 @@ fn judged_run<T: Threads + Wait + Sync>(
     ensures judged { IfOk result (λ run. IsJudgedRun ⟦<DisturbedGroup as Target>⟧.issued
         ⟦<DisturbedGroup as Target>⟧.gave disturbance setting.now run.text.items run.answer.status run.answer.text.items) }
     ensures setting { IsErrOf result StreamFault.Setting ↔ IsTrue (is_refused setting.now) }
-    ensures told { IfErr result IsOfRun }
+    ensures reported { IfErr result IsOfRun }
 {
     let manner = Manner {
         playing: Playing::InTurns,
@@ -63,7 +62,7 @@ fn tried_seed<T: Threads + Wait + Sync>(
     ensures none { IfOk result (λ found. IfNone found (IsCleared ⟦<DisturbedGroup as Target>⟧.issued
         ⟦<DisturbedGroup as Target>⟧.gave disturbance (with_seed setting.now seed))) }
     ensures setting { IsErrOf result StreamFault.Setting ↔ IsTrue (is_refused setting.now) }
-    ensures told { IfErr result IsOfRun }
+    ensures reported { IfErr result IsOfRun }
 {
     let run = judged_run(rt, alloc, &RunSetting { seed, ..*setting }, disturbance)?;
     match run.answer.status {
@@ -74,7 +73,7 @@ fn tried_seed<T: Threads + Wait + Sync>(
 
 // Reports, after each hundredth seed, how many were tried and which was the last. `others` is the number of
 // seeds before the last.
-fn tell_tried<H: Watch>(watch: &H, others: u64, last: u64) {
+fn report_tried<H: Watch>(watch: &H, others: u64, last: u64) {
     if others % SEEDS_APART == SEEDS_APART - 1 {
         watch.tried(others / SEEDS_APART + 1, last);
     }
@@ -106,13 +105,13 @@ pub fn first_found<T: Threads + Wait + Sync, H: Watch>(
     // The error is `Setting` exactly if a number of the plan or of the group is refused.
     ensures setting { IsErrOf result StreamFault.Setting ↔ IsTrue (is_refused setting.now) }
     // The only errors are `NoMemory`, `Recording` and `Setting`.
-    ensures told { IfErr result IsOfRun }
+    ensures reported { IfErr result IsOfRun }
 {
     let first = seeds.first();
     for seed in first..=seeds.last() {
         match tried_seed(rt, alloc, setting, seed, disturbance)? {
             Some(run) => return Ok(Some(run)),
-            None => tell_tried(watch, seed - first, seed),
+            None => report_tried(watch, seed - first, seed),
         }
     }
     Ok(None)
@@ -140,7 +139,7 @@ pub fn search_stream<T: Threads + Wait + Sync, H: Watch, W: Write>(
         (W.contents writer.new)) }
     // After `Write` the writer holds a prefix of such a text after what it held.
     ensures cut_off { IsErrOf result StreamFault.Write
-        → HasFront (λ _. IsFoundText ⟦<DisturbedGroup as Target>⟧.issued
+        → HasPrefix (λ _. IsFoundText ⟦<DisturbedGroup as Target>⟧.issued
         ⟦<DisturbedGroup as Target>⟧.gave disturbance setting.now seeds.first seeds.last) (W.contents writer.old)
         (W.contents writer.new) }
     // After any other error the writer holds what it held.
@@ -149,7 +148,7 @@ pub fn search_stream<T: Threads + Wait + Sync, H: Watch, W: Write>(
     // The error is `Setting` exactly if a number of the plan or of the group is refused.
     ensures setting { IsErrOf result StreamFault.Setting ↔ IsTrue (is_refused setting.now) }
     // The only errors are `Write`, `NoMemory`, `Recording` and `Setting`.
-    ensures told { IfErr result IsRunFault }
+    ensures reported { IfErr result IsRunFault }
 {
     match first_found(rt, alloc, seeds, setting, disturbance, watch) {
         Ok(Some(run)) => {

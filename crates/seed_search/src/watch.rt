@@ -1,5 +1,5 @@
 use crate::found_run::FoundRun;
-use crate::seeds::Seeds;
+use recorded_runs::Seeds;
 
 /// An observer of a search through seeds. What it is called with is tested, not proved.
 pub trait Watch {

@@ -1,10 +1,10 @@
 use crate::event_lines::EventLines;
 use crate::named::Named;
-use crate::parts::CallTold;
+use crate::parts::CallReported;
 use crate::words::{heard_words, list_of, op_words, shown};
 use doc_register::{Op, Reply};
+use events::{Event, History, Rec};
 use evidence::Refuted;
-use history::{Event, History, Rec};
 use std::alloc::Global;
 use version_pair::{DocId, NoMemory, Pair};
 
@@ -109,26 +109,26 @@ pub fn asked_words(alloc: Global, call: &Call<'_>, several: bool) -> Result<Stri
     format!(in alloc; "{id} {op}")
 }
 
-/// Returns the calls in words, with their documents if there are several. The calls are some of `told_ones`,
+/// Returns the calls in words, with their documents if there are several. The calls are some of `reported_ones`,
 /// the calls that are shown.
-pub fn calls_told(
+pub fn calls_reported(
     alloc: Global,
     calls: &[Call<'_>],
-    told_ones: &[Call<'_>],
+    reported_ones: &[Call<'_>],
     named: &Named,
     lines: &EventLines,
     several: bool,
-) -> Result<Vec<CallTold>, NoMemory> {
-    let mut told = Vec::new(alloc);
+) -> Result<Vec<CallReported>, NoMemory> {
+    let mut reported = Vec::new(alloc);
     for call in calls {
-        told.push(CallTold {
+        reported.push(CallReported {
             mark: named.mark(call.record.no),
             line: lines.line(call.record.call_at),
             no: call.record.no,
             asked: asked_words(alloc, call, several)?,
             answered: answered_words(alloc, call, lines)?,
-            open_with: open_words(alloc, call, told_ones)?,
+            open_with: open_words(alloc, call, reported_ones)?,
         })?;
     }
-    Ok(told)
+    Ok(reported)
 }

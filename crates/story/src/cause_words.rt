@@ -1,7 +1,7 @@
 use crate::event_lines::EventLines;
 use crate::link_words::reached_words;
 use crate::reason::Reason;
-use crate::told_line::ToldLine;
+use crate::reported_line::ReportedLine;
 use crate::words::pair_words;
 use doc_register::Op;
 use ruled_out::{Cause, Stage, Unmet};
@@ -21,7 +21,7 @@ fn shower_words(alloc: Global, reason: &Reason, lines: &EventLines) -> Result<St
 }
 
 // Says that the condition asks for a version that the document had all the time.
-fn still_there(alloc: Global, asked: Pair, line: ToldLine) -> Result<String, NoMemory> {
+fn still_there(alloc: Global, asked: Pair, line: ReportedLine) -> Result<String, NoMemory> {
     let pair = pair_words(alloc, asked)?;
     format!(in alloc;
         "So something must have replaced {pair} before line {line}. But no reply shows a later version of the document."
@@ -32,7 +32,7 @@ fn still_there(alloc: Global, asked: Pair, line: ToldLine) -> Result<String, NoM
 fn otherwise(
     alloc: Global,
     reason: &Reason,
-    line: ToldLine,
+    line: ReportedLine,
     needed: &str,
     known: &str,
 ) -> Result<String, NoMemory> {
@@ -99,12 +99,12 @@ fn before_write(
     reason: &Reason,
     lines: &EventLines,
     taken: Pair,
-    (told, known, needed): (&str, &str, &str),
+    (reported, known, needed): (&str, &str, &str),
 ) -> Result<String, NoMemory> {
     let pair = pair_words(alloc, taken)?;
     let known = known_words(alloc, reason, lines, taken, known)?;
     format!(in alloc;
-        "This says that the document was {told} just before {pair}. But {known}. So something else must have {needed} it just before."
+        "This says that the document was {reported} just before {pair}. But {known}. So something else must have {needed} it just before."
     )
 }
 
@@ -124,24 +124,24 @@ fn unmet_words(
     let by = by.as_str();
     match unmet {
         Unmet::Created => format!(in alloc;
-            "It was to be performed only where the document is there at {asked}, and its reply says that the document was not there. It can't be both."
+            "It was to be performed only if the document is there at {asked}, and its reply says that the document was not there. It can't be both."
         ),
         Unmet::NotBelow => format!(in alloc;
-            "It was to be performed only where the document is at {asked}, and a write that replaces {asked} gets a newer version than it. This one got none that is newer."
+            "It was to be performed only if the document is at {asked}, and a write that replaces {asked} gets a newer version than it. This one got none that is newer."
         ),
         Unmet::Replaced(pair) => {
             let pair = pair_words(alloc, pair)?;
             format!(in alloc;
-                "It was to be performed only where the document is still at {asked}. But the version {pair}{by} lies between {asked} and its own, so the document was past {asked} by then."
+                "It was to be performed only if the document is still at {asked}. But the version {pair}{by} lies between {asked} and its own, so the document was past {asked} by then."
             )
         }
         Unmet::Deleted => format!(in alloc;
-            "It was to be performed only where the document is there at {asked}. But with {asked} the document was deleted{by}, and no condition is met by a document that is not there."
+            "It was to be performed only if the document is there at {asked}. But with {asked} the document was deleted{by}, and no condition is met by a document that is not there."
         ),
         Unmet::Changed => {
             let reached = reached_words(alloc, reason.stage)?;
             format!(in alloc;
-                "It was to be performed only where the document is still at {asked}. But the document had {reached} before the call was made."
+                "It was to be performed only if the document is still at {asked}. But the document had {reached} before the call was made."
             )
         }
     }
@@ -161,7 +161,7 @@ fn unwritten(
     };
     let by = by.as_str();
     format!(in alloc;
-        "So the document must have had the version {version}{by} by then. But no reply tells which write made {version}."
+        "So the document must have had the version {version}{by} by then. But no reply shows which write made {version}."
     )
 }
 

@@ -5,7 +5,7 @@ use version_pair::NoMemory;
 /// Returns what an explanation is about, in a sentence.
 pub fn title_of(alloc: Global, certainty: Certainty, call: u64) -> Result<String, NoMemory> {
     match certainty {
-        Certainty::Evident | Certainty::ToldRuledOut | Certainty::RuledOut => String::from_str(
+        Certainty::Evident | Certainty::ReportedRuledOut | Certainty::RuledOut => String::from_str(
             alloc,
             "The replies contradict one another: no order of the calls explains them.",
         ),
@@ -24,7 +24,7 @@ pub fn certainty_words(certainty: Certainty) -> &'static str {
         Certainty::Evident => {
             "This is proved by evidence: it holds whatever became of the calls without a reply."
         }
-        Certainty::ToldRuledOut => {
+        Certainty::ReportedRuledOut => {
             "This is proved, since the document is ruled out: it holds whatever became of the calls without a reply."
         }
         Certainty::RuledOut => {
@@ -37,7 +37,7 @@ pub fn certainty_words(certainty: Certainty) -> &'static str {
             "This is proved: every write of this document was answered, and there is no order of its calls with these answers, whatever became of the writes of other documents."
         }
         Certainty::Undecided => {
-            "This `no` is undecided, so it accuses nobody: some writes have no reply that tells whether they were performed, and the search for an order which has them is bounded and misses some."
+            "This `no` is undecided, so it accuses nobody: some writes have no reply that says whether they were performed, and the search for an order with such writes is bounded and misses some."
         }
     }
 }

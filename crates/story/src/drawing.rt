@@ -2,7 +2,7 @@ use crate::calls::{Call, asked_words};
 use crate::event_lines::EventLines;
 use crate::lanes::Lanes;
 use crate::named::Named;
-use crate::order_before::{OrderBefore, Step};
+use crate::order_before::{OrderBefore, OrderStep};
 use crate::parts::Mark;
 use crate::words::{heard_words, state_words};
 use std::alloc::Global;
@@ -176,7 +176,7 @@ fn add_box(
 }
 
 // Returns the steps of an order at which the document changed.
-fn changes_of(alloc: Global, order: &OrderBefore) -> Result<Vec<Step>, NoMemory> {
+fn changes_of(alloc: Global, order: &OrderBefore) -> Result<Vec<OrderStep>, NoMemory> {
     let mut changes = Vec::new(alloc);
     for step in order.steps.iter() {
         if step.is_change {

@@ -1,6 +1,6 @@
-use crate::told_line::{ToldLine, time_of};
+use crate::reported_line::{ReportedLine, time_of};
 use api_lines::lines::is_blank;
-use history::Rec;
+use events::Rec;
 use jiff::Timestamp;
 use std::alloc::Global;
 use version_pair::NoMemory;
@@ -51,20 +51,20 @@ impl EventLines {
     }
 
     /// Returns the line of the event at this position, as sentences name it.
-    pub fn line(&self, place: usize) -> ToldLine {
+    pub fn line(&self, place: usize) -> ReportedLine {
         let before = self.times.partition_point(|noted| noted.0 < place);
         let time = match self.times.get(before) {
             Some((noted, time)) if *noted == place => Some(*time),
             _ => None,
         };
-        ToldLine {
+        ReportedLine {
             number: self.number(place),
             time,
         }
     }
 
     /// Returns the line of the reply to the call; that of the call if there is no reply.
-    pub fn reply(&self, record: &Rec) -> ToldLine {
+    pub fn reply(&self, record: &Rec) -> ReportedLine {
         self.line(record.heard.map_or(record.call_at, |heard| heard.0))
     }
 }

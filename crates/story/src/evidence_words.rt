@@ -1,9 +1,9 @@
 use crate::calls::{Call, call_of, id_words};
 use crate::event_lines::EventLines;
-use crate::words::{op_words, pair_words, untold_kind};
+use crate::words::{op_words, pair_words, unreported_kind};
 use doc_register::Conflicts;
+use events::History;
 use evidence::Refuted;
-use history::History;
 use std::alloc::Global;
 use version_pair::{NoMemory, Pair};
 
@@ -40,7 +40,7 @@ fn no_writer(
     let no = get.record.no;
     let line = lines.reply(&get.record);
     let id = id_words(alloc, get.id)?;
-    let hidden = untold_kind(conflicts);
+    let hidden = unreported_kind(conflicts);
     format!(in alloc;
         "Call {no}, a get, was answered with k={k} at the version {pair} (line {line}). No write that was called before that reply can have given {id} the number {k} at {pair}: no reply shows both, and no write with k={k} was {hidden}. So no order explains what the get found."
     )
@@ -104,7 +104,7 @@ fn stale_swap(
     let line = lines.reply(&first.record);
     let other = lines.reply(&second.record);
     format!(in alloc;
-        "Call {two} was to be performed only where the document is still at the version {older}, and it was performed (line {other}). But call {one} had given the document the newer version {newer} (line {line}), and it stands first: {because}. So the document was past {older} by then, and no order can have both replies: the condition was not kept, and what call {one} wrote was overwritten unseen."
+        "Call {two} was to be performed only if the document is still at the version {older}, and it was performed (line {other}). But call {one} had given the document the newer version {newer} (line {line}), and it stands first: {because}. So the document was past {older} by then, and no order can have both replies: the condition was not kept, and what call {one} wrote was overwritten unseen."
     )
 }
 

@@ -1,14 +1,15 @@
 use crate::calls::{Call, call_of, id_words};
 use crate::certainty_words::{certainty_words, title_of};
+use crate::describing::MOST_DESCRIBED;
 use crate::event_lines::EventLines;
 use crate::kept::Kept;
 use crate::named::Named;
 use crate::order_before::{OrderBefore, order_before};
+use crate::order_search::OrderSearch;
 use crate::parts::{Part, Story};
 use crate::shown_calls::Shown;
 use crate::subject::Unexplained;
 use crate::subjects::{Subject, subjects_of};
-use crate::telling::MOST_TOLD;
 use crate::undecided::decision_words;
 use crate::why::add_why;
 use crate::words::{heard_words, op_words};
@@ -96,31 +97,41 @@ fn kept_of<'h>(
 }
 
 // Returns an order of the calls of the first document before the broken reply, if one is found.
-fn order_of(
+fn order_of<S: OrderSearch>(
     alloc: Global,
     unexplained: &Unexplained<'_>,
+    search: &S,
     subjects: &[Subject<'_>],
 ) -> Result<Option<OrderBefore>, NoMemory> {
     match subjects.first() {
         Some(subject) if unexplained.before_shown => {
-            order_before(alloc, unexplained, subject.id, &subject.records, MOST_TOLD)
+            order_before(
+                alloc,
+                unexplained,
+                search,
+                subject.id,
+                &subject.records,
+                MOST_DESCRIBED,
+            )
         }
         _ => Ok(None),
     }
 }
 
 /// Returns the explanation of a history for which no order was found. How much the answer says is an
-/// argument; the explanation has one sentence for each value, which is tested, not proved.
-pub fn failing_story(
+/// argument; the explanation has one sentence for each value, which is tested, not proved. The search is used
+/// for an order of the calls before the reply that broke it.
+pub fn failing_story<S: OrderSearch>(
     alloc: Global,
     unexplained: &Unexplained<'_>,
     lines: &EventLines,
+    search: &S,
 ) -> Result<Story, NoMemory> {
     let subjects = subjects_of(alloc, unexplained)?;
     let named = Named::of(alloc, unexplained, &subjects)?;
     let last = last_event(alloc, unexplained, &named)?;
     let kept = kept_of(alloc, &subjects, &named, last)?;
-    let order = order_of(alloc, unexplained, &subjects)?;
+    let order = order_of(alloc, unexplained, search, &subjects)?;
     let mut parts = Vec::new(alloc);
     add_answer(alloc, unexplained, &subjects, lines, &mut parts)?;
     add_why(alloc, unexplained, &subjects, lines, &mut parts)?;

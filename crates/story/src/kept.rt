@@ -1,7 +1,7 @@
 use crate::calls::Call;
+use crate::describing::MOST_DESCRIBED;
 use crate::named::Named;
-use crate::telling::MOST_TOLD;
-use history::Rec;
+use events::Rec;
 use std::alloc::Global;
 use version_pair::{DocId, NoMemory};
 
@@ -18,7 +18,7 @@ pub struct Kept<'h> {
     pub calls: Vec<Call<'h>>,
     /// The number of writes without a reply.
     pub unanswered_count: usize,
-    /// The last of them.
+    /// Some of them, the last ones of each document first.
     pub unanswered: Vec<Call<'h>>,
 }
 
@@ -33,12 +33,12 @@ impl<'h> Kept<'h> {
         }
     }
 
-    // Counts a call, and keeps it if it is a write without a reply.
+    // Counts a call, and keeps it if it is a write without a reply and there is room.
     fn count_call(&mut self, call: Call<'h>) -> Result<(), NoMemory> {
         self.count = self.count.saturating_add(1);
         if call.may_have_happened() {
             self.unanswered_count = self.unanswered_count.saturating_add(1);
-            if self.unanswered.len() < MOST_TOLD {
+            if self.unanswered.len() < MOST_DESCRIBED {
                 self.unanswered.push(call)?;
             }
         }

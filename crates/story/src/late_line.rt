@@ -1,7 +1,7 @@
 use crate::event_lines::EventLines;
 use crate::words::op_words;
 use doc_register::Reply;
-use history::Rec;
+use events::Rec;
 use std::alloc::Global;
 use version_pair::NoMemory;
 
@@ -38,7 +38,7 @@ pub fn late_words(
     let line = lines.line(write.call_at);
     let asked = op_words(alloc, write.op)?;
     let words = format!(in alloc;
-        "Was a line written late? The reply to call {get} on line {shown} shows what call {no} ({asked}) writes, and the line of call {no} stands only behind it, on line {line}. A recorder has to write each call down before it sends it; one that writes it down later makes a right cluster look wrong."
+        "Was a line written late? The reply to call {get} on line {shown} shows what call {no} ({asked}) writes, and the line of call {no} comes only after it, on line {line}. A recorder has to write each call down before it sends it; one that writes it down later makes a right cluster look wrong."
     )?;
     Ok(Some(words))
 }

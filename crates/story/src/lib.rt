@@ -2,7 +2,7 @@
 //! sentences. A page consists of the bytes of pieces, so each id in it is escaped.
 //!
 //! ```text
-//! let story = failing_story(alloc, &unexplained, &lines)?;
+//! let story = failing_story(alloc, &unexplained, &lines, &search)?;
 //! let text = plain_text(alloc, &story)?;
 //! let page = page_of(alloc, line, &story)?;
 //! ```
@@ -11,6 +11,7 @@
 mod calls;
 mod cause_words;
 mod certainty_words;
+mod describing;
 mod drawing;
 mod event_lines;
 mod evidence_words;
@@ -22,29 +23,30 @@ mod link_words;
 mod named;
 mod numbered_input;
 mod order_before;
+mod order_search;
 mod page_pieces;
 mod parts;
 mod plain;
 mod reason;
 mod reason_parts;
 mod refused;
+mod reported_line;
 mod shown_calls;
 mod stop_words;
 mod subject;
 mod subjects;
-mod telling;
-mod told_line;
 mod undecided;
-mod untold_words;
+mod unreported_words;
 mod why;
 mod window;
 mod words;
 
+pub use describing::{explained_story, refused_story};
 pub use event_lines::EventLines;
 pub use failing::failing_story;
 pub use numbered_input::read_numbered_from;
+pub use order_search::OrderSearch;
 pub use page_pieces::page_of;
 pub use parts::Story;
 pub use plain::plain_text;
 pub use subject::{Explained, Unexplained};
-pub use telling::{explained_story, refused_story};

@@ -1,9 +1,9 @@
 use crate::event_lines::EventLines;
-use crate::reason::Link;
-use crate::told_line::ToldLine;
+use crate::reason::ReasonLink;
+use crate::reported_line::ReportedLine;
 use crate::words::{op_words, pair_words};
 use doc_register::{Op, Reply};
-use history::Rec;
+use events::Rec;
 use ruled_out::Stage;
 use std::alloc::Global;
 use version_pair::NoMemory;
@@ -28,7 +28,7 @@ pub fn reached_words(alloc: Global, stage: Stage) -> Result<String, NoMemory> {
 }
 
 // Returns what a call that shows no version was answered, on which line, and what follows for the document.
-fn said_words(alloc: Global, record: &Rec, line: ToldLine) -> Result<String, NoMemory> {
+fn said_words(alloc: Global, record: &Rec, line: ReportedLine) -> Result<String, NoMemory> {
     match (record.op, record.op.condition()) {
         (Op::Get, _) => format!(in alloc;
             "was answered \"not found\" (line {line}), so the document had been deleted by then"
@@ -48,7 +48,7 @@ fn said_words(alloc: Global, record: &Rec, line: ToldLine) -> Result<String, NoM
 // Returns a call whose reply shows no version, as a sentence.
 fn unshown_link(
     alloc: Global,
-    link: &Link,
+    link: &ReasonLink,
     is_first: bool,
     lines: &EventLines,
 ) -> Result<String, NoMemory> {
@@ -66,7 +66,7 @@ fn unshown_link(
 /// Returns a call of a chain as a sentence.
 pub fn link_words(
     alloc: Global,
-    link: &Link,
+    link: &ReasonLink,
     is_first: bool,
     lines: &EventLines,
 ) -> Result<String, NoMemory> {

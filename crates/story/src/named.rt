@@ -2,7 +2,7 @@ use crate::calls::{Call, call_of, evidence_calls};
 use crate::parts::Mark;
 use crate::subject::Unexplained;
 use crate::subjects::{Subject, reason_calls};
-use history::History;
+use events::History;
 use std::alloc::Global;
 use version_pair::{NoMemory, Pair};
 

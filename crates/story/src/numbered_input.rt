@@ -5,7 +5,8 @@ ghost use Rattle.history.specs.Reading.{history_text, takes_value};
 
 use crate::event_lines::EventLines;
 use api_lines::{InputFault, LineReader, ReadFault, RefusedLine, take_lines};
-use history::{HashKeys, History, HistoryReader};
+use events::{HashKeys, History};
+use history::HistoryReader;
 use std::alloc::Global;
 use std::io::Read;
 
@@ -18,7 +19,7 @@ struct NumberedReader {
 
 impl LineReader for NumberedReader {
     ghost use Rattle.std.specs.Prelude.{List};
-    ghost use Rattle.history.specs.declared.event.Event.{Event};
+    ghost use Rattle.events.specs.declared.event.Event.{Event};
 
     ghost State = { List Event };
 
@@ -48,14 +49,14 @@ pub fn read_numbered_from<R: Read>(
 ) -> Result<Result<(History, EventLines), RefusedLine>, InputFault>
     // If the input's bytes are known, the history, or the line and the cause, is what the definition gives
     // for them, as that of `history::read` is.
-    ensures told { IfOk result (λ told. IfSome (R.remaining input.old) (λ text. MatchResult told
+    ensures reported { IfOk result (λ reported. IfSome (R.remaining input.old) (λ text. MatchResult reported
         (λ read. history_text text ≡ Ok read.0)
         (λ refused. history_text text ≡ Err refused.fault))) }
     // No bytes after the first refused line are taken but those that the last read returned, 32,768 at most;
     // of that line and all before it 4,194,304 times 65,537 bytes at most.
     ensures taken { IsTakenFor history_text (R.remaining input.old) (R.remaining input.new) }
     // If all lines are taken nothing is left in the input.
-    ensures end { IfOk result (λ told. OnOk told (OnSome (R.remaining input.old)
+    ensures end { IfOk result (λ reported. OnOk reported (OnSome (R.remaining input.old)
         (IsAtEnd (R.remaining input.new)))) }
 {
     let mut reader = NumberedReader {

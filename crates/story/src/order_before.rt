@@ -1,17 +1,17 @@
-use crate::parts::PlaceTold;
+use crate::order_search::OrderSearch;
+use crate::parts::PlaceReported;
 use crate::subject::Unexplained;
 use crate::window::window_before;
 use crate::words::{op_words, state_words};
-use doc_check::{DocAnswer, answer};
 use doc_register::{DocState, state_after};
-use history::Rec;
+use events::Rec;
+use places::{DocWitness, Place};
 use std::alloc::Global;
 use version_pair::{DocId, NoMemory};
-use witness::{DocWitness, Place};
 
 /// A place of an order: its call, and the state of the document after it.
 #[derive(Clone, Copy)]
-pub struct Step {
+pub struct OrderStep {
     pub record: Rec,
     pub state: DocState,
     /// Whether the call changed the document.
@@ -25,30 +25,30 @@ pub struct OrderBefore {
     pub left_out: usize,
     /// The state of the document before the first place that is shown.
     pub start: DocState,
-    pub steps: Vec<Step>,
+    pub steps: Vec<OrderStep>,
 }
 
 // Returns the step at a place, from this state.
-fn step_from(state: DocState, place: Place, record: Rec) -> Step {
+fn step_from(state: DocState, place: Place, record: Rec) -> OrderStep {
     let taken = place.pair.or(record.pair_taken());
-    Step {
+    OrderStep {
         record,
         state: taken.map_or(state, |pair| state_after(state, &record.op, pair)),
         is_change: taken.is_some(),
     }
 }
 
-// Returns the last places of a witness, at most that many, without the first `untold` ones.
+// Returns the last places of a witness, at most that many, without the first `unreported` ones.
 fn last_steps(
     alloc: Global,
     witness: &DocWitness,
-    untold: usize,
+    unreported: usize,
     most: usize,
 ) -> Result<OrderBefore, NoMemory> {
-    let first = witness.places().len().saturating_sub(most).max(untold);
+    let first = witness.places().len().saturating_sub(most).max(unreported);
     let mut state = DocState::Never;
     let mut order = OrderBefore {
-        left_out: first.saturating_sub(untold),
+        left_out: first.saturating_sub(unreported),
         start: state,
         steps: Vec::new(alloc),
     };
@@ -68,10 +68,11 @@ fn last_steps(
 }
 
 /// Returns the last places, at most that many, of an order of the document's calls before the reply that
-/// broke it. Returns `None` if the search of the document alone finds no order.
-pub fn order_before(
+/// broke it. Returns `None` if the search finds no order.
+pub fn order_before<S: OrderSearch>(
     alloc: Global,
     unexplained: &Unexplained<'_>,
+    search: &S,
     id: &DocId,
     records: &[Rec],
     most: usize,
@@ -83,30 +84,31 @@ pub fn order_before(
         unexplained.conflicts,
         most,
     )?;
-    let untold = if window.is_prefixed { 1 } else { 0 };
+    let unreported = if window.is_prefixed { 1 } else { 0 };
     let answered_before = window.answered_before;
     let seen = unexplained.history.front(unexplained.event).seen();
-    match answer(
+    let found = search.order(
         alloc,
         id.copy()?,
         window.records,
         seen,
         unexplained.conflicts,
-    )? {
-        DocAnswer::Found(witness) => {
-            let mut order = last_steps(alloc, &witness, untold, most)?;
+    )?;
+    match found {
+        Some(witness) => {
+            let mut order = last_steps(alloc, &witness, unreported, most)?;
             order.left_out = order.left_out.saturating_add(answered_before);
             Ok(Some(order))
         }
-        DocAnswer::NotFound(_) => Ok(None),
+        None => Ok(None),
     }
 }
 
 /// Returns the order in words.
-pub fn places_told(alloc: Global, order: &OrderBefore) -> Result<Vec<PlaceTold>, NoMemory> {
-    let mut told = Vec::new(alloc);
+pub fn places_reported(alloc: Global, order: &OrderBefore) -> Result<Vec<PlaceReported>, NoMemory> {
+    let mut reported = Vec::new(alloc);
     for step in order.steps.iter() {
-        told.push(PlaceTold {
+        reported.push(PlaceReported {
             no: step.record.no,
             asked: op_words(alloc, step.record.op)?,
             after: if step.is_change {
@@ -116,5 +118,5 @@ pub fn places_told(alloc: Global, order: &OrderBefore) -> Result<Vec<PlaceTold>,
             },
         })?;
     }
-    Ok(told)
+    Ok(reported)
 }

@@ -2,8 +2,8 @@ ghost use Rattle.std.specs.Prelude.{IfOk};
 ghost use Rattle.page.specs.Pages.{IsPage};
 
 use crate::drawing::{BAR_HEIGHT, BOX_HEIGHT, Bar, Drawing, VersionBox};
-use crate::parts::{CallTold, Mark, Part, PlaceTold, Story};
-use crate::told_line::ToldLine;
+use crate::parts::{CallReported, Mark, Part, PlaceReported, Story};
+use crate::reported_line::ReportedLine;
 use page::{Markup, Piece, page_bytes};
 use std::alloc::Global;
 use version_pair::NoMemory;
@@ -72,7 +72,7 @@ impl Pieces {
     }
 
     // Adds the cell of a line, with the time when the line was written if it says so.
-    fn line_cell(&mut self, line: ToldLine) -> Result<(), NoMemory> {
+    fn line_cell(&mut self, line: ReportedLine) -> Result<(), NoMemory> {
         self.at(Markup::CellBreak, line.number)?;
         if let Some(time) = line.time {
             let written = format!(in self.alloc; " at {time}")?;
@@ -82,7 +82,7 @@ impl Pieces {
     }
 
     // Adds a row of the table of calls.
-    fn call_row(&mut self, call: &CallTold) -> Result<(), NoMemory> {
+    fn call_row(&mut self, call: &CallReported) -> Result<(), NoMemory> {
         let (start, sign) = match call.mark {
             Mark::Plain => (Markup::RowStart, ""),
             Mark::Evidence => (Markup::EvidenceRowStart, "evidence"),
@@ -102,7 +102,7 @@ impl Pieces {
     }
 
     // Adds the table of calls.
-    fn calls(&mut self, calls: &[CallTold]) -> Result<(), NoMemory> {
+    fn calls(&mut self, calls: &[CallReported]) -> Result<(), NoMemory> {
         self.fixed(Markup::CallsStart)?;
         for call in calls {
             self.call_row(call)?;
@@ -111,7 +111,7 @@ impl Pieces {
     }
 
     // Adds the table of an order.
-    fn order(&mut self, places: &[PlaceTold]) -> Result<(), NoMemory> {
+    fn order(&mut self, places: &[PlaceReported]) -> Result<(), NoMemory> {
         self.fixed(Markup::OrderStart)?;
         for place in places {
             self.at(Markup::RowStart, place.no)?;

@@ -1,5 +1,5 @@
 use crate::drawing::Drawing;
-use crate::told_line::ToldLine;
+use crate::reported_line::ReportedLine;
 use std::alloc::Global;
 use version_pair::NoMemory;
 
@@ -16,10 +16,10 @@ pub enum Mark {
 
 /// A call in words.
 #[derive(Debug, Drop)]
-pub struct CallTold {
+pub struct CallReported {
     pub mark: Mark,
     /// The line of the call.
-    pub line: ToldLine,
+    pub line: ReportedLine,
     /// The number of the call.
     pub no: u64,
     /// What was asked.
@@ -32,7 +32,7 @@ pub struct CallTold {
 
 /// A place of an order in words.
 #[derive(Debug, Drop)]
-pub struct PlaceTold {
+pub struct PlaceReported {
     /// The number of the call.
     pub no: u64,
     /// What was asked.
@@ -47,8 +47,8 @@ pub enum Part {
     Heading(&'static str),
     Paragraph(String),
     Items(Vec<String>),
-    Calls(Vec<CallTold>),
-    Order(Vec<PlaceTold>),
+    Calls(Vec<CallReported>),
+    Order(Vec<PlaceReported>),
     Drawing(Drawing),
     /// What follows, up to `FoldEnd`, is less important; this is its title.
     FoldStart(&'static str),

@@ -1,4 +1,4 @@
-use crate::parts::{CallTold, Mark, Part, PlaceTold, Story};
+use crate::parts::{CallReported, Mark, Part, PlaceReported, Story};
 use std::alloc::Global;
 use version_pair::NoMemory;
 
@@ -12,7 +12,7 @@ fn mark_sign(mark: Mark) -> &'static str {
 }
 
 // Returns the line of a call.
-fn call_line(alloc: Global, call: &CallTold) -> Result<String, NoMemory> {
+fn call_line(alloc: Global, call: &CallReported) -> Result<String, NoMemory> {
     let sign = mark_sign(call.mark);
     let line = call.line;
     let no = call.no;
@@ -29,7 +29,7 @@ fn call_line(alloc: Global, call: &CallTold) -> Result<String, NoMemory> {
 }
 
 // Returns the line of a place of an order.
-fn place_line(alloc: Global, place: &PlaceTold) -> Result<String, NoMemory> {
+fn place_line(alloc: Global, place: &PlaceReported) -> Result<String, NoMemory> {
     let no = place.no;
     let asked = place.asked.as_str();
     let after = place.after.as_str();
@@ -37,7 +37,7 @@ fn place_line(alloc: Global, place: &PlaceTold) -> Result<String, NoMemory> {
 }
 
 // Adds the lines of the calls.
-fn add_calls(alloc: Global, calls: &[CallTold], text: &mut String) -> Result<(), NoMemory> {
+fn add_calls(alloc: Global, calls: &[CallReported], text: &mut String) -> Result<(), NoMemory> {
     for call in calls {
         let line = call_line(alloc, call)?;
         text.push_str(line.as_str())?;
@@ -49,7 +49,7 @@ fn add_calls(alloc: Global, calls: &[CallTold], text: &mut String) -> Result<(),
 }
 
 // Adds the lines of an order.
-fn add_places(alloc: Global, places: &[PlaceTold], text: &mut String) -> Result<(), NoMemory> {
+fn add_places(alloc: Global, places: &[PlaceReported], text: &mut String) -> Result<(), NoMemory> {
     for place in places {
         let line = place_line(alloc, place)?;
         text.push_str(line.as_str())?;

@@ -1,7 +1,7 @@
 use crate::calls::evidence_calls;
 use crate::subject::Unexplained;
+use events::Rec;
 use evidence::{Refuted, refutes};
-use history::Rec;
 use ruled_out::{Cause, Stage, Standing, Standings, Unhelpful, Unmet};
 use std::alloc::Global;
 use version_pair::{NoMemory, Pair};
@@ -13,7 +13,7 @@ const MOST_LOST: usize = 5;
 
 /// An answered call of a chain. It brought the document from one stage to another one, at least.
 #[derive(Clone, Copy)]
-pub struct Link {
+pub struct ReasonLink {
     pub record: Rec,
     pub from: Stage,
     pub to: Stage,
@@ -29,7 +29,7 @@ pub struct Reason {
     /// How far the document had come when that call was made.
     pub stage: Stage,
     /// The calls that brought it there, the first one first.
-    pub links: Vec<Link>,
+    pub links: Vec<ReasonLink>,
     /// Whether earlier ones of them are left out.
     pub is_cut: bool,
     /// The version that is mentioned beside these, and the first call that shows it.
@@ -37,18 +37,18 @@ pub struct Reason {
     pub shower: Option<Rec>,
     /// The writes that were checked of which no reply says whether they were performed, each with why it
     /// doesn't help; the first few.
-    pub untold: Vec<(Rec, Unhelpful)>,
+    pub unreported: Vec<(Rec, Unhelpful)>,
     /// The number of all of them.
-    pub untold_count: usize,
+    pub unreported_count: usize,
     /// Whether the evidence already explains the call that has no position.
-    pub is_told: bool,
+    pub is_reported: bool,
 }
 
 impl Reason {
     /// Returns the numbers of the calls that it mentions; none if the evidence already explains the call that
     /// has no position.
     pub fn calls(&self, alloc: Global) -> Result<Vec<u64>, NoMemory> {
-        if self.is_told {
+        if self.is_reported {
             return Ok(Vec::new(alloc));
         }
         let mut numbers = vec![in alloc; self.stop.no]?;
@@ -73,8 +73,7 @@ impl Reason {
         Ok(showers)
     }
 
-    /// Returns whether a write of which no reply says whether it was performed could help, if it were another
-    /// one.
+    /// Returns whether some indeterminate write could have given the call a position.
     pub fn wants_write(&self) -> bool {
         !matches!(
             self.cause,
@@ -117,8 +116,8 @@ fn shows(record: &Rec, pair: Pair) -> bool {
 }
 
 // Returns a standing as a link of a chain.
-fn link_of(standings: &Standings, standing: Standing, record: Rec) -> Link {
-    Link {
+fn link_of(standings: &Standings, standing: Standing, record: Rec) -> ReasonLink {
+    ReasonLink {
         record,
         from: standings.stage(standing.floor),
         to: standings.stage(standing.earliest.unwrap_or(standing.floor)),
@@ -132,7 +131,7 @@ fn chain_to(
     records: &[Rec],
     standings: &Standings,
     stop: Standing,
-) -> Result<(Vec<Link>, bool), NoMemory> {
+) -> Result<(Vec<ReasonLink>, bool), NoMemory> {
     let mut links = Vec::new(alloc);
     let mut next = stop.bound;
     for _ in 0..MOST_LINKS {
@@ -154,7 +153,7 @@ fn chain_to(
 
 // Returns the first few of the writes of which no reply says whether they were performed, and the number of
 // all of them. Those that were made last before the event come first.
-fn untold_writes(
+fn unreported_writes(
     alloc: Global,
     records: &[Rec],
     standings: &Standings,
@@ -162,23 +161,23 @@ fn untold_writes(
 ) -> Result<(Vec<(Rec, Unhelpful)>, usize), NoMemory> {
     let early = records.partition_point(|record| record.call_at < event);
     let mut count = 0usize;
-    let mut untold = Vec::new(alloc);
+    let mut unreported = Vec::new(alloc);
     for number in (0..early).rev().chain(early..records.len()) {
-        if !standings.is_untold(number) {
+        if !standings.is_unreported(number) {
             continue;
         }
         count = count.saturating_add(1);
-        if untold.len() < MOST_LOST {
+        if unreported.len() < MOST_LOST {
             if let (Some(record), Some(why)) = (records.get(number), standings.unhelpful(number)) {
-                untold.push((*record, why))?;
+                unreported.push((*record, why))?;
             }
         }
     }
-    Ok((untold, count))
+    Ok((unreported, count))
 }
 
 // Whether the evidence is of another kind than `RuledOut` and names the call.
-fn is_told(alloc: Global, evidence: Option<Refuted>, no: u64) -> Result<bool, NoMemory> {
+fn is_reported(alloc: Global, evidence: Option<Refuted>, no: u64) -> Result<bool, NoMemory> {
     if let Some(Refuted::RuledOut(_)) = evidence {
         return Ok(false);
     }
@@ -195,7 +194,7 @@ fn reason_at(
     record: Rec,
 ) -> Result<Reason, NoMemory> {
     let event = record.heard.map_or(record.call_at, |heard| heard.0);
-    let (untold, untold_count) = untold_writes(alloc, records, standings, event)?;
+    let (unreported, unreported_count) = unreported_writes(alloc, records, standings, event)?;
     let (links, is_cut) = if is_bound(standings, stop, cause) {
         chain_to(alloc, records, standings, stop)?
     } else {
@@ -211,9 +210,9 @@ fn reason_at(
         is_cut,
         last,
         shower: shower.copied(),
-        untold,
-        untold_count,
-        is_told: is_told(alloc, evidence, record.no)?,
+        unreported,
+        unreported_count,
+        is_reported: is_reported(alloc, evidence, record.no)?,
     })
 }
 

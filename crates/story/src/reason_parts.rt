@@ -3,7 +3,7 @@ use crate::link_words::{link_words, reached_words};
 use crate::parts::{Part, add_items};
 use crate::reason::Reason;
 use crate::stop_words::stop_words;
-use crate::untold_words::{untold_items, untold_words};
+use crate::unreported_words::{unreported_items, unreported_words};
 use doc_register::Conflicts;
 use std::alloc::Global;
 use version_pair::NoMemory;
@@ -27,21 +27,21 @@ fn chain_words(alloc: Global, reason: &Reason, lines: &EventLines) -> Result<Str
 }
 
 /// Adds the writes of which no reply says whether they were performed, and why none of them helps.
-pub fn add_untold(
+pub fn add_unreported(
     alloc: Global,
     reason: &Reason,
     lines: &EventLines,
     conflicts: Conflicts,
     parts: &mut Vec<Part>,
 ) -> Result<(), NoMemory> {
-    if let Some(words) = untold_words(alloc, reason, conflicts)? {
+    if let Some(words) = unreported_words(alloc, reason, conflicts)? {
         parts.push(Part::Paragraph(words))?;
     }
-    if reason.untold_count == 0 || !reason.wants_write() {
+    if reason.unreported_count == 0 || !reason.wants_write() {
         return Ok(());
     }
-    let items = untold_items(alloc, reason, lines)?;
-    add_items(alloc, items, reason.untold_count, parts)
+    let items = unreported_items(alloc, reason, lines)?;
+    add_items(alloc, items, reason.unreported_count, parts)
 }
 
 /// Adds the chain of reasons why no order explains a document.
@@ -53,7 +53,7 @@ pub fn add_reason(
     parts: &mut Vec<Part>,
 ) -> Result<(), NoMemory> {
     parts.push(Part::Paragraph(chain_words(alloc, reason, lines)?))?;
-    add_untold(alloc, reason, lines, conflicts, parts)?;
+    add_unreported(alloc, reason, lines, conflicts, parts)?;
     let no = reason.stop.no;
     parts.push(Part::Paragraph(format!(in alloc;
         "So no order has a place for call {no} and its reply. This is proved: it holds whatever became of the calls without a reply."

@@ -33,9 +33,7 @@ pub fn cause_words(cause: TextCause) -> &'static str {
         TextCause::NoCall => {
             "No call before this line has its number: the call is missing, or was recorded after its reply."
         }
-        TextCause::Ended => {
-            "The call of this number has a reply already, or was told to be lost."
-        }
+        TextCause::Ended => { "The call of this number has a reply already, or is lost already." }
         TextCause::Full => "A history has at most 1,048,576 events, and this one is past them.",
         TextCause::ShardMoved => {
             "An earlier call of the same document names another shard; a document stays on one shard."

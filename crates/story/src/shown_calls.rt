@@ -1,11 +1,11 @@
-use crate::calls::{Call, calls_told, id_words};
+use crate::calls::{Call, calls_reported, id_words};
+use crate::describing::MOST_DESCRIBED;
 use crate::drawing::{Drawing, Drawn, drawing_of};
 use crate::event_lines::EventLines;
 use crate::kept::{Kept, MOST_DRAWN};
 use crate::named::{Named, rest_of};
-use crate::order_before::{OrderBefore, places_told};
+use crate::order_before::{OrderBefore, places_reported};
 use crate::parts::Part;
-use crate::telling::MOST_TOLD;
 use crate::words::{NOTATION, op_words};
 use std::alloc::Global;
 use version_pair::NoMemory;
@@ -48,11 +48,18 @@ impl<'h> Shown<'_, 'h> {
         &self,
         alloc: Global,
         calls: &[Call<'h>],
-        told: &[Call<'h>],
+        reported: &[Call<'h>],
         parts: &mut Vec<Part>,
     ) -> Result<(), NoMemory> {
-        let told = calls_told(alloc, calls, told, self.named, self.lines, self.several)?;
-        parts.push(Part::Calls(told))?;
+        let reported = calls_reported(
+            alloc,
+            calls,
+            reported,
+            self.named,
+            self.lines,
+            self.several,
+        )?;
+        parts.push(Part::Calls(reported))?;
         Ok(())
     }
 
@@ -61,22 +68,20 @@ impl<'h> Shown<'_, 'h> {
         &self,
         alloc: Global,
         rest: &[Call<'h>],
-        told: &[Call<'h>],
+        reported: &[Call<'h>],
         parts: &mut Vec<Part>,
     ) -> Result<(), NoMemory> {
         if rest.is_empty() {
             return Ok(());
         }
         parts.push(Part::Heading("The other calls, in the order of their events"))?;
-        self.add_table(alloc, rest, told, parts)?;
-        let left_out = self.kept.count.saturating_sub(told.len());
+        self.add_table(alloc, rest, reported, parts)?;
+        let left_out = self.kept.count.saturating_sub(reported.len());
         if left_out > 0 {
-            parts.push(Part::Paragraph(format!(in alloc;
-                "Earlier calls that are not told: {left_out}."
-            )?))?;
+            parts.push(Part::Paragraph(format!(in alloc; "Earlier calls left out: {left_out}.")?))?;
         }
         let drawn = self.named.chosen(alloc, &self.kept.calls, MOST_DRAWN)?;
-        parts.push(Part::Drawing(self.drawing(alloc, &drawn, MOST_TOLD)?))?;
+        parts.push(Part::Drawing(self.drawing(alloc, &drawn, MOST_DESCRIBED)?))?;
         Ok(())
     }
 
@@ -93,7 +98,7 @@ impl<'h> Shown<'_, 'h> {
             let left_out = order.left_out;
             parts.push(Part::Paragraph(format!(in alloc; "Earlier calls in it: {left_out}.")?))?;
         }
-        parts.push(Part::Order(places_told(alloc, order)?))?;
+        parts.push(Part::Order(places_reported(alloc, order)?))?;
         Ok(())
     }
 
@@ -102,19 +107,19 @@ impl<'h> Shown<'_, 'h> {
         if self.kept.unanswered.is_empty() {
             return Ok(());
         }
-        let mut told = Vec::new(alloc);
+        let mut reported = Vec::new(alloc);
         for call in self.kept.unanswered.iter() {
             let line = self.lines.line(call.record.call_at);
             let no = call.record.no;
             let id = id_words(alloc, call.id)?;
             let asked = op_words(alloc, call.record.op)?;
-            told.push(format!(in alloc; "line {line}, call {no} of {id}: {asked}")?)?;
+            reported.push(format!(in alloc; "line {line}, call {no} of {id}: {asked}")?)?;
         }
-        let more = self.kept.unanswered_count.saturating_sub(told.len());
+        let more = self.kept.unanswered_count.saturating_sub(reported.len());
         parts.push(Part::Heading("Writes without a reply, which may or may not have happened"))?;
-        parts.push(Part::Items(told))?;
+        parts.push(Part::Items(reported))?;
         if more > 0 {
-            parts.push(Part::Paragraph(format!(in alloc; "Earlier ones: {more}.")?))?;
+            parts.push(Part::Paragraph(format!(in alloc; "Left out: {more}.")?))?;
         }
         Ok(())
     }
@@ -125,14 +130,14 @@ impl<'h> Shown<'_, 'h> {
         &self,
         alloc: Global,
         rest: &[Call<'h>],
-        told: &[Call<'h>],
+        reported: &[Call<'h>],
         parts: &mut Vec<Part>,
     ) -> Result<(), NoMemory> {
         parts.push(Part::FoldStart(
             "More: the other calls, an order of the calls before that reply, and the writes without a reply",
         ))?;
         let empty = parts.len();
-        self.add_rest(alloc, rest, told, parts)?;
+        self.add_rest(alloc, rest, reported, parts)?;
         self.add_order(alloc, parts)?;
         self.add_unanswered(alloc, parts)?;
         if parts.len() > empty {
@@ -147,14 +152,19 @@ impl<'h> Shown<'_, 'h> {
     pub fn add(&self, alloc: Global, parts: &mut Vec<Part>) -> Result<(), NoMemory> {
         let calls = self.kept.calls.as_slice();
         let first = self.named.first(alloc, calls, MOST_FIRST)?;
-        let rest = rest_of(alloc, calls, &first, MOST_TOLD.saturating_sub(first.len()))?;
-        let mut told = Vec::from_slice(alloc, first.as_slice())?;
-        told.extend_from_slice(rest.as_slice())?;
-        told.sort_unstable_by_key(|call| call.record.call_at);
+        let rest = rest_of(
+            alloc,
+            calls,
+            &first,
+            MOST_DESCRIBED.saturating_sub(first.len()),
+        )?;
+        let mut reported = Vec::from_slice(alloc, first.as_slice())?;
+        reported.extend_from_slice(rest.as_slice())?;
+        reported.sort_unstable_by_key(|call| call.record.call_at);
         parts.push(Part::Heading("The calls that matter, in the order of their events"))?;
         parts.push(Part::Paragraph(String::from_str(alloc, NOTATION)?))?;
-        self.add_table(alloc, &first, &told, parts)?;
+        self.add_table(alloc, &first, &reported, parts)?;
         parts.push(Part::Drawing(self.drawing(alloc, &first, MOST_FIRST)?))?;
-        self.add_folded(alloc, &rest, &told, parts)
+        self.add_folded(alloc, &rest, &reported, parts)
     }
 }

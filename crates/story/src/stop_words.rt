@@ -7,7 +7,7 @@ use std::alloc::Global;
 use version_pair::NoMemory;
 
 // Returns what was answered, in words that follow `was answered`.
-fn reply_told(alloc: Global, reason: &Reason) -> Result<String, NoMemory> {
+fn reply_reported(alloc: Global, reason: &Reason) -> Result<String, NoMemory> {
     let heard = heard_words(alloc, reason.stop.heard)?;
     match reason.stop.heard.map(|heard| heard.1) {
         Some(Reply::Found { .. }) => format!(in alloc; "with {heard}"),
@@ -28,14 +28,14 @@ fn answered_words(alloc: Global, reason: &Reason, lines: &EventLines) -> Result<
     let called = lines.line(reason.stop.call_at);
     let line = lines.reply(&reason.stop);
     let asked = op_words(alloc, reason.stop.op)?;
-    let heard = reply_told(alloc, reason)?;
+    let heard = reply_reported(alloc, reason)?;
     if reason.links.is_empty() {
         format!(in alloc;
             "Call {no} ({asked}, called in line {called}) was answered {heard} (line {line})."
         )
     } else {
         format!(in alloc;
-            "Call {no} ({asked}) was made after that (line {called}), so it stands after it. It was answered {heard} (line {line})."
+            "Call {no} ({asked}) was made after that (line {called}), so it comes after it. It was answered {heard} (line {line})."
         )
     }
 }

@@ -1,7 +1,7 @@
 use doc_register::Conflicts;
+use events::History;
 use evidence::{Certainty, Refuted};
-use history::History;
-use witness::DocWitness;
+use places::DocWitness;
 
 /// What an explanation says of a history that an order explains.
 #[derive(Clone, Copy)]

@@ -1,7 +1,7 @@
 use crate::calls::{call_of, evidence_calls};
 use crate::reason::{Reason, reason_of};
 use crate::subject::Unexplained;
-use history::Rec;
+use events::Rec;
 use std::alloc::Global;
 use version_pair::{DocId, NoMemory};
 
@@ -16,7 +16,7 @@ pub struct Subject<'h> {
     pub reason: Option<Reason>,
 }
 
-// Returns the documents of the offence and of the evidence, by their numbers, the offence's first.
+// Returns the numbers of the documents of the offence and of the evidence, each once, the offence's first.
 fn documents_of(alloc: Global, unexplained: &Unexplained<'_>) -> Result<Vec<usize>, NoMemory> {
     let history = unexplained.history;
     let mut docs = Vec::new(alloc);

@@ -2,7 +2,7 @@ use crate::event_lines::EventLines;
 use crate::subject::Unexplained;
 use crate::subjects::Subject;
 use crate::words::{heard_words, op_words};
-use history::Rec;
+use events::Rec;
 use std::alloc::Global;
 use version_pair::NoMemory;
 
@@ -35,7 +35,7 @@ fn writes_words(
     let mut more = 0usize;
     let mut words = String::new(alloc);
     for record in subject.records.iter().rev() {
-        if record.call_at > unexplained.event || record.is_settled(unexplained.conflicts) {
+        if record.call_at > unexplained.event || record.is_complete(unexplained.conflicts) {
             continue;
         }
         if named < MOST_NAMED {
@@ -68,11 +68,11 @@ pub fn decision_words(
         )?
     } else {
         format!(in alloc;
-            "Of this document these writes before that reply have no reply that tells it: {which}."
+            "Of this document these writes before that reply have no reply that says so: {which}."
         )?
     };
     let named = named.as_str();
     format!(in alloc;
-        "What would decide it: what became of those writes, as the cluster's own log or a later read of the document may tell; or an order of your own, which `casbench verify` judges. {named}"
+        "What would decide it: what became of those writes, as the cluster's own log or a later read of the document may show; or an order of your own, which `casbench verify` judges. {named}"
     )
 }

@@ -3,11 +3,11 @@ use crate::event_lines::EventLines;
 use crate::evidence_words::evidence_words;
 use crate::late_line::late_words;
 use crate::parts::Part;
-use crate::reason_parts::{add_reason, add_untold};
+use crate::reason_parts::{add_reason, add_unreported};
 use crate::subject::Unexplained;
 use crate::subjects::Subject;
+use events::Rec;
 use evidence::Refuted;
-use history::Rec;
 use std::alloc::Global;
 use version_pair::NoMemory;
 
@@ -38,7 +38,7 @@ fn add_other_document(
     let shard = evidence.shard;
     let call = unexplained.call;
     parts.push(Part::Paragraph(format!(in alloc;
-        "The search failed first at {first}, with the reply to call {call}. The calls that prove it are of another document, {other} on shard {shard}; both documents are told."
+        "The search failed first at {first}, with the reply to call {call}. The calls that prove it are of another document, {other} on shard {shard}; both documents are shown."
     )?))?;
     Ok(())
 }
@@ -55,9 +55,9 @@ fn add_subject(
     let Some(reason) = &subject.reason else {
         return Ok(());
     };
-    if reason.is_told {
+    if reason.is_reported {
         if reason.wants_write() {
-            add_untold(alloc, reason, lines, unexplained.conflicts, parts)?;
+            add_unreported(alloc, reason, lines, unexplained.conflicts, parts)?;
         }
         return Ok(());
     }
@@ -112,7 +112,7 @@ pub fn add_why(
     lines: &EventLines,
     parts: &mut Vec<Part>,
 ) -> Result<(), NoMemory> {
-    let told = match unexplained.evidence {
+    let reported = match unexplained.evidence {
         Some(evidence) => evidence_words(
             alloc,
             unexplained.history,
@@ -122,12 +122,12 @@ pub fn add_why(
         )?,
         None => None,
     };
-    if told.is_none() && !subjects.iter().any(|subject| subject.reason.is_some()) {
+    if reported.is_none() && !subjects.iter().any(|subject| subject.reason.is_some()) {
         return Ok(());
     }
     parts.push(Part::Heading("Why no order can have these replies"))?;
     add_other_document(alloc, unexplained, subjects, parts)?;
-    if let Some(words) = told {
+    if let Some(words) = reported {
         parts.push(Part::Paragraph(words))?;
     }
     for subject in subjects {

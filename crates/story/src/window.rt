@@ -1,5 +1,5 @@
 use doc_register::{Conflicts, DocState, state_after};
-use history::Rec;
+use events::Rec;
 use std::alloc::Global;
 use version_pair::NoMemory;
 
@@ -25,7 +25,7 @@ struct Start {
 }
 
 // Returns the one of two writes with the greater pair; the first if the second took none.
-fn later(last: Option<Rec>, record: Rec) -> Option<Rec> {
+fn with_greater_pair(last: Option<Rec>, record: Rec) -> Option<Rec> {
     match (
         last.and_then(|record| record.pair_taken()),
         record.pair_taken(),
@@ -37,7 +37,7 @@ fn later(last: Option<Rec>, record: Rec) -> Option<Rec> {
 }
 
 // Returns the last start of a window that has at least that many calls, if one is found.
-fn start_of(records: &[Rec], event: usize, conflicts: Conflicts, most: usize) -> Start {
+fn start_of(records: &[Rec], event: usize, conflicts: Conflicts, least: usize) -> Start {
     let mut start = Start {
         at: 0,
         answered: 0,
@@ -47,7 +47,7 @@ fn start_of(records: &[Rec], event: usize, conflicts: Conflicts, most: usize) ->
     let mut open_until = 0usize;
     for (i, record) in records
         .iter()
-        .take(records.len().saturating_sub(most))
+        .take(records.len().saturating_sub(least))
         .enumerate()
     {
         if open_until < record.call_at {
@@ -55,14 +55,14 @@ fn start_of(records: &[Rec], event: usize, conflicts: Conflicts, most: usize) ->
             start = next;
         }
         let known = record.known_before(event);
-        if !known.is_settled(conflicts) {
+        if !known.is_complete(conflicts) {
             break;
         }
         if let Some(place) = known.heard.map(|heard| heard.0) {
             open_until = open_until.max(place);
             next.answered = next.answered.saturating_add(1);
         }
-        next.last = later(next.last, known);
+        next.last = with_greater_pair(next.last, known);
     }
     start
 }
@@ -86,11 +86,11 @@ pub fn window_before(
     records: &[Rec],
     event: usize,
     conflicts: Conflicts,
-    most: usize,
+    least: usize,
 ) -> Result<Window, NoMemory> {
     let count = records.partition_point(|record| record.call_at < event);
     let called = records.get(..count).unwrap_or(records);
-    let start = start_of(called, event, conflicts, most);
+    let start = start_of(called, event, conflicts, least);
     let mut window = Window {
         answered_before: start.answered,
         is_prefixed: false,

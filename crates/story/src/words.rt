@@ -3,7 +3,7 @@ use std::alloc::Global;
 use version_pair::{NoMemory, Pair};
 
 /// How a version is written.
-pub const NOTATION: &str = "1/0 stands for the version with _primary_term 1 and _seq_no 0.";
+pub const NOTATION: &str = "1/0 is the version with _primary_term 1 and _seq_no 0.";
 
 /// Returns a pair in words: its term and its sequence number.
 pub fn pair_words(alloc: Global, pair: Pair) -> Result<String, NoMemory> {
@@ -89,7 +89,7 @@ pub fn state_words(alloc: Global, state: DocState) -> Result<String, NoMemory> {
 }
 
 /// Returns, in words, which writes have no reply that says whether they were performed.
-pub fn untold_kind(conflicts: Conflicts) -> &'static str {
+pub fn unreported_kind(conflicts: Conflicts) -> &'static str {
     match conflicts {
         Conflicts::Plain => "without a reply",
         Conflicts::Maybe => "without a reply or answered with a conflict",

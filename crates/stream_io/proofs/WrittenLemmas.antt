@@ -3,7 +3,7 @@ use Rattle.std.proofs.Common.{ℕ, ◌≡◌, List, length, take, sym, subst, ar
 use Rattle.std.specs.Prelude.{IfOk, IsErrOf, MatchResult}
 use Rattle.std.specs.Io.KnownBytes.{Appends}
 use Rattle.std.proofs.lemmas.List.{take_all}
-use Rattle.stream_io.specs.Written.{HasAnswer, HasFront}
+use Rattle.stream_io.specs.Written.{HasAnswer, HasPrefix}
 use Rattle.stream_io.specs.declared.status.Status.{Status}
 use Rattle.stream_io.specs.declared.stream_fault.StreamFault.{StreamFault}
 use Rattle.stream_io.specs.declared.stream_fault.StreamFault.TheVariants.{Write}
@@ -16,11 +16,11 @@ wrote (Err f) P old new status text written is = tt
 
 pub wrote_front : (r : Result Status StreamFault) (P : Status → List ℕ → Type 0) (old new : Option (List ℕ)) (status : Status) (text : List ℕ)
     → MatchResult r (λ s. (s ≡ status) × Appends old new text) (λ f. (f ≡ Write) × ((n : ℕ) × Appends old new (take n text))) → P status text
-    → IsErrOf r Write → HasFront P old new
+    → IsErrOf r Write → HasPrefix P old new
 wrote_front (Ok s) P old new status text written is cut = let impossible : Ok s ≡ Err Write = cut in absurd (cc)
 wrote_front (Err f) P old new status text written is cut = (status, text, written.1.0, written.1.1, is)
 
 -- a text that is written whole is a front of itself
-pub whole_front : (P : Status → List ℕ → Type 0) (old new : Option (List ℕ)) (status : Status) (text : List ℕ) → Appends old new text → P status text → HasFront P old new
-whole_front P old new status text written is =
+pub whole_prefix : (P : Status → List ℕ → Type 0) (old new : Option (List ℕ)) (status : Status) (text : List ℕ) → Appends old new text → P status text → HasPrefix P old new
+whole_prefix P old new status text written is =
     (status, text, length text, subst (Appends old new) (sym (take_all (length text) text (omega arith))) written, is)

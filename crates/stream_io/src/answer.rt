@@ -24,8 +24,8 @@ impl Answer {
 
     /// Returns the answer followed by a text. If memory is refused, the answer is dropped.
     pub fn followed_by(self, more: &[u8]) -> Result<Answer, NoMemory>
-        ensures status { IfOk result (λ told. told.status ≡ self.status) }
-        ensures text { IfOk result (λ told. told.text.items ≡ self.text.items ++ more.now) }
+        ensures status { IfOk result (λ reported. reported.status ≡ self.status) }
+        ensures text { IfOk result (λ reported. reported.text.items ≡ self.text.items ++ more.now) }
     {
         let Answer { status, mut text } = self;
         text.extend_from_slice(more)?;

@@ -3,15 +3,17 @@ ghost use Rattle.std.specs.Io.KnownBytes.{Consumes, IsAtEnd};
 ghost use Rattle.history.specs.Reading.{history_text};
 ghost use Rattle.history.specs.Text.{IsHistoryText};
 ghost use Rattle.stream_io.specs.Taken.{TakesHistory, TakesWitness};
-ghost use Rattle.witness.specs.Documents.{doc_places};
+ghost use Rattle.places.specs.Documents.{doc_places};
 ghost use Rattle.witness.specs.Text.{witness_text};
 
 use api_lines::{CHUNK, InputFault, TextFault};
-use history::{HashKeys, History, read_from};
+use events::{HashKeys, History};
+use history::read_from;
+use places::Place;
 use std::alloc::Global;
 use std::io::Read;
 use version_pair::DocId;
-use witness::{Place, read_witness_from};
+use witness::read_witness_from;
 
 /// Reads the text of the reader to its end, and returns its history, with these keys; or the first line that
 /// is refused. The reader is asked for 32,768 bytes at a time.
@@ -25,18 +27,18 @@ pub fn read_history<R: Read>(
     reader: &mut R,
 ) -> Result<Result<History, TextFault>, InputFault>
     // A history is one that the reader's bytes to their end are a text of, if they are known.
-    ensures text { IfOk result (λ told. IfSome (R.remaining reader.old)
-        (λ text. IfOk told (IsHistoryText text))) }
+    ensures text { IfOk result (λ reported. IfSome (R.remaining reader.old)
+        (λ text. IfOk reported (IsHistoryText text))) }
     // If the reader's bytes are known, the result is what the definition gives for them, as that of
     // `history::read` is.
-    ensures told { IfOk result (λ told. IfSome (R.remaining reader.old) (λ text. MatchResult told
+    ensures reported { IfOk result (λ reported. IfSome (R.remaining reader.old) (λ text. MatchResult reported
         (λ history. history_text text ≡ Ok history)
         (λ fault. history_text text ≡ Err fault))) }
     // Whatever the result, no bytes after the first refused line are taken but those that the last read
     // returned, 32,768 at most.
     ensures taken { TakesHistory (R.remaining reader.old) (R.remaining reader.new) }
     // After a history nothing is left in the reader.
-    ensures end { IfOk result (λ told. OnOk told (OnSome (R.remaining reader.old)
+    ensures end { IfOk result (λ reported. OnOk reported (OnSome (R.remaining reader.old)
         (IsAtEnd (R.remaining reader.new)))) }
 {
     read_from(alloc, keys, reader)
@@ -54,14 +56,14 @@ pub fn read_entries<R: Read>(
 ) -> Result<Result<Vec<(DocId, Vec<Place>)>, TextFault>, InputFault>
     // If the reader's bytes are known, the result is what the definition gives for them, as that of
     // `witness::read_witness` is.
-    ensures told { IfOk result (λ told. IfSome (R.remaining reader.old) (λ text. MatchResult told
+    ensures reported { IfOk result (λ reported. IfSome (R.remaining reader.old) (λ text. MatchResult reported
         (λ entries. witness_text text ≡ Ok (map doc_places entries.items))
         (λ fault. witness_text text ≡ Err fault))) }
     // Whatever the result, no bytes after the first refused line are taken but those that the last read
     // returned, 32,768 at most.
     ensures taken { TakesWitness (R.remaining reader.old) (R.remaining reader.new) }
     // If all lines are taken nothing is left in the reader.
-    ensures end { IfOk result (λ told. OnOk told (OnSome (R.remaining reader.old)
+    ensures end { IfOk result (λ reported. OnOk reported (OnSome (R.remaining reader.old)
         (IsAtEnd (R.remaining reader.new)))) }
 {
     read_witness_from(alloc, reader)

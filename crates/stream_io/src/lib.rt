@@ -2,7 +2,7 @@
 //! `StreamFault`, has the reasons why a stream ends without its answer.
 //!
 //! ```text
-//! let told = read_history(alloc, keys, &mut reader)?; // Result<History, TextFault>
+//! let reported = read_history(alloc, keys, &mut reader)?; // Result<History, TextFault>
 //! let status = write_answer(&mut writer, &answer)?;
 //! ```
 #![tactic(auto)]

@@ -30,7 +30,7 @@ pub enum StreamFault {
 }
 
 impl From<AllocError> for StreamFault {
-    ghost from_gives = { λ _ told. told ≡ fault.NoMemory };
+    ghost from_gives = { λ _ reported. reported ≡ fault.NoMemory };
 
     fn from(_refused: AllocError) -> StreamFault {
         StreamFault::NoMemory
@@ -38,7 +38,7 @@ impl From<AllocError> for StreamFault {
 }
 
 impl From<InputFault> for StreamFault {
-    ghost from_gives = { λ read told. told ≡ input_fault read };
+    ghost from_gives = { λ read reported. reported ≡ input_fault read };
 
     fn from(fault: InputFault) -> StreamFault {
         match fault {

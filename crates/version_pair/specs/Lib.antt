@@ -1,2 +1,3 @@
 pub mod PairOrder
 pub mod Id
+pub mod Shards

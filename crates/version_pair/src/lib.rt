@@ -8,6 +8,8 @@
 
 mod doc_id;
 mod pair;
+mod shards;
 
 pub use doc_id::{DocId, IdFault, IdText, NoMemory};
 pub use pair::Pair;
+pub use shards::SHARDS;

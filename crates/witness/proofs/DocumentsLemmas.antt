@@ -4,11 +4,11 @@ use Rattle.std.specs.Prelude.{if◌then◌else◌, set}
 use Rattle.std.proofs.lemmas.Bool.{lt-ltb}
 use Rattle.std.proofs.lemmas.List.{map-append}
 use Rattle.api_lines.specs.declared.text_fault.TextCause.TheVariants.{Full}
-use Rattle.witness.specs.declared.place.Place.{Place}
-use Rattle.witness.specs.Documents.{doc_places}
+use Rattle.places.specs.declared.place.Place.{Place}
+use Rattle.places.specs.Documents.{DocPlaces, doc_places}
 use Rattle.witness.specs.declared.witness_line.WitnessLine.{WitnessLine}
 use Rattle.witness.specs.declared.witness_line.WitnessLine.TheVariants as line
-use Rattle.witness.specs.Text.{DocPlaces, items_in, most_items, takes, with_said}
+use Rattle.witness.specs.Text.{items_in, most_items, takes, with_said}
 
 -- ---- room
 

@@ -19,8 +19,9 @@ use Rattle.api_lines.proofs.PairLemmas.{pair_of-some}
 use Rattle.api_lines.proofs.ReadingLemmas.{given_value, lines_on}
 use Rattle.api_lines.proofs.WrittenLines.{decimal_length, no_line_feed-compact_text, one_line, quoted_length}
 use Rattle.witness.specs.aids.Lines.{HasId, IsReadable}
-use Rattle.witness.specs.declared.place.Place.{Place}
-use Rattle.witness.specs.Text.{AreWithinLimits, DocPlaces, is_begun, items_in, most_items, most_records, place_value, said_by, says, takes, takes_value, value_of, with_said, witness_text, written}
+use Rattle.places.specs.declared.place.Place.{Place}
+use Rattle.places.specs.Documents.{DocPlaces}
+use Rattle.witness.specs.Text.{AreWithinLimits, is_begun, items_in, most_items, most_records, place_value, said_by, says, takes, takes_value, value_of, with_said, witness_text, written}
 use Rattle.witness.specs.declared.witness_line.WitnessLine.{WitnessLine}
 use Rattle.witness.specs.declared.witness_line.WitnessLine.TheVariants as line
 use Rattle.witness.proofs.DocumentsLemmas.{items_in-append, takes_room}

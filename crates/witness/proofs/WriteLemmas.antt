@@ -5,13 +5,13 @@ use Rattle.std.proofs.lemmas.Grind.{flat_map-append}
 use Rattle.std.proofs.lemmas.List.Elements.{All-append, All-nil}
 use Rattle.std.proofs.lemmas.List.{map-append}
 use Rattle.serde_json.specs.Written.{compact_text}
-use Rattle.witness.specs.Documents.{witness_places}
+use Rattle.places.specs.Documents.{DocPlaces, witness_places}
 use Rattle.witness.specs.aids.Lines.{IsReadable, IsWrittenOn}
 use Rattle.witness.specs.declared.witness_line.WitnessLine.{WitnessLine}
 use Rattle.witness.specs.declared.witness_line.WitnessLine.TheVariants as line
-use Rattle.witness.specs.Text.{DocPlaces, said_by, value_of, written}
-use Rattle.witness.specs.Witness.{Witness}
-use Rattle.witness.specs.declared.place.Place.{Place}
+use Rattle.witness.specs.Text.{said_by, value_of, written}
+use Rattle.places.specs.Witness.{Witness}
+use Rattle.places.specs.declared.place.Place.{Place}
 use Rattle.version_pair.proofs.ListLemmas.{take_one_more}
 
 pub written_none : (text : List ℕ) → IsWrittenOn text text []

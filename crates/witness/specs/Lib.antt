@@ -1,7 +1,7 @@
-pub mod Places
-pub mod Faults
-pub mod Witness
 pub mod Laws
 pub mod Text
-pub mod Documents
 pub mod aids
+pub use Rattle.places.specs.Documents
+pub use Rattle.places.specs.Faults
+pub use Rattle.places.specs.Places
+pub use Rattle.places.specs.Witness

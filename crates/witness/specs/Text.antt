@@ -7,11 +7,11 @@ use Rattle.serde_json.specs.Written.{compact_text}
 use Rattle.version_pair.specs.declared.pair.Pair.{Pair}
 use Rattle.api_lines.specs.Faults.{◌>>=◌}
 use Rattle.api_lines.specs.HistoryLines.{below_limit}
-use Rattle.api_lines.specs.Ids.{id_told}
+use Rattle.api_lines.specs.Ids.{id_parsed}
 use Rattle.api_lines.specs.Json.{FieldValue, absent, whole, not_whole, text, truth, other, field}
 use Rattle.api_lines.specs.Kinds.{optional_number, required_number}
 use Rattle.api_lines.specs.Lines.{lines_of}
-use Rattle.api_lines.specs.Pairs.{pair_told, whole_told}
+use Rattle.api_lines.specs.Pairs.{pair_parsed, whole_parsed}
 use Rattle.api_lines.specs.Texts.{read_lines}
 use Rattle.api_lines.specs.declared.number.Number.{Number}
 use Rattle.api_lines.specs.declared.text_fault.TextCause.{TextCause}
@@ -19,23 +19,16 @@ use Rattle.api_lines.specs.declared.text_fault.TextCause.TheVariants.{Shape, Ful
 use Rattle.api_lines.specs.declared.text_fault.TextFault.{TextFault}
 use Rattle.witness.specs.declared.witness_line.WitnessLine.{WitnessLine}
 use Rattle.witness.specs.declared.witness_line.WitnessLine.TheVariants as line
-use Rattle.witness.specs.declared.place.Place.{Place}
-
--- a document's id, and its places: what a text is about
--- Source: profile.
-pub record DocPlaces : Type 0 where
-  -- the id of the document
-  pub doc : List ℕ
-  -- its places
-  pub places : List Place
+use Rattle.places.specs.declared.place.Place.{Place}
+use Rattle.places.specs.Documents.{DocPlaces}
 
 -- ---- what a line says, or the first cause to refuse it
 
 -- what a document's line says: a document whose id has 1 to 512 bytes; otherwise Id
 -- Source: profile.
-abbrev pub document_told : List ℕ → Result WitnessLine TextCause
-document_told doc = do
-  d ← id_told doc
+abbrev pub document_parsed : List ℕ → Result WitnessLine TextCause
+document_parsed doc = do
+  d ← id_parsed doc
   Ok (line.Document d)
 
 -- the records that a place may name are below 2^32
@@ -45,8 +38,8 @@ most_records = 4294967296
 
 -- the number of the record of a place; Range if it isn't whole, or isn't below 2^32
 -- Source: profile.
-abbrev pub record_told : Number → Result ℕ TextCause
-record_told rec = whole_told rec >>= below_limit most_records
+abbrev pub record_parsed : Number → Result ℕ TextCause
+record_parsed rec = whole_parsed rec >>= below_limit most_records
 
 -- A place by its numbers, after a document or before any: Shape before any; then the halves and the ranges of
 -- its pair, then its record.
@@ -54,15 +47,15 @@ record_told rec = whole_told rec >>= below_limit most_records
 abbrev pub place_numbered : Bool → Number → Option Number → Option Number → Result WitnessLine TextCause
 place_numbered false rec seq term = Err Shape
 place_numbered true rec seq term = do
-  pair ← pair_told seq term
-  n ← record_told rec
+  pair ← pair_parsed seq term
+  n ← record_parsed rec
   Ok (line.Place (record { rec = n; pair = pair }))
 
 -- What a place's line says. Checked first are the kinds of all fields, of which `rec` must be there, then
 -- that a document was begun, all of these with Shape; then the halves of its pair, then the ranges.
 -- Source: profile.
-abbrev pub place_told : Bool → FieldValue → FieldValue → FieldValue → Result WitnessLine TextCause
-place_told begun rec seq term = do
+abbrev pub place_parsed : Bool → FieldValue → FieldValue → FieldValue → Result WitnessLine TextCause
+place_parsed begun rec seq term = do
   r ← required_number rec
   s ← optional_number seq
   t ← optional_number term
@@ -72,10 +65,10 @@ place_told begun rec seq term = do
 -- it has, and a line without one gives a place.
 -- Source: profile.
 abbrev pub says_by : Bool → Data → FieldValue → Result WitnessLine TextCause
-says_by begun v absent = place_told begun (field (codes "rec") v) (field (codes "seq") v) (field (codes "term") v)
+says_by begun v absent = place_parsed begun (field (codes "rec") v) (field (codes "seq") v) (field (codes "term") v)
 says_by begun v (whole n) = Err Shape
 says_by begun v not_whole = Err Shape
-says_by begun v (text doc) = document_told doc
+says_by begun v (text doc) = document_parsed doc
 says_by begun v (truth b) = Err Shape
 says_by begun v other = Err Shape
 

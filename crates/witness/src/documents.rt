@@ -1,14 +1,14 @@
 ghost use Rattle.std.specs.Prelude.{◌≡◌, ◌≤◌, [], OnOk, OnErr, IfErr, Ok, Err, map};
 ghost use Rattle.serde_json.specs.View.{view};
-ghost use Rattle.api_lines.specs.Faults.{IfTold};
+ghost use Rattle.api_lines.specs.Faults.{IfReported};
 ghost use Rattle.api_lines.specs.Lines.{most_lines};
 ghost use Rattle.api_lines.specs.Texts.{read_line};
-ghost use Rattle.witness.specs.Documents.{doc_places};
+ghost use Rattle.places.specs.Documents.{doc_places};
 ghost use Rattle.witness.specs.Text.{is_begun, takes, takes_value};
 
-use crate::place::Place;
 use crate::witness_line::{WitnessLine, line_says};
 use api_lines::{LineFault, TextCause, given_line};
+use places::Place;
 use serde_json::Value;
 use std::alloc::Global;
 use std::marker::Model;
@@ -27,8 +27,9 @@ pub struct Documents {
 
 impl Model for Documents {
     ghost use Rattle.std.specs.Prelude.{◌≡◌, ◌≤◌, List, map};
-    ghost use Rattle.witness.specs.Documents.{doc_places};
-    ghost use Rattle.witness.specs.Text.{DocPlaces, items_in, most_items};
+    ghost use Rattle.places.specs.Documents.{doc_places};
+    ghost use Rattle.places.specs.Documents.{DocPlaces};
+    ghost use Rattle.witness.specs.Text.{items_in, most_items};
 
     ghost Value = { List DocPlaces };
 
@@ -65,11 +66,11 @@ impl Documents {
     fn begin(&mut self, id: DocId) -> Result<(), LineFault>
         ensures ok { OnOk result (takes self.old (WitnessLine.Document id) ≡ Ok self.new) }
         ensures err { IfErr result
-            (λ fault. IfTold fault (λ cause. takes self.old (WitnessLine.Document id) ≡ Err cause)) }
+            (λ fault. IfReported fault (λ cause. takes self.old (WitnessLine.Document id) ≡ Err cause)) }
         ensures unchanged { OnErr result (self.new ≡ self.old) }
     {
         if self.items == MOST_ITEMS {
-            return Err(LineFault::Told(TextCause::Full));
+            return Err(LineFault::Reported(TextCause::Full));
         }
         let places = Vec::new(*self.documents.allocator());
         match self.documents.push((id, places)) {
@@ -85,12 +86,12 @@ impl Documents {
     fn add(&mut self, place: Place) -> Result<(), LineFault>
         ensures ok { OnOk result (takes self.old (WitnessLine.Place place) ≡ Ok self.new) }
         ensures err { IfErr result
-            (λ fault. IfTold fault
+            (λ fault. IfReported fault
             (λ cause. takes self.old (WitnessLine.Place place) ≡ Err cause)) }
         ensures unchanged { OnErr result (self.new ≡ self.old) }
     {
         if self.items == MOST_ITEMS {
-            return Err(LineFault::Told(TextCause::Full));
+            return Err(LineFault::Reported(TextCause::Full));
         }
         if self.documents.is_empty() {
             return Ok(());
@@ -109,7 +110,7 @@ impl Documents {
     fn take(&mut self, line: WitnessLine) -> Result<(), LineFault>
         ensures ok { OnOk result (takes self.old line ≡ Ok self.new) }
         ensures err { IfErr result
-            (λ fault. IfTold fault (λ cause. takes self.old line ≡ Err cause)) }
+            (λ fault. IfReported fault (λ cause. takes self.old line ≡ Err cause)) }
         ensures unchanged { OnErr result (self.new ≡ self.old) }
     {
         match line {
@@ -123,7 +124,7 @@ impl Documents {
         ensures ok { OnOk result (read_line takes_value number self.old line.now ≡ Ok self.new) }
         ensures within { OnOk result (number ≤ most_lines) }
         ensures err { IfErr result
-            (λ fault. IfTold fault (λ cause. read_line takes_value number self.old line.now ≡ Err cause)) }
+            (λ fault. IfReported fault (λ cause. read_line takes_value number self.old line.now ≡ Err cause)) }
         ensures unchanged { OnErr result (self.new ≡ self.old) }
     {
         match given_line(alloc, number, line) {
@@ -137,7 +138,7 @@ impl Documents {
     fn take_value(&mut self, alloc: Global, value: &Value) -> Result<(), LineFault>
         ensures ok { OnOk result (takes_value self.old (view value.now) ≡ Ok self.new) }
         ensures err { IfErr result
-            (λ fault. IfTold fault
+            (λ fault. IfReported fault
             (λ cause. takes_value self.old (view value.now) ≡ Err cause)) }
         ensures unchanged { OnErr result (self.new ≡ self.old) }
     {

@@ -1,13 +1,9 @@
-//! Laws of the definitions. Each is the contract of a function that does nothing.
+//! Laws of the definitions. Each is the contract of a function that does nothing. That of valid places is in
+//! `places`, and exported here too.
 
-ghost use Rattle.witness.specs.Laws.{PlacesAreOrders, WitnessesLineByLine};
+ghost use Rattle.witness.specs.Laws.{WitnessesLineByLine};
 
-/// Shows that valid places of a document's records are an order of its calls that explains the document, and
-/// that each such order without unanswered calls that change nothing is one of valid places.
-#[tactic(auto, using(crate::proofs::DocumentLaws::places_are_orders))]
-pub fn valid_places()
-    ensures { PlacesAreOrders }
-{}
+pub use places::laws::valid_places;
 
 /// Shows that a reader's result for its next line is that of reading the text of the lines before it with
 /// this line, ended by a line feed or by the end of the text; that a refused line is refused in the same way

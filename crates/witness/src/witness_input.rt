@@ -1,12 +1,12 @@
 ghost use Rattle.std.specs.Prelude.{◌≡◌, Err, IfOk, IfSome, MatchResult, Ok, OnOk, OnSome, map};
 ghost use Rattle.std.specs.Io.KnownBytes.{IsAtEnd};
 ghost use Rattle.api_lines.specs.Sources.{IsTakenFor};
-ghost use Rattle.witness.specs.Documents.{doc_places};
+ghost use Rattle.places.specs.Documents.{doc_places};
 ghost use Rattle.witness.specs.Text.{witness_text};
 
-use crate::place::Place;
 use crate::witness_reader::WitnessReader;
 use api_lines::{InputFault, TextFault, take_lines};
+use places::Place;
 use std::alloc::Global;
 use std::io::Read;
 use version_pair::DocId;
@@ -27,14 +27,14 @@ pub fn read_witness_from<R: Read>(
 ) -> Result<Result<Vec<(DocId, Vec<Place>)>, TextFault>, InputFault>
     // If the reader's bytes are known, the result is what the definition gives for them, as that of
     // `read_witness` is.
-    ensures told { IfOk result (λ told. IfSome (R.remaining input.old) (λ text. MatchResult told
+    ensures reported { IfOk result (λ reported. IfSome (R.remaining input.old) (λ text. MatchResult reported
         (λ documents. witness_text text ≡ Ok (map doc_places documents.items))
         (λ fault. witness_text text ≡ Err fault))) }
     // No bytes after the first refused line are taken but those that the last read returned, 32,768 at most;
     // of that line and all before it 4,194,304 times 65,537 bytes at most.
     ensures taken { IsTakenFor witness_text (R.remaining input.old) (R.remaining input.new) }
     // If all lines are taken nothing is left in the reader.
-    ensures end { IfOk result (λ told. OnOk told (OnSome (R.remaining input.old)
+    ensures end { IfOk result (λ reported. OnOk reported (OnSome (R.remaining input.old)
         (IsAtEnd (R.remaining input.new)))) }
 {
     let mut reader = WitnessReader::new(alloc);

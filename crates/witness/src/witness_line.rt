@@ -1,11 +1,11 @@
 ghost use Rattle.std.specs.Prelude.{◌≡◌, MatchResult, Ok, Err};
 ghost use Rattle.serde_json.specs.View.{view};
-ghost use Rattle.api_lines.specs.Faults.{IfTold};
+ghost use Rattle.api_lines.specs.Faults.{IfReported};
 ghost use Rattle.api_lines.specs.Fields.{value_of as field_seen};
-ghost use Rattle.witness.specs.Text.{document_told, place_told, record_told, says};
+ghost use Rattle.witness.specs.Text.{document_parsed, place_parsed, record_parsed, says};
 
-use crate::place::Place;
 use api_lines::{Field, LineFault, Number, TextCause, document_id, field_of, pair_of_numbers};
+use places::Place;
 use serde_json::Value;
 use std::alloc::Global;
 use version_pair::DocId;
@@ -24,7 +24,7 @@ pub enum WitnessLine {
 
 // The record that a number names, or `Range`.
 fn record(number: Number) -> Result<usize, TextCause>
-    ensures { result ≡ record_told number }
+    ensures { result ≡ record_parsed number }
 {
     let rec = number.whole()?;
     if rec < RECORDS {
@@ -43,7 +43,7 @@ fn place(
     begun: bool,
 ) -> Result<WitnessLine, TextCause>
     ensures { result
-        ≡ place_told begun (field_seen rec.entry) (field_seen seq.entry) (field_seen term.entry) }
+        ≡ place_parsed begun (field_seen rec.entry) (field_seen seq.entry) (field_seen term.entry) }
 {
     let rec = rec.required_number()?;
     let seq = seq.optional_number()?;
@@ -58,8 +58,8 @@ fn place(
 
 // The document that a line begins, or `Id`.
 fn document(alloc: Global, id: &str) -> Result<WitnessLine, LineFault>
-    ensures { MatchResult result (λ line. document_told id.now ≡ Ok line)
-        (λ fault. IfTold fault (λ cause. document_told id.now ≡ Err cause)) }
+    ensures { MatchResult result (λ line. document_parsed id.now ≡ Ok line)
+        (λ fault. IfReported fault (λ cause. document_parsed id.now ≡ Err cause)) }
 {
     let id = document_id(id)?.to_id(alloc)?;
     Ok(WitnessLine::Document(id))
@@ -69,7 +69,7 @@ fn document(alloc: Global, id: &str) -> Result<WitnessLine, LineFault>
 /// `Half`, `Range`.
 pub fn line_says(alloc: Global, value: &Value, begun: bool) -> Result<WitnessLine, LineFault>
     ensures { MatchResult result (λ line. says begun (view value.now) ≡ Ok line)
-        (λ fault. IfTold fault (λ cause. says begun (view value.now) ≡ Err cause)) }
+        (λ fault. IfReported fault (λ cause. says begun (view value.now) ≡ Err cause)) }
 {
     match field_of(value, "doc") {
         Field::Absent => {
@@ -80,7 +80,7 @@ pub fn line_says(alloc: Global, value: &Value, begun: bool) -> Result<WitnessLin
         }
         Field::Text(id) => document(alloc, id),
         Field::Whole(_) | Field::NotWhole | Field::True | Field::False | Field::Other => {
-            Err(LineFault::Told(TextCause::Shape))
+            Err(LineFault::Reported(TextCause::Shape))
         }
     }
 }

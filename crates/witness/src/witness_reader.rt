@@ -1,13 +1,13 @@
 ghost use Rattle.std.specs.Prelude.{◌≡◌, ◌≤◌, [], IfErr, IfOk, OnErr, OnOk, Ok, Err, map};
-ghost use Rattle.api_lines.specs.Faults.{IfTextTold};
+ghost use Rattle.api_lines.specs.Faults.{IfTextReported};
 ghost use Rattle.api_lines.specs.Lines.{HasNoLineFeed, most_lines};
 ghost use Rattle.api_lines.specs.Texts.{next_line, so_far};
-ghost use Rattle.witness.specs.Documents.{doc_places};
+ghost use Rattle.places.specs.Documents.{doc_places};
 ghost use Rattle.witness.specs.Text.{takes_value, witness_text};
 
 use crate::documents::Documents;
-use crate::place::Place;
 use api_lines::{LineReader, ReadFault, take_text};
+use places::Place;
 use std::alloc::Global;
 use std::marker::Model;
 use version_pair::DocId;
@@ -26,7 +26,7 @@ impl Model for WitnessReader {
     ghost use Rattle.std.specs.Prelude.{◌≤◌, List};
     ghost use Rattle.api_lines.specs.Lines.{most_lines};
     ghost use Rattle.api_lines.specs.Texts.{SoFar, so_far};
-    ghost use Rattle.witness.specs.Text.{DocPlaces};
+    ghost use Rattle.places.specs.Documents.{DocPlaces};
 
     ghost Value = { SoFar (List DocPlaces) };
 
@@ -59,8 +59,8 @@ impl WitnessReader {
         // The lines that were taken are 4,194,304 at most.
         ensures within { self.new.lines ≤ most_lines }
         // An error other than `NoMemory` is that of the definition.
-        ensures fault { IfErr result (λ fault. IfTextTold fault
-            (λ told. next_line takes_value self.old line.now ≡ Err told)) }
+        ensures fault { IfErr result (λ fault. IfTextReported fault
+            (λ reported. next_line takes_value self.old line.now ≡ Err reported)) }
         // An error leaves the reader as it was.
         ensures unchanged { OnErr result (self.new ≡ self.old) }
     {
@@ -85,7 +85,7 @@ impl WitnessReader {
 
 impl LineReader for WitnessReader {
     ghost use Rattle.std.specs.Prelude.{List};
-    ghost use Rattle.witness.specs.Text.{DocPlaces};
+    ghost use Rattle.places.specs.Documents.{DocPlaces};
 
     // The state is the documents so far, each with its places.
     ghost State = { List DocPlaces };
@@ -116,7 +116,7 @@ pub fn read_witness(alloc: Global, text: &[u8]) -> Result<Vec<(DocId, Vec<Place>
         (λ documents. witness_text text.now ≡ Ok (map doc_places documents.items)) }
     // An error other than `NoMemory` is the line and the cause that the definition gives.
     ensures fault { IfErr result
-        (λ fault. IfTextTold fault (λ told. witness_text text.now ≡ Err told)) }
+        (λ fault. IfTextReported fault (λ reported. witness_text text.now ≡ Err reported)) }
 {
     let mut reader = WitnessReader::new(alloc);
     take_text(&mut reader, text)?;

@@ -5,13 +5,12 @@ ghost use Rattle.serde_json.specs.View.{view};
 ghost use Rattle.serde_json.specs.Written.{compact_text, has_float};
 ghost use Rattle.version_pair.specs.Id.{IsIdLength};
 ghost use Rattle.api_lines.specs.aids.JsonLines.{IsJsonLine};
-ghost use Rattle.witness.specs.Documents.{witness_places};
+ghost use Rattle.places.specs.Documents.{witness_places};
 ghost use Rattle.witness.specs.aids.Lines.{IsWrittenOn};
 ghost use Rattle.witness.specs.declared.witness_line.WitnessLine.TheVariants as line;
 ghost use Rattle.witness.specs.Text.{AreWithinLimits, said_by, value_of, witness_text, written};
 
-use crate::doc_witness::DocWitness;
-use crate::place::Place;
+use places::{DocWitness, Place};
 use serde_json::{Value, json};
 use std::alloc::Global;
 use version_pair::{DocId, NoMemory};

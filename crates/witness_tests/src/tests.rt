@@ -1,3 +1,3 @@
 mod lines;
 mod notation;
-mod places;
+mod valid_places;

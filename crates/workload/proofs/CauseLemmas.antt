@@ -3,7 +3,7 @@ use Rattle.std.proofs.Common.{ℕ, ◌≡◌, ◌∙◌, List, Option, ap, subst
 use Rattle.doc_register.specs.declared.op.Op.{Op}
 use Rattle.doc_register.specs.declared.reply.Reply.{Reply as Answer}
 use Rattle.doc_register.specs.Register.{fits}
-use Rattle.history.specs.declared.event.Event.{Event}
+use Rattle.events.specs.declared.event.Event.{Event}
 use Rattle.recorder.specs.declared.fault.RecFault.TheVariants as recording
 use Rattle.recorder.specs.Pens.{PenState}
 use Rattle.workload.specs.RunFaults.{HasCause, IsMisfit}
@@ -19,7 +19,7 @@ use Rattle.version_pair.proofs.ListLemmas.{same_some}
 -- what was misheard of an open call misfits
 pub misheard_misfits : (issued : Ticket → List ℕ → Op → Type 0) (gave : Ticket → Progress → Type 0) (polls : ℕ) (list : List (ℕ × Event)) (call : OpenCall)
     (heard : Option Answer) → IsOpenIn issued list call → IsHeard issued gave polls call.ticket heard → IsMisheard list call.no heard → IsMisfit issued gave
-misheard_misfits issued gave polls list call heard opened told misheard =
+misheard_misfits issued gave polls list call heard opened reported misheard =
     let same : opened.op ≡ misheard.op = same_some opened.op misheard.op (sym opened.called ∙ misheard.called) in
     record {
       ticket = call.ticket;
@@ -27,7 +27,7 @@ misheard_misfits issued gave polls list call heard opened told misheard =
       op = opened.op;
       reply = misheard.reply;
       was_issued = opened.was_issued;
-      was_given = subst (IsHeard issued gave polls call.ticket) misheard.is_heard told;
+      was_given = subst (IsHeard issued gave polls call.ticket) misheard.is_heard reported;
       misfits = ap (λ op. fits op misheard.reply) same ∙ misheard.misfits;
     }
 

@@ -4,10 +4,10 @@ use Rattle.std.proofs.lemmas.List.Elements.{All-head, All-push, All-weaker}
 use Rattle.std.proofs.lemmas.List.Quantifiers.{all_pairs_push}
 use Rattle.doc_register.specs.declared.op.Op.{Op}
 use Rattle.doc_register.specs.declared.reply.Reply.{Reply as Answer}
-use Rattle.history.specs.declared.event.Event.{Event}
-use Rattle.history.specs.declared.event.Event.TheVariants.{Call}
+use Rattle.events.specs.declared.event.Event.{Event}
+use Rattle.events.specs.declared.event.Event.TheVariants.{Call}
 use Rattle.recorder.specs.Pens.{IsRising}
-use Rattle.workload.specs.ClientRuns.{Ends, IsRunFrom, IsTurn, Known, after_ending, doc_name, ending_of, nothing_known, op_of}
+use Rattle.workload.specs.ClientRuns.{Ends, IsRunFrom, IsTurn, LastPairs, after_ending, doc_name, ending_of, nothing_known, op_of}
 use Rattle.workload.specs.aids.Clients.{BeginsTurn, EndsTurn, IsFront, IsHeard, IsLongerByFront, IsLongerByRun, TakesTurn}
 use Rattle.workload.specs.declared.open_call.OpenCall.{OpenCall}
 use Rattle.workload.specs.declared.target.Progress.{Progress}
@@ -30,7 +30,7 @@ rising_by_turn list call ending rising above later =
 
 module _ (issued : Ticket → List ℕ → Op → Type 0) (gave : Ticket → Progress → Type 0) (polls : ℕ) where
   -- a turn that was begun, heard of and ended was taken
-  pub turn_taken : (known after : Known) (k : ℕ) (turn : Turn) (old list new : List (ℕ × Event)) (call : OpenCall) (heard : Option Answer)
+  pub turn_taken : (known after : LastPairs) (k : ℕ) (turn : Turn) (old list new : List (ℕ × Event)) (call : OpenCall) (heard : Option Answer)
       → BeginsTurn issued known k turn old list call → IsHeard issued gave polls call.ticket heard
       → EndsTurn call heard known list new after → TakesTurn issued gave polls known k turn old new after
   turn_taken known after k turn old list new call heard begins hears ends = record {
@@ -67,7 +67,7 @@ module _ (issued : Ticket → List ℕ → Op → Type 0) (gave : Ticket → Pro
   }
 
   -- one turn more
-  front_after : (i : ℕ) (known : Known) (turn : Turn) (entries : List (ℕ × Event)) (call ending : ℕ × Event)
+  front_after : (i : ℕ) (known : LastPairs) (turn : Turn) (entries : List (ℕ × Event)) (call ending : ℕ × Event)
       → drop i turns ≡ turn ∷ drop (i + 1) turns
       → IsFront issued gave polls first turns i known entries
       → IsTurn issued gave polls known (first + i) turn call ending
@@ -75,7 +75,7 @@ module _ (issued : Ticket → List ℕ → Op → Type 0) (gave : Ticket → Pro
   unfolding IsRunFrom
   front_after i known turn entries call ending next front turned = record {
     onward = λ rest run.
-        let after : Known = after_ending known turn.doc ending.1 in
+        let after : LastPairs = after_ending known turn.doc ending.1 in
         let number : first + (i + 1) ≡ suc (first + i) = omega arith in
         let later : IsRunFrom issued gave polls after (suc (first + i)) (drop (i + 1) turns) rest =
         subst (λ k. IsRunFrom issued gave polls after k (drop (i + 1) turns) rest) number run in
@@ -87,7 +87,7 @@ module _ (issued : Ticket → List ℕ → Op → Type 0) (gave : Ticket → Pro
   }
 
   -- the list of the pen, one turn later
-  pub longer_after : (i k : ℕ) (known after : Known) (turn : Turn) (old list new : List (ℕ × Event))
+  pub longer_after : (i k : ℕ) (known after : LastPairs) (turn : Turn) (old list new : List (ℕ × Event))
       → drop i turns ≡ turn ∷ drop (i + 1) turns → k ≡ first + i
       → IsLongerByFront issued gave polls first turns i known old list
       → TakesTurn issued gave polls known k turn list new after
@@ -106,7 +106,7 @@ module _ (issued : Ticket → List ℕ → Op → Type 0) (gave : Ticket → Pro
   }
 
   -- after the last turn
-  pub run_at_end : (i : ℕ) (known : Known) (old new : List (ℕ × Event)) → drop i turns ≡ []
+  pub run_at_end : (i : ℕ) (known : LastPairs) (old new : List (ℕ × Event)) → drop i turns ≡ []
       → IsLongerByFront issued gave polls first turns i known old new → IsLongerByRun issued gave polls first turns old new
   unfolding IsRunFrom
   run_at_end i known old new none longer = record {

@@ -12,8 +12,8 @@ use Rattle.std.proofs.lemmas.List.Sorted.{IsPermutation-append_comm, IsPermutati
 use Rattle.std.proofs.lemmas.Option.{get_or_from_slice_get, slice_get-get_or, slice_get-map, slice_get_within}
 use Rattle.doc_register.specs.declared.op.Op.{Op}
 use Rattle.doc_register.specs.declared.reply.Reply.{Reply as Answer}
-use Rattle.history.specs.declared.event.Event.{Event}
-use Rattle.history.specs.declared.event.Event.TheVariants.{Call}
+use Rattle.events.specs.declared.event.Event.{Event}
+use Rattle.events.specs.declared.event.Event.TheVariants.{Call}
 use Rattle.recorder.specs.Pens.{PenState, new_pen}
 use Rattle.recorder.specs.Recordings.{IsRecordingOf, entries_of, lists_of}
 use Rattle.workload.specs.ClientRuns.{AreLongerByRuns, AreOfClients, doc_name, ending_of, op_of, pair_in}
@@ -119,7 +119,7 @@ new_seats count players new = record {
       }));
 }
 
-module _ {S : Type 0} (takes : S → List ℕ → Op → Ticket → S → Type 0) (tells : S → Ticket → Progress → S → Type 0) (polls : ℕ) (clients : List (List Turn)) (issued : Ticket → List ℕ → Op → Type 0) (gave : Ticket → Progress → Type 0) (issues : (w w' : S) (id : List ℕ) (op : Op) (ticket : Ticket) → takes w id op ticket w' → issued ticket id op) (gives : (w w' : S) (ticket : Ticket) (progress : Progress) → tells w ticket progress w' → gave ticket progress) where
+module _ {S : Type 0} (takes : S → List ℕ → Op → Ticket → S → Type 0) (reports : S → Ticket → Progress → S → Type 0) (polls : ℕ) (clients : List (List Turn)) (issued : Ticket → List ℕ → Op → Type 0) (gave : Ticket → Progress → Type 0) (issues : (w w' : S) (id : List ℕ) (op : Op) (ticket : Ticket) → takes w id op ticket w' → issued ticket id op) (gives : (w w' : S) (ticket : Ticket) (progress : Progress) → reports w ticket progress w' → gave ticket progress) where
   -- The clients that are played have seats with lists that are runs so far, and the events are the recording of these lists.
   record HaveLists (players : List Player) (events : List Event) : Type 0 where
     pub seats : List (Seat PenState)
@@ -190,7 +190,7 @@ module _ {S : Type 0} (takes : S → List ℕ → Op → Ticket → S → Type 0
     }
 
     begins : (turn : Turn) (w w' : S) (after : Player) (events' : List Event) → seat.open_call ≡ None → turn_at clients seat.client seat.begun ≡ Some turn
-        → BeginsCall takes tells polls clients turn w (player_of seat) events w' after events' → HaveLists (set (map player_of seats) i after) events'
+        → BeginsCall takes reports polls clients turn w (player_of seat) events w' after events' → HaveLists (set (map player_of seats) i after) events'
     begins turn w w' after events' idle next b =
         let k = 1 + turn_count (take seat.client clients) + seat.begun in
         let event : ℕ → Event = λ n. Call 0 n (doc_name turn.doc) (op_of turn.kind (pair_in seat.known turn.doc) k) in
@@ -209,7 +209,7 @@ module _ {S : Type 0} (takes : S → List ℕ → Op → Ticket → S → Type 0
     ends : (polled : PolledCall) (heard : Option Answer) (after : Player) (events' : List Event) → seat.open_call ≡ Some polled
         → IsHeard issued gave polled.polls_left polled.call.ticket heard
         → EndsCall polled.call heard (player_of seat) events after events' → HaveLists (set (map player_of seats) i after) events'
-    ends polled heard after events' is_open told e =
+    ends polled heard after events' is_open reported e =
         let event = ending_of polled.call.no heard in
         let pen : PenState = record { list = seat.pen.list ++ (length events, event) ∷ []; is_full = false } in
         let new : Seat PenState = record seat { pen = pen; known = after.known; open_call = None } in
@@ -219,7 +219,7 @@ module _ {S : Type 0} (takes : S → List ℕ → Op → Ticket → S → Type 0
           above = below i seat at;
           knows = e.knows;
         } in
-        let visits = visit_ends issued gave polls state clients seat polled heard pen after.known is_open told ended in
+        let visits = visit_ends issued gave polls state clients seat polled heard pen after.known is_open reported ended in
         subst (λ es. HaveLists (set (map player_of seats) i after) es) (sym e.recorded)
         (subst (λ p. HaveLists (set (map player_of seats) i p) (events ++ event ∷ [])) (sym e.closed) (with_event new event refl visits))
 
@@ -254,33 +254,33 @@ module _ {S : Type 0} (takes : S → List ℕ → Op → Ticket → S → Type 0
     goes_on polled Unknown after events' is_open given on = ends polled None after events' is_open (λ some. inr given) on
 
     visited : (w w' : S) (after : Player) (events' : List Event) (o : Option PolledCall) (t : Option Turn) → seat.open_call ≡ o → turn_at clients seat.client seat.begun ≡ t
-        → VisitsWith takes tells polls clients o t w (player_of seat) events w' after events' → HaveLists (set (map player_of seats) i after) events'
+        → VisitsWith takes reports polls clients o t w (player_of seat) events w' after events' → HaveLists (set (map player_of seats) i after) events'
     visited w w' after events' None None idle at_end visits = idles after events' visits.1 visits.2
     visited w w' after events' None (Some turn) idle next visits = begins turn w w' after events' idle next visits
     visited w w' after events' (Some polled) t is_open next visits = by_left (nat_lt 0 polled.polls_left) refl visits where
       by_left : (b : Bool) → nat_lt 0 polled.polls_left ≡ b
-          → MatchBool b (PollsCall tells polled w (player_of seat) events w' after events') (LosesCall polled w (player_of seat) events w' after events')
+          → MatchBool b (PollsCall reports polled w (player_of seat) events w' after events') (LosesCall polled w (player_of seat) events w' after events')
           → HaveLists (set (map player_of seats) i after) events'
-      by_left true is one = goes_on polled one.progress after events' is_open (gives w w' polled.call.ticket one.progress one.told) one.goes_on
+      by_left true is one = goes_on polled one.progress after events' is_open (gives w w' polled.call.ticket one.progress one.reported) one.goes_on
       by_left false is one = ends polled None after events' is_open (λ some. absurd (omega (arith, ltb-false 0 polled.polls_left is))) one.1
 
   -- ---- all visits
 
-  visit_kept : (i : ℕ) (old new : PlayState S) → VisitsAt takes tells polls clients i old new → HaveLists old.players old.events → HaveLists new.players new.events
+  visit_kept : (i : ℕ) (old new : PlayState S) → VisitsAt takes reports polls clients i old new → HaveLists old.players old.events → HaveLists new.players new.events
   visit_kept i old new here have =
       let found = mapped_from player_of have.seats i here.before (ap (λ players. slice_get players i) have.are ∙ here.is_there) in
-      let visits : VisitsPlayer takes tells polls clients old.target (player_of found.0) old.events new.target here.after new.events =
-      subst (λ p. VisitsPlayer takes tells polls clients old.target p old.events new.target here.after new.events) (sym found.2) here.visited in
+      let visits : VisitsPlayer takes reports polls clients old.target (player_of found.0) old.events new.target here.after new.events =
+      subst (λ p. VisitsPlayer takes reports polls clients old.target p old.events new.target here.after new.events) (sym found.2) here.visited in
       let after = visited have.seats old.events i found.0 found.1 have.seated have.recording have.below old.target new.target here.after new.events
       (found.0).open_call (turn_at clients (found.0).client (found.0).begun) refl refl visits in
       subst (λ players. HaveLists players new.events) (ap (λ players. set players i here.after) have.are ∙ sym here.others_stay) after
 
-  round_kept : (i : ℕ) (old new : PlayState S) → AreVisited takes tells polls clients i old new → HaveLists old.players old.events → HaveLists new.players new.events
+  round_kept : (i : ℕ) (old new : PlayState S) → AreVisited takes reports polls clients i old new → HaveLists old.players old.events → HaveLists new.players new.events
   unfolding AreVisited
   round_kept zero old new same have = subst (λ (w : PlayState S). HaveLists w.players w.events) (sym same) have
   round_kept (suc i) old new visits have = visit_kept i visits.0 new visits.2 (round_kept i old visits.0 visits.1 have)
 
-  rounds_kept : (n : ℕ) (old new : PlayState S) → AreRounds takes tells polls clients n old new → HaveLists old.players old.events → HaveLists new.players new.events
+  rounds_kept : (n : ℕ) (old new : PlayState S) → AreRounds takes reports polls clients n old new → HaveLists old.players old.events → HaveLists new.players new.events
   unfolding AreRounds
   rounds_kept zero old new same have = subst (λ (w : PlayState S). HaveLists w.players w.events) (sym same) have
   rounds_kept (suc n) old new rounds have = round_kept (length clients) rounds.0 new rounds.2 (rounds_kept n old rounds.0 rounds.1 have)
@@ -295,7 +295,7 @@ module _ {S : Type 0} (takes : S → List ℕ → Op → Ticket → S → Type 0
       record { is_idle = done.is_idle; is_at_end = done.is_at_end }
 
   -- What was recorded is the recording of lists that are the runs of the clients.
-  pub played_is_run : (first last : S) (events : List Event) → ArePlayed takes tells polls clients first last events → AreOfClients issued gave polls clients events
+  pub played_is_run : (first last : S) (events : List Event) → ArePlayed takes reports polls clients first last events → AreOfClients issued gave polls clients events
   played_is_run first last events played =
       let have = rounds_kept played.rounds _ _ played.played (at_start played.new played.are_new) in
       let pens = replicate (length clients) new_pen in

@@ -7,8 +7,8 @@ use Rattle.std.proofs.lemmas.List.{length-set, length_push, set-get_or}
 use Rattle.std.proofs.lemmas.List.Sums.{sum_by-set}
 use Rattle.std.proofs.lemmas.Option.{slice_get-get_or, slice_get_within}
 use Rattle.doc_register.specs.declared.op.Op.{Op}
-use Rattle.history.specs.declared.event.Event.{Event}
-use Rattle.history.specs.declared.event.Event.TheVariants.{Call}
+use Rattle.events.specs.declared.event.Event.{Event}
+use Rattle.events.specs.declared.event.Event.TheVariants.{Call}
 use Rattle.workload.specs.ClientRuns.{doc_name, op_of, pair_in}
 use Rattle.workload.specs.Plans.{turn_at, turn_count}
 use Rattle.workload.specs.Playing.{AreNewPlayers, AreRounds, AreVisited, BeginsCall, IsNewPlayer, IsPlayedOut, PlayState, VisitsAt, VisitsPlayer, VisitsWith}
@@ -39,11 +39,11 @@ module _ (polls : ℕ) (clients : List (List Turn)) where
   }
 
   -- the visit of the next client
-  pub advanced_more : (old now : List Player) (i : ℕ) (acted told next : Bool) (d new : Player) → i < length now
-      → ((told ≡ true) × (next ≡ true)) ⊎ ((told ≡ false) × (next ≡ acted))
-      → Advances polls clients (get_or now i d) new told
+  pub advanced_more : (old now : List Player) (i : ℕ) (acted reported next : Bool) (d new : Player) → i < length now
+      → ((reported ≡ true) × (next ≡ true)) ⊎ ((reported ≡ false) × (next ≡ acted))
+      → Advances polls clients (get_or now i d) new reported
       → HaveAdvanced old now i acted → HaveAdvanced old (set now i new) (i + 1) next
-  advanced_more old now i acted told next d new within (inl busy) advances round = record {
+  advanced_more old now i acted reported next d new within (inl busy) advances round = record {
     count = length-set now i new ∙ round.count;
     fewer = λ _. fewer_still acted refl (sum_by-set (visits_owed clients polls) now i new d within) (advances.fewer busy.0);
     same = λ is_false. absurd (both_ways next is_false busy.1);
@@ -56,7 +56,7 @@ module _ (polls : ℕ) (clients : List (List Turn)) where
           → sum_by (visits_owed clients polls) (set now i new) < sum_by (visits_owed clients polls) old
       fewer_still true was moved less = omega (arith, round.fewer was)
       fewer_still false was moved less = omega (arith, ap (sum_by (visits_owed clients polls)) (round.same was))
-  advanced_more old now i acted told next d new within (inr idle) advances round =
+  advanced_more old now i acted reported next d new within (inr idle) advances round =
       let rested = advances.done idle.0 in
       let unchanged : set now i new ≡ now = ap (set now i) rested.0 ∙ set-get_or now i d in
       record {
@@ -80,42 +80,42 @@ module _ (polls : ℕ) (clients : List (List Turn)) where
     done = λ is_false. (round.same is_false, λ k e within. round.done is_false k e (omega (arith, round.count)));
   }
 
-module _ {S : Type 0} (takes : S → List ℕ → Op → Ticket → S → Type 0) (tells : S → Ticket → Progress → S → Type 0) (polls : ℕ) (clients : List (List Turn)) where
+module _ {S : Type 0} (takes : S → List ℕ → Op → Ticket → S → Type 0) (reports : S → Ticket → Progress → S → Type 0) (polls : ℕ) (clients : List (List Turn)) where
   -- nobody was visited yet
-  pub none_visited : (w : PlayState S) → AreVisited takes tells polls clients 0 w w
+  pub none_visited : (w : PlayState S) → AreVisited takes reports polls clients 0 w w
   unfolding AreVisited
   none_visited w = refl
 
   -- the visit of the next client
   pub visited_more : (old : PlayState S) (w w' : S) (players : List Player) (events events' : List Event) (i : ℕ) (d new : Player) → i < length players
-      → VisitsPlayer takes tells polls clients w (get_or players i d) events w' new events'
-      → AreVisited takes tells polls clients i old (record { target = w; players = players; events = events })
-      → AreVisited takes tells polls clients (i + 1) old (record { target = w'; players = set players i new; events = events' })
+      → VisitsPlayer takes reports polls clients w (get_or players i d) events w' new events'
+      → AreVisited takes reports polls clients i old (record { target = w; players = players; events = events })
+      → AreVisited takes reports polls clients (i + 1) old (record { target = w'; players = set players i new; events = events' })
   unfolding AreVisited
   visited_more old w w' players events events' i d new within visits so_far =
       let between : PlayState S = record { target = w; players = players; events = events } in
       let after : PlayState S = record { target = w'; players = set players i new; events = events' } in
-      let here : VisitsAt takes tells polls clients i between after = record {
+      let here : VisitsAt takes reports polls clients i between after = record {
         before = get_or players i d;
         after = new;
         is_there = slice_get-get_or players i d within;
         visited = visits;
         others_stay = refl;
       } in
-      let more : AreVisited takes tells polls clients (suc i) old after = (between, so_far, here) in
-      subst (λ (n : ℕ). AreVisited takes tells polls clients n old after) (sym (add-one i)) more
+      let more : AreVisited takes reports polls clients (suc i) old after = (between, so_far, here) in
+      subst (λ (n : ℕ). AreVisited takes reports polls clients n old after) (sym (add-one i)) more
 
   -- no round was made yet
-  pub no_round : (w : PlayState S) → AreRounds takes tells polls clients 0 w w
+  pub no_round : (w : PlayState S) → AreRounds takes reports polls clients 0 w w
   unfolding AreRounds
   no_round w = refl
 
   -- some rounds were made
   abbrev pub HaveRounds : PlayState S → PlayState S → Type 0
-  HaveRounds old new = (n : ℕ) × AreRounds takes tells polls clients n old new
+  HaveRounds old new = (n : ℕ) × AreRounds takes reports polls clients n old new
 
   -- the next round
-  pub one_round_more : (old between new : PlayState S) → HaveRounds old between → AreVisited takes tells polls clients (length clients) between new → HaveRounds old new
+  pub one_round_more : (old between new : PlayState S) → HaveRounds old between → AreVisited takes reports polls clients (length clients) between new → HaveRounds old new
   unfolding AreRounds
   one_round_more old between new rounds round = (suc rounds.0, (between, rounds.1, round))
 
@@ -155,17 +155,17 @@ begun_advances polls clients old turn call idle next = record {
   done = λ no. cc;
 }
 
-module _ {S : Type 0} (takes : S → List ℕ → Op → Ticket → S → Type 0) (tells : S → Ticket → Progress → S → Type 0) (polls : ℕ) (clients : List (List Turn)) where
+module _ {S : Type 0} (takes : S → List ℕ → Op → Ticket → S → Type 0) (reports : S → Ticket → Progress → S → Type 0) (polls : ℕ) (clients : List (List Turn)) where
   pub begun_visits : (w w' : S) (old : Player) (before after : List Event) (turn : Turn) (k : ℕ) (call : OpenCall) → old.open_call ≡ None
       → turn_at clients old.client old.begun ≡ Some turn → k ≡ 1 + turn_count (take old.client clients) + old.begun
       → call.no ≡ length before → call.doc ≡ turn.doc
       → takes w (doc_name turn.doc) (op_of turn.kind (pair_in old.known turn.doc) k) call.ticket w'
       → after ≡ before ++ Call 0 call.no (doc_name turn.doc) (op_of turn.kind (pair_in old.known turn.doc) k) ∷ []
-      → VisitsPlayer takes tells polls clients w old before w'
+      → VisitsPlayer takes reports polls clients w old before w'
       (record old { begun = old.begun + 1; open_call = Some (record { call = call; polls_left = polls }) }) after
   begun_visits w w' old before after turn k call idle next number last doc submitted recorded =
       let new : Player = record old { begun = old.begun + 1; open_call = Some (record { call = call; polls_left = polls }) } in
-      let begins : BeginsCall takes tells polls clients turn w old before w' new after = record {
+      let begins : BeginsCall takes reports polls clients turn w old before w' new after = record {
         call = call;
         numbered = last;
         of_document = doc;
@@ -175,5 +175,5 @@ module _ {S : Type 0} (takes : S → List ℕ → Op → Ticket → S → Type 0
         submitted = subst (λ n. takes w (doc_name turn.doc) (op_of turn.kind (pair_in old.known turn.doc) n) call.ticket w') number submitted;
         opened = refl;
       } in
-      subst (λ o. VisitsWith takes tells polls clients o (turn_at clients old.client old.begun) w old before w' new after) (sym idle)
-      (subst (λ t. VisitsWith takes tells polls clients None t w old before w' new after) (sym next) begins)
+      subst (λ o. VisitsWith takes reports polls clients o (turn_at clients old.client old.begun) w old before w' new after) (sym idle)
+      (subst (λ t. VisitsWith takes reports polls clients None t w old before w' new after) (sym next) begins)

@@ -7,7 +7,7 @@ use Rattle.std.proofs.lemmas.List.{drop_all, drop_more, length-drop, length-map,
 use Rattle.std.proofs.lemmas.List.Sums.{sum_by-set}
 use Rattle.std.proofs.lemmas.Option.{slice_get-get_or, slice_get_cases, slice_get_within}
 use Rattle.doc_register.specs.declared.op.Op.{Op}
-use Rattle.history.specs.declared.event.Event.{Event}
+use Rattle.events.specs.declared.event.Event.{Event}
 use Rattle.recorder.specs.Pens.{PenState}
 use Rattle.workload.specs.ClientRuns.{AreLongerByRuns, nothing_known, pair_in}
 use Rattle.workload.specs.Plans.{turn_at, turn_count}
@@ -107,13 +107,13 @@ module _ (issued : Ticket → List ℕ → Op → Type 0) (gave : Ticket → Pro
   }
 
   -- the visit of the next seat
-  pub round_after : (old now : List (Seat P)) (i : ℕ) (acted told next : Bool) (d new : Seat P) → i < length now
-      → ((told ≡ true) × (next ≡ true)) ⊎ ((told ≡ false) × (next ≡ acted))
-      → Visits issued gave polls state clients (get_or now i d) new told
+  pub round_after : (old now : List (Seat P)) (i : ℕ) (acted reported next : Bool) (d new : Seat P) → i < length now
+      → ((reported ≡ true) × (next ≡ true)) ⊎ ((reported ≡ false) × (next ≡ acted))
+      → Visits issued gave polls state clients (get_or now i d) new reported
       → IsRoundSoFar old now i acted → IsRoundSoFar old (set now i new) (i + 1) next
-  round_after old now i acted told next d new within (inl busy) visits round = record {
+  round_after old now i acted reported next d new within (inl busy) visits round = record {
     count = length-set now i new ∙ round.count;
-    keeps = λ pens seated. seated_after pens now i (get_or now i d) new told (slice_get-get_or now i d within) visits (round.keeps pens seated);
+    keeps = λ pens seated. seated_after pens now i (get_or now i d) new reported (slice_get-get_or now i d within) visits (round.keeps pens seated);
     fewer = λ _. fewer_still acted refl (sum_by-set (visits_left clients polls) now i new d within) (visits.fewer busy.0);
     same = λ is_false. absurd (both_ways next is_false busy.1);
     done = λ is_false. absurd (both_ways next is_false busy.1);
@@ -125,12 +125,12 @@ module _ (issued : Ticket → List ℕ → Op → Type 0) (gave : Ticket → Pro
           → sum_by (visits_left clients polls) (set now i new) < sum_by (visits_left clients polls) old
       fewer_still true was moved less = omega (arith, round.fewer was)
       fewer_still false was moved less = omega (arith, ap (sum_by (visits_left clients polls)) (round.same was))
-  round_after old now i acted told next d new within (inr idle) visits round =
+  round_after old now i acted reported next d new within (inr idle) visits round =
       let rested = visits.done idle.0 in
       let unchanged : set now i new ≡ now = ap (set now i) rested.0 ∙ set-get_or now i d in
       record {
         count = length-set now i new ∙ round.count;
-        keeps = λ pens seated. seated_after pens now i (get_or now i d) new told (slice_get-get_or now i d within) visits (round.keeps pens seated);
+        keeps = λ pens seated. seated_after pens now i (get_or now i d) new reported (slice_get-get_or now i d within) visits (round.keeps pens seated);
         fewer = λ is_true. rw unchanged (round.fewer (sym idle.1 ∙ is_true));
         same = λ is_false. unchanged ∙ round.same (sym idle.1 ∙ is_false);
         done = λ is_false k e below.

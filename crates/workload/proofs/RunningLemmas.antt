@@ -6,7 +6,7 @@ use Rattle.std.proofs.lemmas.List.{get_or-map, get_or-replicate, length-map, len
 use Rattle.std.proofs.lemmas.List.FromFn.{get_or-enumerate_from, length-enumerate_from}
 use Rattle.std.proofs.lemmas.Option.{get_or_from_slice_get, slice_get-get_or, slice_get_cases, slice_get_within}
 use Rattle.doc_register.specs.declared.op.Op.{Op}
-use Rattle.history.specs.declared.event.Event.{Event}
+use Rattle.events.specs.declared.event.Event.{Event}
 use Rattle.recorder.specs.Pens.{IsRising, PenState, new_pen}
 use Rattle.recorder.specs.Recordings.{lists_of}
 use Rattle.workload.specs.ClientRuns.{AreClientRuns, AreLongerByRuns, IsClientRun}
@@ -83,8 +83,8 @@ module _ (issued : Ticket → List ℕ → Op → Type 0) (gave : Ticket → Pro
       let result : get_or results found.0 (Err fault) ≡ Err fault = get_or_from_slice_get results found.0 (Err fault) (Err fault) found.1 in
       let job : ℕ × P = elim (slice_get_cases jobs found.0).1 [ inl job ↦ job.0 | inr past ↦ absurd (omega (arith, past.0)) ] in
       let ran = (run.each found.0 job (Err fault) here).cause in
-      let told : IfErr {T = P} (Err fault) has_cause = rw result at ran in
-      told
+      let reported : IfErr {T = P} (Err fault) has_cause = rw result at ran in
+      reported
 
   module _ (pens done : List P) (jobs : List (ℕ × P)) (results : List (Result P RunFault)) (are : jobs ≡ enumerate_from 0 pens) (all : results ≡ map (λ pen. Ok pen) done) (run : AreRun jobs results) where
     same_count : length done ≡ length pens
@@ -104,8 +104,8 @@ module _ (issued : Ticket → List ℕ → Op → Type 0) (gave : Ticket → Pro
         ap (λ rs. get_or rs i (Ok p)) all ∙ get_or-map (λ (q : P). Ok q) done i p (Ok p) (slice_get_within done i p at_new)
         ∙ ap (λ (q : P). Ok q) (get_or_from_slice_get done i p p at_new) in
         let ran = run.each i (i, pen) (Ok p) within in
-        let told : RunsJob issued gave polls state is_ours has_cause clients (i, pen) (Ok p) = rw (job, result) at ran in
-        told.runs
+        let reported : RunsJob issued gave polls state is_ours has_cause clients (i, pen) (Ok p) = rw (job, result) at ran in
+        reported.runs
 
     -- where each job was run and gave a pen, these pens' lists are longer by the clients' runs
     pub longer_by_runs : AreLongerByRuns issued gave polls clients (map state pens) (map state done)

@@ -42,12 +42,12 @@ fewer_begun count begun polls within =
     rw one (omega arith)
 
 module _ (issued : Ticket → List ℕ → Op → Type 0) (gave : Ticket → Progress → Type 0) (polls : ℕ) where
-  -- what the last poll tells is what the polls tell
+  -- what the last poll says is what the polls say
   heard_at_last : (left : ℕ) (ticket : Ticket) (heard : Option Answer) → (left < polls → gave ticket Waiting)
       → IsHeard issued gave left ticket heard → IsHeard issued gave polls ticket heard
-  heard_at_last zero ticket None waited told = λ some. inl (waited some)
-  heard_at_last (suc left) ticket None waited told = λ some. told (omega arith)
-  heard_at_last left ticket (Some r) waited told = told
+  heard_at_last zero ticket None waited reported = λ some. inl (waited some)
+  heard_at_last (suc left) ticket None waited reported = λ some. reported (omega arith)
+  heard_at_last left ticket (Some r) waited reported = reported
 
   module _ {P : Type 0} (state : P → PenState) (clients : List (List Turn)) where
     -- a visit that begins a turn
@@ -91,14 +91,14 @@ module _ (issued : Ticket → List ℕ → Op → Type 0) (gave : Ticket → Pro
         → seat.open_call ≡ Some polled → IsHeard issued gave polled.polls_left polled.call.ticket heard
         → EndsTurn polled.call heard (pair_in seat.known) (state seat.pen).list (state pen).list (pair_in known)
         → Visits issued gave polls state clients seat (record seat { pen = pen; known = known; open_call = None }) true
-    visit_ends seat polled heard pen known is_open told ends = record {
+    visit_ends seat polled heard pen known is_open reported ends = record {
       same_client = refl;
       keeps = λ client list seated.
           let first = 1 + turn_count (take client clients) in
           let before : IsLongerByOpen issued gave polls first seated.turns seat.begun (pair_in seat.known) list (state seat.pen).list polled =
           subst (λ o. IsLongerSoFar issued gave polls first seated.turns seat.begun (pair_in seat.known) list (state seat.pen).list o) is_open seated.longer in
           let taken = turn_taken issued gave polls (pair_in seat.known) (pair_in known) (first + before.place) before.turn before.between (state seat.pen).list (state pen).list polled.call heard before.begins
-          (heard_at_last polled.polls_left polled.call.ticket heard before.waited told) ends in
+          (heard_at_last polled.polls_left polled.call.ticket heard before.waited reported) ends in
           record {
             client_is = seated.client_is;
             turns = seated.turns;

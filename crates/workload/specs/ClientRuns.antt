@@ -5,8 +5,8 @@ use Rattle.doc_register.specs.declared.op.Op.{Op}
 use Rattle.doc_register.specs.declared.op.Op.TheVariants.{Get, Index, Delete}
 use Rattle.doc_register.specs.declared.reply.Reply.{Reply as Answer}
 use Rattle.doc_register.specs.Register.{pair_of_reply}
-use Rattle.history.specs.declared.event.Event.{Event}
-use Rattle.history.specs.declared.event.Event.TheVariants.{Call, Reply, Lost}
+use Rattle.events.specs.declared.event.Event.{Event}
+use Rattle.events.specs.declared.event.Event.TheVariants.{Call, Reply, Lost}
 use Rattle.recorder.specs.Pens.{IsRising, PenState}
 use Rattle.recorder.specs.Recordings.{IsRecordingOf}
 use Rattle.workload.specs.Plans.{turn_count}
@@ -21,29 +21,29 @@ use Rattle.workload.specs.declared.turn.Turn.{Turn}
 
 -- what a client knows: for each document, by its number, the pair last reported of it, if there is one
 -- Source: profile.
-abbrev pub Known : Type 0
-Known = ℕ → Option Pair
+abbrev pub LastPairs : Type 0
+LastPairs = ℕ → Option Pair
 
 -- at first no pair is known
 -- Source: profile.
-abbrev pub nothing_known : Known
+abbrev pub nothing_known : LastPairs
 nothing_known doc = None
 
 -- what is known after a reply about the document: of that document the pair in the reply, which is none after
 -- Missing and Conflict
 -- Source: profile.
-abbrev pub after_reply : Known → ℕ → Answer → Known
+abbrev pub after_reply : LastPairs → ℕ → Answer → LastPairs
 after_reply known doc r = λ other. if other == doc then pair_of_reply r else known other
 
 -- what is known after the ending of a call of the document; a lost call leaves it as it was
 -- Source: profile.
-abbrev pub after_ending : Known → ℕ → Event → Known
+abbrev pub after_ending : LastPairs → ℕ → Event → LastPairs
 after_ending known doc (Call h n d op) = known
 after_ending known doc (Reply n r) = after_reply known doc r
 after_ending known doc (Lost n) = known
 
 -- the pair that a list of pairs has of a document; none after its end
-abbrev pub pair_in : List (Option Pair) → Known
+abbrev pub pair_in : List (Option Pair) → LastPairs
 pair_in pairs doc = unwrap_or (slice_get pairs doc) None
 
 -- the ending of the call numbered n of which this was heard, or nothing
@@ -103,7 +103,7 @@ module _ (issued : Ticket → List ℕ → Op → Type 0) (gave : Ticket → Pro
 
   -- What is recorded of one turn: a call and its ending.
   -- Source: profile.
-  pub record IsTurn (known : Known) (k : ℕ) (turn : Turn) (call ending : ℕ × Event) : Type 0 where
+  pub record IsTurn (known : LastPairs) (k : ℕ) (turn : Turn) (call ending : ℕ × Event) : Type 0 where
     -- the call, whose number is that of its own event, is of the operation of that turn
     pub called : call.1 ≡ Call 0 call.0 (doc_name turn.doc) (op_of turn.kind (known turn.doc) k)
     -- the ending is one of that call
@@ -112,7 +112,7 @@ module _ (issued : Ticket → List ℕ → Op → Type 0) (gave : Ticket → Pro
   -- What is recorded of turns, one after the other, by a client that knows this before them. The write of the
   -- first turn writes the number k, each later one a number that is greater by one.
   -- Source: profile.
-  unfoldable pub IsRunFrom : Known → ℕ → List Turn → List (ℕ × Event) → Type 0
+  unfoldable pub IsRunFrom : LastPairs → ℕ → List Turn → List (ℕ × Event) → Type 0
   IsRunFrom known k [] [] = Unit {0}
   IsRunFrom known k [] (entry ∷ entries) = ⊥
   IsRunFrom known k (turn ∷ turns) [] = ⊥
@@ -133,7 +133,7 @@ module _ (issued : Ticket → List ℕ → Op → Type 0) (gave : Ticket → Pro
     -- the numbers of its events rise
     pub rising : IsRising entries
 
-  -- The lists of the pens are longer by the runs of their clients.
+  -- Each pen's list has grown by the run of its client.
   -- Source: profile.
   pub record AreLongerByRuns (clients : List (List Turn)) (old new : List PenState) : Type 0 where
     -- there are as many pens as before

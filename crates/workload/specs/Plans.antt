@@ -52,11 +52,11 @@ abbrev pub refusal_of : List (List Turn) → Option PlanFault
 refusal_of clients = if lacks_turns clients then Some Zero else (if is_too_large clients then Some TooMany else None)
 
 -- the reason that an answer reports; being out of memory is none
-abbrev pub refusal_told : {X : Type 0} → Result X PlanFault → Option PlanFault
-refusal_told (Ok x) = None
-refusal_told (Err Zero) = Some Zero
-refusal_told (Err TooMany) = Some TooMany
-refusal_told (Err NoMemory) = None
+abbrev pub refusal_reported : {X : Type 0} → Result X PlanFault → Option PlanFault
+refusal_reported (Ok x) = None
+refusal_reported (Err Zero) = Some Zero
+refusal_reported (Err TooMany) = Some TooMany
+refusal_reported (Err NoMemory) = None
 
 -- the turn of a client at an index; none after the last
 abbrev pub turn_at : List (List Turn) → ℕ → ℕ → Option Turn

@@ -3,8 +3,8 @@
 use Rattle.std.specs.Prelude.{◌≡◌, ℕ, zero, suc, ◌+◌, ◌-◌, All, List, [], ◌∷◌, ◌++◌, MatchBool, Option, Some, None, if◌then◌else◌, length, nat_lt, slice_get, slice_set, take}
 use Rattle.doc_register.specs.declared.op.Op.{Op}
 use Rattle.doc_register.specs.declared.reply.Reply.{Reply as Answer}
-use Rattle.history.specs.declared.event.Event.{Event}
-use Rattle.history.specs.declared.event.Event.TheVariants.{Call}
+use Rattle.events.specs.declared.event.Event.{Event}
+use Rattle.events.specs.declared.event.Event.TheVariants.{Call}
 use Rattle.workload.specs.ClientRuns.{after_ending, doc_name, ending_of, nothing_known, op_of, pair_in}
 use Rattle.workload.specs.Plans.{turn_at, turn_count}
 use Rattle.workload.specs.declared.open_call.OpenCall.{OpenCall}
@@ -76,11 +76,11 @@ GoesOn polled (Ends heard) old before new after = EndsCall polled.call heard old
 
 -- The open call is polled once, and what the target reports decides how it goes on.
 -- Source: profile.
-pub record PollsCall {S : Type 0} (tells : S → Ticket → Progress → S → Type 0) (polled : PolledCall) (w : S) (old : Player) (before : List Event) (w' : S) (new : Player) (after : List Event) : Type 0 where
+pub record PollsCall {S : Type 0} (reports : S → Ticket → Progress → S → Type 0) (polled : PolledCall) (w : S) (old : Player) (before : List Event) (w' : S) (new : Player) (after : List Event) : Type 0 where
   -- what the target reports
   pub progress : Progress
   -- the target reports it, and goes on to its next state
-  pub told : tells w polled.call.ticket progress w'
+  pub reported : reports w polled.call.ticket progress w'
   -- the report decides how the call goes on
   pub goes_on : GoesOn polled (polled_to polled.polls_left progress) old before new after
 
@@ -102,7 +102,7 @@ pub record PlayState (S : Type 0) : Type 0 where
 
 -- Of a target: its state before and after it returns a ticket for an operation on a document, and before and
 -- after it reports on a ticket. Of the clients: the greatest number of polls of a call, and their turns.
-module _ {S : Type 0} (takes : S → List ℕ → Op → Ticket → S → Type 0) (tells : S → Ticket → Progress → S → Type 0) (polls : ℕ) (clients : List (List Turn)) where
+module _ {S : Type 0} (takes : S → List ℕ → Op → Ticket → S → Type 0) (reports : S → Ticket → Progress → S → Type 0) (polls : ℕ) (clients : List (List Turn)) where
   -- The client begins this turn: its call is recorded, and then submitted.
   -- Source: profile.
   pub record BeginsCall (turn : Turn) (w : S) (old : Player) (before : List Event) (w' : S) (new : Player) (after : List Event) : Type 0 where
@@ -123,7 +123,7 @@ module _ {S : Type 0} (takes : S → List ℕ → Op → Ticket → S → Type 0
   -- Source: profile.
   abbrev pub VisitsWith : Option PolledCall → Option Turn → S → Player → List Event → S → Player → List Event → Type 0
   VisitsWith (Some polled) turn w old before w' new after =
-      MatchBool (nat_lt 0 polled.polls_left) (PollsCall tells polled w old before w' new after) (LosesCall polled w old before w' new after)
+      MatchBool (nat_lt 0 polled.polls_left) (PollsCall reports polled w old before w' new after) (LosesCall polled w old before w' new after)
   VisitsWith None (Some turn) w old before w' new after = BeginsCall turn w old before w' new after
   VisitsWith None None w old before w' new after = (w' ≡ w) × (new ≡ old) × (after ≡ before)
 

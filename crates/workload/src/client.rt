@@ -1,6 +1,6 @@
 ghost use Rattle.std.specs.Prelude.{◌≡◌, ℕ, ◌+◌, ◌<◌, ◌^◌, All, Err, IfErr, IfOk, Some, false, length};
 ghost use Rattle.doc_register.specs.declared.op.Op.{Op as Asked};
-ghost use Rattle.history.specs.Refusal.{op_of};
+ghost use Rattle.events.specs.Refusal.{op_of};
 ghost use Rattle.recorder.specs.declared.fault.RecFault.TheVariants as recording;
 ghost use Rattle.recorder.specs.Pens.{Records, events_in, is_ended, refusal_of};
 ghost use Rattle.workload.specs.RunFaults.{HasCause, IsMisfit};
@@ -8,7 +8,7 @@ ghost use Rattle.workload.specs.ClientRuns.{ending_of, pair_in};
 ghost use Rattle.workload.specs.aids.Clients.{BeginsTurn, EndsTurn, IsHeard, IsLongerByRun, IsMisheard, IsOpenIn, TakesTurn};
 
 use crate::asked::doc_name;
-use crate::known::Known;
+use crate::known::LastPairs;
 use crate::open_call::OpenCall;
 use crate::plan::MOST_DOCS;
 use crate::run_fault::RunFault;
@@ -66,7 +66,7 @@ pub fn begin_turn<R: Wait, T: Target, X: Recording>(
     target: &T,
     recorder: &X,
     pen: &mut X::Pen,
-    known: &Known,
+    known: &LastPairs,
     turn: Turn,
     k: u64,
 ) -> Result<OpenCall, RunFault>
@@ -96,7 +96,7 @@ pub fn end_turn<R: Wait, X: Recording>(
     rt: &R,
     recorder: &X,
     pen: &mut X::Pen,
-    known: &mut Known,
+    known: &mut LastPairs,
     call: OpenCall,
     heard: Option<Reply>,
 ) -> Result<(), RunFault>
@@ -124,7 +124,7 @@ pub fn take_turn<R: Wait, T: Target, X: Recording>(
     target: &T,
     recorder: &X,
     pen: &mut X::Pen,
-    known: &mut Known,
+    known: &mut LastPairs,
     turn: Turn,
     k: u64,
     polls: u32,
@@ -165,7 +165,7 @@ where
     ensures cause { IfErr result (HasCause (IsMisfit T.issued T.gave) T.all_given (X.may_rewind recorder.now)
         X.pen_state (X.has_pen recorder.now)) }
 {
-    let mut known = Known::nothing(alloc)?;
+    let mut known = LastPairs::nothing(alloc)?;
     let mut k = first;
     for turn in turns {
         take_turn(

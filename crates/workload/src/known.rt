@@ -12,11 +12,11 @@ use version_pair::Pair;
 ///
 /// Contracts see the list of these pairs, which `pair_in` reads by the number of a document.
 #[derive(Drop)]
-pub struct Known {
+pub struct LastPairs {
     pairs: Vec<Option<Pair>>,
 }
 
-impl Model for Known {
+impl Model for LastPairs {
     ghost use Rattle.std.specs.Prelude.{◌≡◌, List, Option, length};
     ghost use Rattle.version_pair.specs.declared.pair.Pair.{Pair};
     ghost use Rattle.workload.specs.Plans.{most_docs};
@@ -28,16 +28,16 @@ impl Model for Known {
     ghost invariant = { λ k. length k.pairs.items ≡ most_docs };
 }
 
-impl Known {
+impl LastPairs {
     /// Returns the value in which nothing is known.
-    pub fn nothing(alloc: Global) -> Result<Known, AllocError>
+    pub fn nothing(alloc: Global) -> Result<LastPairs, AllocError>
         ensures { IfOk result (λ known. pair_in known ≡ nothing_known) }
     {
         let mut pairs = Vec::with_capacity(alloc, MOST_DOCS as usize)?;
         for _ in 0..MOST_DOCS {
             pairs.push(None)?;
         }
-        Ok(Known { pairs })
+        Ok(LastPairs { pairs })
     }
 
     /// Returns the pair last reported of a document, if there is one.

@@ -24,8 +24,6 @@ mod run_fault;
 mod running;
 mod seat;
 mod target;
-#[cfg(test)]
-mod testing;
 mod turn;
 mod visiting;
 

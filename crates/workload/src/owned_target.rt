@@ -14,7 +14,7 @@ pub trait OwnedTarget {
     ghost takes: { Self → List ℕ → Op → Ticket → Self → Type 0 };
 
     /// The state of this target after it reported this progress of a ticket.
-    ghost tells: { Self → Ticket → Progress → Self → Type 0 };
+    ghost reports: { Self → Ticket → Progress → Self → Type 0 };
 
     ghost use Rattle.std.specs.Prelude.{◌≡◌, IfErr, IfOk};
 
@@ -25,8 +25,8 @@ pub trait OwnedTarget {
 
     /// Returns what has become of a submitted operation, or that memory was refused.
     fn poll(&mut self, ticket: Ticket) -> Result<Progress, TargetFault>
-        // After a report the target is in a state to which `tells` leads from the one before.
-        ensures tells { IfOk result (λ progress. tells self.old ticket progress self.new) }
+        // After a report the target is in a state to which `reports` leads from the one before.
+        ensures reports { IfOk result (λ progress. reports self.old ticket progress self.new) }
         // The only error is `NoMemory`.
         ensures refused { IfErr result (λ fault. fault ≡ TargetFault.NoMemory) };
 }

@@ -1,6 +1,6 @@
 ghost use Rattle.std.specs.Prelude.{◌≡◌, ◌≢◌, ◌+◌, ◌<◌, ◌≤◌, ◌^◌, ◌*◌, All, Err, IfOk, IfSome, List, Some, slice_get, take, length, map, nat_lt, option_map, sum_by};
 ghost use Rattle.std.specs.List.{list_any};
-ghost use Rattle.workload.specs.Plans.{is_far, is_idle, is_too_large, lacks_turns, refusal_of, refusal_told, turn_at, turn_count};
+ghost use Rattle.workload.specs.Plans.{is_far, is_idle, is_too_large, lacks_turns, refusal_of, refusal_reported, turn_at, turn_count};
 ghost use Rattle.workload.specs.declared.turn.Turn.{Turn};
 ghost use Rattle.workload.specs.Drawing.{draw_refusal, plan_drawn};
 
@@ -100,7 +100,7 @@ impl Plan {
     /// dropped.
     pub fn of(clients: Vec<Vec<Turn>>) -> Result<Plan, PlanFault>
         // The error is `Zero` or `TooMany` exactly if the definition gives it.
-        ensures refused { refusal_told result ≡ refusal_of (map (λ turns. turns.items) clients.items) }
+        ensures refused { refusal_reported result ≡ refusal_of (map (λ turns. turns.items) clients.items) }
         // The plan has just these lists.
         ensures plan { IfOk result (λ plan. plan ≡ map (λ turns. turns.items) clients.items) }
         // The error is never `NoMemory`.
@@ -131,7 +131,7 @@ impl Plan {
         docs: u32,
     ) -> Result<Plan, PlanFault>
         // The error is `Zero` or `TooMany` exactly if the definition gives it.
-        ensures refused { refusal_told result ≡ draw_refusal clients calls docs }
+        ensures refused { refusal_reported result ≡ draw_refusal clients calls docs }
         // The plan is the one that the seed draws.
         ensures plan { IfOk result (λ plan. plan ≡ plan_drawn seed clients calls docs) }
     {
@@ -201,6 +201,3 @@ impl Plan {
         Some((turn, self.first_number(client) + i as u64))
     }
 }
-
-#[cfg(test)]
-mod tests;

@@ -2,7 +2,7 @@ ghost use Rattle.std.specs.Prelude.{◌≡◌};
 ghost use Rattle.workload.specs.declared.play_fault.PlayFault.TheVariants as play;
 
 use crate::target::TargetFault;
-use history::HistFault;
+use events::HistFault;
 use std::alloc::AllocError;
 use thiserror::Error;
 

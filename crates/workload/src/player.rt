@@ -1,6 +1,6 @@
 ghost use Rattle.std.specs.Prelude.{IfOk};
 
-use crate::known::Known;
+use crate::known::LastPairs;
 use crate::polled_call::PolledCall;
 use std::alloc::{AllocError, Global};
 
@@ -9,7 +9,7 @@ use std::alloc::{AllocError, Global};
 pub struct Player {
     /// The number of the client.
     pub client: usize,
-    pub known: Known,
+    pub known: LastPairs,
     /// The number of turns that it has begun.
     pub begun: usize,
     /// The call of the last of these turns, until it has its ending.
@@ -25,7 +25,7 @@ impl Player {
     {
         Ok(Player {
             client,
-            known: Known::nothing(alloc)?,
+            known: LastPairs::nothing(alloc)?,
             begun: 0,
             open_call: None,
         })

@@ -7,7 +7,7 @@ use crate::plan::Plan;
 use crate::play_fault::PlayFault;
 use crate::player::Player;
 use crate::visiting::visit;
-use history::History;
+use events::History;
 use std::alloc::{AllocError, Global};
 
 // That many clients before their first turns.
@@ -31,7 +31,7 @@ fn visit_all<T: OwnedTarget>(
     polls: u32,
 ) -> Result<bool, PlayFault>
     requires { All (λ player. player.client < length plan.now) players.old.items }
-    ensures visits { IfOk result (λ _. AreVisited T.takes T.tells polls plan.now (length players.old.items)
+    ensures visits { IfOk result (λ _. AreVisited T.takes T.reports polls plan.now (length players.old.items)
         (record { target = target.old; players = players.old.items; events = history.old })
         (record { target = target.new; players = players.new.items; events = history.new })) }
     ensures advances { IfOk result (AdvanceEach polls plan.now players.old.items players.new.items) }
@@ -67,7 +67,7 @@ pub fn play_in_turns<T: OwnedTarget>(
     // The events are what the clients of the plan record if they are played in turns against the target, from
     // its state before to its state after: which client is visited when, which call is recorded and
     // submitted, how often one is polled, and when it is lost.
-    ensures { IfOk result (λ history. ArePlayed T.takes T.tells turns plan.now target.old target.new history) }
+    ensures { IfOk result (λ history. ArePlayed T.takes T.reports turns plan.now target.old target.new history) }
 {
     let mut history = History::new(alloc);
     let mut players = new_players(alloc, plan.clients())?;

@@ -112,6 +112,3 @@ where
     'rounds: while visit_each(rt, alloc, plan, target, recorder, &mut seats, turns)? {}
     Ok(pens_of(alloc, seats)?)
 }
-
-#[cfg(test)]
-mod tests;

@@ -157,6 +157,3 @@ where
     let results = run_jobs(rt, alloc, plan, target, recorder, jobs, turns)?;
     gather_pens(alloc, results)
 }
-
-#[cfg(test)]
-mod tests;

@@ -4,7 +4,7 @@ ghost use Rattle.workload.specs.aids.Seats.{IsNew, IsOpenIfAny, IsVisitedOnce, V
 ghost use Rattle.workload.specs.declared.turn.Turn.{Turn};
 
 use crate::client::{begin_turn, end_turn};
-use crate::known::Known;
+use crate::known::LastPairs;
 use crate::plan::Plan;
 use crate::polled_call::{Polled, PolledCall};
 use crate::run_fault::RunFault;
@@ -19,7 +19,7 @@ pub struct Seat<P> {
     /// The number of the client.
     pub client: usize,
     pub pen: P,
-    pub known: Known,
+    pub known: LastPairs,
     /// The number of turns that it has begun.
     pub begun: usize,
     /// The call of the last of these turns, until it has its ending.
@@ -34,7 +34,7 @@ impl<P: Drop> Seat<P> {
         Ok(Seat {
             client,
             pen,
-            known: Known::nothing(alloc)?,
+            known: LastPairs::nothing(alloc)?,
             begun: 0,
             open_call: None,
         })

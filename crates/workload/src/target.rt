@@ -3,7 +3,7 @@ use std::sync::Wait;
 use thiserror::Error;
 use version_pair::DocId;
 
-/// The name of a submitted operation at its target.
+/// The identifier of a submitted operation at its target.
 #[derive(Clone, Copy, Debug, PartialEq, Eq)]
 pub struct Ticket(pub u64);
 
@@ -29,8 +29,8 @@ pub enum TargetFault {
     NoMemory,
 }
 
-/// A target, to which clients submit operations and which they poll for the outcomes, from any thread. Which
-/// relations its tickets and reports stand in, and when it returns an error, each target says for itself.
+/// A target, to which clients submit operations and which they poll for the outcomes, from any thread. What
+/// its tickets and reports mean, and when it returns an error, is defined by each target.
 pub trait Target {
     ghost use Rattle.std.specs.Prelude.{List, ℕ};
     ghost use Rattle.doc_register.specs.declared.op.Op.{Op};

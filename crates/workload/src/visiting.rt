@@ -11,7 +11,7 @@ use crate::player::Player;
 use crate::polled_call::{Polled, PolledCall};
 use crate::target::Progress;
 use doc_register::Reply;
-use history::{Event, History};
+use events::{Event, History};
 use std::alloc::Global;
 
 // Begins the next turn of a client that has no open call, if a turn is left.
@@ -25,7 +25,7 @@ fn begin_next<T: OwnedTarget>(
 ) -> Result<bool, PlayFault>
     requires client { player.old.client < length plan.now }
     requires idle { player.old.open_call ≡ None }
-    ensures visits { IfOk result (λ _. VisitsPlayer T.takes T.tells polls plan.now target.old player.old history.old
+    ensures visits { IfOk result (λ _. VisitsPlayer T.takes T.reports polls plan.now target.old player.old history.old
         target.new player.new history.new) }
     ensures advances { IfOk result (Advances polls plan.now player.old player.new) }
 {
@@ -93,7 +93,7 @@ fn poll_open<T: OwnedTarget>(
     polled: PolledCall,
 ) -> Result<(), PlayFault>
     requires { player.old.open_call ≡ Some polled }
-    ensures polls { IfOk result (λ _. PollsCall T.tells polled target.old player.old history.old
+    ensures polls { IfOk result (λ _. PollsCall T.reports polled target.old player.old history.old
         target.new player.new history.new) }
 {
     let progress = target.poll(polled.call.ticket)?;
@@ -122,7 +122,7 @@ pub fn visit<T: OwnedTarget>(
     polls: u32,
 ) -> Result<bool, PlayFault>
     requires { player.old.client < length plan.now }
-    ensures visits { IfOk result (λ _. VisitsPlayer T.takes T.tells polls plan.now target.old player.old history.old
+    ensures visits { IfOk result (λ _. VisitsPlayer T.takes T.reports polls plan.now target.old player.old history.old
         target.new player.new history.new) }
     ensures advances { IfOk result (Advances polls plan.now player.old player.new) }
 {

@@ -8,8 +8,8 @@ use Rattle.version_pair.specs.PairOrder.{IsBelow}
 use Rattle.doc_register.specs.declared.state.DocState.{DocState}
 use Rattle.doc_register.specs.declared.state.DocState.TheVariants.{Never}
 use Rattle.doc_register.specs.Register.{performed_state}
-use Rattle.history.specs.Heard.{pair_of}
-use Rattle.history.specs.declared.record.Rec.{Rec}
+use Rattle.events.specs.Heard.{pair_of}
+use Rattle.events.specs.declared.record.Rec.{Rec}
 
 -- the links of a list, with that of the record numbered k before them if its write was performed with a pair
 abbrev pub link_at : ℕ → Option Pair → List (Pair × ℕ) → List (Pair × ℕ)

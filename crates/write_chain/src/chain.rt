@@ -4,7 +4,7 @@ ghost use Rattle.write_chain.specs.Chain.{IsChain, Rises, after_link, performed_
 
 use crate::nearly_ordered::sort_nearly_ordered;
 use doc_register::{DocState, Op};
-use history::Rec;
+use events::Rec;
 use std::alloc::Global;
 use version_pair::{NoMemory, Pair};
 

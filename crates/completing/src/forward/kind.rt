@@ -1,7 +1,7 @@
 use crate::forward::known::KnownPairs;
 use crate::forward::numbers::Numbers;
 use doc_register::{Op, Reply};
-use history::Rec;
+use events::Rec;
 use std::alloc::Global;
 use version_pair::{NoMemory, Pair};
 

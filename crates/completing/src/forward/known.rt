@@ -1,7 +1,7 @@
 use crate::forward::numbers::Numbers;
 use crate::near::{HasPair, place_near};
 use doc_register::{Op, Reply};
-use history::Rec;
+use events::Rec;
 use std::alloc::Global;
 use version_pair::{NoMemory, Pair};
 use write_chain::sort_nearly_ordered;

@@ -1,6 +1,7 @@
 use crate::forward::kind::Kind;
 use crate::rules::queue::is_left;
-use history::Rec;
+use crate::timed::Timed;
+use events::Rec;
 use std::alloc::Global;
 use version_pair::NoMemory;
 
@@ -8,8 +9,8 @@ use version_pair::NoMemory;
 /// calls.
 #[derive(Drop)]
 pub struct Lines {
-    // The indices of the calls with their records, one line after another.
-    entries: Vec<(usize, usize)>,
+    // The records with the indices of their calls, one line after another.
+    entries: Vec<Timed>,
     // The beginning of each line, and after the last line its end.
     starts: Vec<usize>,
     // For each line, the entry before which none is left.
@@ -41,7 +42,7 @@ fn starts_of(
     Ok(starts)
 }
 
-// The indices of the calls with their records, one line after another. The records are in the order of their
+// The records with the indices of their calls, one line after another. The records are in the order of their
 // calls.
 fn entries_of(
     alloc: Global,
@@ -49,9 +50,9 @@ fn entries_of(
     kinds: &[Option<Kind>],
     known: usize,
     starts: &[usize],
-) -> Result<Vec<(usize, usize)>, NoMemory> {
+) -> Result<Vec<Timed>, NoMemory> {
     let total = starts.last().copied().unwrap_or(0);
-    let mut entries = vec![in alloc; (0, 0); total]?;
+    let mut entries = vec![in alloc; Timed { at: 0, rec: 0 }; total]?;
     let mut next = Vec::from_slice(alloc, starts)?;
     for rec in 0..records.len() {
         let Some(Some(kind)) = kinds.get(rec) else {
@@ -59,7 +60,10 @@ fn entries_of(
         };
         if let Some(place) = next.get_mut(kind.line(known)) {
             if let Some(entry) = entries.get_mut(*place) {
-                *entry = (records[rec].call_at, rec);
+                *entry = Timed {
+                    at: records[rec].call_at,
+                    rec,
+                };
             }
             *place = (*place).saturating_add(1);
         }
@@ -105,10 +109,14 @@ impl Lines {
         let line = kind.line(self.known);
         let (_, end) = self.bounds(line)?;
         for i in *self.firsts.get(line)?..end {
-            let (call_at, rec) = *self.entries.get(i)?;
-            if is_left(placed, rec) {
+            let entry = *self.entries.get(i)?;
+            if is_left(placed, entry.rec) {
                 self.note_first(line, i);
-                return if call_at < limit { Some(rec) } else { None };
+                return if entry.at < limit {
+                    Some(entry.rec)
+                } else {
+                    None
+                };
             }
         }
         self.note_first(line, end);
@@ -122,7 +130,8 @@ impl Lines {
             return;
         };
         let own = self.entries.get(start..end).unwrap_or(&[]);
-        let at = own.partition_point(|entry| *entry < (call_at, rec));
+        let left = Timed { at: call_at, rec };
+        let at = own.partition_point(|entry| *entry < left);
         let entry = start.saturating_add(at);
         if let Some(first) = self.firsts.get_mut(line) {
             *first = (*first).min(entry);
@@ -130,15 +139,15 @@ impl Lines {
     }
 
     /// Returns the records of the kind, with the indices of their calls.
-    pub fn all(&self, kind: Kind) -> &[(usize, usize)] {
+    pub fn all(&self, kind: Kind) -> &[Timed] {
         match self.bounds(kind.line(self.known)) {
             Some((start, end)) => self.entries.get(start..end).unwrap_or(&[]),
             None => &[],
         }
     }
 
-    /// Returns the records of the kind that may be left.
-    pub fn waiting(&self, kind: Kind) -> &[(usize, usize)] {
+    /// Returns the records of the kind, without some of those that were placed.
+    pub fn waiting(&self, kind: Kind) -> &[Timed] {
         let line = kind.line(self.known);
         match (self.bounds(line), self.firsts.get(line)) {
             (Some((_, end)), Some(first)) => self.entries.get(*first..end).unwrap_or(&[]),

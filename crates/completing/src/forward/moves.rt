@@ -1,12 +1,12 @@
-use crate::earlier::earlier;
 use crate::forward::kind::Kind;
 use crate::forward::known::Known;
 use crate::forward::standing::Document;
 use crate::forward::walk::{Placed, Walk};
 use crate::rules::link::{leaves_it, needs};
 use crate::rules::queue::is_left;
+use crate::timed::{Timed, earlier};
 use doc_register::Conflicts;
-use history::Rec;
+use events::Rec;
 use version_pair::Pair;
 
 /// What is tried next at a point of the search.
@@ -30,6 +30,13 @@ pub enum Turn {
     AskedRefused(usize),
     /// Nothing.
     Done,
+}
+
+// A record that is tried at a turn, and where the next turn of the kind begins.
+#[derive(Clone, Copy)]
+struct Tried {
+    rec: usize,
+    next: usize,
 }
 
 // The number of conflicts of a kind that are examined.
@@ -67,10 +74,13 @@ fn fitting(walk: &Walk, rec: usize) -> Option<usize> {
 
 // The first of the writes of the number, called there or later, that may have the next known pair; and the
 // turn after it.
-fn first_of_number(walk: &Walk, number: u64, from: usize) -> Option<(usize, usize)> {
-    for (call_at, rec) in walk.numbers.waiting(number, from).iter().take(MOST_WAITING) {
-        if fitting(walk, *rec).is_some() {
-            return Some((*rec, call_at.saturating_add(1)));
+fn first_of_number(walk: &Walk, number: u64, from: usize) -> Option<Tried> {
+    for entry in walk.numbers.waiting(number, from).iter().take(MOST_WAITING) {
+        if fitting(walk, entry.rec).is_some() {
+            return Some(Tried {
+                rec: entry.rec,
+                next: entry.at.saturating_add(1),
+            });
         }
     }
     None
@@ -130,16 +140,19 @@ fn lost_index(walk: &mut Walk) -> Option<usize> {
 }
 
 // The first, in response order, of the conflicts of a kind that may be placed, with a reply there or later.
-fn first_conflict(walk: &Walk, kind: Kind, from: usize, deletes: bool) -> Option<(usize, usize)> {
-    let mut first: Option<(usize, usize)> = None;
-    for (_, rec) in walk.lines.waiting(kind).iter().take(MOST_WAITING) {
-        if let Some(reply_at) = performable(walk, *rec, from, deletes) {
+fn first_conflict(walk: &Walk, kind: Kind, from: usize, deletes: bool) -> Option<Timed> {
+    let mut first: Option<Timed> = None;
+    for waiting in walk.lines.waiting(kind).iter().take(MOST_WAITING) {
+        if let Some(reply_at) = performable(walk, waiting.rec, from, deletes) {
             let is_first = match first {
-                Some(entry) => reply_at < entry.0,
+                Some(entry) => reply_at < entry.at,
                 None => true,
             };
             if is_first {
-                first = Some((reply_at, *rec));
+                first = Some(Timed {
+                    at: reply_at,
+                    rec: waiting.rec,
+                });
             }
         }
     }
@@ -159,7 +172,7 @@ fn performable(walk: &Walk, rec: usize, from: usize, deletes: bool) -> Option<us
 }
 
 // The first, in response order, of the conflicts that would be performed, with a reply there or later.
-fn conflict(walk: &mut Walk, from: usize, deletes: bool) -> Option<(usize, usize)> {
+fn conflict(walk: &mut Walk, from: usize, deletes: bool) -> Option<Timed> {
     if walk.conflicts == Conflicts::Plain {
         return None;
     }
@@ -176,24 +189,30 @@ fn conflict(walk: &mut Walk, from: usize, deletes: bool) -> Option<(usize, usize
 
 // The writes that can have the next known pair, if only a condition names it: one unanswered write, then the
 // conflicts.
-fn write_of_any_number(walk: &mut Walk, from: usize) -> Option<(usize, usize)> {
+fn write_of_any_number(walk: &mut Walk, from: usize) -> Option<Tried> {
     if from == 0 {
         if let Some(rec) = lost_index(walk) {
-            return Some((rec, 1));
+            return Some(Tried { rec, next: 1 });
         }
     }
-    let (reply_at, rec) = conflict(walk, from, false)?;
-    Some((rec, reply_at.saturating_add(1)))
+    let refused = conflict(walk, from, false)?;
+    Some(Tried {
+        rec: refused.rec,
+        next: refused.at.saturating_add(1),
+    })
 }
 
 // The next write that can have the next known pair, from a turn on, and the turn after it.
-fn next_known(walk: &mut Walk, from: usize) -> Option<(usize, usize)> {
+fn next_known(walk: &mut Walk, from: usize) -> Option<Tried> {
     if !walk.standing.has_inserted() {
         return None;
     }
     let entry = walk.known.get(walk.standing.passed)?;
     match (entry.writer, entry.number) {
-        (Some(rec), _) if from == 0 => Some((fitting(walk, rec)?, 1)),
+        (Some(rec), _) if from == 0 => Some(Tried {
+            rec: fitting(walk, rec)?,
+            next: 1,
+        }),
         (Some(_), _) => None,
         (None, Some(number)) => {
             walk.numbers.pass(number, &walk.placed);
@@ -213,14 +232,17 @@ fn next_writer(walk: &Walk) -> Option<Rec> {
     walk.record(rec)
 }
 
-// The last one that was placed of the conflicts that may be writes after all, if that many of the last placed
-// records are left out; and how many to leave out then.
-fn last_turned(walk: &Walk, from: usize) -> Option<(usize, usize)> {
+// The last conflict that was placed as refused and can be a write here, without the last `from` placed
+// records; and how many to leave out next.
+fn last_turned(walk: &Walk, from: usize) -> Option<Tried> {
     for back in from..MOST_WAITING {
         let next = back.saturating_add(1);
         let at = walk.order.len().checked_sub(next)?;
         match walk.order.get(at) {
-            Some(Placed::Read(rec)) if walk.may_turn(*rec) => return Some((*rec, next)),
+            Some(Placed::Read(rec)) if walk.may_turn(*rec) => return Some(Tried {
+                rec: *rec,
+                next,
+            }),
             _ => {}
         }
     }
@@ -283,9 +305,9 @@ fn next_may_create(walk: &mut Walk) -> bool {
 
 // Whether a create of the number may be placed.
 fn has_create(walk: &Walk, number: u64) -> bool {
-    for (_, rec) in walk.numbers.waiting(number, 0).iter().take(MOST_WAITING) {
-        if let Some(found) = walk.record(*rec) {
-            if needs(found) == Some(false) && walk.may_be_placed(*rec) {
+    for waiting in walk.numbers.waiting(number, 0).iter().take(MOST_WAITING) {
+        if let Some(found) = walk.record(waiting.rec) {
+            if needs(found) == Some(false) && walk.may_be_placed(waiting.rec) {
                 return true;
             }
         }
@@ -318,7 +340,7 @@ fn write_to_insert(walk: &mut Walk, delete: bool) -> Option<usize> {
 }
 
 // A conflict that was placed as refused, to be performed here, and how many to leave out then.
-fn turn_back(walk: &mut Walk, from: usize) -> Option<(usize, usize)> {
+fn turn_back(walk: &mut Walk, from: usize) -> Option<Tried> {
     let is_live = walk.standing.document.is_live();
     if walk.conflicts == Conflicts::Maybe && may_insert(walk) && serves(walk, is_live) {
         last_turned(walk, from)
@@ -334,8 +356,9 @@ fn has_refused_delete(walk: &Walk, at: usize) -> bool {
         return false;
     }
     let conflicts = walk.lines.all(Kind::ConflictOnNamed(at));
-    for (_, rec) in conflicts.iter().take(MOST_WAITING) {
-        if walk.is_delete(*rec) && (is_left(&walk.placed, *rec) || walk.can_stand(*rec)) {
+    for waiting in conflicts.iter().take(MOST_WAITING) {
+        let rec = waiting.rec;
+        if walk.is_delete(rec) && (is_left(&walk.placed, rec) || walk.can_stand(rec)) {
             return true;
         }
     }
@@ -374,7 +397,7 @@ fn pair_for_delete(walk: &mut Walk, from: usize) -> Option<(Pair, usize)> {
 fn asked(walk: &mut Walk, from: usize, is_refused: bool) -> Option<(Placed, usize)> {
     let (pair, next) = pair_for_delete(walk, from)?;
     let rec = if is_refused {
-        conflict(walk, 0, false)?.1
+        conflict(walk, 0, false)?.rec
     } else {
         lost_index(walk)?
     };
@@ -390,23 +413,26 @@ fn inserted(rec: Option<usize>) -> Option<Placed> {
 fn write_at_turn(walk: &mut Walk, turn: Turn) -> (Option<Placed>, Turn) {
     match turn {
         Turn::Next(from) => match next_known(walk, from) {
-            Some((rec, next)) => (
-                Some(Placed::Known(rec, walk.standing.passed)),
-                Turn::Next(next),
+            Some(tried) => (
+                Some(Placed::Known(tried.rec, walk.standing.passed)),
+                Turn::Next(tried.next),
             ),
             None => (None, Turn::Delete),
         },
         Turn::Delete => (inserted(write_to_insert(walk, true)), Turn::Index),
         Turn::Index => (inserted(write_to_insert(walk, false)), Turn::Conflict(0)),
         Turn::Conflict(from) => match conflict(walk, from, true) {
-            Some((reply_at, rec)) if may_insert(walk) => (
-                Some(Placed::Inserted(rec, None)),
-                Turn::Conflict(reply_at.saturating_add(1)),
+            Some(refused) if may_insert(walk) => (
+                Some(Placed::Inserted(refused.rec, None)),
+                Turn::Conflict(refused.at.saturating_add(1)),
             ),
             _ => (None, Turn::Turned(0)),
         },
         Turn::Turned(from) => match turn_back(walk, from) {
-            Some((rec, next)) => (Some(Placed::Turned(rec, None)), Turn::Turned(next)),
+            Some(tried) => (
+                Some(Placed::Turned(tried.rec, None)),
+                Turn::Turned(tried.next),
+            ),
             None => (None, Turn::Asked(0)),
         },
         Turn::Asked(from) => match asked(walk, from, false) {

@@ -1,7 +1,8 @@
 use crate::rules::by_number::number_of;
 use crate::rules::queue::Queue;
+use crate::timed::Timed;
 use doc_register::Conflicts;
-use history::Rec;
+use events::Rec;
 use std::alloc::Global;
 use version_pair::NoMemory;
 
@@ -19,11 +20,17 @@ fn writes_by_number(
     alloc: Global,
     records: &[Rec],
     conflicts: Conflicts,
-) -> Result<Vec<(u64, usize, usize)>, NoMemory> {
+) -> Result<Vec<(u64, Timed)>, NoMemory> {
     let mut writes = Vec::new(alloc);
     for rec in 0..records.len() {
         if let Some(k) = number_of(records[rec], conflicts) {
-            writes.push((k, records[rec].call_at, rec))?;
+            writes.push((
+                k,
+                Timed {
+                    at: records[rec].call_at,
+                    rec,
+                },
+            ))?;
         }
     }
     writes.sort_unstable();
@@ -37,20 +44,20 @@ impl Numbers {
             numbers: Vec::new(alloc),
             lines: Vec::new(alloc),
         };
-        for (k, call_at, rec) in &writes_by_number(alloc, records, conflicts)? {
-            numbers.add(alloc, *k, *call_at, *rec)?;
+        for (k, write) in &writes_by_number(alloc, records, conflicts)? {
+            numbers.add(alloc, *k, *write)?;
         }
         Ok(numbers)
     }
 
     // Adds a write, after all of a lesser number or an earlier call.
-    fn add(&mut self, alloc: Global, k: u64, call_at: usize, rec: usize) -> Result<(), NoMemory> {
+    fn add(&mut self, alloc: Global, k: u64, write: Timed) -> Result<(), NoMemory> {
         if self.numbers.last() != Some(&k) {
             self.numbers.push(k)?;
             self.lines.push(Queue::new(alloc))?;
         }
         match self.lines.last_mut() {
-            Some(line) => line.push(call_at, rec),
+            Some(line) => line.push(write.at, write.rec),
             None => Ok(()),
         }
     }
@@ -68,7 +75,7 @@ impl Numbers {
     /// Returns the write of the number, if it is the only one.
     pub fn only(&self, k: u64) -> Option<usize> {
         match self.lines.get(self.place(k)?)?.all() {
-            [(_, rec)] => Some(*rec),
+            [entry] => Some(entry.rec),
             _ => None,
         }
     }
@@ -91,8 +98,9 @@ impl Numbers {
         }
     }
 
-    /// Returns the writes of the number that may be left and are called there or later.
-    pub fn waiting(&self, k: u64, from: usize) -> &[(usize, usize)] {
+    /// Returns the writes of the number that are called there or later, without some of those that were
+    /// placed.
+    pub fn waiting(&self, k: u64, from: usize) -> &[Timed] {
         match self.place(k) {
             Some(at) => match self.lines.get(at) {
                 Some(line) => line.rest(from),

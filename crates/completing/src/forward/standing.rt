@@ -112,7 +112,7 @@ impl Standing {
         self.inserted >= least_under(self.budget)
     }
 
-    /// Returns how many more writes must be inserted before the next known pair, after the next one.
+    /// Returns how many more writes must be inserted before the next known pair after one more is inserted.
     pub fn behind(self) -> u64 {
         least_under(self.budget)
             .saturating_sub(self.inserted)

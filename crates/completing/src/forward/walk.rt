@@ -9,8 +9,9 @@ use crate::limit::Limit;
 use crate::rules::by_number::number_of;
 use crate::rules::link::leaves_it;
 use crate::rules::queue::is_left;
+use crate::timed::Timed;
 use doc_register::{Conflicts, Op};
-use history::Rec;
+use events::Rec;
 use std::alloc::Global;
 use version_pair::{NoMemory, Pair};
 use write_chain::sort_nearly_ordered;
@@ -54,9 +55,9 @@ pub struct Walk<'a> {
     /// The pairs that no document of the shard is known to use.
     pub free: Free<'a>,
     // The answered records in response order.
-    replies: Vec<(usize, usize)>,
+    replies: Vec<Timed>,
     // The conflicts on pairs in the order of their calls.
-    conflicts_by_call: Vec<(usize, usize)>,
+    conflicts_by_call: Vec<Timed>,
     pub placed: Vec<bool>,
     // The conflicts that were placed as refused and are writes after all.
     turned: Vec<bool>,
@@ -67,11 +68,11 @@ pub struct Walk<'a> {
 }
 
 // The answered records in response order.
-fn by_reply(alloc: Global, records: &[Rec]) -> Result<Vec<(usize, usize)>, NoMemory> {
+fn by_reply(alloc: Global, records: &[Rec]) -> Result<Vec<Timed>, NoMemory> {
     let mut replies = Vec::with_capacity(alloc, records.len())?;
     for rec in 0..records.len() {
         if let Some(heard) = records[rec].heard {
-            replies.push((heard.0, rec))?;
+            replies.push(Timed { at: heard.0, rec })?;
         }
     }
     sort_nearly_ordered(&mut replies);
@@ -83,12 +84,15 @@ fn conflicts_by_call(
     alloc: Global,
     records: &[Rec],
     kinds: &[Option<Kind>],
-) -> Result<Vec<(usize, usize)>, NoMemory> {
+) -> Result<Vec<Timed>, NoMemory> {
     let mut conflicts = Vec::new(alloc);
     for rec in 0..records.len() {
         match kinds.get(rec) {
             Some(Some(kind)) if kind.is_conflict_on_pair() => {
-                conflicts.push((records[rec].call_at, rec))?;
+                conflicts.push(Timed {
+                    at: records[rec].call_at,
+                    rec,
+                })?;
             }
             _ => {}
         }
@@ -146,10 +150,14 @@ impl Walk<'_> {
     /// Returns the index of the first reply of the answered records that are left: what is placed must be
     /// called before it.
     pub fn limit(&self) -> usize {
-        match self.replies.get(self.standing.replies) {
-            Some(entry) => entry.0,
-            None => usize::MAX,
-        }
+        self.next_reply().unwrap_or(usize::MAX)
+    }
+
+    /// Returns the index of the first reply of the answered records that are left, if any is left.
+    pub fn next_reply(&self) -> Option<usize> {
+        self.replies
+            .get(self.standing.replies)
+            .map(|entry| entry.at)
     }
 
     /// Returns whether all answered records are placed.
@@ -192,7 +200,7 @@ impl Walk<'_> {
     fn pass_replies(&mut self) {
         for i in self.standing.replies..self.replies.len() {
             match self.replies.get(i) {
-                Some((_, rec)) if !is_left(&self.placed, *rec) => {
+                Some(entry) if !is_left(&self.placed, entry.rec) => {
                     self.standing.replies = i.saturating_add(1);
                 }
                 _ => return,
@@ -260,10 +268,10 @@ impl Walk<'_> {
         let limit = self.limit();
         for i in self.standing.conflicts_met..self.conflicts_by_call.len() {
             match self.conflicts_by_call.get(i).copied() {
-                Some((call_at, rec)) if call_at < limit => {
+                Some(entry) if entry.at < limit => {
                     self.standing.conflicts_met = i.saturating_add(1);
-                    if is_left(&self.placed, rec) && !self.is_on_present(rec) {
-                        self.place(Placed::Read(rec))?;
+                    if is_left(&self.placed, entry.rec) && !self.is_on_present(entry.rec) {
+                        self.place(Placed::Read(entry.rec))?;
                     }
                 }
                 _ => return Ok(()),

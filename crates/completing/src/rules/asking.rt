@@ -4,7 +4,7 @@ use crate::rules::performing::perform;
 use crate::rules::plan::{Plan, Side};
 use crate::rules::stand::Stand;
 use doc_register::{Conflicts, Op};
-use history::Rec;
+use events::Rec;
 use version_pair::NoMemory;
 
 // Inserts a write after the stretch for a call that finds no stretch: for a missing, a delete; for a create's

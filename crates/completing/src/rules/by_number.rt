@@ -1,16 +1,25 @@
 use crate::rules::link::is_conflict;
 use crate::rules::queue::is_left;
 use doc_register::Conflicts;
-use history::Rec;
+use events::Rec;
 use std::alloc::Global;
 use version_pair::NoMemory;
+
+// A write with its number. Those of one number are in the order of calls, those whose reply is a conflict
+// last.
+#[derive(Clone, Copy, PartialEq, Eq, PartialOrd, Ord)]
+struct Numbered {
+    number: u64,
+    is_conflict: bool,
+    call_at: usize,
+    rec: usize,
+}
 
 /// The writes that can have been shown with a number: the unanswered ones in the order of calls, and under
 /// Maybe after them those whose reply is a conflict.
 #[derive(Drop)]
 pub struct ByNumber {
-    // The number, whether the reply is a conflict, the index of the call, the record.
-    entries: Vec<(u64, bool, usize, usize)>,
+    entries: Vec<Numbered>,
     // At the first entry of a number: the entry before which none of the number is left.
     left: Vec<usize>,
 }
@@ -22,22 +31,27 @@ pub fn number_of(found: Rec, conflicts: Conflicts) -> Option<u64> {
 }
 
 impl ByNumber {
-    /// Returns those of the unsettled writes of a document, by number.
+    /// Returns those among the incomplete writes of a document that can have been shown, by number.
     pub fn of(
         alloc: Global,
         records: &[Rec],
-        unsettled: &[usize],
+        incomplete: &[usize],
         conflicts: Conflicts,
     ) -> Result<ByNumber, NoMemory> {
         let mut entries = Vec::new(alloc);
         let mut left = Vec::new(alloc);
-        for rec in unsettled {
+        for rec in incomplete {
             let Some(found) = records.get(*rec) else {
                 continue;
             };
             if let Some(k) = number_of(*found, conflicts) {
                 left.push(entries.len())?;
-                entries.push((k, found.heard.is_some(), found.call_at, *rec))?;
+                entries.push(Numbered {
+                    number: k,
+                    is_conflict: found.heard.is_some(),
+                    call_at: found.call_at,
+                    rec: *rec,
+                })?;
             }
         }
         entries.sort_unstable();
@@ -46,17 +60,17 @@ impl ByNumber {
 
     /// Returns the first write of the number that is left.
     pub fn first(&mut self, k: u64, taken: &[bool]) -> Option<usize> {
-        let start = self.entries.partition_point(|entry| entry.0 < k);
+        let start = self.entries.partition_point(|entry| entry.number < k);
         for i in *self.left.get(start)?..self.entries.len() {
-            let (number, _, _, rec) = *self.entries.get(i)?;
-            if number != k {
+            let entry = *self.entries.get(i)?;
+            if entry.number != k {
                 return None;
             }
             if let Some(place) = self.left.get_mut(start) {
                 *place = i;
             }
-            if is_left(taken, rec) {
-                return Some(rec);
+            if is_left(taken, entry.rec) {
+                return Some(entry.rec);
             }
         }
         None

@@ -1,7 +1,7 @@
 use crate::rules::lost::Lost;
 use crate::rules::plan::{Plan, Side};
 use crate::rules::refused::Refused;
-use history::Rec;
+use events::Rec;
 use version_pair::NoMemory;
 
 /// Fits the flag of the write at the end of a stretch. If it asks for the document, or for its absence, and

@@ -1,5 +1,5 @@
 use doc_register::{Op, Reply};
-use history::Rec;
+use events::Rec;
 use version_pair::Pair;
 
 /// A write of the chain as the rules see it.

@@ -1,8 +1,8 @@
-use crate::earlier::earlier;
+use crate::rules::incomplete::incomplete_writes;
 use crate::rules::queue::{Queue, is_left};
-use crate::rules::unsettled::unsettled_writes;
+use crate::timed::{Timed, earlier};
 use doc_register::Op;
-use history::Rec;
+use events::Rec;
 use std::alloc::Global;
 use version_pair::{NoMemory, Pair};
 
@@ -10,7 +10,7 @@ use version_pair::{NoMemory, Pair};
 #[derive(Drop)]
 pub struct Lost {
     // The writes of which no reply says that they were performed.
-    unsettled: Vec<usize>,
+    incomplete: Vec<usize>,
     // Whether the record is in the chain.
     taken: Vec<bool>,
     // Those without a condition.
@@ -18,7 +18,7 @@ pub struct Lost {
     indexes: Queue,
     creates: Queue,
     // Those with a condition, by its pair.
-    swaps: Vec<(Pair, usize, usize)>,
+    swaps: Vec<(Pair, Timed)>,
 }
 
 /// What an insertion needs.
@@ -51,21 +51,21 @@ impl Lost {
     /// Returns the unanswered writes of a document.
     pub fn of(alloc: Global, records: &[Rec]) -> Result<Lost, NoMemory> {
         let mut lost = Lost {
-            unsettled: Vec::new(alloc),
+            incomplete: Vec::new(alloc),
             taken: vec![in alloc; false; records.len()]?,
             deletes: Queue::new(alloc),
             indexes: Queue::new(alloc),
             creates: Queue::new(alloc),
             swaps: Vec::new(alloc),
         };
-        let unsettled = unsettled_writes(alloc, records)?;
-        for rec in &unsettled {
+        let incomplete = incomplete_writes(alloc, records)?;
+        for rec in &incomplete {
             match records.get(*rec) {
                 Some(found) if found.heard.is_none() => lost.note(*rec, *found)?,
                 _ => {}
             }
         }
-        lost.unsettled = unsettled;
+        lost.incomplete = incomplete;
         lost.deletes.sort();
         lost.indexes.sort();
         lost.creates.sort();
@@ -86,15 +86,15 @@ impl Lost {
                 ..
             }
             | Op::Delete { cond: Some(pair) } => {
-                self.swaps.push((pair, call_at, rec))?;
+                self.swaps.push((pair, Timed { at: call_at, rec }))?;
                 Ok(())
             }
         }
     }
 
     /// Returns the writes of which no reply says that they were performed, in their order.
-    pub fn unsettled(&self) -> &[usize] {
-        &self.unsettled
+    pub fn incomplete(&self) -> &[usize] {
+        &self.incomplete
     }
 
     /// Takes the record into the chain.
@@ -125,22 +125,22 @@ impl Lost {
             first = earlier(first, self.swap(records, pair, ask));
         }
         match first {
-            Some((call_at, rec)) if call_at < ask.limit => Some(rec),
+            Some(entry) if entry.at < ask.limit => Some(entry.rec),
             _ => None,
         }
     }
 
     // The first, by call, of the writes under the condition of the pair.
-    fn swap(&self, records: &[Rec], pair: Pair, ask: Ask) -> Option<(usize, usize)> {
+    fn swap(&self, records: &[Rec], pair: Pair, ask: Ask) -> Option<Timed> {
         let start = self.swaps.partition_point(|entry| entry.0 < pair);
         for i in start..self.swaps.len() {
-            let (own, call_at, rec) = self.swaps[i];
+            let (own, entry) = self.swaps[i];
             if own != pair {
                 return None;
             }
-            let found = records.get(rec)?;
-            if is_left(&self.taken, rec) && ask.is_for(found.op) {
-                return Some((call_at, rec));
+            let found = records.get(entry.rec)?;
+            if is_left(&self.taken, entry.rec) && ask.is_for(found.op) {
+                return Some(entry);
             }
         }
         None

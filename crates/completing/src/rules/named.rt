@@ -4,7 +4,7 @@ use crate::rules::link::Link;
 use crate::rules::lost::Lost;
 use crate::rules::queue::Queue;
 use doc_register::{Conflicts, Op, Reply};
-use history::Rec;
+use events::Rec;
 use std::alloc::Global;
 use std::collections::BTreeSet;
 use version_pair::{NoMemory, Pair};
@@ -34,10 +34,10 @@ fn unwritten(
 fn unanswered_indexes(
     alloc: Global,
     records: &[Rec],
-    unsettled: &[usize],
+    incomplete: &[usize],
 ) -> Result<Queue, NoMemory> {
     let mut indexes = Queue::new(alloc);
-    for rec in unsettled {
+    for rec in incomplete {
         match records.get(*rec) {
             Some(found) if found.heard.is_none() && matches!(found.op, Op::Index { .. }) => {
                 indexes.push(found.call_at, *rec)?;
@@ -120,7 +120,7 @@ impl Naming<'_> {
         lost: &mut Lost,
         conflicts: Conflicts,
     ) -> Result<bool, NoMemory> {
-        let mut writes = ByNumber::of(alloc, records, lost.unsettled(), conflicts)?;
+        let mut writes = ByNumber::of(alloc, records, lost.incomplete(), conflicts)?;
         for (pair, k) in &unwritten(alloc, records, self.chain)? {
             if !self.given.contains(pair) {
                 match writes.first(*k, lost.taken()) {
@@ -140,7 +140,7 @@ impl Naming<'_> {
         records: &[Rec],
         lost: &mut Lost,
     ) -> Result<bool, NoMemory> {
-        let mut indexes = unanswered_indexes(alloc, records, lost.unsettled())?;
+        let mut indexes = unanswered_indexes(alloc, records, lost.incomplete())?;
         // Each write asks for at most one pair.
         for _ in 0..records.len() {
             let Some(pair) = self.asked.pop_first() else {
@@ -148,7 +148,7 @@ impl Naming<'_> {
             };
             if !self.has(pair, 0) {
                 match indexes.first(lost.taken()) {
-                    Some((_, rec)) => self.give(records, lost, pair, rec)?,
+                    Some(entry) => self.give(records, lost, pair, entry.rec)?,
                     None => return Ok(false),
                 }
             }

@@ -1,15 +1,21 @@
 use crate::rules::link::Link;
-use history::{Rec, Seen};
+use events::{Rec, Seen};
+use places::Place;
 use std::alloc::Global;
 use version_pair::{NoMemory, Pair};
-use witness::Place;
 use write_chain::sort_nearly_ordered;
 
-// How far apart the numbers of two places are, so that calls fit between.
+// How far apart the numbers of two places are. Each index of a call is below it, so that a place and a call
+// determine a number.
 const STEP: u64 = 1_048_576;
 
-// The sort key of a record outside the chain: its stretch, the index of its reply, its number.
-type Standing = (usize, usize, usize);
+// An answered record outside the chain. They are in the order by stretch, then in response order.
+#[derive(Clone, Copy, PartialEq, Eq, PartialOrd, Ord)]
+struct Outside {
+    stretch: usize,
+    reply_at: usize,
+    rec: usize,
+}
 
 // The pair of an invented write with no greater pair after it.
 fn last_pair(seen: Seen, place: usize, call_at: usize) -> Option<Pair> {
@@ -51,17 +57,21 @@ fn reads_in_order(
     alloc: Global,
     records: &[Rec],
     stretches: &[Option<usize>],
-) -> Result<Vec<Standing>, NoMemory> {
-    let mut standings = Vec::with_capacity(alloc, records.len())?;
+) -> Result<Vec<Outside>, NoMemory> {
+    let mut reads = Vec::with_capacity(alloc, records.len())?;
     for rec in 0..records.len() {
         if let Some(Some(stretch)) = stretches.get(rec) {
             if let Some(heard) = records[rec].heard {
-                standings.push((*stretch, heard.0, rec))?;
+                reads.push(Outside {
+                    stretch: *stretch,
+                    reply_at: heard.0,
+                    rec,
+                })?;
             }
         }
     }
-    sort_nearly_ordered(&mut standings);
-    Ok(standings)
+    sort_nearly_ordered(&mut reads);
+    Ok(reads)
 }
 
 // The pairs of the writes of the chain, which are assigned from the first to the last.
@@ -110,8 +120,9 @@ impl Numbering {
     }
 }
 
-// The place of the next write of the chain, which is this record, in the order; `None` if no number is left
-// for it.
+// The place of the next write of the chain, which is this record, in the order, whose index is `place`. The
+// numbering goes on to the next write. `None` if its pair would be between two pairs of one term, or out of
+// range.
 fn place_of_write(
     numbering: &mut Numbering,
     records: &[Rec],
@@ -132,12 +143,12 @@ fn place_of_write(
 // Adds the places of the reads, from one of them on, up to a stretch; and which one is next.
 fn push_reads(
     places: &mut Vec<Place>,
-    reads: &[Standing],
+    reads: &[Outside],
     next: usize,
     last: usize,
 ) -> Result<usize, NoMemory> {
     for i in next..reads.len() {
-        let (stretch, _, rec) = reads[i];
+        let Outside { stretch, rec, .. } = reads[i];
         if stretch > last {
             return Ok(i);
         }

@@ -3,7 +3,7 @@ use crate::rules::lost::Lost;
 use crate::rules::plan::{Plan, Side};
 use crate::rules::refused::Refused;
 use crate::rules::stand::Stand;
-use history::Rec;
+use events::Rec;
 use version_pair::NoMemory;
 
 /// Makes a conflict a write: with a condition directly after the write of its pair, a create directly before
@@ -41,11 +41,11 @@ pub fn perform_refused(
     refused: &mut Refused,
 ) -> Result<bool, NoMemory> {
     for i in 0..refused.len() {
-        let Some((reply_at, rec)) = refused.left(i, lost.taken()) else {
+        let Some(entry) = refused.left(i, lost.taken()) else {
             continue;
         };
-        let stretch = plan.stretch_at(reply_at);
-        let has_place = plan.insert(records, lost, stretch, Side::Before, rec)?;
+        let stretch = plan.stretch_at(entry.at);
+        let has_place = plan.insert(records, lost, stretch, Side::Before, entry.rec)?;
         if !has_place || !fit_flag(records, plan, lost, refused, stretch)? {
             return Ok(false);
         }

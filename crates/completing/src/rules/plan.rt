@@ -1,7 +1,7 @@
 use crate::rules::link::{Link, leaves_it, needs};
 use crate::rules::lost::{Ask, Lost};
 use crate::rules::open::open_stretches;
-use history::Rec;
+use events::Rec;
 use std::alloc::Global;
 use version_pair::{NoMemory, Pair};
 
@@ -23,17 +23,27 @@ pub struct Plan {
     inserted: Vec<Option<usize>>,
     // The greatest call of what is inserted.
     inserted_call: usize,
-    // All that is inserted: the stretch, where in it, the turn, the record.
-    news: Vec<(usize, usize, usize, usize)>,
+    // All that is inserted.
+    news: Vec<Insertion>,
 }
 
 /// Where an insertion is in its stretch.
-#[derive(Clone, Copy)]
+#[derive(Clone, Copy, PartialEq, Eq, PartialOrd, Ord)]
 pub enum Side {
     /// Directly after the stretch's write.
     After,
     /// Directly before the next write.
     Before,
+}
+
+// A write that is inserted. They go into the chain by stretch, by side, and in the order in which they were
+// inserted.
+#[derive(Clone, Copy, PartialEq, Eq, PartialOrd, Ord)]
+struct Insertion {
+    stretch: usize,
+    side: Side,
+    turn: usize,
+    rec: usize,
 }
 
 impl Plan {
@@ -100,8 +110,12 @@ impl Plan {
         if self.open.get(stretch) != Some(&true) {
             return Ok(false);
         }
-        self.news
-            .push((stretch, side as usize, self.news.len(), rec))?;
+        self.news.push(Insertion {
+            stretch,
+            side,
+            turn: self.news.len(),
+            rec,
+        })?;
         if let Some(place) = self.inserted.get_mut(stretch) {
             *place = Some(rec);
         }
@@ -195,7 +209,7 @@ impl Plan {
         let mut next = 0;
         for link in 0..self.links.len() {
             for i in next..self.news.len() {
-                let (stretch, _, _, rec) = self.news[i];
+                let Insertion { stretch, rec, .. } = self.news[i];
                 if stretch > link {
                     break;
                 }
@@ -205,8 +219,10 @@ impl Plan {
             merged.push(self.links[link])?;
         }
         for i in next..self.news.len() {
-            let (_, _, _, rec) = self.news[i];
-            merged.push(Link { pair: None, rec })?;
+            merged.push(Link {
+                pair: None,
+                rec: self.news[i].rec,
+            })?;
         }
         Ok(merged)
     }

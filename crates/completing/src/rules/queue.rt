@@ -1,10 +1,11 @@
+use crate::timed::Timed;
 use std::alloc::Global;
 use version_pair::NoMemory;
 
 /// Records, each with an index, and the first one that is left.
 #[derive(Drop)]
 pub struct Queue {
-    entries: Vec<(usize, usize)>,
+    entries: Vec<Timed>,
     // The entry before which none is left.
     first: usize,
 }
@@ -24,8 +25,8 @@ impl Queue {
     }
 
     /// Adds a record. The queue must be sorted before the first record is asked for.
-    pub fn push(&mut self, place: usize, rec: usize) -> Result<(), NoMemory> {
-        self.entries.push((place, rec))?;
+    pub fn push(&mut self, at: usize, rec: usize) -> Result<(), NoMemory> {
+        self.entries.push(Timed { at, rec })?;
         Ok(())
     }
 
@@ -35,29 +36,31 @@ impl Queue {
     }
 
     /// Puts a record back that was taken.
-    pub fn put_back(&mut self, place: usize, rec: usize) {
-        let at = self.entries.partition_point(|entry| *entry < (place, rec));
-        self.first = self.first.min(at);
+    pub fn put_back(&mut self, at: usize, rec: usize) {
+        let own = Timed { at, rec };
+        let first = self.entries.partition_point(|entry| *entry < own);
+        self.first = self.first.min(first);
     }
 
-    /// Returns the indices and records, from an index on, that may be left.
-    pub fn rest(&self, from: usize) -> &[(usize, usize)] {
-        let at = self.entries.partition_point(|entry| entry.0 < from);
+    /// Returns the records whose event is at an index or later, without some of those that were taken. The
+    /// queue must be sorted.
+    pub fn rest(&self, from: usize) -> &[Timed] {
+        let at = self.entries.partition_point(|entry| entry.at < from);
         self.entries.get(at.max(self.first)..).unwrap_or(&[])
     }
 
-    /// Returns all indices and records.
-    pub fn all(&self) -> &[(usize, usize)] {
+    /// Returns all records.
+    pub fn all(&self) -> &[Timed] {
         &self.entries
     }
 
-    /// Returns the index and the record of the first one that is left.
-    pub fn first(&mut self, taken: &[bool]) -> Option<(usize, usize)> {
+    /// Returns the first one that is left.
+    pub fn first(&mut self, taken: &[bool]) -> Option<Timed> {
         for i in self.first..self.entries.len() {
-            let (place, rec) = *self.entries.get(i)?;
+            let entry = *self.entries.get(i)?;
             self.first = i;
-            if is_left(taken, rec) {
-                return Some((place, rec));
+            if is_left(taken, entry.rec) {
+                return Some(entry);
             }
         }
         self.first = self.entries.len();

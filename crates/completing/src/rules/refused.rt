@@ -1,8 +1,9 @@
 use crate::rules::link::is_free_conflict;
 use crate::rules::lost::{Ask, Lost};
 use crate::rules::queue::is_left;
+use crate::timed::Timed;
 use doc_register::Op;
-use history::Rec;
+use events::Rec;
 use std::alloc::Global;
 use version_pair::NoMemory;
 use write_chain::sort_nearly_ordered;
@@ -11,8 +12,8 @@ use write_chain::sort_nearly_ordered;
 /// taken along walks from the first write of the chain to the last.
 #[derive(Drop)]
 pub struct Refused {
-    // The index of the reply, and the record.
-    entries: Vec<(usize, usize)>,
+    // With the indices of their replies.
+    entries: Vec<Timed>,
     // Before these entries no delete, and no index, is left that can be where the walk is.
     next_delete: usize,
     next_index: usize,
@@ -22,13 +23,16 @@ impl Refused {
     /// Returns the conflicts of a document that are left.
     pub fn of(alloc: Global, records: &[Rec], lost: &Lost) -> Result<Refused, NoMemory> {
         let mut entries = Vec::new(alloc);
-        for rec in lost.unsettled() {
+        for rec in lost.incomplete() {
             let Some(found) = records.get(*rec) else {
                 continue;
             };
             if let Some(heard) = found.heard {
                 if is_free_conflict(*found) && is_left(lost.taken(), *rec) {
-                    entries.push((heard.0, *rec))?;
+                    entries.push(Timed {
+                        at: heard.0,
+                        rec: *rec,
+                    })?;
                 }
             }
         }
@@ -56,11 +60,11 @@ impl Refused {
         self.entries.is_empty()
     }
 
-    /// Returns the index of the reply and the record of one of them, in response order, if it is still left.
-    pub fn left(&self, i: usize, taken: &[bool]) -> Option<(usize, usize)> {
-        let (reply_at, rec) = *self.entries.get(i)?;
-        if is_left(taken, rec) {
-            Some((reply_at, rec))
+    /// Returns one of them, in response order, with the index of its reply, if it is still left.
+    pub fn left(&self, i: usize, taken: &[bool]) -> Option<Timed> {
+        let entry = *self.entries.get(i)?;
+        if is_left(taken, entry.rec) {
+            Some(entry)
         } else {
             None
         }
@@ -77,10 +81,10 @@ impl Refused {
         latest_call: usize,
     ) -> usize {
         for i in from..self.entries.len() {
-            if let Some((reply_at, rec)) = self.left(i, taken) {
-                if let Some(found) = records.get(rec) {
+            if let Some(entry) = self.left(i, taken) {
+                if let Some(found) = records.get(entry.rec) {
                     let is_kind = matches!(found.op, Op::Delete { .. }) == is_delete;
-                    if is_kind && latest_call < reply_at {
+                    if is_kind && latest_call < entry.at {
                         return i;
                     }
                 }
@@ -105,7 +109,7 @@ impl Refused {
             self.next_index = self.next(records, taken, false, self.next_index, latest_call);
             self.next_index
         };
-        let (_, rec) = self.left(next, taken)?;
+        let rec = self.left(next, taken)?.rec;
         if records.get(rec)?.call_at < ask.limit {
             Some(rec)
         } else {

@@ -7,7 +7,7 @@ use crate::rules::plan::Plan;
 use crate::rules::refused::Refused;
 use crate::rules::stand::Stand;
 use doc_register::Conflicts;
-use history::Rec;
+use events::Rec;
 use std::alloc::Global;
 use version_pair::NoMemory;
 

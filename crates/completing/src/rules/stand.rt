@@ -2,13 +2,20 @@ use crate::near::{entry_at, place_near};
 use crate::rules::link::Link;
 use crate::rules::plan::Plan;
 use doc_register::{Op, Reply};
-use history::Rec;
+use events::Rec;
 use std::alloc::Global;
 use version_pair::{NoMemory, Pair};
 use write_chain::sort_nearly_ordered;
 
 // The number of calls, of those that were met last, that are examined before all of them are searched.
 const NEAR: usize = 16;
+
+// A stretch that bounds others, with the index of the call or the reply from which on it does.
+#[derive(Clone, Copy, PartialEq, Eq, PartialOrd, Ord)]
+struct Bound {
+    at: usize,
+    stretch: usize,
+}
 
 /// The stretches of the records of a round.
 #[derive(Drop)]
@@ -24,10 +31,10 @@ pub struct Stand {
     present: Vec<Option<usize>>,
     // For each reply of a write of the chain or of a get that found a pair, from the first to the last, the
     // greatest stretch of those up to it; without those after the last call that was asked for.
-    floors: Vec<(usize, usize)>,
+    floors: Vec<Bound>,
     // For each call that was met and lowered it, from the last to the first, the greatest stretch for what
     // was answered before those up to it.
-    bounds: Vec<(usize, usize)>,
+    bounds: Vec<Bound>,
 }
 
 // For each stretch, the latest one up to it in which the document exists, or does not, as asked.
@@ -100,14 +107,17 @@ impl Stand {
                 self.give(rec, stretch);
             }
             if let Some(stretch) = stretch {
-                self.floors.push((heard.0, stretch))?;
+                self.floors.push(Bound {
+                    at: heard.0,
+                    stretch,
+                })?;
             }
         }
         sort_nearly_ordered(&mut self.floors);
         let mut floor = 0;
-        for (_, stretch) in &mut self.floors {
-            floor = floor.max(*stretch);
-            *stretch = floor;
+        for entry in &mut self.floors {
+            floor = floor.max(entry.stretch);
+            entry.stretch = floor;
         }
         Ok(())
     }
@@ -129,51 +139,55 @@ impl Stand {
         self.given.get(rec).copied().unwrap_or(None)
     }
 
-    // The least stretch for a call there, which must be asked for after all later ones: none is before a
-    // stretch that was answered before.
+    // The least stretch for a call there: the greatest one of what was answered before. Calls must be asked
+    // for from the last to the first.
     fn floor(&mut self, call_at: usize) -> usize {
         for _ in 0..self.floors.len() {
             match self.floors.last() {
-                Some(entry) if entry.0 < call_at => return entry.1,
+                Some(entry) if entry.at < call_at => return entry.stretch,
                 _ => self.floors.pop(),
             };
         }
         0
     }
 
-    // The greatest stretch for a reply there, if one of the last few calls that were met comes after it.
+    // The greatest stretch for a reply there, if one of the last few calls that were noted comes after it.
     fn near_bound(&self, reply_at: usize) -> Option<usize> {
         let met = self.bounds.len();
         for back in 0..met.min(NEAR) {
-            let (call_at, bound) = self.bounds[met - 1 - back];
-            if call_at > reply_at {
-                return Some(bound);
+            let bound = self.bounds[met - 1 - back];
+            if bound.at > reply_at {
+                return Some(bound.stretch);
             }
         }
         None
     }
 
-    /// Returns the greatest stretch for a reply there, of those up to the last one: none is after what was
-    /// called after it.
+    /// Returns the greatest stretch for a reply there, by the calls that were made after it; `last` if there
+    /// is none.
     pub fn bound(&self, reply_at: usize, last: usize) -> usize {
         if let Some(bound) = self.near_bound(reply_at) {
             return bound;
         }
-        let met = self.bounds.partition_point(|entry| entry.0 > reply_at);
+        let met = self.bounds.partition_point(|entry| entry.at > reply_at);
         match met.checked_sub(1) {
-            Some(latest) => self.bounds.get(latest).map_or(last, |entry| entry.1),
+            Some(latest) => self.bounds.get(latest).map_or(last, |entry| entry.stretch),
             None => last,
         }
     }
 
-    /// Meets a call, after all later ones, before which nothing is after the stretch.
+    /// Notes that what was answered before this call stands at the stretch or earlier. Calls must come from
+    /// the last to the first.
     pub fn meet(&mut self, call_at: usize, stretch: usize) -> Result<(), NoMemory> {
         let is_lower = match self.bounds.last() {
-            Some(entry) => stretch < entry.1,
+            Some(entry) => stretch < entry.stretch,
             None => true,
         };
         if is_lower {
-            self.bounds.push((call_at, stretch))?;
+            self.bounds.push(Bound {
+                at: call_at,
+                stretch,
+            })?;
         }
         Ok(())
     }

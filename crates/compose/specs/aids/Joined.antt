@@ -1,14 +1,14 @@
 -- What the witnesses of the documents of a history are together.
 use Rattle.std.specs.Prelude.{◌≡◌, Bool, false, true, List}
 use Rattle.doc_register.specs.declared.state.Conflicts.{Conflicts}
-use Rattle.history.specs.declared.event.Event.{Event}
-use Rattle.history.specs.Events.{documents_of}
-use Rattle.history.specs.Order.{IsLinearizable}
+use Rattle.events.specs.declared.event.Event.{Event}
+use Rattle.events.specs.Events.{documents_of}
+use Rattle.events.specs.Order.{IsLinearizable}
 use Rattle.compose.specs.Covers.{HasNoUnpairedCover}
 use Rattle.compose.specs.Verdicts.{AreWitnesses, HasNoOrderFound}
 use Rattle.compose.specs.aids.Searched.{AreSearched}
-use Rattle.compose.specs.declared.checking.Looked.{Looked}
-use Rattle.compose.specs.declared.checking.Looked.TheVariants.{Found as Explained, NotFound as Unexplained}
+use Rattle.compose.specs.declared.checking.SearchOutcome.{SearchOutcome}
+use Rattle.compose.specs.declared.checking.SearchOutcome.TheVariants.{Found as Explained, NotFound as Unexplained}
 use Rattle.compose.specs.declared.covering.Covering.{Covering}
 use Rattle.compose.specs.declared.covering.Covering.TheVariants.{Found, NotFound}
 use Rattle.compose.specs.declared.joined.Joined.{Joined}
@@ -29,6 +29,6 @@ IsCovered conflicts events first (Found ws) = AreWitnesses conflicts events ws.i
 IsCovered conflicts events first (NotFound place) = first ≡ true → HasNoUnpairedCover conflicts events
 
 -- What that says of the history: one order of all calls explains it; or no order was found.
-abbrev pub IsLookedFor : Conflicts → List Event → Looked → Type 0
-IsLookedFor conflicts events Explained = IsLinearizable conflicts events
-IsLookedFor conflicts events (Unexplained place) = HasNoOrderFound conflicts events
+abbrev pub IsSearchOutcome : Conflicts → List Event → SearchOutcome → Type 0
+IsSearchOutcome conflicts events Explained = IsLinearizable conflicts events
+IsSearchOutcome conflicts events (Unexplained place) = HasNoOrderFound conflicts events

@@ -1,12 +1,12 @@
 -- The replies of a history by their positions.
 use Rattle.std.specs.Prelude.{◌≡◌, ◌≤◌, ◌<◌, ◌+◌, ◌-◌, ◌++◌, ◌∷◌, [], ℕ, List, Some, slice_get}
 use Rattle.doc_register.specs.declared.reply.Reply.{Reply as Answer}
-use Rattle.history.specs.declared.event.Event.{Event}
-use Rattle.history.specs.declared.event.Event.TheVariants.{Call, Reply, Lost}
-use Rattle.history.specs.Events.{IsReplyAt, prefix}
-use Rattle.history.specs.Order.{IsPlainlyRight}
-use Rattle.compose.specs.declared.checking.Looked.{Looked}
-use Rattle.compose.specs.declared.checking.Looked.TheVariants.{Found, NotFound}
+use Rattle.events.specs.declared.event.Event.{Event}
+use Rattle.events.specs.declared.event.Event.TheVariants.{Call, Reply, Lost}
+use Rattle.events.specs.Events.{IsReplyAt, prefix}
+use Rattle.events.specs.Order.{IsLegalInResponseOrder}
+use Rattle.compose.specs.declared.checking.SearchOutcome.{SearchOutcome}
+use Rattle.compose.specs.declared.checking.SearchOutcome.TheVariants.{Found, NotFound}
 
 -- a reply is at the position
 abbrev pub IsReplyPlace : List Event → ℕ → Type 0
@@ -26,10 +26,10 @@ places_with (Lost n) p places = places
 
 -- the events up to and including the position are not legal in response order
 abbrev pub IsWrongAt : List Event → ℕ → Type 0
-IsWrongAt events p = ¬ IsPlainlyRight (prefix events (p + 1))
+IsWrongAt events p = ¬ IsLegalInResponseOrder (prefix events (p + 1))
 
 -- the same, unless orders were found for them
-abbrev pub IsWrongUnlessFound : List Event → ℕ → Looked → Type 0
+abbrev pub IsWrongUnlessFound : List Event → ℕ → SearchOutcome → Type 0
 IsWrongUnlessFound events p Found = Unit {0}
 IsWrongUnlessFound events p (NotFound place) = IsWrongAt events p
 
@@ -37,8 +37,8 @@ IsWrongUnlessFound events p (NotFound place) = IsWrongAt events p
 abbrev pub IsWrongFrom : List Event → List ℕ → ℕ → Type 0
 IsWrongFrom events places i = (p : ℕ) → slice_get places i ≡ Some p → IsWrongAt events p
 
--- fewer of the positions, from one index to another; the last of them is wrong if the last of the more
--- positions is
+-- A shorter range of indices, which ends at `high` or before. If the events up to the position at `high` are
+-- not legal in response order, neither are those up to its last position.
 pub record IsNarrower (events : List Event) (places : List ℕ) (low high : ℕ) (part : ℕ × ℕ) : Type 0 where
   pub order : part.0 ≤ part.1
   pub within : part.1 ≤ high

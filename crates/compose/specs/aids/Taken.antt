@@ -4,12 +4,12 @@ use Rattle.std.specs.Prelude.{◌≡◌, ◌<◌, ℕ, List, [], Option, Some, N
 use Rattle.std.specs.declared.cmp.Ordering.{Ordering}
 use Rattle.std.specs.Ordering.{nat_cmp, ordering_then}
 use Rattle.version_pair.specs.declared.pair.Pair.{Pair}
-use Rattle.history.specs.declared.event.Event.{Event}
-use Rattle.history.specs.declared.record.Rec.{Rec}
-use Rattle.history.specs.Events.{documents_of, is_same}
-use Rattle.witness.specs.declared.place.Place.{Place}
-use Rattle.witness.specs.Witness.{Witness}
-use Rattle.history.specs.Heard.{taken_by}
+use Rattle.events.specs.declared.event.Event.{Event}
+use Rattle.events.specs.declared.record.Rec.{Rec}
+use Rattle.events.specs.Events.{documents_of, is_same}
+use Rattle.places.specs.declared.place.Place.{Place}
+use Rattle.places.specs.Witness.{Witness}
+use Rattle.events.specs.Heard.{taken_by}
 use Rattle.compose.specs.VerifyFaults.{IsAtMost}
 
 -- the shard of the document, if the history has it

@@ -1,22 +1,21 @@
 -- Entries of a witness text, verified one after another.
 use Rattle.std.specs.Prelude.{◌≡◌, ◌↔◌, ℕ, List, Bool, true, false, Some, length, map, slice_get}
 use Rattle.doc_register.specs.declared.state.Conflicts.{Conflicts}
-use Rattle.history.specs.declared.event.Event.{Event}
-use Rattle.history.specs.Events.{documents_of, records_of}
-use Rattle.witness.specs.Documents.{witness_places}
-use Rattle.witness.specs.Faults.{IsFirstFault}
-use Rattle.witness.specs.Places.{AreValid}
-use Rattle.witness.specs.declared.broken.Broken.{Broken}
-use Rattle.witness.specs.Text.{DocPlaces}
-use Rattle.witness.specs.Witness.{Witness}
-use Rattle.compose.specs.Covers.{AreFine, IsEntered, IsKnown, IsOfShard}
+use Rattle.events.specs.declared.event.Event.{Event}
+use Rattle.events.specs.Events.{documents_of, records_of}
+use Rattle.places.specs.Documents.{DocPlaces, witness_places}
+use Rattle.places.specs.Faults.{IsFirstFault}
+use Rattle.places.specs.Places.{AreValid}
+use Rattle.places.specs.declared.broken.Broken.{Broken}
+use Rattle.places.specs.Witness.{Witness}
+use Rattle.compose.specs.Covers.{AreValidEntries, IsEntered, IsKnown, IsOfShard}
 use Rattle.compose.specs.declared.verify_fault.VerifyFault.{VerifyFault}
 use Rattle.compose.specs.declared.verify_fault.VerifyFault.TheVariants as fault
 
 -- The entries are fine, the witnesses have their places and the records of their documents, and a mark says
 -- for each document of the history whether it is entered.
 pub record AreVerified (conflicts : Conflicts) (events : List Event) (entries : List DocPlaces) (marks : List Bool) (ws : List Witness) : Type 0 where
-  pub fine : AreFine conflicts events entries
+  pub fine : AreValidEntries conflicts events entries
   pub places : map witness_places ws ≡ entries
   pub own : (i : ℕ) (w : Witness) → slice_get ws i ≡ Some w → (w.records ≡ records_of events w.doc) × (w.conflicts ≡ conflicts)
   pub size : length marks ≡ length (documents_of events)
@@ -55,5 +54,5 @@ IsWitnessAt conflicts events k e w = (d : List ℕ × ℕ) → slice_get (docume
 
 -- the places have this first fault, for the records of the document with this number
 abbrev pub IsFaultOfPlaces : Conflicts → List Event → ℕ → ℕ → DocPlaces → VerifyFault → Type 0
-IsFaultOfPlaces conflicts events k entry e told = (d : List ℕ × ℕ) → slice_get (documents_of events) k ≡ Some d
-    → (broken : Broken) × (told ≡ fault.Broken entry broken) × IsFirstFault conflicts (records_of events d.0) e.places broken
+IsFaultOfPlaces conflicts events k entry e reported = (d : List ℕ × ℕ) → slice_get (documents_of events) k ≡ Some d
+    → (broken : Broken) × (reported ≡ fault.Broken entry broken) × IsFirstFault conflicts (records_of events d.0) e.places broken

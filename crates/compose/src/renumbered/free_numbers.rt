@@ -2,7 +2,7 @@ use crate::renumbered::gaps::Gap;
 use crate::renumbered::names::Names;
 use crate::used_pairs::UsedPairs;
 use completing::Free;
-use history::HashKeys;
+use events::HashKeys;
 use indexmap::IndexMap;
 use std::alloc::Global;
 use version_pair::{NoMemory, Pair};

@@ -1,10 +1,10 @@
 use crate::renumbered::given::Given;
 use crate::taken::{pair_of_place, shard_of};
 use completing::Gap as Between;
-use history::Front;
+use events::Front;
+use places::DocWitness;
 use std::alloc::Global;
 use version_pair::{NoMemory, Pair};
-use witness::DocWitness;
 
 /// Places with invented pairs between two other pairs of one term, or before the first other pair, if that is
 /// of term 1.

@@ -1,9 +1,9 @@
 use crate::taken::pair_of_place;
 use doc_register::Op;
-use history::Rec;
+use events::Rec;
+use places::DocWitness;
 use std::alloc::Global;
 use version_pair::{NoMemory, Pair};
-use witness::DocWitness;
 
 /// The pairs that the places of a witness give, in the order of the places, in which they rise.
 #[derive(Drop)]

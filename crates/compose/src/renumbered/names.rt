@@ -2,19 +2,19 @@ use crate::renumbered::gaps::{Gap, Gaps};
 use crate::taken::pair_of_place;
 use crate::used_pairs::UsedPairs;
 use doc_register::Op;
-use history::{HashKeys, Rec};
+use events::{HashKeys, Rec};
 use indexmap::IndexSet;
+use places::DocWitness;
 use std::alloc::Global;
 use version_pair::{NoMemory, Pair};
-use witness::DocWitness;
 
 /// The free pairs that conditions of documents with gaps name.
 #[derive(Drop)]
 pub struct Names {
     // The pairs not in use that conditions of a document name, each with the number of its witness.
     named: IndexSet<(usize, Pair), HashKeys>,
-    // The pairs that no write may take since a write on that condition is refused directly after it, each
-    // with the number of its witness and the index of its place.
+    // The pairs that no write may take, since a write on that condition is refused before the next performed
+    // one; each with the number of its witness and the index of the write's place.
     refused: IndexSet<(usize, usize, Pair), HashKeys>,
 }
 
@@ -27,8 +27,9 @@ fn name_of(found: Rec) -> Option<Pair> {
 }
 
 impl Names {
-    /// Returns those of the documents of these gaps, given which pairs are in use. Pairs are found by hashes
-    /// with these keys.
+    /// Returns the free pairs that conditions name in the documents with these gaps, given which pairs are in
+    /// use. The gaps of a document must be next to each other in the list, each with the number of its
+    /// witness. Pairs are found by hashes with these keys.
     pub fn of(
         alloc: Global,
         keys: HashKeys,

@@ -1,9 +1,9 @@
 -- What the check says of places that were found.
 use Rattle.std.specs.Prelude.{◌≡◌, ℕ, List}
 use Rattle.doc_register.specs.declared.state.Conflicts.{Conflicts}
-use Rattle.history.specs.declared.record.Rec.{Rec}
-use Rattle.witness.specs.declared.place.Place.{Place}
-use Rattle.witness.specs.Places.{AreValid}
+use Rattle.events.specs.declared.record.Rec.{Rec}
+use Rattle.places.specs.declared.place.Place.{Place}
+use Rattle.places.specs.Places.{AreValid}
 use Rattle.doc_check.specs.declared.search.Checked.{Checked}
 use Rattle.doc_check.specs.declared.search.Checked.TheVariants.{Valid, Invalid}
 

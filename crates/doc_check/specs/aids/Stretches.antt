@@ -6,9 +6,9 @@ use Rattle.doc_register.specs.declared.reply.Reply.{Reply}
 use Rattle.doc_register.specs.declared.state.DocState.{DocState}
 use Rattle.doc_register.specs.declared.state.DocState.TheVariants.{Never}
 use Rattle.doc_register.specs.Register.{DocStep, is_here}
-use Rattle.history.specs.declared.record.Rec.{Rec}
+use Rattle.events.specs.declared.record.Rec.{Rec}
 use Rattle.write_chain.specs.Chain.{IsChain, Rises, after_link}
-use Rattle.history.specs.Heard.{pair_of}
+use Rattle.events.specs.Heard.{pair_of}
 use Rattle.doc_check.specs.declared.stretches.Stretches.{Stretches}
 
 -- the state of the document in a stretch
@@ -32,7 +32,8 @@ abbrev pub latest_below : (ℕ → Bool) → ℕ → Option ℕ
 latest_below test zero = None
 latest_below test (suc n) = cond (test n) (Some n) (latest_below test n)
 
--- for each of the first n stretches, the latest one up to it that is so
+-- for each of the first n stretches, the latest one up to it in which the document exists, or doesn't
+-- (`live`)
 abbrev pub IsTable : List DocState → Bool → ℕ → List (Option ℕ) → Type 0
 IsTable states live n table = (length table ≡ n)
     × ((j : ℕ) → j < n → slice_get table j ≡ Some (latest_below (is_so states live) (suc j)))

@@ -3,12 +3,12 @@
 use Rattle.std.specs.Prelude.{◌≡◌, ◌<◌, ◌≤◌, ◌⊎◌, ℕ, zero, suc, List, [], ◌∷◌, ◌+◌, Bool, true, false, IsTrue, Option, Some, None, length, slice_get}
 use Rattle.version_pair.specs.declared.pair.Pair.{Pair}
 use Rattle.doc_register.specs.declared.reply.Reply.{Reply}
-use Rattle.history.specs.declared.record.Rec.{Rec}
-use Rattle.witness.specs.declared.place.Place.{Place}
+use Rattle.events.specs.declared.record.Rec.{Rec}
+use Rattle.places.specs.declared.place.Place.{Place}
 use Rattle.doc_register.specs.declared.state.Conflicts.{Conflicts}
-use Rattle.witness.specs.Places.{AreValid, StepsAt}
+use Rattle.places.specs.Places.{AreValid, StepsAt}
 use Rattle.doc_check.specs.NoOrders.{AreUnpaired}
-use Rattle.history.specs.Heard.{pair_of}
+use Rattle.events.specs.Heard.{pair_of}
 use Rattle.doc_check.specs.aids.Stretches.{Fits, cap, state_in, states_of}
 
 -- an index in the history, whether a reply is there, and the number of the record whose call or reply it is

@@ -6,8 +6,8 @@ use Rattle.doc_register.specs.declared.op.Op.{Op}
 use Rattle.doc_register.specs.declared.reply.Reply.{Reply as Answer}
 use Rattle.doc_register.specs.declared.reply.Reply.TheVariants.{Found}
 use Rattle.doc_register.specs.Run.{pair_taken}
-use Rattle.history.specs.declared.event.Event.{Event}
-use Rattle.history.specs.Events.{IsCallAt, heard_of}
+use Rattle.events.specs.declared.event.Event.{Event}
+use Rattle.events.specs.Events.{IsCallAt, heard_of}
 use Rattle.doc_register.specs.Register.{condition_of}
 use Rattle.evidence.specs.Evidence.{IsFound, IsPerformed}
 use Rattle.evidence.specs.declared.answered_call.FoundGet.{FoundGet}

@@ -1,16 +1,16 @@
 -- The calls at which documents of a history are ruled out.
 use Rattle.std.specs.Prelude.{◌≡◌, ◌<◌, ◌≤◌, ℕ, List, Option, Some, None, slice_get}
 use Rattle.doc_register.specs.declared.state.Conflicts.{Conflicts}
-use Rattle.history.specs.declared.event.Event.{Event}
-use Rattle.history.specs.Events.{documents_of, records_of}
-use Rattle.ruled_out.specs.Told.{told}
+use Rattle.events.specs.declared.event.Event.{Event}
+use Rattle.events.specs.Events.{documents_of, records_of}
+use Rattle.ruled_out.specs.Reported.{reported}
 use Rattle.ruled_out.specs.Placings.{IsRuledOutAt}
 use Rattle.evidence.specs.Evidence.{IsLeastRuledOut, IsRuledOutIn, IsWithoutRuledOut}
 
 -- the call at which the document of this number is ruled out; if none is given, it isn't
 abbrev pub IsRuledOutDocument : Conflicts → List Event → ℕ → Option ℕ → Type 0
 IsRuledOutDocument conflicts events doc found = (document : List ℕ × ℕ) → slice_get (documents_of events) doc ≡ Some document
-    → IsRuledOutAt (told conflicts (records_of events document.0)) found
+    → IsRuledOutAt (reported conflicts (records_of events document.0)) found
 
 -- a document is ruled out at the call, and none at a lesser one; if none is given, no document is
 abbrev pub IsRuledOutCall : Conflicts → List Event → Option ℕ → Type 0

@@ -1,6 +1,6 @@
 use crate::answered_call::{FoundGet, PerformedWrite};
 use doc_register::Reply;
-use history::{Event, History};
+use events::{Event, History};
 use std::alloc::Global;
 use version_pair::{DocId, NoMemory, Pair};
 
@@ -22,13 +22,13 @@ pub struct AnsweredWrite {
     pub performed: PerformedWrite,
 }
 
-/// The answered calls of a history that evidence may name: the gets in the order of their calls, the writes
-/// in the order of their replies.
+/// The answered calls of a history that show a pair: the gets that found one, in the order of their calls;
+/// the writes that were answered with one, in the order of their replies.
 #[derive(Drop)]
 pub struct AnsweredCalls {
     pub gets: Vec<AnsweredGet>,
     pub writes: Vec<AnsweredWrite>,
-    // For each document, the greatest pair that was shown.
+    // For each document, the greatest pair that a write has shown so far.
     newest: Vec<Option<Pair>>,
 }
 

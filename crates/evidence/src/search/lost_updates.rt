@@ -76,7 +76,7 @@ fn least_ignored(
     Ok(least)
 }
 
-/// Returns the first write, by its number, that a swap ignored, with the first of these swaps.
+/// Returns the first write, by its number, that a conditional write ignored, with the first of these.
 pub fn least_stale_swap(
     alloc: Global,
     writes: &[AnsweredWrite],

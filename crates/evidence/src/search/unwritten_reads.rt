@@ -4,7 +4,7 @@ ghost use Rattle.evidence.specs.Evidence.{IsOfCalls};
 use crate::refuted::Refuted;
 use crate::search::answered_calls::AnsweredGet;
 use doc_register::{Conflicts, Reply};
-use history::{Event, HashKeys, History};
+use events::{Event, HashKeys, History};
 use indexmap::IndexMap;
 use std::alloc::Global;
 use version_pair::{NoMemory, Pair};

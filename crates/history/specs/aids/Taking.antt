@@ -4,11 +4,11 @@ use Rattle.api_lines.specs.Faults.{◌>>=◌}
 use Rattle.api_lines.specs.Fields.{BodyValues}
 use Rattle.api_lines.specs.declared.history_line.LineSaid.{LineSaid}
 use Rattle.api_lines.specs.declared.history_line.LineSaid.TheVariants as said
-use Rattle.api_lines.specs.HistoryLines.{most_shards}
+use Rattle.version_pair.specs.Shards.{most_shards}
 use Rattle.api_lines.specs.declared.text_fault.LineFault.{LineFault}
 use Rattle.api_lines.specs.declared.text_fault.TextCause.{TextCause}
-use Rattle.history.specs.declared.event.Event.{Event}
-use Rattle.history.specs.declared.fault.HistFault.{HistFault}
+use Rattle.events.specs.declared.event.Event.{Event}
+use Rattle.events.specs.declared.fault.HistFault.{HistFault}
 use Rattle.history.specs.Faults.{line_fault}
 use Rattle.history.specs.Reading.{adds, event_said}
 

@@ -1,7 +1,8 @@
 //! Prefixes of histories: their first events.
 
 use crate::tests::testing::same;
-use history::{Front, History, read};
+use events::{Front, History};
+use history::read;
 use std::alloc::Global;
 use std::test::Fail;
 
@@ -23,7 +24,7 @@ const DOCUMENTS_INTERLEAVED: &str = r#"{"e":"call","n":0,"id":"a","op":"index","
 
 // Returns what a prefix has: the number of its events, its documents with their shards and records, and the
 // greatest numbers.
-fn told(alloc: Global, front: &Front<'_>) -> Result<String, Fail> {
+fn reported(alloc: Global, front: &Front<'_>) -> Result<String, Fail> {
     let len = front.len();
     let mut text = format!(in alloc; "{len}; ")?;
     for doc in 0..front.docs() {
@@ -54,7 +55,7 @@ fn numbered(alloc: Global, whole: &History, front: &Front<'_>) -> Result<String,
 // Asserts that a prefix of the history of a text has what is wanted.
 fn has(alloc: Global, text: &str, end: usize, want: &str) -> Result<(), Fail> {
     let history = read(alloc, text.as_bytes())?;
-    let got = told(alloc, &history.front(end))?;
+    let got = reported(alloc, &history.front(end))?;
     same("front", got.as_str(), want)
 }
 
@@ -95,8 +96,8 @@ fn are_same(
     front: &Front<'_>,
     copied: &Front<'_>,
 ) -> Result<(), Fail> {
-    let got = told(alloc, front)?;
-    let want = told(alloc, copied)?;
+    let got = reported(alloc, front)?;
+    let want = reported(alloc, copied)?;
     same("front", got.as_str(), want.as_str())?;
     let got = numbered(alloc, whole, front)?;
     let want = numbered(alloc, whole, copied)?;

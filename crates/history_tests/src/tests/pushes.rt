@@ -2,7 +2,7 @@
 
 use crate::tests::testing::same;
 use doc_register::{Conflicts, Op, Reply};
-use history::{Event, HistFault, History};
+use events::{Event, HistFault, History};
 use std::alloc::Global;
 use std::test::Fail;
 use version_pair::{DocId, Pair};
@@ -146,9 +146,9 @@ fn empty_history(rt: HostRuntime) -> Result<(), Fail> {
 
 // Asserts what a history answers to one more event.
 fn is_pushed(alloc: Global, history: &mut History, step: &str, want: &str) -> Result<(), Fail> {
-    let told = push(alloc, history, step)?;
-    let told = format!(in alloc; "{told:?}")?;
-    same(step, told.as_str(), want)
+    let reported = push(alloc, history, step)?;
+    let reported = format!(in alloc; "{reported:?}")?;
+    same(step, reported.as_str(), want)
 }
 
 // Asserts that a history has what that of the three calls has.
@@ -174,11 +174,11 @@ fn calls_and_endings(rt: HostRuntime) -> Result<(), Fail> {
     keeps_three_calls(rt.alloc(), &mut history)
 }
 
-// Returns what is known before an event of the call with this number: whether it is settled, and the pair
+// Returns what is known before an event of the call with this number: whether it is complete, and the pair
 // that it took.
 fn known_of(history: &History, no: u64, event: usize) -> Option<(bool, Option<Pair>)> {
     let known = history.record(no)?.known_before(event);
-    Some((known.is_settled(Conflicts::Plain), known.pair_taken()))
+    Some((known.is_complete(Conflicts::Plain), known.pair_taken()))
 }
 
 #[test]
@@ -203,7 +203,7 @@ fn records_by_number(rt: HostRuntime) -> Result<(), Fail> {
 }
 
 // Asserts what the history of the three calls answers to one more event.
-fn is_told(alloc: Global, step: &str, want: &str) -> Result<(), Fail> {
+fn is_reported(alloc: Global, step: &str, want: &str) -> Result<(), Fail> {
     let mut history = history_of(alloc, THREE_CALLS)?;
     is_pushed(alloc, &mut history, step, want)
 }
@@ -215,7 +215,7 @@ fn refused_events(rt: HostRuntime) -> Result<(), Fail> {
         ("reply 0 found", "Err(Ended)"),
         ("reply 1 created", "Err(Kind)"),
     ] {
-        is_told(rt.alloc(), step, want)?;
+        is_reported(rt.alloc(), step, want)?;
     }
     Ok(())
 }

@@ -3,7 +3,8 @@
 use crate::tests::testing::same;
 use api_lines::lines::first_line;
 use api_lines::{ReadFault, TextFault};
-use history::{History, HistoryReader, read, write};
+use events::History;
+use history::{HistoryReader, read, write};
 use std::alloc::Global;
 use std::test::Fail;
 
@@ -16,8 +17,8 @@ const REPLY_OF_ANOTHER_DOCUMENT: &str = r#"{"e":"call","n":0,"id":"d","op":"inde
 "#;
 
 // Returns what a reader reported of a line: that it was taken, or why it was refused.
-fn line_told(alloc: Global, told: Result<(), ReadFault>) -> Result<String, Fail> {
-    match told {
+fn line_reported(alloc: Global, reported: Result<(), ReadFault>) -> Result<String, Fail> {
+    match reported {
         Ok(()) => Ok(format!(in alloc; "taken")?),
         Err(ReadFault::Text(TextFault { line, cause })) => {
             Ok(format!(in alloc; "line {line}: {cause:?}")?)
@@ -28,26 +29,26 @@ fn line_told(alloc: Global, told: Result<(), ReadFault>) -> Result<String, Fail>
 
 // Asserts that an open bracket is refused as the line with this number.
 fn bracket_refused(alloc: Global, reader: &mut HistoryReader, number: u64) -> Result<(), Fail> {
-    let told = line_told(alloc, reader.line(b"["))?;
+    let reported = line_reported(alloc, reader.line(b"["))?;
     let want = format!(in alloc; "line {number}: Json")?;
-    same("[", told.as_str(), want.as_str())
+    same("[", reported.as_str(), want.as_str())
 }
 
 // Hands the lines of a text over, with an open bracket before each of them, until one is refused. Returns
 // what is reported of the last one.
-fn last_told(alloc: Global, reader: &mut HistoryReader, text: &str) -> Result<String, Fail> {
+fn last_reported(alloc: Global, reader: &mut HistoryReader, text: &str) -> Result<String, Fail> {
     let mut rest = text.as_bytes();
-    let mut told = line_told(alloc, Ok(()))?;
+    let mut reported = line_reported(alloc, Ok(()))?;
     for number in 1..=10 {
-        if rest.is_empty() || told.as_str() != "taken" {
+        if rest.is_empty() || reported.as_str() != "taken" {
             break;
         }
         bracket_refused(alloc, reader, number)?;
         let (line, after) = first_line(rest);
-        told = line_told(alloc, reader.line(line))?;
+        reported = line_reported(alloc, reader.line(line))?;
         rest = after;
     }
-    Ok(told)
+    Ok(reported)
 }
 
 // Asserts that a history has the events of a text.
@@ -62,8 +63,8 @@ fn has_events_of(alloc: Global, history: &History, text: &str) -> Result<(), Fai
 #[test]
 fn a_refused_line_changes_nothing(rt: HostRuntime) -> Result<(), Fail> {
     let mut reader = HistoryReader::new(rt.alloc());
-    let told = last_told(rt.alloc(), &mut reader, REPLY_OF_ANOTHER_DOCUMENT)?;
-    same("stranger", told.as_str(), "line 2: Stranger")?;
+    let reported = last_reported(rt.alloc(), &mut reader, REPLY_OF_ANOTHER_DOCUMENT)?;
+    same("stranger", reported.as_str(), "line 2: Stranger")?;
     bracket_refused(rt.alloc(), &mut reader, 2)?;
     let (_, reply) = first_line(INDEX_ANSWERED.as_bytes());
     if !reply.is_empty() {

@@ -1,7 +1,8 @@
 //! Histories written as texts.
 
 use crate::tests::testing::same;
-use history::{History, read, write};
+use events::History;
+use history::{read, write};
 use std::alloc::Global;
 use std::test::Fail;
 

@@ -1,7 +1,7 @@
 -- The reasons why there is no recording of a run.
 use Rattle.std.specs.Prelude.{Bool, false, true, Result, Ok, Err}
 use Rattle.recorder.specs.declared.fault.RecFault.TheVariants as recording
-use Rattle.history.specs.declared.fault.HistFault.TheVariants as refused
+use Rattle.events.specs.declared.fault.HistFault.TheVariants as refused
 use Rattle.workload.specs.declared.play_fault.PlayFault.{PlayFault}
 use Rattle.workload.specs.declared.play_fault.PlayFault.TheVariants as play
 use Rattle.workload.specs.declared.run_fault.RunFault.{RunFault}
@@ -48,7 +48,7 @@ IsOfRecording Recording = Unit {0}
 IsOfRecording Setting = ⊥
 
 -- the result is that the number of copies is refused
-abbrev pub tells_copies : {X : Type 0} → Result X CoreFault → Bool
-tells_copies (Ok x) = false
-tells_copies (Err Copies) = true
-tells_copies (Err core.NoMemory) = false
+abbrev pub reports_copies : {X : Type 0} → Result X CoreFault → Bool
+reports_copies (Ok x) = false
+reports_copies (Err Copies) = true
+reports_copies (Err core.NoMemory) = false

@@ -1,7 +1,7 @@
 -- What the locked recording refuses to append.
 use Rattle.std.specs.Prelude.{ℕ, List, length, Option, Some, None, Result, Ok, Err, nat_lt, if◌then◌else◌}
-use Rattle.history.specs.declared.event.Event.{Event}
-use Rattle.history.specs.Refusal.{most_events}
+use Rattle.events.specs.declared.event.Event.{Event}
+use Rattle.events.specs.Refusal.{most_events}
 use Rattle.recorder.specs.declared.fault.RecFault.{RecFault}
 use Rattle.recorder.specs.declared.fault.RecFault.TheVariants.{NotMine, Ended, Kind, Full, NoMemory, Rewound}
 
@@ -15,11 +15,11 @@ append_refusal events None = when_full events
 append_refusal events (Some last) = if nat_lt last (length events) then when_full events else Some (Rewound (length events))
 
 -- the reason that an answer reports; being out of memory is none
-abbrev pub append_told : Result ℕ RecFault → Option RecFault
-append_told (Ok n) = None
-append_told (Err NotMine) = Some NotMine
-append_told (Err Ended) = Some Ended
-append_told (Err Kind) = Some Kind
-append_told (Err Full) = Some Full
-append_told (Err NoMemory) = None
-append_told (Err (Rewound n)) = Some (Rewound n)
+abbrev pub append_reported : Result ℕ RecFault → Option RecFault
+append_reported (Ok n) = None
+append_reported (Err NotMine) = Some NotMine
+append_reported (Err Ended) = Some Ended
+append_reported (Err Kind) = Some Kind
+append_reported (Err Full) = Some Full
+append_reported (Err NoMemory) = None
+append_reported (Err (Rewound n)) = Some (Rewound n)

@@ -2,7 +2,7 @@
 use Rattle.std.specs.Prelude.{◌≡◌, ℕ, ◌<◌, ◌≤◌, ◌++◌, false, true, List, [], All, nat_lt}
 use Rattle.std.specs.List.{filter, list_any}
 use Rattle.atomic_table.specs.Table.{Me}
-use Rattle.history.specs.Refusal.{most_events}
+use Rattle.events.specs.Refusal.{most_events}
 use Rattle.recorder.specs.declared.clock_view.ClockView.{ClockView}
 use Rattle.recorder.specs.declared.clock_view.ClockView.TheVariants.{Drew}
 use Rattle.recorder.specs.Clock.{is_past, seat_with}

@@ -1,8 +1,8 @@
 -- What is next in a strand, while lists are merged, and which lists can be merged.
 use Rattle.std.specs.Prelude.{◌≡◌, ℕ, List, Option, Some, None, length, option_map, slice_get, take}
 use Rattle.std.specs.List.{sum_by}
-use Rattle.history.specs.declared.event.Event.{Event}
-use Rattle.history.specs.Refusal.{refusal_of}
+use Rattle.events.specs.declared.event.Event.{Event}
+use Rattle.events.specs.Refusal.{refusal_of}
 use Rattle.recorder.specs.Clock.{numbers_below}
 use Rattle.recorder.specs.Recordings.{entries_of}
 use Rattle.recorder.specs.aids.Notes.{numbers_of}

@@ -1,9 +1,9 @@
 -- What a pen keeps beside its list, and what that says of the list.
 use Rattle.std.specs.Prelude.{◌≡◌, ℕ, ◌<◌, ◌==◌, Bool, false, true, List, Option, Some, None, All, cond, map, option_map, slice_get, take}
 use Rattle.std.specs.Map.{lookup}
-use Rattle.history.specs.declared.event.Event.{Event}
-use Rattle.history.specs.declared.event.Event.TheVariants.{Call, Reply, Lost}
-use Rattle.history.specs.Refusal.{op_of}
+use Rattle.events.specs.declared.event.Event.{Event}
+use Rattle.events.specs.declared.event.Event.TheVariants.{Call, Reply, Lost}
+use Rattle.events.specs.Refusal.{op_of}
 use Rattle.recorder.specs.declared.own_call.OwnCall.{OwnCall}
 use Rattle.recorder.specs.declared.unnumbered.Unnumbered.{Unnumbered}
 use Rattle.recorder.specs.declared.unnumbered.Unnumbered.TheVariants as bare
@@ -46,7 +46,7 @@ abbrev pub numbers_of : List (ℕ × Event) → List ℕ
 numbers_of list = map (λ entry. entry.0) list
 
 -- A pen's list: the numbers rise, each entry has the form that recording gives it, and the entries before it
--- did not refuse it.
+-- permit it.
 pub record IsPenList (list : List (ℕ × Event)) : Type 0 where
   pub rising : IsRising list
   pub formed : All (λ entry. IsEntryAt entry.0 entry.1) list

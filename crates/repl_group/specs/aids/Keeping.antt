@@ -2,7 +2,7 @@
 use Rattle.std.specs.Prelude.{◌≡◌, ℕ, ◌<◌, true, false, List, [], Some, if◌then◌else◌, length, slice_get}
 use Rattle.repl_group.specs.declared.held_write.HeldWrite.{HeldWrite}
 use Rattle.repl_group.specs.declared.replica.Replica.{Replica}
-use Rattle.repl_group.specs.declared.standing.Standing.{Standing}
+use Rattle.repl_group.specs.declared.copy_flags.CopyFlags.{CopyFlags}
 use Rattle.repl_group.specs.Copies.{ShardCopy}
 use Rattle.repl_group.specs.aids.Holding.{HeldState}
 use Rattle.repl_group.specs.aids.Logging.{held_at}
@@ -13,8 +13,8 @@ abbrev pub copy_of : List (List (ℕ × HeldWrite)) → Replica → ShardCopy
 copy_of sets y = record { writes = held_at sets y.held.place; is_cut = y.is_cut; is_in_sync = y.is_in_sync }
 
 -- the state of the copy in the group
-abbrev pub standing_of : ShardCopy → Standing
-standing_of y = record { is_cut = y.is_cut; is_in_sync = y.is_in_sync }
+abbrev pub flags_of : ShardCopy → CopyFlags
+flags_of y = record { is_cut = y.is_cut; is_in_sync = y.is_in_sync }
 
 -- the position exists, and what is held there is kept beside it
 pub record IsKept (sets : List (List (ℕ × HeldWrite))) (held : HeldState) : Type 0 where

@@ -1,6 +1,6 @@
 //! A group that threads share.
 
-use crate::tests::testing::{FAULTS, document, kth_call, reply_told};
+use crate::tests::testing::{FAULTS, document, kth_call, reply_reported};
 use doc_register::{Op, Reply};
 use rand_pcg::Lcg64Xsh32;
 use repl_group::{Core, Fault, Group, poll_step, submit_step};
@@ -48,8 +48,8 @@ fn polled_until_done(rt: HostRuntime) -> Result<(), Fail> {
         (Op::Create { k: 3 }, "indexed (1,2) true"),
         (Op::Create { k: 4 }, "conflict"),
     ] {
-        let told = reply_told(alloc, call(&rt, alloc, &group, op))?;
-        assert_eq!(rt; told.as_str(), want);
+        let reported = reply_reported(alloc, call(&rt, alloc, &group, op))?;
+        assert_eq!(rt; reported.as_str(), want);
     }
     Ok(())
 }

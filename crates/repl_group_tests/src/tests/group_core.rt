@@ -11,9 +11,9 @@ const SECOND_IN_FLIGHT: &str =
 
 #[test]
 fn core_promotes(rt: HostRuntime) -> Result<(), Fail> {
-    let told = played(rt.alloc(), 2, Fault::None, SECOND_IN_FLIGHT)?;
+    let reported = played(rt.alloc(), 2, Fault::None, SECOND_IN_FLIGHT)?;
     assert_eq!(rt;
-        told.as_str(),
+        reported.as_str(),
         "ticket 0; done; not now; done; done; indexed (1,0) true; ticket 1; done; ticket 2; waits; done; 2; 1; done; found (1,0) k1; not now; ticket 3; done; done; done; indexed (2,1) false; "
     );
     Ok(())
@@ -22,9 +22,9 @@ fn core_promotes(rt: HostRuntime) -> Result<(), Fail> {
 #[test]
 fn dirty_get_sees_a_write_in_flight(rt: HostRuntime) -> Result<(), Fail> {
     let script = "index 1; serve 0; copy 0 1; ack 0; index 2; serve 1; get; serve 2; result 2";
-    let told = played(rt.alloc(), 2, Fault::Dirty, script)?;
+    let reported = played(rt.alloc(), 2, Fault::Dirty, script)?;
     assert_eq!(rt;
-        told.as_str(),
+        reported.as_str(),
         "ticket 0; done; done; done; ticket 1; done; ticket 2; done; found (1,1) k2; "
     );
     Ok(())
@@ -67,8 +67,8 @@ fn named_faults(rt: HostRuntime) -> Result<(), Fail> {
             "not now; not now; not now; true; false; none; ",
         ),
     ] {
-        let told = played(alloc, copies, fault, script)?;
-        assert_eq!(rt; told.as_str(), want, "{fault:?}");
+        let reported = played(alloc, copies, fault, script)?;
+        assert_eq!(rt; reported.as_str(), want, "{fault:?}");
     }
     Ok(())
 }
@@ -94,8 +94,8 @@ fn kept_term_gives_one_pair_to_two_tickets(rt: HostRuntime) -> Result<(), Fail> 
             "ticket 0; done; done; ticket 1; done; done; done; indexed (2,0) true; none; ",
         ),
     ] {
-        let told = played(rt.alloc(), 2, fault, script)?;
-        assert_eq!(rt; told.as_str(), want, "{fault:?}");
+        let reported = played(rt.alloc(), 2, fault, script)?;
+        assert_eq!(rt; reported.as_str(), want, "{fault:?}");
     }
     Ok(())
 }
@@ -126,9 +126,9 @@ fn create_of_a_live_document(rt: HostRuntime) -> Result<(), Fail> {
         Fault::Stale,
         Fault::Blind,
     ] {
-        let told = played(rt.alloc(), 1, fault, script)?;
+        let reported = played(rt.alloc(), 1, fault, script)?;
         assert_eq!(rt;
-            told.as_str(),
+            reported.as_str(),
             "ticket 0; done; done; indexed (1,0) true; ticket 1; done; conflict; ",
             "{fault:?}"
         );
@@ -141,9 +141,9 @@ fn create_of_a_live_document(rt: HostRuntime) -> Result<(), Fail> {
 fn cut_copy_catches_up(rt: HostRuntime) -> Result<(), Fail> {
     let script =
         "cut 2; drop 2; sync 2; delete; serve 0; copy 0 1; ack 0; promote 2; heal 2; promote 2; primary; index 1; serve 1; copy 1 0; copy 1 1; ack 1; result 1; result 0";
-    let told = played(rt.alloc(), 3, Fault::None, script)?;
+    let reported = played(rt.alloc(), 3, Fault::None, script)?;
     assert_eq!(rt;
-        told.as_str(),
+        reported.as_str(),
         "done; done; false; ticket 0; done; done; done; not now; done; done; 2; ticket 1; done; done; done; done; indexed (2,1) true; deleted (1,0) false; "
     );
     Ok(())

@@ -26,8 +26,8 @@ pub fn document(alloc: Global) -> Result<DocId, Fail> {
     Ok(DocId::new(alloc, "d")?)
 }
 
-// Returns the operation that a line submits.
-fn op_of(verb: &str, k: u64) -> Option<Op> {
+/// Returns the operation that a line submits.
+pub fn op_of(verb: &str, k: u64) -> Option<Op> {
     match verb {
         "get" => Some(Op::Get),
         "index" => Some(Op::Index { k, cond: None }),
@@ -41,8 +41,8 @@ fn op_of(verb: &str, k: u64) -> Option<Op> {
     }
 }
 
-// Returns the step that a line names.
-fn step_of(verb: &str, first: u64, second: u32) -> Option<Step> {
+/// Returns the step that a line names.
+pub fn step_of(verb: &str, first: u64, second: u32) -> Option<Step> {
     let copy = u32::try_from(first).unwrap_or(u32::MAX);
     match verb {
         "serve" => Some(Step::Serve(first)),
@@ -57,7 +57,7 @@ fn step_of(verb: &str, first: u64, second: u32) -> Option<Step> {
 }
 
 /// Returns a reply in short words.
-pub fn reply_told(alloc: Global, reply: Option<Reply>) -> Result<String, Fail> {
+pub fn reply_reported(alloc: Global, reply: Option<Reply>) -> Result<String, Fail> {
     let text = match reply {
         None => String::from_str(alloc, "none"),
         Some(Reply::Missing) => String::from_str(alloc, "missing"),
@@ -79,7 +79,7 @@ pub fn reply_told(alloc: Global, reply: Option<Reply>) -> Result<String, Fail> {
 }
 
 // Returns an answer in short words.
-fn answer_told(alloc: Global, answer: Answer) -> Result<String, Fail> {
+fn answer_reported(alloc: Global, answer: Answer) -> Result<String, Fail> {
     let text = match answer {
         Answer::Ticket(ticket) => format!(in alloc; "ticket {ticket}"),
         Answer::Done => String::from_str(alloc, "done"),
@@ -91,9 +91,9 @@ fn answer_told(alloc: Global, answer: Answer) -> Result<String, Fail> {
 }
 
 // Returns the answer to a line that asks.
-fn fact_told(alloc: Global, core: &Core, verb: &str, first: u64) -> Result<String, Fail> {
+fn fact_reported(alloc: Global, core: &Core, verb: &str, first: u64) -> Result<String, Fail> {
     match verb {
-        "result" => reply_told(alloc, core.result(first)),
+        "result" => reply_reported(alloc, core.result(first)),
         "term" => {
             let term = core.term();
             Ok(format!(in alloc; "{term}")?)
@@ -111,13 +111,13 @@ fn fact_told(alloc: Global, core: &Core, verb: &str, first: u64) -> Result<Strin
 }
 
 // Takes a step, and returns its answer.
-fn step_told(alloc: Global, core: &mut Core, step: Step) -> Result<String, Fail> {
+fn step_reported(alloc: Global, core: &mut Core, step: Step) -> Result<String, Fail> {
     let answer = core.step(step)?;
-    answer_told(alloc, answer)
+    answer_reported(alloc, answer)
 }
 
 // Returns the answer to a line.
-fn line_told(
+fn line_reported(
     alloc: Global,
     core: &mut Core,
     verb: &str,
@@ -125,16 +125,16 @@ fn line_told(
     second: u32,
 ) -> Result<String, Fail> {
     if let Some(op) = op_of(verb, first) {
-        return step_told(alloc, core, Step::Submit(document(alloc)?, op));
+        return step_reported(alloc, core, Step::Submit(document(alloc)?, op));
     }
     match step_of(verb, first, second) {
-        Some(step) => step_told(alloc, core, step),
-        None => fact_told(alloc, core, verb, first),
+        Some(step) => step_reported(alloc, core, step),
+        None => fact_reported(alloc, core, verb, first),
     }
 }
 
-// Returns the number that a word spells, or 0 if there is no word.
-fn number(word: Option<&str>) -> Result<u64, Fail> {
+/// Returns the number that a word spells, or 0 if there is no word.
+pub fn number(word: Option<&str>) -> Result<u64, Fail> {
     match word {
         Some(word) => Ok(word.parse::<u64>()?),
         None => Ok(0),
@@ -147,7 +147,7 @@ fn play_line(alloc: Global, core: &mut Core, line: &str) -> Result<String, Fail>
     let verb = words.next().unwrap_or("");
     let first = number(words.next())?;
     let second = number(words.next())?;
-    line_told(
+    line_reported(
         alloc,
         core,
         verb,
@@ -161,8 +161,8 @@ pub fn played(alloc: Global, copies: u32, fault: Fault, script: &str) -> Result<
     let mut core = Core::new(alloc, copies, fault)?;
     let mut text = String::new(alloc);
     for line in script.split(';') {
-        let told = play_line(alloc, &mut core, line)?;
-        text.push_str(told.as_str())?;
+        let reported = play_line(alloc, &mut core, line)?;
+        text.push_str(reported.as_str())?;
         text.push_str("; ")?;
     }
     Ok(text)

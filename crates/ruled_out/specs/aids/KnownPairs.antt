@@ -4,8 +4,8 @@ use Rattle.std.specs.declared.cmp.Ordering.{Ordering}
 use Rattle.std.specs.Ordering.{nat_cmp, ordering_then}
 use Rattle.version_pair.specs.declared.pair.Pair.{Pair}
 use Rattle.version_pair.specs.PairOrder.{IsBelow}
-use Rattle.history.specs.declared.record.Rec.{Rec}
-use Rattle.ruled_out.specs.Told.{IsKnown, known_pairs}
+use Rattle.events.specs.declared.record.Rec.{Rec}
+use Rattle.ruled_out.specs.Reported.{IsKnown, known_pairs}
 use Rattle.ruled_out.specs.Positions.{IsNext, gap_of, version_of}
 use Rattle.ruled_out.specs.aids.Above.{IsAbove}
 

@@ -2,7 +2,7 @@
 use Rattle.std.specs.Prelude.{◌≤◌, ◌⊎◌, ◌↔◌, ℕ, List, Option, None}
 use Rattle.std.specs.BTreeSet.{BTreeSet}
 use Rattle.version_pair.specs.declared.pair.Pair.{Pair}
-use Rattle.history.specs.declared.record.Rec.{Rec}
+use Rattle.events.specs.declared.record.Rec.{Rec}
 use Rattle.ruled_out.specs.declared.possible.Possible.{Possible}
 use Rattle.ruled_out.specs.declared.versions.Versions.{Versions}
 use Rattle.ruled_out.specs.aids.Sets.{IsFrom, IsIn}

@@ -1,13 +1,13 @@
 -- The places of known pairs in their order, as the code keeps them.
 use Rattle.std.specs.Prelude.{◌≡◌, ◌+◌, ◌↔◌, ◌⊎◌, ℕ, Bool, IsTrue, List, Option, None, Some, MatchBool, slice_get, take}
 use Rattle.version_pair.specs.declared.pair.Pair.{Pair}
-use Rattle.history.specs.declared.record.Rec.{Rec}
+use Rattle.events.specs.declared.record.Rec.{Rec}
 use Rattle.ruled_out.specs.declared.known.Place.{Place}
 use Rattle.ruled_out.specs.declared.version.Version.{Version}
-use Rattle.ruled_out.specs.Told.{IsGone, IsKnown, known_pairs}
+use Rattle.ruled_out.specs.Reported.{IsGone, IsKnown, known_pairs}
 use Rattle.ruled_out.specs.Positions.{count_below, version_of}
 use Rattle.ruled_out.specs.aids.KnownPairs.{HasRoom}
-use Rattle.ruled_out.specs.aids.Versions.{untold, version_told}
+use Rattle.ruled_out.specs.aids.Versions.{unreported, version_reported}
 
 -- that many known pairs are below the pair, and it is known or isn't
 pub record IsPlaceOf (records : List Rec) (p : Pair) (place : Place) : Type 0 where
@@ -18,14 +18,14 @@ pub record IsPlaceOf (records : List Rec) (p : Pair) (place : Place) : Type 0 wh
 abbrev pub IsAmongFirst : List Pair → ℕ → Pair → Type 0
 IsAmongFirst pairs place p = (i : ℕ) × (slice_get (take place pairs) i ≡ Some p)
 
--- The pair at the index is equal to the one before it; or it is the first one, or the one before it is
--- another pair.
+-- If the result is true, the pair at the index is among those before it; if it is false, it differs from the
+-- one directly before it, if there is one.
 abbrev pub IsRepeated : List Pair → ℕ → Bool → Type 0
 IsRepeated pairs place result = MatchBool result ((p : Pair) → slice_get pairs place ≡ Some p → IsAmongFirst pairs place p)
     ((p v : Pair) (i : ℕ) → slice_get pairs place ≡ Some p → i + 1 ≡ place → slice_get pairs i ≡ Some v → (v ≡ p) → ⊥)
 
--- What holds of the pair at the index holds by the result, or by a pair before it; and what holds by the
--- result holds of the pair.
+-- If the result is n, P holds of the pair at the index and n. If P holds of them, the result is n, or the
+-- pair is among those before it as well.
 abbrev pub Gives : (Pair → ℕ → Type 0) → List Pair → ℕ → Option ℕ → Type 0
 Gives P pairs place result = (p : Pair) (n : ℕ) → slice_get pairs place ≡ Some p
     → (result ≡ Some n → P p n) × (P p n → (result ≡ Some n) ⊎ IsAmongFirst pairs place p)
@@ -46,4 +46,4 @@ RoomBehind records p n = HasRoom records (Some p) n
 abbrev pub IsVersionAt : List Rec → List Pair → ℕ → Option Version → Type 0
 IsVersionAt records pairs place None = (p : Pair) → slice_get pairs place ≡ Some p → IsAmongFirst pairs place p
 IsVersionAt records pairs place (Some x) = (p : Pair) → slice_get pairs place ≡ Some p
-    → (place ≡ count_below (known_pairs records) p) × (x ≡ version_told untold p records)
+    → (place ≡ count_below (known_pairs records) p) × (x ≡ version_reported unreported p records)

@@ -1,6 +1,6 @@
 -- Where there is room for an unknown pair.
 use Rattle.std.specs.Prelude.{◌≡◌, ◌↔◌, ℕ, List, None, Some, slice_get}
-use Rattle.history.specs.declared.record.Rec.{Rec}
+use Rattle.events.specs.declared.record.Rec.{Rec}
 use Rattle.ruled_out.specs.aids.Wild.{IsOffered}
 
 -- the position is one of the list

@@ -3,10 +3,10 @@ use Rattle.std.specs.Prelude.{◌≡◌, ◌<◌, ◌≤◌, ◌⊎◌, ◌↔�
 use Rattle.version_pair.specs.declared.pair.Pair.{Pair}
 use Rattle.version_pair.specs.PairOrder.{IsBelow}
 use Rattle.doc_register.specs.declared.reply.Reply.{Reply}
-use Rattle.history.specs.declared.record.Rec.{Rec}
+use Rattle.events.specs.declared.record.Rec.{Rec}
 use Rattle.ruled_out.specs.declared.walk.Walk.{Walk}
 use Rattle.ruled_out.specs.declared.walk.standing.Performed.{Performed}
-use Rattle.ruled_out.specs.Told.{IsKnown, IsToldOf}
+use Rattle.ruled_out.specs.Reported.{IsKnown, IsReportedOf}
 use Rattle.ruled_out.specs.Positions.{version_of}
 use Rattle.ruled_out.specs.Placings.{IsRuledOut, MayBeAbsent, MayBePresent, MayStand}
 use Rattle.ruled_out.specs.aids.Sets.{IsIn}
@@ -38,11 +38,11 @@ IsMetAt records write n = (b : Pair) → write.condition ≡ Some b → IsBelow 
 -- each known pair up to the position has a call that took it: the one that a reply names, or one that may
 -- have written it
 abbrev pub IsReachedBy : List Rec → List ℕ → ℕ → Type 0
-IsReachedBy records floors n = (v : Pair) → IsKnown records v → (¬ IsToldOf records v) → version_of records v ≤ n → IsWritten records floors v
+IsReachedBy records floors n = (v : Pair) → IsKnown records v → (¬ IsReportedOf records v) → version_of records v ≤ n → IsWritten records floors v
 
 -- a reply says which call took the pair, or one without a reply may have written it
 abbrev pub IsTaken : List Rec → List ℕ → Pair → Type 0
-IsTaken records floors v = IsToldOf records v ⊎ IsWritten records floors v
+IsTaken records floors v = IsReportedOf records v ⊎ IsWritten records floors v
 
 -- a call took each of the first known pairs, this many
 abbrev pub AreTaken : List Rec → Walk → ℕ → Type 0

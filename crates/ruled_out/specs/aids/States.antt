@@ -1,9 +1,9 @@
 -- What the walk knows between two events.
 use Rattle.std.specs.Prelude.{◌≡◌, ◌<◌, ◌⊎◌, ◌↔◌, ◌++◌, ◌∷◌, [], ℕ, List, Some, length, slice_get, slice_index_or}
 use Rattle.version_pair.specs.declared.pair.Pair.{Pair}
-use Rattle.history.specs.declared.record.Rec.{Rec}
+use Rattle.events.specs.declared.record.Rec.{Rec}
 use Rattle.ruled_out.specs.declared.walk.Walk.{Walk}
-use Rattle.ruled_out.specs.Told.{IsToldOf}
+use Rattle.ruled_out.specs.Reported.{IsReportedOf}
 use Rattle.ruled_out.specs.aids.Offers.{KeepsRooms}
 use Rattle.ruled_out.specs.aids.Sets.{IsIn}
 use Rattle.ruled_out.specs.aids.VersionsOf.{AreOf}
@@ -23,7 +23,7 @@ pub record Knows (records : List Rec) (floors : List ℕ) (walk : Walk) : Type 0
   pub present_rooms : KeepsRooms records walk.present
   pub writers : AreWriters records floors walk.writers
   pub settled : (j : ℕ) (v : Pair) → j < walk.settled → slice_get walk.versions.known.pairs.items j ≡ Some v
-      → IsToldOf records v ⊎ IsWritten records floors v
+      → IsReportedOf records v ⊎ IsWritten records floors v
 
 -- the walk knows that of the calls that were made so far
 abbrev pub IsAt : List Rec → Walk → Type 0

@@ -2,9 +2,9 @@
 use Rattle.std.specs.Prelude.{◌≡◌, ◌≤◌, ◌⊎◌, ℕ, List, Option, None, Some}
 use Rattle.version_pair.specs.declared.pair.Pair.{Pair}
 use Rattle.version_pair.specs.PairOrder.{IsBelow}
-use Rattle.history.specs.declared.record.Rec.{Rec}
+use Rattle.events.specs.declared.record.Rec.{Rec}
 use Rattle.ruled_out.specs.declared.versions.Versions.{Versions}
-use Rattle.ruled_out.specs.Told.{IsGone, IsKnown}
+use Rattle.ruled_out.specs.Reported.{IsGone, IsKnown}
 use Rattle.ruled_out.specs.Positions.{version_of}
 use Rattle.ruled_out.specs.aids.KnownPairs.{AreKnown}
 use Rattle.ruled_out.specs.aids.Rooms.{AreRooms}
@@ -12,7 +12,7 @@ use Rattle.ruled_out.specs.aids.Versions.{AreVersions}
 
 pub record AreOf (records : List Rec) (versions : Versions) : Type 0 where
   pub known : AreKnown records versions.known.pairs.items
-  pub told : AreVersions records versions.told.items
+  pub reported : AreVersions records versions.reported.items
   pub rooms : AreRooms records versions.rooms.items
 
 -- the position of a document that exists with the pair; none if the pair is unknown, or was that of a delete

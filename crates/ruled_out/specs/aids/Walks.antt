@@ -2,7 +2,7 @@
 -- it may have.
 use Rattle.std.specs.Prelude.{◌≡◌, ◌≤◌, ℕ, List, Some, slice_get}
 use Rattle.doc_register.specs.declared.reply.Reply.{Reply}
-use Rattle.history.specs.declared.record.Rec.{Rec}
+use Rattle.events.specs.declared.record.Rec.{Rec}
 use Rattle.ruled_out.specs.Placings.{IsPlacing, MayStand}
 
 -- the i-th call, c, was answered at the index y of the history

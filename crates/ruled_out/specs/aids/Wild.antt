@@ -6,8 +6,8 @@ use Rattle.version_pair.specs.declared.pair.Pair.{Pair}
 use Rattle.version_pair.specs.PairOrder.{IsBelow}
 use Rattle.doc_register.specs.declared.op.Op.TheVariants.{Delete}
 use Rattle.doc_register.specs.Register.{condition_of, value_of}
-use Rattle.history.specs.declared.record.Rec.{Rec}
-use Rattle.ruled_out.specs.Told.{IsFoundWith, IsGone, IsKnown}
+use Rattle.events.specs.declared.record.Rec.{Rec}
+use Rattle.ruled_out.specs.Reported.{IsFoundWith, IsGone, IsKnown}
 use Rattle.ruled_out.specs.aids.Sets.{IsIn}
 use Rattle.ruled_out.specs.Positions.{IsNext, gap_of, version_of}
 
@@ -41,12 +41,12 @@ pub record HasChanged (records : List Rec) (floors : List ℕ) (n : ℕ) (w : Re
   pub taken : HasTaken records floors w pair
 
 -- the set has the positions at which a document may be absent, by the replies alone
-abbrev pub IsToldAbsent : List Rec → BTreeSet ℕ → Type 0
-IsToldAbsent records set = (n : ℕ) → IsIn set n ↔ ((n ≡ 0) ⊎ ((v : Pair) × IsGone records v × (n ≡ version_of records v)))
+abbrev pub IsReportedAbsent : List Rec → BTreeSet ℕ → Type 0
+IsReportedAbsent records set = (n : ℕ) → IsIn set n ↔ ((n ≡ 0) ⊎ ((v : Pair) × IsGone records v × (n ≡ version_of records v)))
 
 -- the set has the positions at which it may exist, by the replies alone
-abbrev pub IsToldPresent : List Rec → BTreeSet ℕ → Type 0
-IsToldPresent records set = (n : ℕ) → IsIn set n ↔ ((v : Pair) × IsKnown records v × (¬ IsGone records v) × (n ≡ version_of records v))
+abbrev pub IsReportedPresent : List Rec → BTreeSet ℕ → Type 0
+IsReportedPresent records set = (n : ℕ) → IsIn set n ↔ ((v : Pair) × IsKnown records v × (¬ IsGone records v) × (n ≡ version_of records v))
 
 -- the document may be absent at the position
 abbrev pub IsAbsent : List Rec → List ℕ → ℕ → Type 0

@@ -4,9 +4,9 @@ use Rattle.std.specs.BTreeMap.{get}
 use Rattle.std.specs.Ordering.{nat_cmp}
 use Rattle.version_pair.specs.declared.pair.Pair.{Pair}
 use Rattle.doc_register.specs.Register.{condition_of, value_of}
-use Rattle.history.specs.declared.record.Rec.{Rec}
+use Rattle.events.specs.declared.record.Rec.{Rec}
 use Rattle.ruled_out.specs.declared.writers.Writers.{Writers}
-use Rattle.ruled_out.specs.Told.{IsFoundWith, IsKnown, known_pairs}
+use Rattle.ruled_out.specs.Reported.{IsFoundWith, IsKnown, known_pairs}
 use Rattle.ruled_out.specs.Positions.{count_below}
 use Rattle.ruled_out.specs.aids.Sets.{IsFrom}
 use Rattle.ruled_out.specs.aids.Wild.{HasTaken}

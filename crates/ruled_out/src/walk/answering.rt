@@ -2,9 +2,9 @@
 
 ghost use Rattle.std.specs.Prelude.{◌≡◌, ℕ, List, Some as Just, slice_get};
 ghost use Rattle.version_pair.specs.declared.pair.Pair.{Pair as Version};
-ghost use Rattle.history.specs.declared.record.Rec.{Rec as Record};
+ghost use Rattle.events.specs.declared.record.Rec.{Rec as Record};
 ghost use Rattle.doc_register.specs.declared.reply.Reply.{Reply as Answer};
-ghost use Rattle.ruled_out.specs.Told.{IsKnown};
+ghost use Rattle.ruled_out.specs.Reported.{IsKnown};
 ghost use Rattle.ruled_out.specs.Positions.{position_after};
 ghost use Rattle.ruled_out.specs.aids.States.{HasPassed, IsAt, KeepsFloors, floor_in};
 ghost use Rattle.ruled_out.specs.aids.Standing.{AnswersOrEnds, IsEarliestOf, IsRaised};
@@ -14,7 +14,7 @@ ghost use Rattle.ruled_out.specs.aids.Walks.{IsAnswerAt, IsWalked};
 
 use super::Walk;
 use doc_register::Reply;
-use history::Rec;
+use events::Rec;
 use version_pair::Pair;
 
 impl Walk {

@@ -1,8 +1,8 @@
 //! The position up to which each known pair has a call that took it.
 
 ghost use Rattle.std.specs.Prelude.{◌↔◌, List, IsTrue};
-ghost use Rattle.history.specs.declared.record.Rec.{Rec as Record};
-ghost use Rattle.ruled_out.specs.Told.{IsKnown};
+ghost use Rattle.events.specs.declared.record.Rec.{Rec as Record};
+ghost use Rattle.ruled_out.specs.Reported.{IsKnown};
 ghost use Rattle.ruled_out.specs.aids.States.{IsAt, KeepsFloors};
 ghost use Rattle.ruled_out.specs.aids.Standing.{AreTaken, IsReachedBy, IsTaken, IsUntaken};
 
@@ -15,7 +15,7 @@ impl Walk {
         ensures { (records : List Record) → IsAt records self.now → IsKnown records pair
             → (IsTrue result ↔ IsTaken records self.now.floors.items pair) }
     {
-        if self.versions.told_of(pair).told {
+        if self.versions.reported_of(pair).reported {
             return true;
         }
         self.writers.may_write(&self.versions, pair)

@@ -3,8 +3,8 @@
 ghost use Rattle.std.specs.Prelude.{◌≡◌, ◌↔◌, ℕ, List, Some as Just, IsTrue};
 ghost use Rattle.version_pair.specs.declared.pair.Pair.{Pair as Version};
 ghost use Rattle.doc_register.specs.Register.{condition_of};
-ghost use Rattle.history.specs.declared.record.Rec.{Rec as Record};
-ghost use Rattle.ruled_out.specs.Told.{IsKnown, IsListed};
+ghost use Rattle.events.specs.declared.record.Rec.{Rec as Record};
+ghost use Rattle.ruled_out.specs.Reported.{IsKnown, IsListed};
 ghost use Rattle.ruled_out.specs.Positions.{version_of};
 ghost use Rattle.ruled_out.specs.Placings.{MayAnswer, MayConflict, MayRefuse, MayWrite};
 ghost use Rattle.ruled_out.specs.aids.Sets.{IsLeastFrom};
@@ -13,7 +13,7 @@ ghost use Rattle.ruled_out.specs.aids.VersionsOf.{AreOf};
 
 use super::Walk;
 use doc_register::{Op, Reply};
-use history::Rec;
+use events::Rec;
 use version_pair::Pair;
 
 // A performed write: its condition and its pair, and whether its reply says that the document was absent

@@ -3,10 +3,11 @@
 use crate::tests::notation::same;
 use api_lines::lines::first_line;
 use api_lines::{ReadFault, TextFault};
+use places::Place;
 use std::alloc::Global;
 use std::test::Fail;
 use version_pair::DocId;
-use witness::{Place, WitnessReader, read_witness};
+use witness::{WitnessReader, read_witness};
 
 const BLANK_LINES: &str = "\n \t\r\n\n   ";
 
@@ -64,7 +65,7 @@ fn place_said(alloc: Global, place: Place) -> Result<String, Fail> {
 
 // Returns the documents of a text, or the first line that is refused with its cause. If memory is refused,
 // the test ends with an error.
-fn told(alloc: Global, text: &[u8]) -> Result<String, Fail> {
+fn reported(alloc: Global, text: &[u8]) -> Result<String, Fail> {
     match read_witness(alloc, text) {
         Ok(documents) => said(alloc, &documents),
         Err(ReadFault::Text(TextFault { line, cause })) => {
@@ -76,7 +77,7 @@ fn told(alloc: Global, text: &[u8]) -> Result<String, Fail> {
 
 // Returns what a reader reports of the lines of a text, handed over one by one: the documents, or the line
 // that is refused. An open bracket before each line is refused and changes nothing.
-fn told_by_line(alloc: Global, text: &str) -> Result<String, Fail> {
+fn reported_by_line(alloc: Global, text: &str) -> Result<String, Fail> {
     let mut reader = WitnessReader::new(alloc);
     let mut rest = text.as_bytes();
     for _ in 0..20 {
@@ -111,8 +112,8 @@ fn lines_give_what_their_text_gives(rt: HostRuntime) -> Result<(), Fail> {
         "{\"doc\":\"d\"}\n{\"rec\":0,\"seq\":1}\n",
         "\n \t\r\n{\"doc\":\"d\"}\n\n{\"rec\":-1}\n{\"rec\":",
     ] {
-        let want = told(rt.alloc(), text.as_bytes())?;
-        let got = told_by_line(rt.alloc(), text)?;
+        let want = reported(rt.alloc(), text.as_bytes())?;
+        let got = reported_by_line(rt.alloc(), text)?;
         same(text, got.as_str(), want.as_str())?;
     }
     Ok(())

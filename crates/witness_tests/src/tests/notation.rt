@@ -6,11 +6,11 @@
 //! 2.
 
 use doc_register::{Op, Reply};
-use history::Rec;
+use events::Rec;
+use places::Place;
 use std::alloc::Global;
 use std::test::Fail;
 use version_pair::Pair;
-use witness::Place;
 
 // Returns the number that a word spells; 0 if it is left out.
 fn number(word: Option<&str>) -> Result<u64, Fail> {

@@ -3,11 +3,11 @@ use Rattle.std.specs.Prelude.{◌≡◌, ℕ, ◌+◌, ◌<◌, ◌⊎◌, All, 
 use Rattle.doc_register.specs.declared.op.Op.{Op}
 use Rattle.doc_register.specs.declared.reply.Reply.{Reply as Answer}
 use Rattle.doc_register.specs.Register.{fits}
-use Rattle.history.specs.declared.event.Event.{Event}
-use Rattle.history.specs.declared.event.Event.TheVariants.{Call}
-use Rattle.history.specs.Refusal.{op_of as op_called}
+use Rattle.events.specs.declared.event.Event.{Event}
+use Rattle.events.specs.declared.event.Event.TheVariants.{Call}
+use Rattle.events.specs.Refusal.{op_of as op_called}
 use Rattle.recorder.specs.Pens.{IsRising, PenState, events_in, is_ended}
-use Rattle.workload.specs.ClientRuns.{IsClientRun, IsRunFrom, IsTurn, Known, after_ending, doc_name, ending_of, nothing_known, op_of}
+use Rattle.workload.specs.ClientRuns.{IsClientRun, IsRunFrom, IsTurn, LastPairs, after_ending, doc_name, ending_of, nothing_known, op_of}
 use Rattle.workload.specs.declared.open_call.OpenCall.{OpenCall}
 use Rattle.workload.specs.declared.run_fault.RunFault.{RunFault}
 use Rattle.workload.specs.declared.target.Progress.{Progress}
@@ -17,7 +17,7 @@ use Rattle.workload.specs.declared.turn.Turn.{Turn}
 
 -- The list is longer by the call of the turn, which is open: its ticket was issued for the operation of that
 -- turn.
-pub record BeginsTurn (issued : Ticket → List ℕ → Op → Type 0) (known : Known) (k : ℕ) (turn : Turn) (old new : List (ℕ × Event)) (call : OpenCall) : Type 0 where
+pub record BeginsTurn (issued : Ticket → List ℕ → Op → Type 0) (known : LastPairs) (k : ℕ) (turn : Turn) (old new : List (ℕ × Event)) (call : OpenCall) : Type 0 where
   pub grows : new ≡ old ++ (call.no, Call 0 call.no (doc_name turn.doc) (op_of turn.kind (known turn.doc) k)) ∷ []
   pub above : All (λ entry. entry.0 < call.no) old
   pub is_of : call.doc ≡ turn.doc
@@ -41,7 +41,7 @@ pub record IsMisheard (list : List (ℕ × Event)) (n : ℕ) (heard : Option Ans
 
 -- The list is longer by the ending of the open call of which this was heard, or nothing, and this is known
 -- after it.
-pub record EndsTurn (call : OpenCall) (heard : Option Answer) (known : Known) (old new : List (ℕ × Event)) (after : Known) : Type 0 where
+pub record EndsTurn (call : OpenCall) (heard : Option Answer) (known : LastPairs) (old new : List (ℕ × Event)) (after : LastPairs) : Type 0 where
   pub number : ℕ
   pub grows : new ≡ old ++ (number, ending_of call.no heard) ∷ []
   pub above : All (λ entry. entry.0 < number) old
@@ -54,7 +54,7 @@ module _ (issued : Ticket → List ℕ → Op → Type 0) (gave : Ticket → Pro
   IsHeard ticket (Some r) = gave ticket (Done r)
 
   -- The list is longer by what is recorded of the turn, and this is known after it.
-  pub record TakesTurn (known : Known) (k : ℕ) (turn : Turn) (old new : List (ℕ × Event)) (after : Known) : Type 0 where
+  pub record TakesTurn (known : LastPairs) (k : ℕ) (turn : Turn) (old new : List (ℕ × Event)) (after : LastPairs) : Type 0 where
     pub call : ℕ × Event
     pub ending : ℕ × Event
     pub grows : new ≡ old ++ call ∷ ending ∷ []
@@ -65,12 +65,12 @@ module _ (issued : Ticket → List ℕ → Op → Type 0) (gave : Ticket → Pro
 
   -- The entries are a run so far, of the first i turns: if what follows is a run of the turns that are left,
   -- the whole is one.
-  pub record IsFront (first : ℕ) (turns : List Turn) (i : ℕ) (known : Known) (entries : List (ℕ × Event)) : Type 0 where
+  pub record IsFront (first : ℕ) (turns : List Turn) (i : ℕ) (known : LastPairs) (entries : List (ℕ × Event)) : Type 0 where
     pub onward : (rest : List (ℕ × Event)) → IsRunFrom issued gave polls known (first + i) (drop i turns) rest
         → IsRunFrom issued gave polls nothing_known first turns (entries ++ rest)
 
   -- The list is longer by a run so far.
-  pub record IsLongerByFront (first : ℕ) (turns : List Turn) (i : ℕ) (known : Known) (old new : List (ℕ × Event)) : Type 0 where
+  pub record IsLongerByFront (first : ℕ) (turns : List Turn) (i : ℕ) (known : LastPairs) (old new : List (ℕ × Event)) : Type 0 where
     pub entries : List (ℕ × Event)
     pub grows : new ≡ old ++ entries
     pub front : IsFront first turns i known entries

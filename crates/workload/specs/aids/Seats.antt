@@ -1,9 +1,9 @@
 -- A client that is visited: its state between two visits, and what a visit does.
 use Rattle.std.specs.Prelude.{◌≡◌, ℕ, suc, ◌+◌, ◌-◌, ◌*◌, ◌<◌, Bool, true, false, List, [], Option, Some, None, All, length, slice_get, sum_by, take, unwrap_or}
 use Rattle.doc_register.specs.declared.op.Op.{Op}
-use Rattle.history.specs.declared.event.Event.{Event}
+use Rattle.events.specs.declared.event.Event.{Event}
 use Rattle.recorder.specs.Pens.{PenState}
-use Rattle.workload.specs.ClientRuns.{Known, nothing_known, pair_in}
+use Rattle.workload.specs.ClientRuns.{LastPairs, nothing_known, pair_in}
 use Rattle.workload.specs.Plans.{turn_at, turn_count}
 use Rattle.workload.specs.aids.Clients.{BeginsTurn, IsHeard, IsLongerByFront, IsOpenIn}
 use Rattle.workload.specs.declared.polled_call.PolledCall.{PolledCall}
@@ -80,7 +80,7 @@ module _ (issued : Ticket → List ℕ → Op → Type 0) (gave : Ticket → Pro
   module _ (polls : ℕ) where
     -- The last turn that was begun is open: the list is longer by a run of the turns before it, and by its
     -- call, which waited if it was polled.
-    pub record IsLongerByOpen (first : ℕ) (turns : List Turn) (begun : ℕ) (known : Known) (old new : List (ℕ × Event)) (polled : PolledCall) : Type 0 where
+    pub record IsLongerByOpen (first : ℕ) (turns : List Turn) (begun : ℕ) (known : LastPairs) (old new : List (ℕ × Event)) (polled : PolledCall) : Type 0 where
       pub place : ℕ
       pub is_last : begun ≡ place + 1
       pub turn : Turn
@@ -91,7 +91,7 @@ module _ (issued : Ticket → List ℕ → Op → Type 0) (gave : Ticket → Pro
       pub waited : polled.polls_left < polls → gave polled.call.ticket Waiting
 
     -- The list is longer by a run of the turns begun; the last of them is open if a call is.
-    abbrev pub IsLongerSoFar : ℕ → List Turn → ℕ → Known → List (ℕ × Event) → List (ℕ × Event) → Option PolledCall → Type 0
+    abbrev pub IsLongerSoFar : ℕ → List Turn → ℕ → LastPairs → List (ℕ × Event) → List (ℕ × Event) → Option PolledCall → Type 0
     IsLongerSoFar first turns begun known old new None = IsLongerByFront issued gave polls first turns begun known old new
     IsLongerSoFar first turns begun known old new (Some polled) = IsLongerByOpen first turns begun known old new polled
 

@@ -6,8 +6,8 @@ use Rattle.api_lines.proofs.given.given_unescaped_fields.Goals as goal
 pub returns-in-Ok : goal.returns-in-Ok
 returns-in-Ok c =
     let text = c.in-Ok.ensures.cases in
-    λ told.
-    let found = c.unescaped_fields.ensures told in (
+    λ reported.
+    let found = c.unescaped_fields.ensures reported in (
       found.0,
       c.is_given.ensures (grind arith) found.0 (json_value_is c.args.line.now found.0 (text.1, ap read (sym text.0) ∙ found.1)),
       found.2,

@@ -4,7 +4,7 @@ use Rattle.std.specs.Io.KnownBytes.{IsAtEnd, Keeps, prepend_known}
 use Rattle.std.proofs.KnownBytes.{prepend_known-nil}
 use Rattle.serde_json.specs.Data.{Data}
 use Rattle.api_lines.proofs.InputLemmas.{IsReadOn, next_counts, none_taken, on_all, on_end, on_kept, on_line, on_more, on_none, on_past_last, on_stop, on_stopped}
-use Rattle.api_lines.specs.Faults.{IfTextTold}
+use Rattle.api_lines.specs.Faults.{IfTextReported}
 use Rattle.api_lines.specs.Lines.{HasNoLineFeed, lines_of, most_lines}
 use Rattle.api_lines.specs.Texts.{SoFar, next_line, read_lines, so_far}
 use Rattle.api_lines.specs.declared.line_reader.RefusedLine.{RefusedLine}
@@ -36,8 +36,8 @@ returns-in_err-next_line-clause-taken g c =
     (g.L.LineReader.reached c.loop.reader) c.loop.invariant.read c.in_err-next_line.ensures.err (inl c.in_err-next_line.ensures.unfed)
     c.in_err-next_line.ensures.few (inr (omega (arith, c.loop-test.true, c.loop.invariant.count))) c.in_err-next_line.ensures.brought
 
-pub returns-then-not-branch-clause-told : goal.returns-then-not-branch-clause-told
-returns-then-not-branch-clause-told g c =
+pub returns-then-not-branch-clause-reported : goal.returns-then-not-branch-clause-reported
+returns-then-not-branch-clause-reported g c =
     on_all g.L.LineReader.takes (g.L.LineReader.reached c.args.reader.now).state (g.R.Read.remaining c.args.input.now)
     (prepend_known c.loop.chunk (g.R.Read.remaining c.loop.input)) (g.L.LineReader.reached c.loop.reader) c.loop.invariant.read
     (c.in_ok-next_line.ensures.end (ap (λ b. Ok b) c.if-not-branch.true)).0
@@ -58,15 +58,15 @@ returns-then-not-branch-clause-end g c =
 pub line-requires : goal.line-requires
 line-requires g c = subst HasNoLineFeed (sym c.deref.ensures.value) c.in_ok-next_line.ensures.unfed
 
-pub returns-in-Err-Text-clause-told : goal.returns-in-Err-Text-clause-told
-returns-in-Err-Text-clause-told g c =
-    let told : IfSome (g.R.Read.remaining c.args.input.now) (λ text. read_lines g.L.LineReader.takes 1 (g.L.LineReader.reached c.args.reader.now).state (lines_of text) ≡ Err c.in-Err-Text.fault) =
+pub returns-in-Err-Text-clause-reported : goal.returns-in-Err-Text-clause-reported
+returns-in-Err-Text-clause-reported g c =
+    let reported : IfSome (g.R.Read.remaining c.args.input.now) (λ text. read_lines g.L.LineReader.takes 1 (g.L.LineReader.reached c.args.reader.now).state (lines_of text) ≡ Err c.in-Err-Text.fault) =
     on_stop g.L.LineReader.takes (g.L.LineReader.reached c.args.reader.now).state (g.R.Read.remaining c.args.input.now)
     (prepend_known c.loop.chunk (g.R.Read.remaining c.loop.input)) (prepend_known c.next_line.new.chunk (g.R.Read.remaining c.next_line.new.reader))
     c.next_line.new.line.items (g.L.LineReader.reached c.loop.reader) (refusal.Text c.in-Err-Text.fault) c.loop.invariant.read c.in_ok-next_line.ensures.unfed
     (c.in_ok-next_line.ensures.more (ap (λ b. Ok b) c.if-not-branch.false))
     (subst (λ l. next_line g.L.LineReader.takes (g.L.LineReader.reached c.loop.reader) l ≡ Err c.in-Err-Text.fault) c.deref.ensures.value
-    (subst (λ f. IfTextTold f (λ told. next_line g.L.LineReader.takes (g.L.LineReader.reached c.loop.reader) c.deref.result.now ≡ Err told))
+    (subst (λ f. IfTextReported f (λ reported. next_line g.L.LineReader.takes (g.L.LineReader.reached c.loop.reader) c.deref.result.now ≡ Err reported))
     c.in-Err-Text.field-0-is c.in-Err-Text.ensures.fault)) in
     search (rules, c.in-Err-Text.fault-is)
 
@@ -100,25 +100,25 @@ loop-preserved g c =
           ∙ ap (λ n. n + 1) c.loop.invariant.count;
     }
 
--- what is told behind the most lines
-ends : {S U E : Type 0} (takes : S → Data → Result S TextCause) (start : S) (input old : Option (List ℕ)) (r : SoFar S) (told : Result (Result U RefusedLine) E)
-    → IsReadOn takes start input old r → r.lines ≡ most_lines → IfOk told (λ t. OnOk t (IsAtEnd old))
-    → IfOk told (λ t. IfErr t (λ refused. (refused.fault ≡ record { line = 4194305; cause = Lines }) × IfSome old (λ bytes. 0 < length bytes)))
-    → IfOk told (λ t. IfSome input (λ text. MatchResult t (λ _. read_lines takes 1 start (lines_of text) ≡ Ok r.state)
+-- what is reported behind the most lines
+ends : {S U E : Type 0} (takes : S → Data → Result S TextCause) (start : S) (input old : Option (List ℕ)) (r : SoFar S) (reported : Result (Result U RefusedLine) E)
+    → IsReadOn takes start input old r → r.lines ≡ most_lines → IfOk reported (λ t. OnOk t (IsAtEnd old))
+    → IfOk reported (λ t. IfErr t (λ refused. (refused.fault ≡ record { line = 4194305; cause = Lines }) × IfSome old (λ bytes. 0 < length bytes)))
+    → IfOk reported (λ t. IfSome input (λ text. MatchResult t (λ _. read_lines takes 1 start (lines_of text) ≡ Ok r.state)
     (λ refused. read_lines takes 1 start (lines_of text) ≡ Err refused.fault)))
 ends takes start input old r (Ok (Ok u)) before all end past = on_all takes start input old r before end
 ends takes start input old r (Ok (Err refused)) before all end past = on_past_last takes start input old r refused.fault before all past.0 past.1
 ends takes start input old r (Err fault) before all end past = tt
 
 ends_empty : {S U E : Type 0} (takes : S → Data → Result S TextCause) (start : S) (input old rest : Option (List ℕ)) (chunk : List ℕ) (r : SoFar S)
-    (told : Result (Result U RefusedLine) E)
-    → IsReadOn takes start input old r → Keeps old (prepend_known chunk rest) → IfOk told (λ t. OnOk t (IsAtEnd old)) → IfOk told (λ t. OnOk t (OnSome input (IsAtEnd rest)))
+    (reported : Result (Result U RefusedLine) E)
+    → IsReadOn takes start input old r → Keeps old (prepend_known chunk rest) → IfOk reported (λ t. OnOk t (IsAtEnd old)) → IfOk reported (λ t. OnOk t (OnSome input (IsAtEnd rest)))
 ends_empty takes start input old rest chunk r (Ok (Ok u)) before kept end = on_end takes start input old rest chunk r before end kept
 ends_empty takes start input old rest chunk r (Ok (Err refused)) before kept end = tt
 ends_empty takes start input old rest chunk r (Err fault) before kept end = tt
 
-pub returns-clause-told : goal.returns-clause-told
-returns-clause-told g c =
+pub returns-clause-reported : goal.returns-clause-reported
+returns-clause-reported g c =
     ends g.L.LineReader.takes (g.L.LineReader.reached c.args.reader.now).state (g.R.Read.remaining c.args.input.now)
     (prepend_known c.loop.chunk (g.R.Read.remaining c.loop.input)) (g.L.LineReader.reached c.loop.reader) c.end_of_lines.result c.loop.invariant.read
     (omega (arith, c.loop-test.false, c.loop.auto.counter-end, c.loop.invariant.count)) c.end_of_lines.ensures.end c.end_of_lines.ensures.past

@@ -1,7 +1,7 @@
 use Rattle.std.proofs.Common.{ℕ, ◌≡◌, ◌∙◌, Option, Some, ap, subst, sym}
 use Rattle.std.specs.Prelude.{◌↔◌}
 use Rattle.version_pair.proofs.ListLemmas.{none_is_not_some}
-use Rattle.history.specs.declared.event.Event.{Event}
+use Rattle.events.specs.declared.event.Event.{Event}
 use Rattle.evidence.proofs.CallsByNumber.{found_elsewhere}
 use Rattle.compose.specs.Certainties.{IsDocumentOf}
 use Rattle.compose.proofs.CertaintyLemmas.{document_of_call, no_document_of_call}

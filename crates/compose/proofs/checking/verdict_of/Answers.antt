@@ -1,5 +1,5 @@
 use Rattle.std.proofs.Common.{ap, length, refl, subst, sym, true}
-use Rattle.history.specs.Events.{documents_of}
+use Rattle.events.specs.Events.{documents_of}
 use Rattle.compose.specs.Covers.{HasNoUnpairedCover}
 use Rattle.compose.specs.Verdicts.{AreWitnesses, Proven}
 use Rattle.compose.specs.aids.Joined.{IsCovered}

@@ -1,6 +1,6 @@
 use Rattle.std.proofs.Common.{arith, ◌≡◌, ◌+◌, ◌≤◌, length, ap, sym, ◌∙◌, cond, Bool, true, false}
-use Rattle.history.specs.Events.{is_any_call}
-use Rattle.history.proofs.CountLemmas.{counted_all, counted_next}
+use Rattle.events.specs.Events.{is_any_call}
+use Rattle.events.proofs.CountLemmas.{counted_all, counted_next}
 use Rattle.compose.proofs.counts.count_calls.Goals as goal
 
 one_at_most : (b : Bool) → cond b 1 0 ≤ 1

@@ -1,6 +1,6 @@
 use Rattle.std.proofs.Common.{◌≡◌, ◌≤◌, length, take}
 use Rattle.std.specs.Prelude.{filter}
-use Rattle.history.specs.Events.{is_any_call}
+use Rattle.events.specs.Events.{is_any_call}
 use Rattle.compose.proofs.counts.count_calls.Given as goal
 
 abbrev pub invariant-loop-place : goal.invariant-loop-place

@@ -1,7 +1,7 @@
 use Rattle.std.proofs.Common.{arith, ◌≡◌, ◌+◌, ◌∙◌, ap, length, map, refl, sym, take, ◌≤◌}
 use Rattle.std.proofs.lemmas.List.{take_all}
 use Rattle.std.proofs.lemmas.Option.{slice_get_read}
-use Rattle.witness.specs.Documents.{witness_places}
+use Rattle.places.specs.Documents.{witness_places}
 use Rattle.compose.specs.Laws.{places_in}
 use Rattle.compose.proofs.FoundLemmas.{places_of_front, places_one_more}
 use Rattle.compose.proofs.counts.count_places.Goals as goal

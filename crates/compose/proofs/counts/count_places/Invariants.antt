@@ -1,5 +1,5 @@
 use Rattle.std.proofs.Common.{◌≡◌, map, take}
-use Rattle.witness.specs.Documents.{witness_places}
+use Rattle.places.specs.Documents.{witness_places}
 use Rattle.compose.specs.Laws.{places_in}
 use Rattle.compose.proofs.counts.count_places.Given as goal
 

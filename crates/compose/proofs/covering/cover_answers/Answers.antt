@@ -2,7 +2,7 @@ use Rattle.std.proofs.Common.{◌≡◌, subst, true, false}
 use Rattle.std.specs.Prelude.{IfSome, MatchOption, map}
 use Rattle.std.proofs.lemmas.Result.{IfOk-weaker}
 use Rattle.doc_register.specs.declared.state.Conflicts.{Conflicts}
-use Rattle.history.specs.Events.{documents_of}
+use Rattle.events.specs.Events.{documents_of}
 use Rattle.doc_check.specs.declared.search.DocAnswer.TheVariants.{Found}
 use Rattle.compose.specs.aids.Searched.{AreAnswersFor, AreSearched, HasLost}
 use Rattle.compose.proofs.CoveringLemmas.{covered_first}

@@ -1,6 +1,6 @@
 use Rattle.std.proofs.Common.{false, subst}
 use Rattle.std.proofs.lemmas.Result.{IfOk-weaker}
-use Rattle.history.specs.Events.{documents_of}
+use Rattle.events.specs.Events.{documents_of}
 use Rattle.compose.specs.aids.Joined.{IsJoined}
 use Rattle.compose.proofs.FoundLemmas.{alike_searched}
 use Rattle.compose.proofs.covering.cover_scarce.Goals as goal

@@ -1,5 +1,5 @@
 use Rattle.std.proofs.Common.{take, true}
-use Rattle.history.specs.Events.{documents_of}
+use Rattle.events.specs.Events.{documents_of}
 use Rattle.compose.specs.aids.Searched.{AreAnswersFor}
 use Rattle.compose.proofs.found.answers_found.Given as goal
 

@@ -1,4 +1,4 @@
-use Rattle.history.specs.Events.{documents_of}
+use Rattle.events.specs.Events.{documents_of}
 use Rattle.compose.proofs.FoundLemmas.{searched_anyway}
 use Rattle.compose.proofs.joined.renumbered.Goals as goal
 

@@ -13,5 +13,5 @@ returns-in-NotFound c =
       within = omega (arith, c.next_tried-at.ensures.below);
       fewer = omega (arith, c.next_tried-at.ensures.below, c.next_tried-at.ensures.from, c.requires.order);
       wrong = λ is p got. subst (IsWrongAt c.args.history.now) (same_some (slice_index_or c.args.places.now at 0) p (sym (slice_get-get_or c.args.places.now at 0 within) ∙ got))
-          (subst (IsWrongUnlessFound c.args.history.now _) c.in-NotFound.is c.in_ok-looked_to.ensures);
+          (subst (IsWrongUnlessFound c.args.history.now _) c.in-NotFound.is c.in_ok-search_outcome_to.ensures);
     }

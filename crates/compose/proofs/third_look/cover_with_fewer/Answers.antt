@@ -1,5 +1,5 @@
 use Rattle.std.proofs.Common.{false, subst}
-use Rattle.history.specs.Events.{documents_of}
+use Rattle.events.specs.Events.{documents_of}
 use Rattle.compose.specs.aids.Joined.{IsJoined}
 use Rattle.compose.proofs.FoundLemmas.{alike_searched}
 use Rattle.compose.proofs.third_look.cover_with_fewer.Goals as goal

@@ -1,6 +1,6 @@
 use Rattle.std.specs.Prelude.{false}
 use Rattle.doc_register.specs.declared.state.Conflicts.{Conflicts}
-use Rattle.history.specs.Events.{documents_of}
+use Rattle.events.specs.Events.{documents_of}
 use Rattle.compose.specs.aids.Searched.{AreSearched}
 use Rattle.compose.proofs.third_look.cover_with_fewer.Given as goal
 

@@ -1,4 +1,4 @@
-use Rattle.witness.specs.Documents.{doc_places}
+use Rattle.places.specs.Documents.{doc_places}
 use Rattle.std.proofs.Common.{map}
 use Rattle.compose.proofs.FaultLaws.{faulty_are_no_cover}
 use Rattle.compose.proofs.verification.verify.Goals as goal

@@ -1,7 +1,7 @@
 use Rattle.std.proofs.Common.{◌≡◌, ◌∙◌, ◌++◌, ◌∷◌, ◌+◌, [], ap, length, map, refl, subst, sym}
 use Rattle.std.proofs.lemmas.List.{length-append, length-map, map-append}
 use Rattle.std.proofs.lemmas.Result.{IfErr-weaker, IfOk-weaker}
-use Rattle.witness.specs.Documents.{doc_places}
+use Rattle.places.specs.Documents.{doc_places}
 use Rattle.compose.specs.VerifyFaults.{IsFirstVerifyFault}
 use Rattle.compose.specs.aids.Verified.{AreVerified}
 use Rattle.compose.proofs.VerifyLemmas.{first_of_entry}
@@ -51,5 +51,5 @@ returns-clause-fault c =
     let all = all_given c.loop-places.yielded c.loop-places.places-iterator.rest.items c.args.entries.items (sym c.loop-places.places-iterator.rest.ok.0 ∙ c.in-None.ensures.steps.0)
     c.loop-places.invariant.3 in
     IfErr-weaker c.covering.result _ _
-    (λ told wrong known. subst (λ es. IsFirstVerifyFault c.args.conflicts c.args.history.now es told) (ap (map doc_places) all) (wrong known (map doc_places c.loop-places.yielded) are))
+    (λ reported wrong known. subst (λ es. IsFirstVerifyFault c.args.conflicts c.args.history.now es reported) (ap (map doc_places) all) (wrong known (map doc_places c.loop-places.yielded) are))
     c.covering.ensures.fault

@@ -1,6 +1,6 @@
 use Rattle.std.proofs.Common.{◌≡◌, ◌++◌, length, map}
-use Rattle.history.specs.Events.{documents_of}
-use Rattle.witness.specs.Documents.{doc_places}
+use Rattle.events.specs.Events.{documents_of}
+use Rattle.places.specs.Documents.{doc_places}
 use Rattle.compose.specs.aids.Verified.{AreVerified}
 use Rattle.compose.proofs.verification.witnesses_of.Given as goal
 

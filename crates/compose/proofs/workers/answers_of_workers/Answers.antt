@@ -1,5 +1,5 @@
 use Rattle.std.proofs.lemmas.Result.{IfOk-weaker}
-use Rattle.history.specs.Events.{documents_of}
+use Rattle.events.specs.Events.{documents_of}
 use Rattle.compose.proofs.WorkerLemmas.{answers_for, jobs_count, workers_fault}
 use Rattle.compose.proofs.workers.answers_of_workers.Goals as goal
 

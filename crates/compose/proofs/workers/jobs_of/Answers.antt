@@ -1,6 +1,6 @@
 use Rattle.std.proofs.Common.{arith, ◌<◌, ◌∙◌, length, subst, sym, take, ◌≤◌}
 use Rattle.std.proofs.lemmas.List.{take_all}
-use Rattle.history.specs.Events.{documents_of}
+use Rattle.events.specs.Events.{documents_of}
 use Rattle.check_pool.proofs.JobLemmas.{AreNumbered-snoc}
 use Rattle.compose.specs.aids.Worked.{AreJobsFor}
 use Rattle.compose.proofs.WorkerLemmas.{jobs_one_more}

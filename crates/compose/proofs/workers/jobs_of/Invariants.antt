@@ -1,5 +1,5 @@
 use Rattle.std.proofs.Common.{◌≡◌, take, vec_len}
-use Rattle.history.specs.Events.{documents_of}
+use Rattle.events.specs.Events.{documents_of}
 use Rattle.check_pool.specs.Answers.{AreNumbered}
 use Rattle.compose.specs.aids.Worked.{AreJobsFor}
 use Rattle.compose.proofs.workers.jobs_of.Given as goal

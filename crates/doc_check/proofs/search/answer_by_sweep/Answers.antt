@@ -2,8 +2,8 @@ use Rattle.std.proofs.Common.{List, Option, Some, None, sym, subst, ◌≡◌, V
 use Rattle.std.specs.Prelude.{MatchOption}
 use Rattle.std.proofs.lemmas.Option.{MatchOption-at_none, MatchOption-at_some}
 use Rattle.doc_register.specs.declared.state.Conflicts.{Conflicts}
-use Rattle.history.specs.declared.record.Rec.{Rec}
-use Rattle.witness.specs.declared.place.Place.{Place}
+use Rattle.events.specs.declared.record.Rec.{Rec}
+use Rattle.places.specs.declared.place.Place.{Place}
 use Rattle.doc_check.specs.NoOrders.{AreUnpaired, HasNoOrder}
 use Rattle.doc_check.specs.aids.Checked.{IsChecked}
 use Rattle.doc_check.specs.aids.Sweep.{IsOfSweep}

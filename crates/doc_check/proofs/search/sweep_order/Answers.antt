@@ -1,7 +1,7 @@
 use Rattle.std.proofs.Common.{ℕ, List, sym, subst, ◌∙◌, Option, Vec, Global}
 use Rattle.std.proofs.lemmas.Bool.{false≢true}
 use Rattle.std.proofs.lemmas.Option.{MatchOption-at_none, MatchOption-at_some}
-use Rattle.witness.specs.declared.place.Place.{Place}
+use Rattle.places.specs.declared.place.Place.{Place}
 use Rattle.write_chain.specs.Chain.{Rises}
 use Rattle.doc_check.specs.aids.Order.{IsStretchOrder}
 use Rattle.doc_check.specs.aids.Sweep.{AreGiven, AreSpread}

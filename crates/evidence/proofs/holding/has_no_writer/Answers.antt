@@ -1,6 +1,6 @@
 use Rattle.std.proofs.Common.{◌<◌, arith, true≢false, sym, subst, length}
 use Rattle.evidence.specs.aids.AnsweredCalls.{IsFoundAs}
-use Rattle.evidence.proofs.EvidenceLemmas.{get_within, no_writer_told, of_document, reply_within}
+use Rattle.evidence.proofs.EvidenceLemmas.{get_within, no_writer_reported, of_document, reply_within}
 use Rattle.evidence.proofs.holding.has_no_writer.Goals as goal
 
 pub is_without_writer-requires-clause-get : goal.is_without_writer-requires-clause-get
@@ -14,9 +14,9 @@ pub returns-in-Some : goal.returns-in-Some
 returns-in-Some c =
     let get = c.in-Some.found in
     let x = c.in-Some.ensures in
-    let told = no_writer_told c.args.conflicts c.args.history.now c.args.get get c.requires x in
+    let reported = no_writer_reported c.args.conflicts c.args.history.now c.args.get get c.requires x in
     let is = c.is_without_writer.ensures x.doc (of_document c.args.history.now get.called c.args.get x.shard x.doc x.op x.call) in
-    (λ holds. told.0 (is.0 holds), λ evidence. is.1 (told.1 evidence))
+    (λ holds. reported.0 (is.0 holds), λ evidence. is.1 (reported.1 evidence))
 
 pub returns-in-None : goal.returns-in-None
 returns-in-None c = (

@@ -1,6 +1,6 @@
 use Rattle.std.proofs.Common.{true≢false, sym, subst}
 use Rattle.evidence.specs.aids.AnsweredCalls.{IsPerformedAs}
-use Rattle.evidence.proofs.EvidenceLemmas.{twice_told}
+use Rattle.evidence.proofs.EvidenceLemmas.{twice_reported}
 use Rattle.evidence.proofs.holding.is_pair_twice.Goals as goal
 
 pub returns-in_default : goal.returns-in_default
@@ -17,6 +17,6 @@ returns-in_default-performed_write c = (
 
 pub returns : goal.returns
 returns c =
-    let told = twice_told c.args.history.now c.args.one c.args.two c.in-Some.first c.in-Some-performed_write.second c.requires c.in-Some.ensures c.in-Some-performed_write.ensures
+    let reported = twice_reported c.args.history.now c.args.one c.args.two c.in-Some.first c.in-Some-performed_write.second c.requires c.in-Some.ensures c.in-Some-performed_write.ensures
     c.if-one-two.false in
-    (λ holds. told.0 (c.take_one_pair.ensures.0 holds), λ twice. c.take_one_pair.ensures.1 (told.1 twice))
+    (λ holds. reported.0 (c.take_one_pair.ensures.0 holds), λ twice. c.take_one_pair.ensures.1 (reported.1 twice))

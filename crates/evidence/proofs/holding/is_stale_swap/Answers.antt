@@ -1,6 +1,6 @@
 use Rattle.std.proofs.Common.{◌∙◌, true≢false, sym, subst}
 use Rattle.evidence.specs.aids.AnsweredCalls.{IsPerformedAs}
-use Rattle.evidence.proofs.EvidenceLemmas.{of_document, stale_swap_told, write_within}
+use Rattle.evidence.proofs.EvidenceLemmas.{of_document, stale_swap_reported, write_within}
 use Rattle.evidence.proofs.holding.is_stale_swap.Goals as goal
 
 pub returns-in_default : goal.returns-in_default
@@ -26,14 +26,14 @@ returns-then-asks_too_little c =
     let events = c.args.history.now in
     let first = c.in-Some.first in
     let x = c.in-Some.ensures in
-    let told = stale_swap_told events c.args.one c.args.two first c.in-Some-performed_write.second c.requires x c.in-Some-performed_write.ensures c.if-one-two.false in
+    let reported = stale_swap_reported events c.args.one c.args.two first c.in-Some-performed_write.second c.requires x c.in-Some-performed_write.ensures c.if-one-two.false in
     let same = c.are_of_one_document.ensures x.doc (of_document events first.called c.args.one first.shard x.doc first.op x.call) in
-    (λ holds. told.0 (c.asks_too_little.ensures.0 c.if-asks_too_little.true, same.0 holds), λ stale. same.1 (told.1 stale).1)
+    (λ holds. reported.0 (c.asks_too_little.ensures.0 c.if-asks_too_little.true, same.0 holds), λ stale. same.1 (reported.1 stale).1)
 
 pub returns-else-asks_too_little : goal.returns-else-asks_too_little
 returns-else-asks_too_little c =
-    let told = stale_swap_told c.args.history.now c.args.one c.args.two c.in-Some.first c.in-Some-performed_write.second c.requires c.in-Some.ensures c.in-Some-performed_write.ensures
+    let reported = stale_swap_reported c.args.history.now c.args.one c.args.two c.in-Some.first c.in-Some-performed_write.second c.requires c.in-Some.ensures c.in-Some-performed_write.ensures
     c.if-one-two.false in (
       λ holds. absurd (true≢false (sym holds ∙ c.if-asks_too_little.false)),
-      λ stale. c.asks_too_little.ensures.1 (told.1 stale).0,
+      λ stale. c.asks_too_little.ensures.1 (reported.1 stale).0,
     )

@@ -1,5 +1,5 @@
 use Rattle.std.proofs.Common.{◌<◌, List, ℕ}
-use Rattle.history.specs.Events.{PassesAt, is_call_of}
+use Rattle.events.specs.Events.{PassesAt, is_call_of}
 use Rattle.evidence.specs.Evidence.{IsWriter}
 use Rattle.evidence.proofs.holding.is_without_writer.Given as goal
 

@@ -1,6 +1,6 @@
 use Rattle.std.proofs.Common.{◌≡◌, ◌<◌, ◌∙◌, inl, inr, arith, length, refl, sym, subst, true≢false, Some}
 use Rattle.std.proofs.lemmas.Bool.{cases_lt}
-use Rattle.history.specs.Events.{documents_of}
+use Rattle.events.specs.Events.{documents_of}
 use Rattle.ruled_out.proofs.StandLemmas.{option_is, option_not}
 use Rattle.evidence.specs.aids.RuledOutCalls.{IsRuledOutDocument}
 use Rattle.evidence.proofs.RuledOutLemmas.{doc_within, found_call, only_call}

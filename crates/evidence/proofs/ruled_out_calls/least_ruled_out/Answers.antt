@@ -1,6 +1,6 @@
 use Rattle.std.proofs.Common.{ℕ, ◌≡◌, ◌<◌, ◌≤◌, Some, arith, length, slice_get, slice_index_or}
 use Rattle.std.proofs.lemmas.Option.{slice_get-get_or}
-use Rattle.history.specs.Events.{documents_of}
+use Rattle.events.specs.Events.{documents_of}
 use Rattle.evidence.proofs.RuledOutLemmas.{all_documents, one_more}
 use Rattle.evidence.proofs.ruled_out_calls.least_ruled_out.Goals as goal
 

@@ -1,7 +1,7 @@
 use Rattle.std.proofs.Common.{List, ℕ, Option, None, Some, ◌≡◌, rules, Ok, IfSome}
 use Rattle.history.specs.Reading.{history_text}
 use Rattle.history.specs.Text.{IsHistoryText}
-use Rattle.history.specs.declared.event.Event.{Event}
+use Rattle.events.specs.declared.event.Event.{Event}
 use Rattle.history.proofs.TextLaws.{read_is_text}
 use Rattle.history.proofs.history_input.read_from.Goals as goal
 

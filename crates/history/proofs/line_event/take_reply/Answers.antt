@@ -1,14 +1,14 @@
 use Rattle.std.proofs.Common.{◌≡◌, Err, subst, sym}
-use Rattle.api_lines.specs.Faults.{IfTold}
+use Rattle.api_lines.specs.Faults.{IfReported}
 use Rattle.api_lines.specs.Fields.{body_seen}
 use Rattle.history.specs.aids.Taking.{takes_reply}
-use Rattle.history.proofs.OpenCalls.{open_within}
+use Rattle.events.proofs.OpenCalls.{open_within}
 use Rattle.history.proofs.TextReading.{answer_refused, reply_closed}
 use Rattle.history.proofs.line_event.take_reply.Goals as goal
 
 pub returns-in-Err-clause-err : goal.returns-in-Err-clause-err
 returns-in-Err-clause-err c =
-    subst (λ f. IfTold f (λ cause. takes_reply c.args.history.now c.args.no c.args.status (body_seen c.args.body.now) ≡ Err cause)) (sym c.from.ensures)
+    subst (λ f. IfReported f (λ cause. takes_reply c.args.history.now c.args.no c.args.status (body_seen c.args.body.now) ≡ Err cause)) (sym c.line_fault.ensures)
     (reply_closed c.args.history.now c.args.no c.args.status (body_seen c.args.body.now) c.in-Err.fault (sym c.in-Err.ensures))
 
 pub event-requires : goal.event-requires

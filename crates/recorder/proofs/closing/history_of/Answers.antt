@@ -3,9 +3,9 @@ use Rattle.std.proofs.lemmas.Iterator.Adapters.{YieldsList-from_vec}
 use Rattle.std.proofs.lemmas.Iterator.Consumers.{YieldsList-so_far, YieldsList-turn}
 use Rattle.std.proofs.lemmas.List.{map-id}
 use Rattle.std.proofs.lemmas.Option.{slice_get-get_or}
-use Rattle.history.specs.Refusal.{refusal_of}
-use Rattle.history.proofs.PlaceLemmas.{only_memory}
-use Rattle.recorder.proofs.RefusalLemmas.{told_fault}
+use Rattle.events.specs.Refusal.{refusal_of}
+use Rattle.events.proofs.PlaceLemmas.{only_memory}
+use Rattle.recorder.proofs.RefusalLemmas.{reported_fault}
 use Rattle.recorder.proofs.closing.history_of.Goals as goal
 
 pub returns-in_err-push-clause-accepted : goal.returns-in_err-push-clause-accepted
@@ -21,5 +21,5 @@ returns-in_err-push-clause-accepted c accepted =
     let so_far : l.history ≡ take (length l.yielded) all = l.invariant ∙ sym (map-id l.yielded) ∙ YieldsList-so_far lists l.yielded l.event-iterator l.yielded_by in
     let fault = c.in_err-push.field-0.0 in
     let memory = only_memory fault (c.in_err-push.ensures.reason ∙ (ap (λ es. refusal_of es event) so_far ∙ accepted (length l.yielded) event at)) in
-    let told : IfErr c.from_residual.result (λ f. f ≡ fault) = search rules in
-    told_fault c.from_residual.result fault _ memory told
+    let reported : IfErr c.from_residual.result (λ f. f ≡ fault) = search rules in
+    reported_fault c.from_residual.result fault _ memory reported

@@ -2,8 +2,8 @@ use Rattle.std.proofs.Common.{rules, ◌≡◌, ◌<◌, ◌∷◌, Some, length
 use Rattle.std.specs.List.{enumerate_from}
 use Rattle.std.specs.List.Sorted.{IsPermutation}
 use Rattle.std.proofs.lemmas.Option.{slice_get_read}
-use Rattle.history.specs.declared.event.Event.{Event}
-use Rattle.history.specs.Events.{HasShard}
+use Rattle.events.specs.declared.event.Event.{Event}
+use Rattle.events.specs.Events.{HasShard}
 use Rattle.recorder.specs.Recordings.{entries_of}
 use Rattle.recorder.proofs.DenseLemmas.{AreLeft, left_after_one, next_there, none_past_most}
 use Rattle.recorder.proofs.FoundLemmas.{left_of_recording, own_event}

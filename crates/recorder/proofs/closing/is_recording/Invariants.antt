@@ -1,8 +1,8 @@
 use Rattle.std.proofs.Common.{◌++◌, ℕ, ◌<◌, All, get_or, length, take}
 use Rattle.std.specs.List.{enumerate_from}
 use Rattle.std.specs.List.Sorted.{IsPermutation}
-use Rattle.history.specs.declared.event.Event.{Event}
-use Rattle.history.specs.Events.{HasShard}
+use Rattle.events.specs.declared.event.Event.{Event}
+use Rattle.events.specs.Events.{HasShard}
 use Rattle.recorder.specs.Pens.{IsRising}
 use Rattle.recorder.specs.Recordings.{entries_of}
 use Rattle.recorder.proofs.DenseLemmas.{AreLeft}

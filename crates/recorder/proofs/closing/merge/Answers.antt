@@ -2,7 +2,7 @@ use Rattle.std.proofs.Common.{rules, ◌++◌, ◌≤◌, length, subst, sym, Al
 use Rattle.std.specs.List.{enumerate_from}
 use Rattle.std.specs.List.Sorted.{IsPermutation}
 use Rattle.std.proofs.lemmas.List.Elements.{All-push}
-use Rattle.history.specs.Events.{HasShard}
+use Rattle.events.specs.Events.{HasShard}
 use Rattle.recorder.specs.Recordings.{entries_of}
 use Rattle.recorder.proofs.DenseLemmas.{left_after_one, none_left, none_past_most}
 use Rattle.recorder.proofs.MergeLemmas.{all_met, merged_one_more}

@@ -1,7 +1,7 @@
 use Rattle.std.proofs.Common.{◌≡◌, ◌++◌, All, length}
 use Rattle.std.specs.List.{enumerate_from}
 use Rattle.std.specs.List.Sorted.{IsPermutation}
-use Rattle.history.specs.Events.{HasShard}
+use Rattle.events.specs.Events.{HasShard}
 use Rattle.recorder.specs.Pens.{IsRising}
 use Rattle.recorder.specs.Recordings.{entries_of}
 use Rattle.recorder.proofs.DenseLemmas.{AreLeft}

@@ -10,13 +10,13 @@ pub returns-in_ok-line-in-Some-clause-answers : goal.returns-in_ok-line-in-Some-
 returns-in_ok-line-in-Some-clause-answers c = λ input is_text.
     let H = c.args.case.now.events in
     let conflicts = c.args.case.now.conflicts in
-    let told = c.in-Some.evidence in
-    let holds : Holds conflicts H told = subst (λ found. IfSome found (Holds conflicts H)) c.in-Some.is c.in_ok-evidence.ensures.holds in
-    let reported : IsReported c.args.ruling_out conflicts H told = subst (λ found. IfSome found (IsReported c.args.ruling_out conflicts H)) c.in-Some.is c.in_ok-evidence.ensures.reported in
+    let reported = c.in-Some.evidence in
+    let holds : Holds conflicts H reported = subst (λ found. IfSome found (Holds conflicts H)) c.in-Some.is c.in_ok-evidence.ensures.holds in
+    let reportable : IsReported c.args.ruling_out conflicts H reported = subst (λ found. IfSome found (IsReported c.args.ruling_out conflicts H)) c.in-Some.is c.in_ok-evidence.ensures.reportable in
     let answer = c.of.result in
-    let line : answer.text.items ≡ refuted_line told c.in_ok-offence.offence = search rules in
-    is_refuted c.args.ruling_out conflicts input H answer.status answer.text.items told c.in_ok-offence.offence c.of.ensures.status line is_text
-    c.history.ensures.none c.in_ok-offence.ensures holds reported (c.evidence_refutes.ensures conflicts H told c.history.ensures.history holds)
+    let line : answer.text.items ≡ refuted_line reported c.in_ok-offence.offence = search rules in
+    is_refuted c.args.ruling_out conflicts input H answer.status answer.text.items reported c.in_ok-offence.offence c.of.ensures.status line is_text
+    c.history.ensures.none c.in_ok-offence.ensures holds reportable (c.evidence_refutes.ensures conflicts H reported c.history.ensures.history holds)
 
 pub returns-in_ok-line-in-None-clause-answers : goal.returns-in_ok-line-in-None-clause-answers
 returns-in_ok-line-in-None-clause-answers c = λ input is_text.
@@ -29,13 +29,13 @@ pub returns-in_ok-line-in-Some-clause-failing : goal.returns-in_ok-line-in-Some-
 returns-in_ok-line-in-Some-clause-failing c =
     let H = c.args.case.now.events in
     let conflicts = c.args.case.now.conflicts in
-    let told = c.in-Some.evidence in
-    let holds : Holds conflicts H told = subst (λ found. IfSome found (Holds conflicts H)) c.in-Some.is c.in_ok-evidence.ensures.holds in
-    let reported : IsReported c.args.ruling_out conflicts H told = subst (λ found. IfSome found (IsReported c.args.ruling_out conflicts H)) c.in-Some.is c.in_ok-evidence.ensures.reported in
+    let reported = c.in-Some.evidence in
+    let holds : Holds conflicts H reported = subst (λ found. IfSome found (Holds conflicts H)) c.in-Some.is c.in_ok-evidence.ensures.holds in
+    let reportable : IsReported c.args.ruling_out conflicts H reported = subst (λ found. IfSome found (IsReported c.args.ruling_out conflicts H)) c.in-Some.is c.in_ok-evidence.ensures.reportable in
     let answer = c.of.result in
-    let line : answer.text.items ≡ refuted_line told c.in_ok-offence.offence = search rules in
+    let line : answer.text.items ≡ refuted_line reported c.in_ok-offence.offence = search rules in
     subst (λ found. SaysFailing c.args.ruling_out conflicts H answer.status answer.text.items c.in_ok-offence.offence found) (sym c.in-Some.is)
-    (c.of.ensures.status, line, holds, reported)
+    (c.of.ensures.status, line, holds, reportable)
 
 pub returns-in_ok-line-in-None-clause-failing : goal.returns-in_ok-line-in-None-clause-failing
 returns-in_ok-line-in-None-clause-failing c =

@@ -8,11 +8,11 @@ use Rattle.report.proofs.check_answer.check_answer.Goals as goal
 pub returns-in_ok-answer-in-Ok-clause-answer : goal.returns-in_ok-answer-in-Ok-clause-answer
 returns-in_ok-answer-in-Ok-clause-answer g c =
     let input = g.R.Read.remaining c.args.reader.now in
-    let read = subst (λ told. IfSome input (λ text. IfOk told (IsHistoryText text))) c.in-Ok.is c.in_ok-history.ensures.text in
+    let read = subst (λ reported. IfSome input (λ text. IfOk reported (IsHistoryText text))) c.in-Ok.is c.in_ok-history.ensures.text in
     IfSome_then input read (λ text is. c.in_ok-answer-in-Ok.ensures.answer text is)
 
 pub returns-in_ok-refusal-in-Err-clause-answer : goal.returns-in_ok-refusal-in-Err-clause-answer
 returns-in_ok-refusal-in-Err-clause-answer g c =
     let input = g.R.Read.remaining c.args.reader.now in
-    let read = subst (λ told. IfSome input (λ text. MatchResult told (λ h. history_text text ≡ Ok h) (λ f. history_text text ≡ Err f))) c.in-Err.is c.in_ok-history.ensures.told in
-    IfSome_then input read (λ text told. c.in_ok-refusal-in-Err.ensures.answers c.args.ruling_out c.args.conflicts text told)
+    let read = subst (λ reported. IfSome input (λ text. MatchResult reported (λ h. history_text text ≡ Ok h) (λ f. history_text text ≡ Err f))) c.in-Err.is c.in_ok-history.ensures.reported in
+    IfSome_then input read (λ text reported. c.in_ok-refusal-in-Err.ensures.answers c.args.ruling_out c.args.conflicts text reported)

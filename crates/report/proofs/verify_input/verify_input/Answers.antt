@@ -11,15 +11,15 @@ use Rattle.report.proofs.verify_input.verify_input.Goals as goal
 pub returns-in-Ok-clause-answer : goal.returns-in-Ok-clause-answer
 returns-in-Ok-clause-answer g c =
     let input = g.R.Read.remaining c.args.history.now in
-    let read = subst (λ told. IfSome input (λ text. IfOk told (IsHistoryText text))) c.in-Ok.is c.in_ok-found.ensures.text in
+    let read = subst (λ reported. IfSome input (λ text. IfOk reported (IsHistoryText text))) c.in-Ok.is c.in_ok-found.ensures.text in
     IfOk-weaker c.read_witness_answer.result _ _ (λ answer each. IfSome_then input read each) c.read_witness_answer.ensures.answer
 
 pub returns-in_ok-refused_history-in-Err-clause-answer : goal.returns-in_ok-refused_history-in-Err-clause-answer
 returns-in_ok-refused_history-in-Err-clause-answer g c =
     let input = g.R.Read.remaining c.args.history.now in
-    let read = subst (λ told. IfSome input (λ text. MatchResult told (λ h. history_text text ≡ Ok h) (λ f. history_text text ≡ Err f))) c.in-Err.is c.in_ok-found.ensures.told in
-    IfSome_then input read (λ history told.
-    if_any (g.Q.Read.remaining c.args.witness.now) (λ witness. c.in_ok-refused_history-in-Err.ensures.answers c.args.conflicts history witness told))
+    let read = subst (λ reported. IfSome input (λ text. MatchResult reported (λ h. history_text text ≡ Ok h) (λ f. history_text text ≡ Err f))) c.in-Err.is c.in_ok-found.ensures.reported in
+    IfSome_then input read (λ history reported.
+    if_any (g.Q.Read.remaining c.args.witness.now) (λ witness. c.in_ok-refused_history-in-Err.ensures.answers c.args.conflicts history witness reported))
 
 -- where the history is refused, or was not had, the witness isn't asked for
 
@@ -37,14 +37,14 @@ returns-in_err-found-clause-witness_taken g c = witness_unasked (g.Q.Read.remain
 pub returns-in-Ok-clause-unread : goal.returns-in-Ok-clause-unread
 returns-in-Ok-clause-unread g c =
     let input = g.R.Read.remaining c.args.history.now in
-    let read = subst (λ told. IfSome input (λ text. MatchResult told (λ h. history_text text ≡ Ok h) (λ f. history_text text ≡ Err f))) c.in-Ok.is c.in_ok-found.ensures.told in
-    IfSome_then input read (λ history is told refused. cc)
+    let read = subst (λ reported. IfSome input (λ text. MatchResult reported (λ h. history_text text ≡ Ok h) (λ f. history_text text ≡ Err f))) c.in-Ok.is c.in_ok-found.ensures.reported in
+    IfSome_then input read (λ history is reported refused. cc)
 
 pub returns-in_err-refused_history-in-Err-clause-unread : goal.returns-in_err-refused_history-in-Err-clause-unread
-returns-in_err-refused_history-in-Err-clause-unread g c = if_any (g.R.Read.remaining c.args.history.now) (λ history told refused. refl)
+returns-in_err-refused_history-in-Err-clause-unread g c = if_any (g.R.Read.remaining c.args.history.now) (λ history reported refused. refl)
 
 pub returns-in_ok-refused_history-in-Err-clause-unread : goal.returns-in_ok-refused_history-in-Err-clause-unread
-returns-in_ok-refused_history-in-Err-clause-unread g c = if_any (g.R.Read.remaining c.args.history.now) (λ history told refused. refl)
+returns-in_ok-refused_history-in-Err-clause-unread g c = if_any (g.R.Read.remaining c.args.history.now) (λ history reported refused. refl)
 
 pub returns-in_err-found-clause-unread : goal.returns-in_err-found-clause-unread
-returns-in_err-found-clause-unread g c = if_any (g.R.Read.remaining c.args.history.now) (λ history told refused. refl)
+returns-in_err-found-clause-unread g c = if_any (g.R.Read.remaining c.args.history.now) (λ history reported refused. refl)

@@ -1,5 +1,5 @@
 use Rattle.std.proofs.Common.{◌≡◌, Ok, map, subst}
-use Rattle.witness.specs.Documents.{witness_places}
+use Rattle.places.specs.Documents.{witness_places}
 use Rattle.witness.specs.Text.{AreWithinLimits, witness_text}
 use Rattle.compose.specs.Checked.{IsVerdictOn}
 use Rattle.compose.specs.declared.checking.Verdict.TheVariants.{Yes}

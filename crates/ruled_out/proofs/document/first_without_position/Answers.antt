@@ -1,6 +1,6 @@
 use Rattle.std.proofs.Common.{◌≡◌, ℕ, refl, sym, subst, ◌∙◌, Some, slice_get, slice_index_or}
 use Rattle.std.proofs.lemmas.Option.{slice_get-get_or, slice_get_read}
-use Rattle.history.specs.declared.record.Rec.{Rec}
+use Rattle.events.specs.declared.record.Rec.{Rec}
 use Rattle.version_pair.proofs.ListLemmas.{same_some}
 use Rattle.ruled_out.specs.aids.Standing.{AnswersOrEnds}
 use Rattle.ruled_out.specs.aids.Walks.{IsAnswerAt}
@@ -9,7 +9,7 @@ use Rattle.ruled_out.proofs.ReplyOrder.{entry_answered}
 use Rattle.ruled_out.proofs.document.first_without_position.Goals as goal
 
 pub loop-answer-init : goal.loop-answer-init
-loop-answer-init c = walked_start c.args.told.now c.args.answers.now c.args.walk.now c.requires.known c.requires.start.0 c.requires.start.1
+loop-answer-init c = walked_start c.args.reported.now c.args.answers.now c.args.walk.now c.requires.known c.requires.start.0 c.requires.start.1
 
 pub returns-in_default : goal.returns-in_default
 returns-in_default c =
@@ -17,43 +17,43 @@ returns-in_default c =
     let i = c.loop-answer.answer-index in
     let a : ℕ × ℕ = slice_index_or answers i (0, 0) in
     let at : slice_get answers i ≡ Some a = slice_get-get_or answers i (0, 0) c.loop-answer-test.true in
-    let e = entry_answered c.args.told.now answers i a c.requires.sorted at in
-    absurd (get_none c.args.told.now a.1 c.get.result e.0 c.get.ensures.lookup c.in_default.not-Some e.2.at)
+    let e = entry_answered c.args.reported.now answers i a c.requires.sorted at in
+    absurd (get_none c.args.reported.now a.1 c.get.result e.0 c.get.ensures.lookup c.in_default.not-Some e.2.at)
 
 pub returns-then-not-answer : goal.returns-then-not-answer
 returns-then-not-answer c =
-    let told = c.args.told.now in
+    let reported = c.args.reported.now in
     let answers = c.args.answers.now in
     let i = c.loop-answer.answer-index in
     let a : ℕ × ℕ = slice_index_or answers i (0, 0) in
     let at : slice_get answers i ≡ Some a = slice_get-get_or answers i (0, 0) c.loop-answer-test.true in
-    let e = entry_answered told answers i a c.requires.sorted at in
+    let e = entry_answered reported answers i a c.requires.sorted at in
     let call = c.in-Some.call.now in
-    let there : slice_get told a.1 ≡ Some call = slice_get_read told _ a.1 call refl c.in-Some.ensures.lookup.3.0 c.in-Some.ensures.lookup.1 in
+    let there : slice_get reported a.1 ≡ Some call = slice_get_read reported _ a.1 call refl c.in-Some.ensures.lookup.3.0 c.in-Some.ensures.lookup.1 in
     let one : e.0 ≡ call = same_some e.0 call (sym e.2.at ∙ there) in
-    let answer : IsAnswerAt told a.1 call a.0 e.1 = subst (λ (r : Rec). IsAnswerAt told a.1 r a.0 e.1) one e.2 in
+    let answer : IsAnswerAt reported a.1 call a.0 e.1 = subst (λ (r : Rec). IsAnswerAt reported a.1 r a.0 e.1) one e.2 in
     let w = c.loop-answer.invariant in
-    let passes = c.in_ok-pass_until.ensures c.requires.order w.known (earlier_up told answers i a c.loop-answer.walk at w) in
-    let walked = walked_up told answers i a c.loop-answer.walk c.pass_until.new.self c.requires.order c.requires.sorted at w passes in
-    subst (AnswersOrEnds told a.0 call c.pass_until.new.self c.answer.new.self) c.if-not-answer.true (c.answer.ensures told a.0 e.1 c.requires.order passes.known passes.passed answer walked)
+    let passes = c.in_ok-pass_until.ensures c.requires.order w.known (earlier_up reported answers i a c.loop-answer.walk at w) in
+    let walked = walked_up reported answers i a c.loop-answer.walk c.pass_until.new.self c.requires.order c.requires.sorted at w passes in
+    subst (AnswersOrEnds reported a.0 call c.pass_until.new.self c.answer.new.self) c.if-not-answer.true (c.answer.ensures reported a.0 e.1 c.requires.order passes.known passes.passed answer walked)
 
 pub loop-answer-preserved : goal.loop-answer-preserved
 loop-answer-preserved c =
-    let told = c.args.told.now in
+    let reported = c.args.reported.now in
     let answers = c.args.answers.now in
     let i = c.loop-answer.answer-index in
     let a : ℕ × ℕ = slice_index_or answers i (0, 0) in
     let at : slice_get answers i ≡ Some a = slice_get-get_or answers i (0, 0) c.loop-answer-test.true in
-    let e = entry_answered told answers i a c.requires.sorted at in
+    let e = entry_answered reported answers i a c.requires.sorted at in
     let call = c.in-Some.call.now in
-    let there : slice_get told a.1 ≡ Some call = slice_get_read told _ a.1 call refl c.in-Some.ensures.lookup.3.0 c.in-Some.ensures.lookup.1 in
+    let there : slice_get reported a.1 ≡ Some call = slice_get_read reported _ a.1 call refl c.in-Some.ensures.lookup.3.0 c.in-Some.ensures.lookup.1 in
     let one : e.0 ≡ call = same_some e.0 call (sym e.2.at ∙ there) in
-    let answer : IsAnswerAt told a.1 call a.0 e.1 = subst (λ (r : Rec). IsAnswerAt told a.1 r a.0 e.1) one e.2 in
+    let answer : IsAnswerAt reported a.1 call a.0 e.1 = subst (λ (r : Rec). IsAnswerAt reported a.1 r a.0 e.1) one e.2 in
     let w = c.loop-answer.invariant in
-    let passes = c.in_ok-pass_until.ensures c.requires.order w.known (earlier_up told answers i a c.loop-answer.walk at w) in
-    let walked = walked_up told answers i a c.loop-answer.walk c.pass_until.new.self c.requires.order c.requires.sorted at w passes in
-    let answered = subst (AnswersOrEnds told a.0 call c.pass_until.new.self c.answer.new.self) c.if-not-answer.false (c.answer.ensures told a.0 e.1 c.requires.order passes.known passes.passed answer walked) in
-    walked_next told answers i a c.pass_until.new.self c.answer.new.self c.requires.order c.requires.sorted at passes.passed answered
+    let passes = c.in_ok-pass_until.ensures c.requires.order w.known (earlier_up reported answers i a c.loop-answer.walk at w) in
+    let walked = walked_up reported answers i a c.loop-answer.walk c.pass_until.new.self c.requires.order c.requires.sorted at w passes in
+    let answered = subst (AnswersOrEnds reported a.0 call c.pass_until.new.self c.answer.new.self) c.if-not-answer.false (c.answer.ensures reported a.0 e.1 c.requires.order passes.known passes.passed answer walked) in
+    walked_next reported answers i a c.pass_until.new.self c.answer.new.self c.requires.order c.requires.sorted at passes.passed answered
 
 pub returns : goal.returns
-returns c = walked_end c.args.told.now c.args.answers.now c.loop-answer.answer-index c.loop-answer.walk c.requires.sorted c.loop-answer-test.false c.loop-answer.invariant
+returns c = walked_end c.args.reported.now c.args.answers.now c.loop-answer.answer-index c.loop-answer.walk c.requires.sorted c.loop-answer-test.false c.loop-answer.invariant

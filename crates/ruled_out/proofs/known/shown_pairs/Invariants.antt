@@ -1,5 +1,5 @@
 use Rattle.std.proofs.Common.{◌≡◌, ◌++◌, drop}
-use Rattle.ruled_out.specs.Told.{known_pairs}
+use Rattle.ruled_out.specs.Reported.{known_pairs}
 use Rattle.ruled_out.proofs.known.shown_pairs.Given as goal
 
 abbrev pub invariant-loop-call : goal.invariant-loop-call

@@ -1,7 +1,7 @@
 use Rattle.std.proofs.Common.{rules, ◌≡◌, ◌≤◌, length, subst, sym, Some, slice_get, refl, ◌<◌, set}
 use Rattle.std.proofs.lemmas.Option.{slice_get_read}
 use Rattle.doc_register.specs.Register.{pair_of_reply}
-use Rattle.ruled_out.specs.Told.{known_pairs}
+use Rattle.ruled_out.specs.Reported.{known_pairs}
 use Rattle.ruled_out.specs.Positions.{count_below}
 use Rattle.ruled_out.specs.aids.Versions.{IsNoted, version_with}
 use Rattle.ruled_out.proofs.VersionLemmas.{noted_past, noted_there}

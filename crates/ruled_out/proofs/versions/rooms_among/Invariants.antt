@@ -1,7 +1,7 @@
 use Rattle.ruled_out.specs.aids.KnownPairs.{AreKnown}
 use Rattle.ruled_out.proofs.RoomLemmas.{AreRoomsOf}
 use Rattle.std.proofs.Common.{List, take}
-use Rattle.history.specs.declared.record.Rec.{Rec}
+use Rattle.events.specs.declared.record.Rec.{Rec}
 use Rattle.ruled_out.proofs.versions.rooms_among.Given as goal
 
 abbrev pub invariant-loop-place : goal.invariant-loop-place

@@ -14,7 +14,7 @@ loop-seed-preserved g c =
     subst (λ found. IfNone found (IsCleared (group.issued-value).it (group.gave-value).it c.args.disturbance (with_seed c.args.setting.now c.loop-seed.seed))) c.in-None.is c.in_ok-run.ensures.none in
     record {
       cleared = cleared_more (group.issued-value).it (group.gave-value).it c.args.disturbance c.args.setting.now c.first-first.result c.loop-seed.seed c.loop-seed.invariant.cleared own;
-      taken = λ _. false_from_ne_true (is_refused c.args.setting.now) (λ refused. let told = c.in_ok-run.ensures.setting.1 refused in cc);
+      taken = λ _. false_from_ne_true (is_refused c.args.setting.now) (λ refused. let reported = c.in_ok-run.ensures.setting.1 refused in cc);
     }
 
 pub returns-clause-none : goal.returns-clause-none

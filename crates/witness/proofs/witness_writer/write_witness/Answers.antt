@@ -1,6 +1,6 @@
 use Rattle.std.proofs.Common.{arith, refl, [], ◌≡◌, ◌∙◌, ap, length, map}
 use Rattle.std.proofs.lemmas.Option.{slice_get_read}
-use Rattle.witness.specs.Documents.{witness_places}
+use Rattle.places.specs.Documents.{witness_places}
 use Rattle.witness.specs.aids.Lines.{IsWrittenOn}
 use Rattle.witness.specs.Text.{said_by, witness_text}
 use Rattle.witness.proofs.WriteLemmas.{written_all, written_more}

@@ -1,5 +1,5 @@
 use Rattle.std.proofs.Common.{[], map, take}
-use Rattle.witness.specs.Documents.{witness_places}
+use Rattle.places.specs.Documents.{witness_places}
 use Rattle.witness.specs.aids.Lines.{IsWrittenOn}
 use Rattle.witness.specs.Text.{said_by}
 use Rattle.witness.proofs.witness_writer.write_witness.Given as goal

@@ -1,5 +1,5 @@
 use Rattle.std.proofs.Common.{◌∙◌, ℕ, [], All, List, length, subst, sym}
-use Rattle.history.specs.declared.event.Event.{Event}
+use Rattle.events.specs.declared.event.Event.{Event}
 use Rattle.workload.specs.Playing.{AreNewPlayers, AreVisited, IsPlayedOut}
 use Rattle.workload.specs.declared.player.Player.{Player}
 use Rattle.workload.proofs.PlayerLemmas.{HaveRounds, new_clients_within, no_round, one_round_more}
@@ -11,9 +11,9 @@ rounds-init g c =
     let fresh : AreNewPlayers (length c.args.plan.now) players = subst (λ (n : ℕ). AreNewPlayers n players) c.clients.ensures.count c.in_ok-players.ensures in
     record {
       made =
-          subst (λ (events : List Event). HaveRounds g.T.OwnedTarget.takes g.T.OwnedTarget.tells c.args.turns c.args.plan.now
+          subst (λ (events : List Event). HaveRounds g.T.OwnedTarget.takes g.T.OwnedTarget.reports c.args.turns c.args.plan.now
           (record { target = c.args.target.now; players = players; events = [] }) (record { target = c.args.target.now; players = players; events = events }))
-          (sym c.new-history.ensures.empty) (0, no_round g.T.OwnedTarget.takes g.T.OwnedTarget.tells c.args.turns c.args.plan.now _);
+          (sym c.new-history.ensures.empty) (0, no_round g.T.OwnedTarget.takes g.T.OwnedTarget.reports c.args.turns c.args.plan.now _);
       clients = new_clients_within (length c.args.plan.now) players fresh;
       count = fresh.count_is;
     }
@@ -22,8 +22,8 @@ pub rounds-preserved : goal.rounds-preserved
 rounds-preserved g c =
     record {
       made =
-          one_round_more g.T.OwnedTarget.takes g.T.OwnedTarget.tells c.args.turns c.args.plan.now _ _ _ c.rounds.invariant.made
-          (subst (λ (n : ℕ). AreVisited g.T.OwnedTarget.takes g.T.OwnedTarget.tells c.args.turns c.args.plan.now n
+          one_round_more g.T.OwnedTarget.takes g.T.OwnedTarget.reports c.args.turns c.args.plan.now _ _ _ c.rounds.invariant.made
+          (subst (λ (n : ℕ). AreVisited g.T.OwnedTarget.takes g.T.OwnedTarget.reports c.args.turns c.args.plan.now n
           (record { target = c.rounds.target; players = c.rounds.players.items; events = c.rounds.history })
           (record { target = c.visit_all.new.target; players = c.visit_all.new.players.items; events = c.visit_all.new.history }))
           c.rounds.invariant.count c.in_ok-visit_all.ensures.visits);
@@ -35,8 +35,8 @@ pub returns : goal.returns
 returns g c =
     let rested = c.in_ok-visit_all.ensures.advances.done c.if-branch.false in
     let made =
-    one_round_more g.T.OwnedTarget.takes g.T.OwnedTarget.tells c.args.turns c.args.plan.now _ _ _ c.rounds.invariant.made
-    (subst (λ (n : ℕ). AreVisited g.T.OwnedTarget.takes g.T.OwnedTarget.tells c.args.turns c.args.plan.now n
+    one_round_more g.T.OwnedTarget.takes g.T.OwnedTarget.reports c.args.turns c.args.plan.now _ _ _ c.rounds.invariant.made
+    (subst (λ (n : ℕ). AreVisited g.T.OwnedTarget.takes g.T.OwnedTarget.reports c.args.turns c.args.plan.now n
     (record { target = c.rounds.target; players = c.rounds.players.items; events = c.rounds.history })
     (record { target = c.visit_all.new.target; players = c.visit_all.new.players.items; events = c.visit_all.new.history }))
     c.rounds.invariant.count c.in_ok-visit_all.ensures.visits) in

@@ -7,7 +7,7 @@ use Rattle.workload.proofs.playing.play_in_turns.Given as goal
 -- the rounds so far
 abbrev pub invariant-rounds : goal.invariant-rounds
 invariant-rounds g l = record {
-  made : HaveRounds g.T.OwnedTarget.takes g.T.OwnedTarget.tells l.turns l.plan
+  made : HaveRounds g.T.OwnedTarget.takes g.T.OwnedTarget.reports l.turns l.plan
       (record { target = l.fn.target; players = l.initial.players.items; events = [] })
       (record { target = l.target; players = l.players.items; events = l.history });
   clients : All (λ player. player.client < length l.plan) l.players.items;

@@ -16,7 +16,7 @@ loop-player-preserved g c =
     let here : c.loop-player.player-index < length c.loop-player.player-items = omega (arith, c.loop-player-test.true, c.loop-player.auto.player-items) in
     record {
       visited =
-          visited_more g.T.OwnedTarget.takes g.T.OwnedTarget.tells c.args.polls c.args.plan.now _ c.loop-player.target c.visit.new.target c.loop-player.player-items
+          visited_more g.T.OwnedTarget.takes g.T.OwnedTarget.reports c.args.polls c.args.plan.now _ c.loop-player.target c.visit.new.target c.loop-player.player-items
           c.loop-player.history c.visit.new.history c.loop-player.player-index c.player-item.result c.visit.new.player here
           c.in_ok-visit.ensures.visits c.loop-player.invariant.visited;
       advanced =
@@ -35,10 +35,10 @@ loop-player-init g c =
     let same : old ≡ c.deref_mut-player-items.result.now = sym c.deref_mut-player-items.ensures.value in
     record {
       visited =
-          subst (λ (items : List Player). AreVisited g.T.OwnedTarget.takes g.T.OwnedTarget.tells c.args.polls c.args.plan.now 0
+          subst (λ (items : List Player). AreVisited g.T.OwnedTarget.takes g.T.OwnedTarget.reports c.args.polls c.args.plan.now 0
           (record { target = c.args.target.now; players = old; events = c.args.history.now })
           (record { target = c.args.target.now; players = items; events = c.args.history.now })) same
-          (none_visited g.T.OwnedTarget.takes g.T.OwnedTarget.tells c.args.polls c.args.plan.now _);
+          (none_visited g.T.OwnedTarget.takes g.T.OwnedTarget.reports c.args.polls c.args.plan.now _);
       advanced = subst (λ (items : List Player). HaveAdvanced c.args.polls c.args.plan.now old items 0 false) same (none_advanced c.args.polls c.args.plan.now old);
       clients = subst (λ (items : List Player). All (λ player. player.client < length c.args.plan.now) items) same c.requires;
     }
@@ -51,7 +51,7 @@ returns g c =
     omega (arith, advanced.count, c.loop-player-test.false, c.loop-player.auto.player-items, c.loop-player.auto.player-index-end) in
     rw (lent_back c.loop-player.player-items c.args.players.now.items c.args.players.now.len whole) (record {
       visits =
-          subst (λ (n : ℕ). AreVisited g.T.OwnedTarget.takes g.T.OwnedTarget.tells c.args.polls c.args.plan.now n
+          subst (λ (n : ℕ). AreVisited g.T.OwnedTarget.takes g.T.OwnedTarget.reports c.args.polls c.args.plan.now n
           (record { target = c.args.target.now; players = c.args.players.now.items; events = c.args.history.now })
           (record { target = c.loop-player.target; players = c.loop-player.player-items; events = c.loop-player.history })) all c.loop-player.invariant.visited;
       advances =

@@ -1,6 +1,6 @@
 use Rattle.std.proofs.Common.{arith, ◌≡◌, ◌<◌, ◌^◌, ◌-◌, ◌∙◌, ap, length, map, subst, sym}
-use Rattle.history.specs.Events.{documents_of}
-use Rattle.witness.specs.Documents.{witness_places}
+use Rattle.events.specs.Events.{documents_of}
+use Rattle.places.specs.Documents.{witness_places}
 use Rattle.compose.specs.Counts.{calls_of}
 use Rattle.compose.specs.Laws.{places_in}
 use Rattle.compose.specs.Verdicts.{AreCounts, HasOrder}

@@ -1,6 +1,6 @@
 use Rattle.std.proofs.Common.{arith, ◌<◌, refl, sym, ◌∙◌, ap, Some, length}
 use Rattle.std.proofs.lemmas.Option.{slice_get_read, slice_get_within}
-use Rattle.history.specs.Events.{documents_of}
+use Rattle.events.specs.Events.{documents_of}
 use Rattle.compose.proofs.VerifyLemmas.{document_found, document_none}
 use Rattle.compose.proofs.verification.Verification.document.Goals as goal
 

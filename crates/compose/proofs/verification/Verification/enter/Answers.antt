@@ -1,8 +1,8 @@
 use Rattle.std.proofs.Common.{arith, ◌<◌, ◌++◌, ◌∷◌, [], sym, ◌∙◌, ap, subst, slice_set, true, length}
 use Rattle.std.specs.Prelude.{if◌then◌else◌}
 use Rattle.std.proofs.lemmas.Option.{slice_get_within}
-use Rattle.history.specs.Events.{documents_of}
-use Rattle.witness.specs.Documents.{doc_places}
+use Rattle.events.specs.Events.{documents_of}
+use Rattle.places.specs.Documents.{doc_places}
 use Rattle.compose.specs.aids.Verified.{AreVerified}
 use Rattle.compose.proofs.VerifyLemmas.{entered_next, entry_fault_document}
 use Rattle.compose.proofs.verification.Verification.enter.Goals as goal

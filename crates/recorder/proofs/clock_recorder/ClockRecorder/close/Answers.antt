@@ -1,6 +1,6 @@
 use Rattle.std.proofs.Common.{◌≡◌, ◌∙◌, ap, false, length, sym, true}
 use Rattle.std.proofs.lemmas.List.Elements.{All-weaker}
-use Rattle.history.specs.declared.fault.HistFault.TheVariants.{NoMemory}
+use Rattle.events.specs.declared.fault.HistFault.TheVariants.{NoMemory}
 use Rattle.recorder.specs.Pens.{IsRising}
 use Rattle.recorder.specs.aids.Notes.{IsPenList}
 use Rattle.recorder.proofs.RecordingLaws.{recordings_are_by_number}

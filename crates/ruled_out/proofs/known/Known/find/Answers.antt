@@ -3,7 +3,7 @@ use Rattle.std.proofs.lemmas.Bool.{and_from, eq-eqb}
 use Rattle.std.proofs.lemmas.Option.{slice_get-get_or}
 use Rattle.version_pair.specs.declared.pair.Pair.{Pair}
 use Rattle.version_pair.proofs.PairLemmas.{same_by_test}
-use Rattle.ruled_out.specs.Told.{known_pairs}
+use Rattle.ruled_out.specs.Reported.{known_pairs}
 use Rattle.ruled_out.specs.Positions.{count_below}
 use Rattle.ruled_out.proofs.KnownLemmas.{known_at, none_past, there_known}
 use Rattle.ruled_out.proofs.known.Known.find.Goals as goal

@@ -1,5 +1,5 @@
 use Rattle.std.proofs.Common.{◌≡◌, ◌+◌, ◌*◌, suc, subst, sym, ap, Some, None, ◌∙◌, arith, true≢false}
-use Rattle.ruled_out.specs.Told.{IsKnown}
+use Rattle.ruled_out.specs.Reported.{IsKnown}
 use Rattle.ruled_out.specs.Positions.{gap_of}
 use Rattle.ruled_out.specs.aids.Above.{IsLeastAbove}
 use Rattle.ruled_out.specs.aids.KnownPairs.{IsGapAbove}

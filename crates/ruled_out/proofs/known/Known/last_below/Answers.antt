@@ -1,5 +1,5 @@
 use Rattle.std.proofs.Common.{sym, ap, ◌∙◌, ◌≡◌, ◌-◌, suc, slice_get, arith}
-use Rattle.ruled_out.specs.Told.{known_pairs}
+use Rattle.ruled_out.specs.Reported.{known_pairs}
 use Rattle.ruled_out.specs.Positions.{count_below}
 use Rattle.ruled_out.proofs.ItemLemmas.{copied_get}
 use Rattle.ruled_out.proofs.RoomLemmas.{last_known, no_last}

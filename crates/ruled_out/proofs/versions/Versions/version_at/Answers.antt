@@ -9,5 +9,5 @@ pub returns-else-is_repeated : goal.returns-else-is_repeated
 returns-else-is_repeated c records are =
     let vs = c.args.self.now.known.pairs.items in
     let place = c.args.place in
-    let got : c.copied.result ≡ slice_get c.args.self.now.told.items place = c.copied.ensures ∙ (copied_get c.deref.result.now place c.get.result c.get.ensures.lookup ∙ ap (λ (xs : List Version). slice_get xs place) c.deref.ensures.value) in
-    version_first records vs c.args.self.now.told.items place c.copied.result are.known are.told got (subst (IsRepeated vs place) c.if-is_repeated.false c.is_repeated.ensures)
+    let got : c.copied.result ≡ slice_get c.args.self.now.reported.items place = c.copied.ensures ∙ (copied_get c.deref.result.now place c.get.result c.get.ensures.lookup ∙ ap (λ (xs : List Version). slice_get xs place) c.deref.ensures.value) in
+    version_first records vs c.args.self.now.reported.items place c.copied.result are.known are.reported got (subst (IsRepeated vs place) c.if-is_repeated.false c.is_repeated.ensures)

@@ -1,5 +1,5 @@
 use Rattle.std.proofs.Common.{List}
-use Rattle.history.specs.declared.record.Rec.{Rec}
+use Rattle.events.specs.declared.record.Rec.{Rec}
 use Rattle.ruled_out.specs.aids.States.{IsAt}
 use Rattle.ruled_out.specs.aids.Standing.{AreTaken}
 use Rattle.ruled_out.proofs.walk.Walk.first_untaken.Given as goal

@@ -17,5 +17,5 @@ returns-clause-known c =
       settled = 0;
     } in
     subst (λ (xs : List ℕ). Knows records xs walk) (sym c.new-2.ensures.items)
-    (knows_first records walk c.in_ok-versions.ensures (c.in_ok-absent.ensures.told records c.in_ok-versions.ensures) (c.in_ok-present.ensures.told records c.in_ok-versions.ensures)
+    (knows_first records walk c.in_ok-versions.ensures (c.in_ok-absent.ensures.reported records c.in_ok-versions.ensures) (c.in_ok-present.ensures.reported records c.in_ok-versions.ensures)
     (c.in_ok-absent.ensures.rooms records) (c.in_ok-present.ensures.rooms records) (c.in_ok-writers.ensures records c.in_ok-versions.ensures) refl)

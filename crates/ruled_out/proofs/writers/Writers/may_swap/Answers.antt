@@ -1,7 +1,7 @@
 use Rattle.std.proofs.Common.{◌≡◌, refl, sym, subst, ◌∙◌, Bool, Some, None, List, slice_get}
 use Rattle.std.proofs.lemmas.Option.{slice_get_past, slice_get_read}
 use Rattle.version_pair.proofs.ListLemmas.{none_is_not_some, same_some}
-use Rattle.ruled_out.specs.Told.{known_pairs}
+use Rattle.ruled_out.specs.Reported.{known_pairs}
 use Rattle.ruled_out.specs.Positions.{count_below}
 use Rattle.ruled_out.proofs.writers.Writers.may_swap.Goals as goal
 

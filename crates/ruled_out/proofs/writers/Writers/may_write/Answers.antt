@@ -2,7 +2,7 @@ use Rattle.std.proofs.Common.{◌≡◌, ◌⊎◌, ◌∙◌, inl, inr, refl, s
 use Rattle.std.specs.Prelude.{◌↔◌}
 use Rattle.ruled_out.specs.Positions.{gap_of}
 use Rattle.ruled_out.specs.declared.version.Version.{Version}
-use Rattle.ruled_out.specs.aids.Versions.{allows, untold, version_told}
+use Rattle.ruled_out.specs.aids.Versions.{allows, unreported, version_reported}
 use Rattle.ruled_out.specs.aids.Writing.{IsGiven, IsSwapped}
 use Rattle.ruled_out.proofs.VersionLemmas.{number_version}
 use Rattle.ruled_out.proofs.WriterLemmas.{by_written, written_by}
@@ -10,14 +10,14 @@ use Rattle.ruled_out.proofs.writers.Writers.may_write.Goals as goal
 
 pub returns-then-may_swap : goal.returns-then-may_swap
 returns-then-may_swap c records floors versions are known =
-    let number = (version_told untold c.args.pair records).number in
+    let number = (version_reported unreported c.args.pair records).number in
     (λ is. by_written records floors c.args.pair number (number_version records c.args.pair) (inl ((c.may_swap.ensures records floors versions are known).0 c.if-may_swap.true)), λ written. refl)
 
 pub returns : goal.returns
 returns c records floors versions are known =
-    let number = (version_told untold c.args.pair records).number in
+    let number = (version_reported unreported c.args.pair records).number in
     let fits = number_version records c.args.pair in
-    let same : c.told_of.result.number ≡ number = ap (λ (v : Version). v.number) (c.told_of.ensures records versions known) in
+    let same : c.reported_of.result.number ≡ number = ap (λ (v : Version). v.number) (c.reported_of.ensures records versions known) in
     let gap : c.gap_of.result ≡ gap_of records c.args.pair = c.gap_of.ensures records versions.known in
     let give : (c.may_give.result ≡ true) ↔ ((k : ℕ) × (allows number k ≡ true) × IsGiven records floors k (gap_of records c.args.pair)) =
     subst (λ n. (c.may_give.result ≡ true) ↔ ((k : ℕ) × (allows number k ≡ true) × IsGiven records floors k n)) gap
@@ -25,7 +25,7 @@ returns c records floors versions are known =
       λ is. by_written records floors c.args.pair number fits (inr (give.0 is)),
       λ written. by_part give (written_by records floors c.args.pair number fits written),
     ) where
-      by_part : (c.may_give.result ≡ true) ↔ ((k : ℕ) × (allows (version_told untold c.args.pair records).number k ≡ true) × IsGiven records floors k (gap_of records c.args.pair))
-          → IsSwapped records floors c.args.pair ⊎ ((k : ℕ) × (allows (version_told untold c.args.pair records).number k ≡ true) × IsGiven records floors k (gap_of records c.args.pair)) → c.may_give.result ≡ true
+      by_part : (c.may_give.result ≡ true) ↔ ((k : ℕ) × (allows (version_reported unreported c.args.pair records).number k ≡ true) × IsGiven records floors k (gap_of records c.args.pair))
+          → IsSwapped records floors c.args.pair ⊎ ((k : ℕ) × (allows (version_reported unreported c.args.pair records).number k ≡ true) × IsGiven records floors k (gap_of records c.args.pair)) → c.may_give.result ≡ true
       by_part give (inl swapped) = absurd (true≢false (sym ((c.may_swap.ensures records floors versions are known).1 swapped) ∙ c.if-may_swap.false))
       by_part give (inr given) = give.1 given

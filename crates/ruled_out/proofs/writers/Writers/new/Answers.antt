@@ -3,7 +3,7 @@ use Rattle.std.specs.BTreeMap.{IsEmpty, get}
 use Rattle.std.specs.Ordering.{nat_cmp}
 use Rattle.std.proofs.lemmas.List.Sorted.{length_permutation}
 use Rattle.std.proofs.lemmas.Option.{gets}
-use Rattle.ruled_out.specs.Told.{known_pairs}
+use Rattle.ruled_out.specs.Reported.{known_pairs}
 use Rattle.ruled_out.proofs.WriterLemmas.{writers_first}
 use Rattle.ruled_out.proofs.writers.Writers.new.Goals as goal
 

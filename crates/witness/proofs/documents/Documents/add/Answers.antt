@@ -1,5 +1,5 @@
 use Rattle.std.proofs.Common.{◌≡◌, ◌+◌, ◌<◌, ◌-◌, length, arith, rules, map, sym, ap, ◌∙◌, Ok, set, subst}
-use Rattle.witness.specs.Documents.{doc_places}
+use Rattle.places.specs.Documents.{doc_places}
 use Rattle.witness.specs.declared.witness_line.WitnessLine.TheVariants as line
 use Rattle.witness.specs.Text.{items_in, most_items, with_said}
 use Rattle.witness.proofs.DocumentsLemmas.{doc_count, items_in-placed, placed_more, placed_same, takes_room}

@@ -1,5 +1,5 @@
 use Rattle.std.proofs.Common.{◌≡◌, ◌+◌, arith, map, ap, ◌∙◌}
-use Rattle.witness.specs.Documents.{doc_places}
+use Rattle.places.specs.Documents.{doc_places}
 use Rattle.witness.specs.Text.{items_in}
 use Rattle.witness.proofs.DocumentsLemmas.{begun_more, items_in-begun}
 use Rattle.witness.proofs.documents.Documents.begin.Goals as goal

@@ -1,5 +1,5 @@
 use Rattle.std.proofs.Common.{◌≡◌, ◌+◌, subst, Ok, Err}
-use Rattle.api_lines.specs.Faults.{IfTextTold, text_fault}
+use Rattle.api_lines.specs.Faults.{IfTextReported, text_fault}
 use Rattle.api_lines.specs.Texts.{next_line, so_far}
 use Rattle.api_lines.proofs.LineByLine.{next_refused, next_taken}
 use Rattle.witness.specs.Text.{takes_value}
@@ -12,5 +12,5 @@ returns-in-Ok-clause-ok c =
 
 pub returns-in-Err-clause-fault : goal.returns-in-Err-clause-fault
 returns-in-Err-clause-fault c =
-    rw c.at.ensures (subst (λ r. IfTextTold (text_fault (c.self.inside.lines + 1) c.in-Err.fault) (λ told. next_line takes_value r c.args.line.now ≡ Err told)) c.self.view_is
+    rw c.at.ensures (subst (λ r. IfTextReported (text_fault (c.self.inside.lines + 1) c.in-Err.fault) (λ reported. next_line takes_value r c.args.line.now ≡ Err reported)) c.self.view_is
     (next_refused takes_value (so_far c.self.inside.documents c.self.inside.lines) c.args.line.now c.in-Err.fault c.in-Err.ensures.err))

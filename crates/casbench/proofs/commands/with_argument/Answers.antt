@@ -1,5 +1,0 @@
-use Rattle.std.proofs.lemmas.Result.{IfOk-weaker}
-use Rattle.casbench.proofs.commands.with_argument.Goals as goal
-
-pub returns-clause-line : goal.returns-clause-line
-returns-clause-line c = IfOk-weaker c.arg.result _ _ (λ told adds. adds.shape c.requires) c.arg.ensures

@@ -1,0 +1,350 @@
+-- What the arguments of the command line ask for. `Request` is what the code made of them.
+use Rattle.std.specs.Prelude.{ℕ, ◌==◌, Bool, true, List, Option, Some, None, ◌&&◌, ◌^◌, codes, if◌then◌else◌, length, nat_lt, option_and_then, option_map}
+use Rattle.std.specs.Char.{digit_value}
+use Rattle.std.specs.List.{after_first, before_first, list_all, position_or_len}
+use Rattle.std.specs.Str.{bytes_eq}
+use Rattle.std.specs.Str.Parse.{digits_value, without_leading_plus}
+use Rattle.clap.specs.Simple.{on_top}
+use Rattle.clap.specs.Words.{App, Kinds, Row, Rule, Text, first_of, fault_of, new_app, new_rule, subcommand_of, with_rule, with_subcommand}
+use Rattle.clap.specs.declared.builder.action.ArgAction.TheVariants.{SetTrue}
+use Rattle.clap.specs.declared.builder.value_parser.ValueParser.TheVariants as parser
+use Rattle.doc_register.specs.declared.state.Conflicts.{Conflicts}
+use Rattle.doc_register.specs.declared.state.Conflicts.TheVariants.{Plain, Maybe}
+use Rattle.evidence.specs.declared.ruling_out.RulingOut.{RulingOut}
+use Rattle.evidence.specs.declared.ruling_out.RulingOut.TheVariants.{Off, On}
+use Rattle.repl_group.specs.declared.fault.Fault.{Fault}
+use Rattle.repl_group.specs.declared.fault.Fault.TheVariants as fault
+use Rattle.disturbances.specs.declared.disturbance.Disturbance.{Disturbance}
+use Rattle.disturbances.specs.declared.disturbance.Disturbance.TheVariants as by
+use Rattle.recorded_runs.specs.declared.manner.Manner.{Manner}
+use Rattle.recorded_runs.specs.declared.manner.Playing.{Playing}
+use Rattle.recorded_runs.specs.declared.manner.Playing.TheVariants.{OnThreads, InTurns}
+use Rattle.recorded_runs.specs.declared.run_setting.RunSetting.{RunSetting}
+use Rattle.recorded_runs.specs.Range.{seeds_between}
+use Rattle.command_line.specs.declared.request.Request.{Request}
+use Rattle.command_line.specs.declared.request.Request.TheVariants as request
+
+-- What is asked for.
+-- Source: profile.
+pub data Asked : Type 0 where
+  -- a check of a history, in the named file or in standard input, with a reading of conflicts, a number of
+  -- workers, and whether documents are checked for being ruled out
+  ToCheck : Option Text → Conflicts → ℕ → RulingOut → Asked
+  -- a witness of a history, in the same way, without workers
+  ToWitness : Option Text → Conflicts → RulingOut → Asked
+  -- a check of a witness against a history, of two files, with a reading of conflicts
+  ToVerify : Text → Text → Conflicts → Asked
+  -- the lines of a bulk's body and its reply, of two files, the calls numbered from a number on
+  ToWriteBulk : Text → Text → ℕ → Asked
+  -- a run with a setting, in a manner
+  ToRun : RunSetting → Manner → Asked
+  -- runs in turns from the first seed to the last, with a setting, under a disturbance, until one is found
+  -- for which no order was found
+  ToSearch : ℕ → ℕ → RunSetting → Disturbance → Asked
+  -- a check that is explained, with what a check has, and with a file for the page or none
+  ToExplain : Option Text → Conflicts → ℕ → RulingOut → Option Text → Asked
+
+-- the same as the code has it
+abbrev pub asked_by : Request → Asked
+asked_by (request.Check file conflicts workers ruling) = ToCheck (option_map (λ f. f.now) file) conflicts workers ruling
+asked_by (request.Witness file conflicts ruling) = ToWitness (option_map (λ f. f.now) file) conflicts ruling
+asked_by (request.Verify history witness conflicts) = ToVerify history.now witness.now conflicts
+asked_by (request.Bulk body reply first) = ToWriteBulk body.now reply.now first
+asked_by (request.Run setting manner) = ToRun setting manner
+asked_by (request.Search seeds setting disturbance) = ToSearch seeds.first seeds.last setting disturbance
+asked_by (request.Explain file conflicts workers ruling page) = ToExplain (option_map (λ f. f.now) file) conflicts workers ruling (option_map (λ t. t.now) page)
+
+-- the reading of conflicts of this name, `plain` or `maybe`; the plain one if no name is given; nothing of
+-- another name
+-- Source: profile.
+abbrev pub conflicts_named : Option Text → Option Conflicts
+conflicts_named None = Some Plain
+conflicts_named (Some name) =
+    if bytes_eq name (codes "plain") then Some Plain else (if bytes_eq name (codes "maybe") then Some Maybe else None)
+
+-- a number below 2^64: digits, with or without a plus before them
+-- Source: profile.
+abbrev pub is_number : Text → Bool
+is_number text =
+    let digits = without_leading_plus text in
+    (nat_lt 0 (length digits) && list_all (λ c. nat_lt (digit_value c) 10) digits) && nat_lt (digits_value 10 digits) (2 ^ 64)
+
+-- the number that is given, or another one if none is; none if the text is no number
+-- Source: profile.
+abbrev pub number_or : ℕ → Option Text → Option ℕ
+number_or other None = Some other
+number_or other (Some text) = if is_number text then Some (digits_value 10 (without_leading_plus text)) else None
+
+-- On if the option `--rule-out` is given, whose text is then `true`; otherwise Off
+abbrev pub ruling_given : Option Text → RulingOut
+ruling_given None = Off
+ruling_given (Some text) = if bytes_eq text (codes "true") then On else Off
+
+-- the check that arguments ask for, by one worker if no number is given; nothing if the name of the reading
+-- is unknown, or the number of workers is none
+abbrev pub check_of : List Row → Option Asked
+check_of rows =
+    option_and_then (λ conflicts. option_map (λ n. ToCheck (first_of (codes "history") rows) conflicts n (ruling_given (first_of (codes "rule-out") rows)))
+    (number_or 1 (first_of (codes "workers") rows))) (conflicts_named (first_of (codes "conflicts") rows))
+
+-- the same for a check that is explained, with the file of the page
+abbrev pub explain_of : List Row → Option Asked
+explain_of rows =
+    option_and_then (λ conflicts. option_map (λ n. ToExplain (first_of (codes "history") rows) conflicts n (ruling_given (first_of (codes "rule-out") rows)) (first_of (codes "html") rows))
+    (number_or 1 (first_of (codes "workers") rows))) (conflicts_named (first_of (codes "conflicts") rows))
+
+-- the witness that arguments ask for; nothing if the name of the reading is unknown
+abbrev pub witness_of : List Row → Option Asked
+witness_of rows =
+    option_map (λ conflicts. ToWitness (first_of (codes "history") rows) conflicts (ruling_given (first_of (codes "rule-out") rows))) (conflicts_named (first_of (codes "conflicts") rows))
+
+-- the check of a witness that arguments ask for, if both files are named; nothing if the name of the reading
+-- is unknown
+abbrev pub verify_of : List Row → Option Asked
+verify_of rows =
+    option_and_then (λ history. option_and_then (λ witness. option_map (λ conflicts. ToVerify history witness conflicts) (conflicts_named (first_of (codes "conflicts") rows)))
+    (first_of (codes "witness") rows)) (first_of (codes "history") rows)
+
+-- the lines of a bulk that arguments ask for, if both files are named; the calls are numbered from 0 if no
+-- number is given; nothing if the text that is given is no number
+abbrev pub bulk_of : List Row → Option Asked
+bulk_of rows =
+    option_and_then (λ body. option_and_then (λ reply. option_map (λ n. ToWriteBulk body reply n) (number_or 0 (first_of (codes "first") rows))) (first_of (codes "reply") rows)) (first_of (codes "body") rows)
+
+-- the number that is given; none if none is given or the text is no number
+abbrev pub number_given : Option Text → Option ℕ
+number_given None = None
+number_given (Some text) = number_or 0 (Some text)
+
+-- the number that is given, if it is below 2^32; none if none is
+abbrev pub small_given : Option Text → Option ℕ
+small_given text = option_and_then (λ n. if nat_lt n (2 ^ 32) then Some n else None) (number_given text)
+
+-- the fault of a group of this name: `none`, `dirty`, `early`, `same-term`, `stale` or `blind`; none of
+-- another name
+-- Source: profile.
+abbrev pub fault_named : Text → Option Fault
+fault_named name =
+    if bytes_eq name (codes "none") then Some fault.None
+    else (if bytes_eq name (codes "dirty") then Some fault.Dirty
+    else (if bytes_eq name (codes "early") then Some fault.Early
+    else (if bytes_eq name (codes "same-term") then Some fault.SameTerm
+    else (if bytes_eq name (codes "stale") then Some fault.Stale
+    else (if bytes_eq name (codes "blind") then Some fault.Blind else None)))))
+
+-- what a run is made with, if each number is given and the fault is named
+abbrev pub setting_given : Option ℕ → List Row → Option RunSetting
+setting_given seed rows =
+    option_and_then (λ s. option_and_then (λ a. option_and_then (λ b. option_and_then (λ d. option_and_then (λ e.
+    option_map (λ f. record { seed = s; clients = a; calls = b; docs = d; copies = e; fault = f }) (option_and_then fault_named (first_of (codes "fault") rows)))
+    (small_given (first_of (codes "copies") rows))) (small_given (first_of (codes "docs") rows))) (small_given (first_of (codes "calls") rows)))
+    (small_given (first_of (codes "clients") rows))) seed
+
+-- the disturbance of this name: `none`, which it is if no name is given, `cuts`, `promotions` or `storm`
+-- Source: profile.
+abbrev pub disturbance_named : Option Text → Option Disturbance
+disturbance_named None = Some by.None
+disturbance_named (Some name) =
+    if bytes_eq name (codes "none") then Some by.None
+    else (if bytes_eq name (codes "cuts") then Some by.Cuts
+    else (if bytes_eq name (codes "promotions") then Some by.Promotions
+    else (if bytes_eq name (codes "storm") then Some by.Storm else None)))
+
+-- InTurns if the option `--in-turns` is given, whose text is then `true`; otherwise OnThreads
+abbrev pub playing_given : Option Text → Playing
+playing_given None = OnThreads
+playing_given (Some text) = if bytes_eq text (codes "true") then InTurns else OnThreads
+
+-- how a run goes, if the disturbance is named or none is
+abbrev pub manner_given : List Row → Option Manner
+manner_given rows =
+    option_map (λ d. record { playing = playing_given (first_of (codes "in-turns") rows); disturbance = d }) (disturbance_named (first_of (codes "disturb") rows))
+
+-- a minus sign
+-- Source: profile.
+abbrev pub is_minus : ℕ → Bool
+is_minus c = c == 45
+
+-- The seeds of a text A-B: on both sides of the first minus sign are numbers below 2^64, and the first is not
+-- above the last.
+-- Source: profile.
+abbrev pub seeds_named : Text → Option (ℕ × ℕ)
+seeds_named text =
+    if nat_lt (position_or_len is_minus text) (length text)
+    then option_and_then (λ first. option_and_then (λ last. seeds_between first last) (number_given (Some (after_first is_minus text)))) (number_given (Some (before_first is_minus text)))
+    else None
+
+-- one run with that seed and the setting, in the manner of the arguments
+abbrev pub one_run_of : Option Text → List Row → Option Asked
+one_run_of seed rows = option_and_then (λ setting. option_map (λ manner. ToRun setting manner) (manner_given rows)) (setting_given (number_given seed) rows)
+
+-- runs with these seeds, of which the first is that of the setting, under the disturbance of the arguments
+-- Source: profile.
+abbrev pub search_among : ℕ × ℕ → List Row → Option Asked
+search_among seeds rows =
+    option_and_then (λ setting. option_map (λ disturbance. ToSearch seeds.0 seeds.1 setting disturbance) (disturbance_named (first_of (codes "disturb") rows)))
+    (setting_given (Some seeds.0) rows)
+
+-- runs with the seeds that are named, until one is refuted or gets `no`, if `refuted` is searched for;
+-- nothing for another text, or if no seeds are named
+-- Source: profile.
+abbrev pub search_of : Text → Text → List Row → Option Asked
+search_of until seeds rows =
+    if bytes_eq until (codes "refuted") then option_and_then (λ named. search_among named rows) (seeds_named seeds) else None
+
+-- One run if neither what is searched for nor seeds are given; a search if both are, and no seed; otherwise
+-- nothing.
+-- Source: profile.
+abbrev pub runs_of : Option Text → Option Text → Option Text → List Row → Option Asked
+runs_of seed None None rows = one_run_of seed rows
+runs_of None (Some until) (Some seeds) rows = search_of until seeds rows
+runs_of _ _ _ rows = None
+
+-- the run or the search that arguments ask for
+-- Source: profile.
+abbrev pub run_of : List Row → Option Asked
+run_of rows = runs_of (first_of (codes "seed") rows) (first_of (codes "until") rows) (first_of (codes "seeds") rows) rows
+
+-- what the command of this name asks for, given what its arguments have: `check`, `witness`, `verify`,
+-- `bulk`, `run` or `explain`; nothing of another name
+-- Source: profile.
+abbrev pub asked_of_command : Text → List Row → Option Asked
+asked_of_command name rows =
+    if bytes_eq name (codes "check") then check_of rows
+    else (if bytes_eq name (codes "witness") then witness_of rows
+    else (if bytes_eq name (codes "verify") then verify_of rows
+    else (if bytes_eq name (codes "bulk") then bulk_of rows
+    else (if bytes_eq name (codes "run") then run_of rows
+    else (if bytes_eq name (codes "explain") then explain_of rows else None)))))
+
+-- what a command asks for; without a command it is a check of standard input by one worker
+-- Source: profile.
+abbrev pub asked_of : Option (Text × List Row) → Option Asked
+asked_of None = Some (ToCheck None Plain 1 Off)
+asked_of (Some command) = asked_of_command command.0 command.1
+
+-- ---- the command line
+
+-- an argument with one value, by its position
+-- Source: profile.
+abbrev pub file_rule : Text → Rule
+file_rule name = record (new_rule name) { value_names = 1 }
+
+-- the same, which is required
+-- Source: profile.
+abbrev pub needed_rule : Text → Rule
+needed_rule name = record (file_rule name) { required = true }
+
+-- an option with a value, of this name, which may be left out
+-- Source: profile.
+abbrev pub option_rule : Text → Rule
+option_rule name = record (file_rule name) { long = Some name }
+
+-- `--first N`, N below 2^64
+-- Source: profile.
+abbrev pub first_rule : Rule
+first_rule = record (option_rule (codes "first")) { parser = Some (parser.Unsigned 0 18446744073709551615) }
+
+-- `--workers N`, N from 1 to 16
+-- Source: profile.
+abbrev pub workers_rule : Rule
+workers_rule = record (option_rule (codes "workers")) { parser = Some (parser.Unsigned 1 16) }
+
+-- `--rule-out`, without a value
+-- Source: profile.
+abbrev pub rule_out_rule : Rule
+rule_out_rule = record (new_rule (codes "rule-out")) { long = Some (codes "rule-out"); action = Some SetTrue }
+
+-- a required number below 2^32, of this name
+-- Source: profile.
+abbrev pub small_rule : Text → Rule
+small_rule name = record (needed_rule name) { long = Some name; parser = Some (parser.Unsigned 0 4294967295) }
+
+-- `--seed S`, S below 2^64, which may be left out
+-- Source: profile.
+abbrev pub seed_rule : Rule
+seed_rule = record (option_rule (codes "seed")) { parser = Some (parser.Unsigned 0 18446744073709551615) }
+
+-- `--fault F`, a text, which is required
+-- Source: profile.
+abbrev pub fault_rule : Rule
+fault_rule = record (needed_rule (codes "fault")) { long = Some (codes "fault") }
+
+-- `--in-turns`, without a value, which may be left out
+-- Source: profile.
+abbrev pub in_turns_rule : Rule
+in_turns_rule = record (new_rule (codes "in-turns")) { long = Some (codes "in-turns"); action = Some SetTrue }
+
+-- a command of this name that takes what a check takes: a history, which may be left out, `--conflicts`,
+-- `--workers`, from 1 to 16, and `--rule-out`
+-- Source: profile.
+abbrev pub searched_line : Text → App
+searched_line name = with_rule (with_rule (with_rule (with_rule (new_app name) (file_rule (codes "history"))) (option_rule (codes "conflicts"))) workers_rule) rule_out_rule
+
+-- the command `check`
+-- Source: profile.
+abbrev pub check_line : App
+check_line = searched_line (codes "check")
+
+-- the command `explain`, which takes what a check takes, and `--html`
+-- Source: profile.
+abbrev pub explain_line : App
+explain_line = with_rule (searched_line (codes "explain")) (option_rule (codes "html"))
+
+-- the command `witness`, which takes a history, which may be left out, `--conflicts` and `--rule-out`
+-- Source: profile.
+abbrev pub witness_line : App
+witness_line = with_rule (with_rule (with_rule (new_app (codes "witness")) (file_rule (codes "history"))) (option_rule (codes "conflicts"))) rule_out_rule
+
+-- the command `verify`, which takes a history and a witness, both required, and `--conflicts`
+-- Source: profile.
+abbrev pub verify_line : App
+verify_line =
+    with_rule (with_rule (with_rule (new_app (codes "verify")) (needed_rule (codes "history"))) (needed_rule (codes "witness"))) (option_rule (codes "conflicts"))
+
+-- the command `bulk`, which takes a body and a reply, both required, and `--first`
+-- Source: profile.
+abbrev pub bulk_line : App
+bulk_line = with_rule (with_rule (with_rule (new_app (codes "bulk")) (needed_rule (codes "body"))) (needed_rule (codes "reply"))) first_rule
+
+-- the command `run` with the arguments that say what the clients do: `--seed`, `--clients` and `--calls`
+-- Source: profile.
+abbrev pub plan_line : App
+plan_line = with_rule (with_rule (with_rule (new_app (codes "run")) seed_rule) (small_rule (codes "clients"))) (small_rule (codes "calls"))
+
+-- the same with those of the group: `--docs`, `--copies` and `--fault`
+-- Source: profile.
+abbrev pub group_line : App
+group_line = with_rule (with_rule (with_rule plan_line (small_rule (codes "docs"))) (small_rule (codes "copies"))) fault_rule
+
+-- the same with those that say how it goes: `--in-turns` and `--disturb`
+-- Source: profile.
+abbrev pub manner_line : App
+manner_line = with_rule (with_rule group_line in_turns_rule) (option_rule (codes "disturb"))
+
+-- the same with those of the seeds that are tried: `--until` and `--seeds`
+-- Source: profile.
+abbrev pub run_line : App
+run_line = with_rule (with_rule manner_line (option_rule (codes "until"))) (option_rule (codes "seeds"))
+
+-- `casbench`, which has a version
+-- Source: profile.
+abbrev pub named_line : App
+named_line = on_top (λ s. record s { has_version = true }) (new_app (codes "casbench"))
+
+-- `casbench` with its six commands
+-- Source: profile.
+abbrev pub command_line : App
+command_line =
+    with_subcommand (with_subcommand (with_subcommand (with_subcommand (with_subcommand (with_subcommand named_line check_line.top) witness_line.top) verify_line.top) bulk_line.top)
+    run_line.top) explain_line.top
+
+-- what the arguments ask for, the first of which is the program's name
+-- Source: profile.
+unfoldable pub asked_on : List Text → Option Asked
+asked_on line = asked_of (subcommand_of command_line line)
+
+-- the fault of the arguments, as the kinds of error that they may be reported with; none if they are accepted
+-- Source: profile.
+unfoldable pub faults_on : List Text → Kinds
+faults_on line = fault_of command_line line

@@ -1,0 +1,15 @@
+//! The command line: what the arguments of the program ask for, or why they are refused.
+//!
+//! ```text
+//! let request = read_request(alloc, &arguments)?; // the first argument is the program's name
+//! ```
+#![tactic(auto)]
+
+mod arguments;
+mod commands;
+mod given;
+mod request;
+mod run_request;
+
+pub use request::{Request, read_request};
+pub use run_request::{disturbance_name, fault_name};

@@ -1,8 +1,0 @@
-use Rattle.std.proofs.Common.{◌≡◌, ◌≢◌, ◌<◌, ℕ, Some, slice_get}
-use Rattle.doc_register.specs.declared.op.Op.TheVariants.{Get}
-use Rattle.history.specs.declared.record.Rec.{Rec}
-use Rattle.history.specs.Heard.{IsTold}
-use Rattle.doc_check.proofs.settled.is_settled.Given as goal
-
-abbrev pub invariant-loop-found : goal.invariant-loop-found
-invariant-loop-found l = (k : ℕ) (r : Rec) → slice_get l.records k ≡ Some r → k < l.found-index → r.op ≢ Get → IsTold l.conflicts r.heard

@@ -1,0 +1,4 @@
+pub mod CallPlaces
+pub mod Documents
+pub mod Fronts
+pub mod Indexes

@@ -1,8 +1,0 @@
-use Rattle.history.proofs.FrontLemmas.{document_of_whole, same_document}
-use Rattle.history.proofs.front.Front.doc.Goals as goal
-
-pub doc-requires : goal.doc-requires
-doc-requires c = document_of_whole c.self.inside.history.now c.args.self.now c.self.inside.end c.args.doc c.self.view_is c.requires
-
-pub returns : goal.returns
-returns c = same_document (λ d. d.0) c.self.inside.history.now c.args.self.now c.self.inside.end c.args.doc c.doc.result.now c.self.view_is c.requires c.doc.ensures

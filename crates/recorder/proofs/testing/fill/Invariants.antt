@@ -1,4 +1,0 @@
-use Rattle.recorder.proofs.testing.fill.Given as goal
-
-abbrev pub invariant-loop : goal.invariant-loop
-invariant-loop g l = g.X.Recording.has_pen l.recorder l.pen

@@ -1,0 +1,3 @@
+mod clock_recorder;
+mod lock_recorder;
+mod testing;

@@ -1,3 +1,0 @@
-mod recorded_run;
-mod streams;
-mod texts;

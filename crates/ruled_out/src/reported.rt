@@ -1,0 +1,43 @@
+ghost use Rattle.std.specs.Prelude.{◌≡◌, IfOk};
+ghost use Rattle.ruled_out.specs.Reported.{as_reported, reported, reported_of};
+
+use doc_register::{Conflicts, Reply};
+use events::Rec;
+use std::alloc::Global;
+use version_pair::NoMemory;
+
+// What was heard, except that a conflict under Maybe says nothing.
+fn reported_of(conflicts: Conflicts, heard: Option<(usize, Reply)>) -> Option<(usize, Reply)>
+    ensures { result ≡ reported_of conflicts heard }
+{
+    match (conflicts, heard) {
+        (Conflicts::Maybe, Some((_, Reply::Conflict))) => None,
+        (_, reported) => reported,
+    }
+}
+
+// The call with what is reported of it.
+fn as_reported(conflicts: Conflicts, call: Rec) -> Rec
+    ensures { result ≡ as_reported conflicts call }
+{
+    Rec {
+        heard: reported_of(conflicts, call.heard),
+        ..call
+    }
+}
+
+/// Returns the calls of a document as reported. Under Maybe a call that was answered with a conflict counts
+/// as a call without a reply, since the write may have been performed or not.
+pub fn reported_records(
+    alloc: Global,
+    records: &[Rec],
+    conflicts: Conflicts,
+) -> Result<Vec<Rec>, NoMemory>
+    ensures { IfOk result (λ kept. kept.items ≡ reported conflicts records.now) }
+{
+    let mut kept = Vec::with_capacity(alloc, records.len())?;
+    for call in records {
+        kept.push(as_reported(conflicts, *call))?;
+    }
+    Ok(kept)
+}

@@ -1,0 +1,2 @@
+/// The number of shards. They are numbered from 0.
+pub const SHARDS: u64 = 1024;

@@ -1,0 +1,5 @@
+mod eight_threads;
+mod plan;
+mod rounds;
+mod running;
+mod testing;
