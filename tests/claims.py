@@ -9,7 +9,7 @@ No program is run; one may be named, as for the other tests. What is held:
   definition has a comment; sources are of the known kinds, and names with a capital letter are there. Each law is the
   contract of a call.
 - docs/PROVED.md is as docs/making/proved.py makes it. Each public call says what it does, by a `///`, and what it
-  requires, by a comment; the contract of each law is one definition.
+  requires, by a comment, and cites no definition of specs/aids; the contract of each law is one definition.
 - docs/ARCHITECTURE.md has a row for each crate in "The crates", with the libraries that crates.txt gives it; the table
   of the gate says how many edits must fail.
 - Files, links, modules of lemmas, `CRATE::NAME` and `Type::name` that a document names are there, and clauses behind
@@ -323,12 +323,15 @@ class Proved:
     def hold(self, is_so, told):
         self.claims.hold(is_so, self.page, 1, told)
 
-    def hold_call(self, name, call):
-        """Holds that a call says what it does, and what it requires."""
+    def hold_call(self, name, call, source):
+        """Holds that a call says what it does, and what it requires, and cites no definition that is only an aid."""
         self.hold(call.says, f"{name} has no `///`")
         named = {it for clause in call.clauses for it in re.findall(r"`(\w+)`", clause.comment)}
         for clause in (it for it in call.clauses if it.kind == "requires"):
             self.hold(clause.comment or clause.name in named, f"no comment says what {name} requires: {clause.formula}")
+        for clause in (it for it in call.clauses if it.kind != "ghost"):
+            for aid in contracts.names_cited(clause, source.aids):
+                self.hold(False, f"{name} cites {aid} of specs/aids, which is for private contracts")
 
     def hold_law(self, name, call):
         """Holds that the contract of a law is a definition, and nothing else."""
@@ -341,8 +344,8 @@ class Proved:
         for name in self.sources.described:
             self.hold(f"## {name}" in self.headings, f"the crate {name} has no section")
         for crate in (contracts.Crate(name) for name in proved.ORDER):
-            for name, call, _ in contracts.calls_of(crate):
-                self.hold_call(name, call)
+            for name, call, source in contracts.calls_of(crate):
+                self.hold_call(name, call, source)
                 if name.startswith("laws::"):
                     self.hold_law(name, call)
         for name, crate in self.sources.described.items():

@@ -48,11 +48,13 @@ class Block(NamedTuple):
 
 
 class Source(NamedTuple):
-    """A file: its blocks, and the definitions that it imports, by their names: the crate and the file of each."""
+    """A file: its blocks, the definitions that it imports, by their names: the crate and the file of each, and the names
+    of those that it imports from folders of aids."""
 
     module: str
     blocks: list
     imports: dict
+    aids: set
 
 
 def code_of(line):
@@ -74,6 +76,12 @@ def imports_of(text):
         if (CRATES / crate / "specs" / f"{file}.antt").exists():
             imports.update({it.split()[0]: (crate, file) for it in names.split(",")})
     return imports
+
+
+def aids_of(text):
+    """The definitions that a file imports from folders of aids."""
+    imports = re.findall(r"ghost use Rattle\.\w+\.specs\.aids\.\w+\.\{([^}]*)\}", text)
+    return {it.split()[0] for names in imports for it in names.split(",")}
 
 
 def unaliased(text):
@@ -197,7 +205,7 @@ def source_of(module, text):
         elif not line:
             says = []
         place = end
-    return Source(module, blocks, imports_of(text))
+    return Source(module, blocks, imports_of(text), aids_of(text))
 
 
 class Crate:
@@ -249,6 +257,6 @@ def calls_of(crate):
                 yield from ((f"{shown}::{it.name}", it, source) for it in calls)
 
 
-def names_cited(clause, imports):
-    """The imported definitions that a clause cites, each once."""
-    return list(dict.fromkeys(it for it in re.findall(r"[^\s(){},;⟦⟧.]+", clause.formula) if it in imports))
+def names_cited(clause, names):
+    """Which of the names a clause cites, each once."""
+    return list(dict.fromkeys(it for it in re.findall(r"[^\s(){},;⟦⟧.]+", clause.formula) if it in names))

@@ -10,8 +10,8 @@ use Rattle.events.specs.declared.event.Event.TheVariants.{Call, Reply, Lost}
 use Rattle.events.specs.declared.fault.HistFault.{HistFault}
 use Rattle.events.specs.declared.fault.HistFault.TheVariants.{NoCall, Ended, Kind, Full, SecondCall, ShardMoved}
 use Rattle.events.specs.Events.{IsHistory, PassesAt, heard_at, heard_of, is_call, is_ending, place_of, record_at, record_from}
-use Rattle.events.specs.Refusal.{is_moved, most_events, op_named, op_of, reason_reported, refusal_of, when_ended, when_full}
-use Rattle.events.specs.aids.Indexes.{is_answerable, open_call_of, opened}
+use Rattle.events.specs.Refusal.{is_moved, most_events, op_named, op_of, open_call_of, opened, reason_reported, refusal_of, when_ended, when_full}
+use Rattle.events.specs.aids.Indexes.{is_answerable}
 use Rattle.events.proofs.EventLemmas.{element_passes, passes_element, passes_within, place_of-none, place_of-passes}
 use Rattle.version_pair.proofs.ListLemmas.{none_is_not_some, same_some}
 

@@ -64,6 +64,18 @@ refusal_of events (Reply n r) =
 refusal_of events (Lost n) =
     option_map_or (λ op. when_ended events n (when_full events)) (op_of events n) (Some NoCall)
 
+-- the position of a call without an ending, by the positions of the call and of its ending; or why there is none
+abbrev pub opened : Option ℕ → Option ℕ → Result ℕ HistFault
+opened None ending = Err NoCall
+opened (Some i) (Some j) = Err Ended
+opened (Some i) None = Ok i
+
+-- The position of the call numbered n, if it has no ending yet. Otherwise the reason why no ending can be added:
+-- NoCall if there is no such call, Ended if it has one.
+-- Source: profile.
+abbrev pub open_call_of : List Event → ℕ → Result ℕ HistFault
+open_call_of events n = opened (place_of (is_call n) events) (place_of (is_ending n) events)
+
 -- the reason that a fault reports; being out of memory is none
 abbrev pub reason_reported : HistFault → Option HistFault
 reason_reported SecondCall = Some SecondCall

@@ -1,7 +1,6 @@
 ghost use Rattle.std.specs.Prelude.{◌≡◌, ◌<◌, ◌∷◌, ◌++◌, [], Ok, OnOk, OnErr};
 ghost use Rattle.events.specs.declared.event.Event.TheVariants.{Call, Reply as Answered, Lost};
-ghost use Rattle.events.specs.Refusal.{refusal_of, refusal_reported};
-ghost use Rattle.events.specs.aids.Indexes.{open_call_of};
+ghost use Rattle.events.specs.Refusal.{open_call_of, refusal_of, refusal_reported};
 
 use crate::event::Event;
 use crate::fault::HistFault;

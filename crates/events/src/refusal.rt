@@ -2,8 +2,8 @@ ghost use Rattle.doc_register.specs.declared.op.Op.{Op};
 ghost use Rattle.events.specs.declared.event.Event.TheVariants.{Call};
 ghost use Rattle.std.specs.Prelude.{◌≡◌, ◌<◌, length, position};
 ghost use Rattle.events.specs.Events.{documents_of, is_same};
-ghost use Rattle.events.specs.Refusal.{refusal_of, when_full};
-ghost use Rattle.events.specs.aids.Indexes.{is_answerable as answerable, open_call_of};
+ghost use Rattle.events.specs.Refusal.{open_call_of, refusal_of, when_full};
+ghost use Rattle.events.specs.aids.Indexes.{is_answerable as answerable};
 
 use crate::event::Event;
 use crate::fault::HistFault;

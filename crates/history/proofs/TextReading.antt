@@ -29,9 +29,8 @@ use Rattle.events.specs.declared.fault.HistFault.{HistFault}
 use Rattle.events.specs.declared.fault.HistFault.TheVariants as event
 use Rattle.history.specs.Faults.{line_fault}
 use Rattle.history.specs.Reading.{adds, ending_parsed, event_heard, event_said, event_parsed, heard_of_call, takes_line, takes_value, with_more}
-use Rattle.events.specs.Refusal.{first_event, refusal_of, refusal_reported}
+use Rattle.events.specs.Refusal.{first_event, open_call_of, opened, refusal_of, refusal_reported}
 use Rattle.api_lines.specs.declared.text_fault.LineFault.{LineFault}
-use Rattle.events.specs.aids.Indexes.{open_call_of, opened}
 use Rattle.history.specs.aids.Taking.{HasSaidShard, line_result, takes_reply, takes_said}
 use Rattle.history.specs.Text.{Spells, SpellsReply}
 use Rattle.history.proofs.SaidLines.{call_is, call_shard, call_spelled, lost_read, lost_said, named, ok_of, reply_read, reply_said, same_ok, spelled_call, text_read}

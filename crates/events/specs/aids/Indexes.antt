@@ -1,13 +1,11 @@
 -- What a history keeps beside its events, and what that says of them: aids of its type and its contracts.
-use Rattle.std.specs.Prelude.{◌≡◌, ℕ, ◌≤◌, ◌<◌, ◌==◌, List, [], ◌∷◌, ◌++◌, length, Option, Some, None, Result, Ok, Err, Bool, false, option_and_then, cond, if◌then◌else◌, slice_get}
+use Rattle.std.specs.Prelude.{◌≡◌, ℕ, ◌≤◌, ◌<◌, ◌==◌, List, [], ◌∷◌, ◌++◌, length, Option, Some, None, Bool, false, option_and_then, cond, if◌then◌else◌, slice_get}
 use Rattle.std.specs.Map.{lookup}
 use Rattle.std.specs.Option.{option_map_or}
 use Rattle.doc_register.specs.declared.reply.Reply.{Reply as Answer}
 use Rattle.doc_register.specs.Register.{fits}
 use Rattle.events.specs.declared.event.Event.{Event}
 use Rattle.events.specs.declared.event.Event.TheVariants.{Call, Reply, Lost}
-use Rattle.events.specs.declared.fault.HistFault.{HistFault}
-use Rattle.events.specs.declared.fault.HistFault.TheVariants.{Ended, NoCall}
 use Rattle.events.specs.Events.{IsHistory, PassesAt, documents_of, is_call, is_call_of, is_ending, is_same, place_of, places_from}
 use Rattle.events.specs.Refusal.{most_events, op_named, shard_of}
 
@@ -41,16 +39,6 @@ abbrev pub with_listed : List (List ℕ × ℕ) → List (List ℕ) → List ℕ
 with_listed [] ls d p = (p ∷ []) ∷ []
 with_listed (e ∷ es) [] d p = []
 with_listed (e ∷ es) (l ∷ ls) d p = if is_same d e.0 then (l ++ p ∷ []) ∷ ls else l ∷ with_listed es ls d p
-
--- the position of a call without an ending, by the positions of its call and of its ending; or the reason why
--- there is none
-abbrev pub opened : Option ℕ → Option ℕ → Result ℕ HistFault
-opened None ending = Err NoCall
-opened (Some i) (Some j) = Err Ended
-opened (Some i) None = Ok i
-
-abbrev pub open_call_of : List Event → ℕ → Result ℕ HistFault
-open_call_of events n = opened (place_of (is_call n) events) (place_of (is_ending n) events)
 
 -- the event is an ending of the call at the position
 abbrev pub IsEndingOf : List Event → ℕ → Event → Type 0
