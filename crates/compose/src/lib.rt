@@ -9,20 +9,23 @@
 //! ```
 #![tactic(auto)]
 
-mod asked;
 mod case;
 mod certainty;
 mod checking;
 mod counts;
 mod covering;
+mod doc_limits;
 mod finding;
 mod found;
 mod joined;
 pub mod laws;
+mod nearby;
 mod offence;
+mod part;
 mod proof;
 mod refutation;
 mod renumbered;
+mod reordered;
 mod second_look;
 mod shortage;
 mod taken;

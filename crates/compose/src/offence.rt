@@ -87,8 +87,8 @@ fn next_tried(places: &[usize], low: usize, high: usize, guessed: Option<usize>)
     low + half
 }
 
-// The guess after a failure at the reply of this index: the one that this search gave, if it is earlier; else
-// the same as before, unless it was the guess that failed.
+// The guess after a failure at the reply of this index: the one that this search gave, if it is earlier; the
+// reply before, if the search gave this one; else the same as before, unless it was the guess that failed.
 fn guess_after_failure(
     places: &[usize],
     at: usize,
@@ -98,7 +98,8 @@ fn guess_after_failure(
     let place = places.get(at).copied();
     match found {
         Some(earlier) if Some(earlier) < place => Some(earlier),
-        _ => { if guessed == place { None } else { guessed } }
+        Some(_) => places.get(at.checked_sub(1)?).copied(),
+        None => { if guessed == place { None } else { guessed } }
     }
 }
 
@@ -136,7 +137,7 @@ fn first_wrong(
     history: &History,
     conflicts: Conflicts,
     places: &[usize],
-    guessed: Option<usize>,
+    guesses: Guesses,
 ) -> Result<usize, NoMemory>
     requires some { 0 < length places.now }
     requires replies { AreReplies history.now (length history.now) places.now }
@@ -144,8 +145,10 @@ fn first_wrong(
     ensures reply { IfOk result (IsReplyPlace history.now) }
     ensures wrong { IfOk result (IsWrongAt history.now) }
 {
-    let mut guessed = guessed;
-    let mut left = (0, places.len() - 1);
+    let mut guessed = guesses.next;
+    let shown = guesses.shown;
+    let low = places.partition_point(|place| *place < shown);
+    let mut left = (low.min(places.len() - 1), places.len() - 1);
     while left.0 < left.1 {
         left = narrower(
             alloc,
@@ -182,6 +185,15 @@ fn offence_at(
     }
 }
 
+// What is known of the reply at which the search first fails.
+#[derive(Clone, Copy)]
+struct Guesses {
+    // The next guess, if there is one.
+    next: Option<usize>,
+    // How many events an order was found for.
+    shown: usize,
+}
+
 // The offence at this reply, if the search finds an order of all events before and fails there. If it fails
 // on the events before, `next` is another guess, if there is one; if it finds an order of the events up to
 // the reply, `next` is the event after it.
@@ -190,11 +202,11 @@ fn offence_if(
     history: &History,
     conflicts: Conflicts,
     place: usize,
-    next: &mut Option<usize>,
+    guesses: &mut Guesses,
 ) -> Result<Option<Offence>, NoMemory>
     ensures { IfOk result (λ found. IfSome found (IsOffence conflicts history.now)) }
 {
-    *next = None;
+    guesses.next = None;
     if place >= history.len() {
         return Ok(None);
     }
@@ -202,15 +214,17 @@ fn offence_if(
         return Ok(None);
     };
     match search_outcome(alloc, &history.front(place), conflicts)? {
-        SearchOutcome::Found => {}
+        SearchOutcome::Found => guesses.shown = guesses.shown.max(place),
         SearchOutcome::NotFound(earlier) => {
-            *next = earlier;
+            guesses.next = earlier;
             return Ok(None);
         }
     }
     match search_outcome_to(alloc, history, conflicts, place)? {
         SearchOutcome::Found => {
-            *next = place.checked_add(1);
+            let more = place.saturating_add(1);
+            guesses.next = Some(more);
+            guesses.shown = guesses.shown.max(more);
             Ok(None)
         }
         SearchOutcome::NotFound(_) => Ok(Some(Offence {
@@ -244,15 +258,18 @@ pub fn first_offence(alloc: Global, case: &Case) -> Result<Offence, NoMemory>
 {
     let history = case.history();
     let conflicts = case.conflicts();
-    let mut guessed = first_guess(alloc, case)?;
+    let mut guesses = Guesses {
+        next: first_guess(alloc, case)?,
+        shown: 0,
+    };
     for _ in 0..MOST_GUESSES {
-        let Some(place) = guessed else {
+        let Some(place) = guesses.next else {
             break;
         };
-        if let Some(offence) = offence_if(alloc, history, conflicts, place, &mut guessed)? {
+        if let Some(offence) = offence_if(alloc, history, conflicts, place, &mut guesses)? {
             return Ok(offence);
         }
-        if guessed > Some(place) {
+        if guesses.next > Some(place) {
             break;
         }
     }
@@ -260,6 +277,6 @@ pub fn first_offence(alloc: Global, case: &Case) -> Result<Offence, NoMemory>
     // From here on it is known that calls after the last reply don't change whether a history is legal in
     // response order.
     late_calls();
-    let place = first_wrong(alloc, history, conflicts, &places, guessed)?;
+    let place = first_wrong(alloc, history, conflicts, &places, guesses)?;
     offence_at(alloc, history, conflicts, place)
 }

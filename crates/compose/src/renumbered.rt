@@ -5,10 +5,11 @@ use crate::renumbered::free_numbers::{FreeNumbers, pair_after};
 use crate::renumbered::gaps::{Gap, Gaps};
 use crate::renumbered::names::Names;
 use crate::renumbered::tight::{Filled, tight_set};
+use crate::reordered::reordered;
 use crate::used_pairs::UsedPairs;
 use events::HashKeys;
-use places::{Broken, DocWitness};
-use std::alloc::{AllocError, Global};
+use places::DocWitness;
+use std::alloc::Global;
 use version_pair::{NoMemory, Pair};
 
 pub mod free_numbers;
@@ -180,22 +181,14 @@ fn change_places(
 ) -> Result<Option<DocWitness>, NoMemory>
     ensures { IfOk result (λ other. IfSome other (IsAlike witness)) }
 {
-    let conflicts = witness.conflicts();
-    let (id, records, places) = witness.into_parts();
-    let mut places = places;
+    let mut places = Vec::from_slice(alloc, witness.places())?;
     for i in 0..changes.len() {
         let (_, place, pair) = changes[i];
         if let Some(found) = places.get_mut(place) {
             found.pair = Some(pair);
         }
     }
-    match DocWitness::check(alloc, id, records, places, conflicts) {
-        Ok(witness) => Ok(Some(witness)),
-        Err(back) => match back.0 {
-            Broken::NoMemory => Err(AllocError),
-            _ => Ok(None),
-        },
-    }
+    reordered(alloc, witness, places)
 }
 
 // Returns the index at which the changes of this witness end, which begin at `from`.

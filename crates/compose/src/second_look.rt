@@ -3,12 +3,10 @@ ghost use Rattle.doc_register.specs.declared.state.Conflicts.{Conflicts as Readi
 ghost use Rattle.events.specs.Events.{documents_of};
 ghost use Rattle.compose.specs.aids.Searched.{AreAlike, AreAnswersFor, AreKept, AreSearched, IsAlike, Keeps};
 
-use crate::asked::Asked;
 use crate::joined::witnesses_of;
 use crate::renumbered::gaps::Gaps;
 use crate::taken::shard_of;
 use crate::used_pairs::UsedPairs;
-use completing::Limit;
 use doc_check::{DocAnswer, answer_among, is_complete};
 use events::{Front, Seen};
 use places::DocWitness;
@@ -38,17 +36,15 @@ fn second_answer(
     let records = Vec::from_slice(alloc, answer.records())?;
     // How far the search came is of no use here.
     let mut stuck = None;
-    let found = answer_among(
+    match answer_among(
         alloc,
         id,
         records,
         seen,
         answer.conflicts(),
         used,
-        &[],
         &mut stuck,
-    )?;
-    match found {
+    )? {
         Some(witness) => Ok(DocAnswer::Found(witness)),
         None => Ok(answer),
     }
@@ -126,14 +122,13 @@ pub fn orders_again(
     witnesses_of(alloc, others)
 }
 
-/// Returns another order of the same calls within the limits, given which pairs the documents of the shard
-/// use, if the search forward finds one. If it doesn't, `stuck` is how far it came (`answer_among`).
-pub fn order_within(
+// Returns another order of the same calls, given which pairs the documents of the shard use, if the search
+// forward finds one. If it doesn't, `stuck` is how far it came (`answer_among`).
+fn order_again(
     alloc: Global,
     history: &Front<'_>,
     witness: &DocWitness,
     known: SearchContext<'_>,
-    limits: &[Limit],
     stuck: &mut Option<usize>,
 ) -> Result<Option<DocWitness>, NoMemory>
     ensures { IfOk result (λ found. IfSome found (IsAlike witness.now)) }
@@ -152,65 +147,74 @@ pub fn order_within(
         known.seen,
         witness.conflicts(),
         used,
-        limits,
         stuck,
     )
 }
 
-// Returns the witness, or, if it is asked for and another one of its document is found, that one.
+// Returns the witness, or, if `is_asked` and another one of its document is found, that one. If none is found,
+// `stuck` is how far this search came, if it was further.
 fn witness_again(
     alloc: Global,
     history: &Front<'_>,
     witness: DocWitness,
     known: SearchContext<'_>,
-    limits: Option<Vec<Limit>>,
+    is_asked: bool,
+    stuck: &mut Option<usize>,
 ) -> Result<DocWitness, NoMemory>
     ensures { IfOk result (IsAlike witness) }
 {
     // Calling `places` makes it known from here on that its places are valid.
     let _ = witness.places();
-    let Some(limits) = limits else {
+    if !is_asked {
         return Ok(witness);
-    };
-    // How far the search came is of no use here.
-    let mut stuck = None;
-    match order_within(alloc, history, &witness, known, &limits, &mut stuck)? {
+    }
+    let mut own = None;
+    match order_again(alloc, history, &witness, known, &mut own)? {
         Some(other) => Ok(other),
-        None => Ok(witness),
+        None => {
+            *stuck = (*stuck).max(own);
+            Ok(witness)
+        }
     }
 }
 
-/// Returns the witnesses, with those that are asked for searched again.
-pub fn witnesses_again(
+// Returns the witnesses, with those that are asked for searched again.
+fn witnesses_again(
     alloc: Global,
     history: &Front<'_>,
     witnesses: Vec<DocWitness>,
-    asked: &Asked,
+    asked: &[bool],
     known: SearchContext<'_>,
+    stuck: &mut Option<usize>,
 ) -> Result<Vec<DocWitness>, NoMemory>
     ensures { IfOk result (λ others. AreAlike witnesses.items others.items) }
 {
     let mut others = Vec::with_capacity(alloc, witnesses.len())?;
     for witness in witnesses {
-        let limits = asked.limits(alloc, others.len())?;
-        others.push(witness_again(alloc, history, witness, known, limits)?)?;
+        let is_asked = asked.get(others.len()) == Some(&true);
+        others.push(witness_again(alloc, history, witness, known, is_asked, stuck)?)?;
     }
     Ok(others)
 }
 
-/// Returns the witnesses. Those that have one of these gaps are searched again.
+/// Returns the witnesses. Those that have one of these gaps are searched again; `stuck` is how far the furthest
+/// of the searches came that found nothing.
 pub fn with_gaps_again(
     alloc: Global,
     history: &Front<'_>,
     witnesses: Vec<DocWitness>,
     gaps: &Gaps,
     known: SearchContext<'_>,
+    stuck: &mut Option<usize>,
 ) -> Result<Vec<DocWitness>, NoMemory>
     ensures { IfOk result (λ others. AreAlike witnesses.items others.items) }
 {
-    let mut asked = Asked::none(alloc, witnesses.len())?;
+    *stuck = None;
+    let mut asked = vec![in alloc; false; witnesses.len()]?;
     for gap in &gaps.list {
-        asked.ask(gap.witness);
+        if let Some(flag) = asked.get_mut(gap.witness) {
+            *flag = true;
+        }
     }
-    witnesses_again(alloc, history, witnesses, &asked, known)
+    witnesses_again(alloc, history, witnesses, &asked, known, stuck)
 }

@@ -1,5 +1,5 @@
 use crate::renumbered::gaps::{Gap, Gaps};
-use crate::taken::{pair_of_place, shard_of};
+use crate::taken::shard_of;
 use events::{Front, Rec};
 use places::DocWitness;
 use std::alloc::Global;
@@ -46,46 +46,9 @@ fn shown_in(stretch: Stretch, found: Rec) -> Option<(Pair, usize)> {
     }
 }
 
-// The position of the reply to the call at this index of the witness.
-fn reply_at(witness: &DocWitness, position: usize) -> Option<usize> {
-    let place = witness.places().get(position)?;
-    let found = witness.records().get(place.rec)?;
-    found.heard.map(|heard| heard.0)
-}
-
-// The index of the first reply that may ask for what is invented in the gap: of the calls after the last
-// invented write, up to and with the write with the next pair that wasn't invented.
-fn first_asking(gap: &Gap, witness: &DocWitness) -> Option<usize> {
-    let mut first: Option<usize> = None;
-    let start = gap.places.last()?.saturating_add(1);
-    for position in start..witness.places().len() {
-        if let Some(place) = reply_at(witness, position) {
-            first = Some(first.map_or(place, |other| other.min(place)));
-        }
-        let place = *witness.places().get(position)?;
-        if pair_of_place(witness.records(), place) == Some(gap.numbers.upper) {
-            break;
-        }
-    }
-    first
-}
-
 impl Shortage {
-    // For each of these gaps the first reply that may ask for a write invented there; the latest of them.
-    fn last_asking(&self, witnesses: &[DocWitness]) -> Option<usize> {
-        let mut last = None;
-        for number in 0..self.tight.len() {
-            if let Some(gap) = self.tight_gap(number) {
-                if let Some(witness) = witnesses.get(gap.witness) {
-                    last = last.max(first_asking(gap, witness));
-                }
-            }
-        }
-        last
-    }
-
-    // The gaps that need too many numbers.
-    fn tight_gap(&self, number: usize) -> Option<&Gap> {
+    /// Returns one of the gaps that need too many numbers.
+    pub fn tight_gap(&self, number: usize) -> Option<&Gap> {
         self.gaps.list.get(*self.tight.get(number)?)
     }
 
@@ -105,10 +68,9 @@ impl Shortage {
         Some(stretch)
     }
 
-    /// A guess at the reply with which the numbers become too few, the later of two. One is the latest among
-    /// the first replies to show each pair from the end below these gaps to the end above; the other the
-    /// latest among the first replies that may ask for an invented write, one for each gap.
-    pub fn reply(
+    /// Returns the latest among the first replies to show each pair from the end below these gaps to the end
+    /// above: without it one of these pairs isn't known.
+    pub fn last_shown(
         &self,
         alloc: Global,
         history: &Front<'_>,
@@ -128,7 +90,7 @@ impl Shortage {
             }
         }
         shown.sort_unstable();
-        Ok(last_first(&shown).max(self.last_asking(witnesses)))
+        Ok(last_first(&shown))
     }
 }
 

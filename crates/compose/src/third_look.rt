@@ -4,15 +4,17 @@ ghost use Rattle.events.specs.Events.{documents_of};
 ghost use Rattle.compose.specs.aids.Joined.{IsCovered};
 ghost use Rattle.compose.specs.aids.Searched.{AreSearched};
 
-use crate::asked::Asked;
 use crate::covering::Covering;
+use crate::doc_limits::DocLimits;
 use crate::joined::{Joined, joined_again};
+use crate::nearby::{Given, Nearby};
 use crate::renumbered::gaps::{Gap, Gaps};
-use crate::second_look::{SearchContext, order_within, witnesses_again};
+use crate::reordered::with_reordered;
+use crate::second_look::SearchContext;
 use crate::shortage::Shortage;
 use completing::Limit;
 use events::Front;
-use places::DocWitness;
+use places::{DocWitness, Place};
 use std::alloc::Global;
 use version_pair::NoMemory;
 
@@ -22,11 +24,10 @@ const MOST_STEPS: usize = 64;
 // The greatest number of gaps that are tried for one that can do with fewer numbers.
 const MOST_TRIED: usize = 64;
 
-// The greatest number of records that are searched again: this many for each event of the history, and
-// `ALWAYS_SEARCHED` more.
-const MOST_SEARCHED: usize = 2;
+// How many answered writes below and above a gap other orders may differ: first a few, then more.
+const NEAR: usize = 12;
 
-const ALWAYS_SEARCHED: usize = 100_000;
+const FAR: usize = 100;
 
 // Returns the limit of one insertion fewer than the gap has.
 fn fewer_than(gap: &Gap) -> Option<Limit> {
@@ -37,159 +38,172 @@ fn fewer_than(gap: &Gap) -> Option<Limit> {
     })
 }
 
-// The documents that are asked for, the number of records that may still be searched, and how far the
-// searches that found nothing came since the last document gave way: the latest of the replies at which they
-// were stuck.
-#[derive(Drop)]
-struct Trials {
-    asked: Asked,
-    left: usize,
-    stuck: Option<usize>,
-}
-
-impl Trials {
-    // Returns whether that many records may be searched; if so, they are subtracted.
-    fn take(&mut self, records: usize) -> bool {
-        match self.left.checked_sub(records) {
-            Some(left) => {
-                self.left = left;
-                true
-            }
-            None => false,
-        }
-    }
-}
-
 // What is asked of a document that can do with fewer numbers in a gap.
-#[derive(Clone, Copy)]
+#[derive(Drop)]
 struct Concession {
     doc: usize,
     limit: Limit,
+    // The places of its other order.
+    places: Vec<Place>,
     // How many more numbers it wants in all.
     more: usize,
 }
 
-// Returns how many numbers the document of a witness wants within the limits, if an order is found. If none
-// is, `stuck` is how far the search came.
-fn wanted_within(
-    alloc: Global,
-    history: &Front<'_>,
-    doc: usize,
-    witness: &DocWitness,
-    known: SearchContext<'_>,
-    limits: &[Limit],
-    stuck: &mut Option<usize>,
-) -> Result<Option<usize>, NoMemory> {
-    match order_within(alloc, history, witness, known, limits, stuck)? {
-        Some(other) => {
-            let mut gaps = Gaps::none(alloc);
-            gaps.note(alloc, history, doc, &other)?;
-            Ok(Some(gaps.wanted(doc)))
-        }
-        None => Ok(None),
-    }
+// The witnesses of all documents, and what is known of them.
+#[derive(Clone, Copy)]
+struct Scene<'a, 'h> {
+    history: &'a Front<'h>,
+    witnesses: &'a [DocWitness],
+    limits: &'a DocLimits,
+    known: SearchContext<'a>,
 }
 
-// Returns what to ask of the document of a gap if it can do with one number fewer there, as far as it may be
-// searched.
-fn concession_of(
-    alloc: Global,
-    history: &Front<'_>,
-    witnesses: &[DocWitness],
-    gaps: &Gaps,
-    gap: &Gap,
-    trials: &mut Trials,
-    known: SearchContext<'_>,
-) -> Result<Option<Concession>, NoMemory> {
-    let (Some(witness), Some(limit)) = (witnesses.get(gap.witness), fewer_than(gap)) else {
-        return Ok(None);
-    };
-    if !trials.take(witness.records().len()) {
-        return Ok(None);
+impl<'a> Scene<'a, '_> {
+    // Returns how many numbers another order of a document wants.
+    fn wanted_by(self, alloc: Global, doc: usize, other: &DocWitness) -> Result<usize, NoMemory> {
+        let mut gaps = Gaps::none(alloc);
+        gaps.note(alloc, self.history, doc, other)?;
+        Ok(gaps.wanted(doc))
     }
-    let mut limits = trials.asked.limits_on(alloc, gap.witness)?;
-    limits.push(limit)?;
-    let mut stuck = None;
-    match wanted_within(
-        alloc,
-        history,
-        gap.witness,
-        witness,
-        known,
-        &limits,
-        &mut stuck,
-    )? {
-        Some(count) => Ok(Some(Concession {
-            doc: gap.witness,
-            limit,
-            more: count.saturating_sub(gaps.wanted(gap.witness)),
-        })),
-        None => {
-            trials.stuck = trials.stuck.max(stuck);
-            Ok(None)
+
+    // Returns what a search for the document of a gap is given.
+    fn given(self, gap: &Gap, witness: &DocWitness, limits: &'a [Limit]) -> Given<'a> {
+        Given {
+            seen: self.known.seen,
+            conflicts: witness.conflicts(),
+            used: self.known.used.of_shard(gap.shard),
+            limits,
         }
     }
-}
 
-// Returns the document that gives way where numbers are short and then wants the fewest more numbers; the
-// first that wants no more.
-fn best_of(
-    alloc: Global,
-    history: &Front<'_>,
-    witnesses: &[DocWitness],
-    shortage: &Shortage,
-    trials: &mut Trials,
-    known: SearchContext<'_>,
-) -> Result<Option<Concession>, NoMemory> {
-    let gaps = &shortage.gaps;
-    let mut best: Option<Concession> = None;
-    trials.stuck = None;
-    for number in shortage.tight.iter().take(MOST_TRIED) {
-        let Some(gap) = gaps.list.get(*number) else {
-            continue;
+    // Returns another order of the document of a gap within the limits, if one is found that differs only near
+    // the gap.
+    fn order_near(
+        self,
+        alloc: Global,
+        gap: &Gap,
+        witness: &DocWitness,
+        limits: &[Limit],
+    ) -> Result<Option<DocWitness>, NoMemory> {
+        for reach in [NEAR, FAR] {
+            if let Some(nearby) = Nearby::of(alloc, witness, gap, reach)? {
+                let found = nearby.order(alloc, witness, self.given(gap, witness, limits))?;
+                if found.is_some() {
+                    return Ok(found);
+                }
+            }
+        }
+        Ok(None)
+    }
+
+    // Returns what to ask of the document of one of the gaps where numbers are short, if it can do with one
+    // number fewer there.
+    fn concession(
+        self,
+        alloc: Global,
+        shortage: &Shortage,
+        number: usize,
+    ) -> Result<Option<Concession>, NoMemory> {
+        let Some(gap) = shortage.tight_gap(number) else {
+            return Ok(None);
         };
-        if let Some(found) = concession_of(alloc, history, witnesses, gaps, gap, trials, known)? {
+        let doc = gap.witness;
+        let (Some(witness), Some(limit)) = (self.witnesses.get(doc), fewer_than(gap)) else {
+            return Ok(None);
+        };
+        let limits = self.limits.with(alloc, doc, limit)?;
+        let Some(other) = self.order_near(alloc, gap, witness, &limits)? else {
+            return Ok(None);
+        };
+        let wanted = self.wanted_by(alloc, doc, &other)?;
+        Ok(Some(Concession {
+            doc,
+            limit,
+            places: other.into_parts().2,
+            more: wanted.saturating_sub(shortage.gaps.wanted(doc)),
+        }))
+    }
+
+    // Returns what to ask of the document that gives way where numbers are short and then wants the fewest more
+    // numbers; the first that wants no more.
+    fn best(self, alloc: Global, shortage: &Shortage) -> Result<Option<Concession>, NoMemory> {
+        let mut best: Option<Concession> = None;
+        for number in 0..shortage.tight.len().min(MOST_TRIED) {
+            let Some(found) = self.concession(alloc, shortage, number)? else {
+                continue;
+            };
             if found.more == 0 {
                 return Ok(Some(found));
             }
-            best = match best {
-                Some(other) if other.more <= found.more => Some(other),
-                _ => Some(found),
+            let is_better = match &best {
+                Some(other) => found.more < other.more,
+                None => true,
             };
+            if is_better {
+                best = Some(found);
+            }
+        }
+        Ok(best)
+    }
+
+    // Returns the reply with which the document of a gap comes to need all numbers of it.
+    fn asking(self, alloc: Global, gap: &Gap) -> Result<Option<usize>, NoMemory> {
+        let (Some(witness), Some(limit)) = (self.witnesses.get(gap.witness), fewer_than(gap)) else {
+            return Ok(None);
+        };
+        let limits = self.limits.with(alloc, gap.witness, limit)?;
+        match Nearby::of(alloc, witness, gap, NEAR)? {
+            Some(nearby) => nearby.first_failing(alloc, self.given(gap, witness, &limits)),
+            None => Ok(None),
         }
     }
-    Ok(best)
+
+    // A guess at the reply with which numbers become too few: the latest with which a gap comes to need its
+    // numbers, or the pairs around become known.
+    fn short_at(self, alloc: Global, shortage: &Shortage) -> Result<Option<usize>, NoMemory> {
+        let mut last = shortage.last_shown(alloc, self.history, self.witnesses)?;
+        for number in 0..shortage.tight.len().min(MOST_TRIED) {
+            if let Some(gap) = shortage.tight_gap(number) {
+                last = last.max(self.asking(alloc, gap)?);
+            }
+        }
+        Ok(last)
+    }
 }
 
 /// Takes a third look, if the documents want more numbers than are free: as long as there are too few for
-/// some gaps, one of their documents is searched again with one number fewer there. Returns witnesses that
-/// cover the history, if the numbers suffice in the end; else a guess at the reply with which they become too
-/// few.
-pub fn cover_with_fewer(
+/// some gaps, one of their documents gets another order near such a gap, with one number fewer. Returns
+/// witnesses that cover the history, if the numbers suffice in the end; else a guess at the reply with which
+/// they become too few, which is not before `stuck`, how far the second look came.
+pub fn cover_with_fewer<'x>(
     alloc: Global,
-    history: &Front<'_>,
+    history: &'x Front<'_>,
     witnesses: Vec<DocWitness>,
     shortage: Shortage,
-    known: SearchContext<'_>,
+    known: SearchContext<'x>,
+    stuck: Option<usize>,
 ) -> Result<Covering, NoMemory>
     ensures { IfOk result (λ found. (conflicts : Reading)
         → AreSearched conflicts history.now false (documents_of history.now) witnesses.items
         → IsCovered conflicts history.now false found) }
 {
-    let most = history.len().saturating_mul(MOST_SEARCHED);
-    let mut trials = Trials {
-        asked: Asked::none(alloc, witnesses.len())?,
-        left: most.saturating_add(ALWAYS_SEARCHED),
-        stuck: None,
-    };
+    let mut limits = DocLimits::none(alloc);
     let mut witnesses = witnesses;
     let mut shortage = shortage;
     for _ in 0..MOST_STEPS {
-        let Some(found) = best_of(alloc, history, &witnesses, &shortage, &mut trials, known)? else {
+        let scene = Scene {
+            history,
+            witnesses: &witnesses,
+            limits: &limits,
+            known,
+        };
+        let Some(found) = scene.best(alloc, &shortage)? else {
             break;
         };
-        trials.asked.ask_alone(found.doc, found.limit)?;
-        let others = witnesses_again(alloc, history, witnesses, &trials.asked, known)?;
+        limits.note(found.doc, found.limit)?;
+        let Some(others) = with_reordered(alloc, witnesses, found.doc, &found.places)? else {
+            return Ok(Covering::NotFound(None));
+        };
         match joined_again(alloc, history, others, known.used)? {
             Joined::Cover(others) => return Ok(Covering::Found(others)),
             Joined::Short(again, more) => {
@@ -199,6 +213,12 @@ pub fn cover_with_fewer(
             Joined::Spent => return Ok(Covering::NotFound(None)),
         }
     }
-    let guessed = shortage.reply(alloc, history, &witnesses)?;
-    Ok(Covering::NotFound(guessed.max(trials.stuck)))
+    let scene = Scene {
+        history,
+        witnesses: &witnesses,
+        limits: &limits,
+        known,
+    };
+    let guessed = scene.short_at(alloc, &shortage)?;
+    Ok(Covering::NotFound(guessed.max(stuck)))
 }

@@ -12,7 +12,7 @@ use crate::order::order_of;
 use crate::reply_order::reply_order;
 use crate::stretches::Stretches;
 use crate::sweep::sweep;
-use completing::{Limit, complete_by_rules, search_forward};
+use completing::{complete_by_rules, search_forward};
 use doc_register::Conflicts;
 use events::{Rec, Seen};
 use places::{Broken, DocWitness, Place};
@@ -208,7 +208,7 @@ pub fn answer(
 
 /// Returns an order of a document's calls that explains them, if the search forward in time finds one. This
 /// search knows which pairs the documents of the shard use, by rising pair; the document's own may be among
-/// them. It invents pairs only if one is left, and within the limits, of which no clause speaks.
+/// them. It invents pairs only if one is left.
 ///
 /// If nothing is found, this says nothing, but `stuck` is how far the search came, of which no clause speaks:
 /// the latest reply such that all answered calls with an earlier reply had a position. If memory is refused,
@@ -220,7 +220,6 @@ pub fn answer_among(
     seen: Seen,
     conflicts: Conflicts,
     used: &[Pair],
-    limits: &[Limit],
     stuck: &mut Option<usize>,
 ) -> Result<Option<DocWitness>, NoMemory>
     // An order that is found is of the id, the records and the reading that were passed in, and valid for
@@ -232,7 +231,7 @@ pub fn answer_among(
     if is_complete(&recs, conflicts) {
         return Ok(None);
     }
-    match search_forward(alloc, &recs, seen, conflicts, used, limits, stuck)? {
+    match search_forward(alloc, &recs, seen, conflicts, used, &[], stuck)? {
         Some(places) => match check_places(alloc, id, recs, places, conflicts)? {
             Checked::Valid(witness) => Ok(Some(witness)),
             Checked::Invalid(..) => Ok(None),

@@ -1,0 +1,87 @@
+ghost use Rattle.std.specs.Prelude.{◌≡◌, IfOk, IfSome, Ok};
+ghost use Rattle.compose.specs.aids.Searched.{AreAlike, IsAlike};
+
+use events::Rec;
+use places::{Broken, DocWitness, Place};
+use std::alloc::{AllocError, Global};
+use version_pair::{DocId, NoMemory};
+
+// Returns the witness, if there is one.
+fn if_valid(
+    checked: Result<DocWitness, (Broken, DocId, Vec<Rec>, Vec<Place>)>,
+) -> Result<Option<DocWitness>, NoMemory>
+    ensures { IfOk result (λ found. IfSome found (λ w. checked ≡ Ok w)) }
+{
+    match checked {
+        Ok(witness) => Ok(Some(witness)),
+        Err(back) => match back.0 {
+            Broken::NoMemory => Err(AllocError),
+            _ => Ok(None),
+        },
+    }
+}
+
+/// Returns the witness with these places in place of its own, if they are valid.
+pub fn reordered(
+    alloc: Global,
+    witness: DocWitness,
+    places: Vec<Place>,
+) -> Result<Option<DocWitness>, NoMemory>
+    ensures { IfOk result (λ other. IfSome other (IsAlike witness)) }
+{
+    let conflicts = witness.conflicts();
+    let (id, records, _) = witness.into_parts();
+    if_valid(DocWitness::check(alloc, id, records, places, conflicts))
+}
+
+/// Returns a copy of the witness with these places in place of its own, if they are valid.
+pub fn reordered_copy(
+    alloc: Global,
+    witness: &DocWitness,
+    places: Vec<Place>,
+) -> Result<Option<DocWitness>, NoMemory>
+    ensures { IfOk result (λ other. IfSome other (IsAlike witness.now)) }
+{
+    let id = witness.id().copy()?;
+    let records = Vec::from_slice(alloc, witness.records())?;
+    if_valid(DocWitness::check(alloc, id, records, places, witness.conflicts()))
+}
+
+// Returns the witness, if `is_it` with these places in place of its own. `None` if they are not valid.
+fn reordered_if(
+    alloc: Global,
+    witness: DocWitness,
+    is_it: bool,
+    places: &[Place],
+) -> Result<Option<DocWitness>, NoMemory>
+    ensures { IfOk result (λ other. IfSome other (IsAlike witness)) }
+{
+    if is_it {
+        let places = Vec::from_slice(alloc, places)?;
+        return reordered(alloc, witness, places);
+    }
+    // Calling `places` makes it known from here on that its places are valid.
+    let _ = witness.places();
+    Ok(Some(witness))
+}
+
+/// Returns the witnesses, the one with this number with these places in place of its own. `None` if they are
+/// not valid.
+pub fn with_reordered(
+    alloc: Global,
+    witnesses: Vec<DocWitness>,
+    number: usize,
+    places: &[Place],
+) -> Result<Option<Vec<DocWitness>>, NoMemory>
+    ensures { IfOk result (λ others. IfSome others (λ ws. AreAlike witnesses.items ws.items)) }
+{
+    let mut others = Vec::with_capacity(alloc, witnesses.len())?;
+    for witness in witnesses {
+        let is_it = others.len() == number;
+        let Some(other) = reordered_if(alloc, witness, is_it, places)? else {
+            return Ok(None);
+        };
+        others.push(other)?;
+    }
+    Ok(Some(others))
+}
