@@ -256,6 +256,9 @@ HELP += [(form.format(name), example) for form in FORMS for name, example in EXA
 HELP += [(form.format(name), "\n      --rule-out ") for form in FORMS for name in RULING_OUT]
 HELP += [("--help", "\nExit status:\n  0   yes")]
 
+# How the sentence of a page begins that says what it was made with.
+MADE_WITH = f"Made by {VERSION.strip()} with --conflicts ".encode()
+
 # Arguments that ask for a story with a page, the page's name, how the story begins, and the page if it is known.
 STORIES = [
     ("explain story --html page", "page", "refuted kind=stale-get ", EXAMPLES / "stale-get.html"),
@@ -405,7 +408,10 @@ class Arguments(ProgramTest):
         self.assertEqual((status, why, out[: len(wanted)]), (status_of(wanted), "", wanted))
         text = (folder / page).read_bytes()
         if known:
-            self.assertTrue(text == known.read_bytes(), f"the page is not {known}")
+            reading = b"maybe" if "maybe" in arguments else b"plain"
+            known_text = known.read_bytes().replace(MADE_WITH + b"plain", MADE_WITH + reading)
+            self.assertTrue(text == known_text, f"the page is not {known}")
+            self.assertEqual(text.count(MADE_WITH + reading + b"."), 1)
         else:
             self.assertTrue(text.startswith(b"<!doctype html>"))
             self.assertIn(wanted.strip().encode(), text)

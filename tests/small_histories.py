@@ -11,7 +11,8 @@ tests/small_drawing.py, each in both readings of a conflict. What has to hold of
 - With --rule-out the line is the same, or it is `refuted kind=ruled-out` in the place of `no`.
 - What README says in SENTENCES.
 - `explain` begins with the line of `check`; it says that this is proved, or that there is no order, only if there is
-  none; and the reason that it names is that of the line.
+  none; the reason that it names is that of the line; and its headline names an anomaly exactly if there is evidence or
+  a document is ruled out, that of the evidence by the table of docs/FORMATS.md.
 
 Some fixed histories show what is not promised: that a `no` is proved if a write may have been performed that no reply
 shows, and that every history without an order is refuted.
@@ -61,6 +62,23 @@ ANSWERED = "This is proved: every write was answered,"
 DOCUMENT_ANSWERED = "This is proved: every write of this document was answered,"
 UNDECIDED = "This `no` is undecided, so it accuses nobody:"
 WEIGHTS = (EVIDENT, LINE_RULED_OUT, RULED_OUT, ANSWERED, DOCUMENT_ANSWERED, UNDECIDED)
+
+# The anomaly that the headline names for evidence, and all anomalies that it may name.
+ANOMALY_OF = {
+    "pair-twice": "One version given twice",
+    "no-writer": "Read of something nobody wrote",
+    "stale-get": "Stale read",
+    "stale-swap": "Lost update",
+}
+ANOMALIES = {
+    *ANOMALY_OF.values(),
+    "Acknowledged write not seen",
+    "Acknowledged write lost",
+    "Shown and taken back",
+    "Condition not honoured",
+    "Version that nobody wrote",
+    "Conflict without a cause",
+}
 
 # What a story says only if there is no order.
 PROVED = ("This is proved", "no order of the calls explains", "No order of the calls explains")
@@ -132,6 +150,17 @@ def check_story(history, line, ruled_out, story):
         raise AssertionError(f"there is an order, and a story says: {story[:600]}")
     if weight_of(story) not in weights_that_fit(line, ruled_out, history.is_settled):
         raise AssertionError(f"{line}, and a story says: {story[:600]}")
+    check_headline(line, story)
+
+
+def check_headline(line, story):
+    """The headline of a story names an anomaly exactly if the story proves it by calls: that of the evidence, if the
+    line has some."""
+    _, _, title, *_ = story.split("\n")
+    anomaly = title.partition(":")[0]
+    is_shown = weight_of(story) in (EVIDENT, LINE_RULED_OUT, RULED_OUT)
+    if (anomaly in ANOMALIES) != is_shown or anomaly != ANOMALY_OF.get(kind_of(line), anomaly):
+        raise AssertionError(f"{line}, and the headline is {title}")
 
 
 def judged(program, history):

@@ -46,8 +46,8 @@ def written(line, time):
 
 
 def at(time):
-    """When a line was written, in words: no zero ends the fraction of a second."""
-    return datetime.datetime.fromtimestamp(time / 1000, datetime.timezone.utc).strftime("%Y-%m-%dT%H:%M:%S.%f").rstrip("0") + "Z"
+    """When a line was written, in words, to the millisecond."""
+    return datetime.datetime.fromtimestamp(time / 1000, datetime.timezone.utc).strftime("%Y-%m-%dT%H:%M:%S.%f")[:-3] + "Z"
 
 
 # A get of an old version. Some lines say when they were written; what others say is no time.
@@ -423,6 +423,130 @@ RULED_OUT = [
     ),
 ]
 
+# The anomaly that each of them shows, by the table of FORMATS.md.
+CONFLICT, LOST, NOT_SEEN = "Conflict without a cause", "Acknowledged write lost", "Acknowledged write not seen"
+TAKEN_BACK, UNMET, LOST_UPDATE = "Shown and taken back", "Condition not honoured", "Lost update"
+UNWRITTEN_VALUE, UNWRITTEN_VERSION = "Read of something nobody wrote", "Version that nobody wrote"
+HEADLINES = {
+    "an index without a condition that met a conflict, and a lost write elsewhere": CONFLICT,
+    "a conflict on a version that stood all the time": CONFLICT,
+    "a document created where it was": LOST,
+    "a delete that came after the version which it would have to precede": LOST,
+    "a get that missed a document that was there": NOT_SEEN,
+    "a chain: a lost delete, a get that missed it, and a create that met it": CONFLICT,
+    "a write under the version of a delete": UNMET,
+    "a conflict with what came later": TAKEN_BACK,
+    "a version that nobody can have written": UNWRITTEN_VERSION,
+    "a version that none of the writes without a reply can have made": UNWRITTEN_VALUE,
+    "a version whose writer was called after a later one": UNWRITTEN_VERSION,
+    "a delete under a version that was replaced at once": NOT_SEEN,
+    "a conflict on a version behind which a write under the one before it can't stand": CONFLICT,
+    "a creation behind another version than the one for which a delete asks": LOST,
+    "the greatest version, behind which there is none": NOT_SEEN,
+    "an update before which no version is left": UNWRITTEN_VERSION,
+    "an update of a document that was deleted": LOST,
+    "a get that found a version after another one had missed it": TAKEN_BACK,
+    "a write below a version that was found": TAKEN_BACK,
+    "a write under a condition that created its document": UNMET,
+    "a write under a version above its own": UNMET,
+    "a write under a version that was replaced": LOST_UPDATE,
+    "a write under a version that was changed by a write without a reply": LOST_UPDATE,
+    "a create that met no document, of which nothing is known": CONFLICT,
+}
+
+# Name, text, headline, and what the story has: evidence, and what speaks for or against what is to be ruled out.
+STALE = "Stale read: a get returned an older version than one that was acknowledged before"
+TWICE = "One version given twice: two writes of a shard were answered with the same version"
+EVIDENT = [
+    (
+        "a stale get, after which the version is shown again",
+        index(0) + created(0, 1, 0) + index(1) + updated(1, 1, 1) + get(2) + found(2, 1, 0) + get(3) + found(3, 1, 1) + index(4, k=5) + updated(4, 1, 2),
+        f'{STALE} (call 2 of "d", line 6).',
+        [
+            "\nThe version 1/1 is shown again by call 3, which was made after that reply (line 8): so it was not lost for good,",
+            "\nThe versions that the document's writes were given never fall back, after that reply neither, ",
+        ],
+    ),
+    (
+        "a stale get, after which the version isn't shown again",
+        index(0) + created(0, 1, 0) + index(1) + updated(1, 1, 1) + get(2) + found(2, 1, 0) + get(3) + found(3, 1, 0),
+        f'{STALE} (call 2 of "d", line 6).',
+        ["\nNo call that was made after that reply shows the version 1/1 again, "],
+    ),
+    (
+        "a stale get with times",
+        TIMED,
+        f'{STALE} (call 2 of "d", line 6 at {at(MADE + 86_400_007)}).',
+        [],
+    ),
+    (
+        "numbers that fall back",
+        index(0) + created(0, 1, 5) + index(1) + updated(1, 1, 6) + get(2) + found(2, 1, 5) + index(3) + updated(3, 1, 3),
+        f'{STALE} (call 2 of "d", line 6).',
+        ["\nThe document's versions fall back: call 1 was given 1/6, and call 3, made after that reply, 1/3 (line 8)."],
+    ),
+    (
+        "one version for two documents",
+        index(0, doc="a") + created(0, 1, 0) + index(1, doc="b", k=2) + created(1, 1, 0),
+        f'{TWICE} (call 1 of "b", line 4).',
+        ["\nThe two writes are of different documents: make sure that both are of one shard.\n"],
+    ),
+    (
+        "one version for two writes of a document",
+        index(0) + created(0, 1, 0) + index(1, k=2) + updated(1, 1, 0),
+        f'{TWICE} (call 1 of "d", line 4).',
+        ["\nBoth writes are of one document, so they are of one shard.\n"],
+    ),
+    (
+        "a condition that was not looked at",
+        index(0) + created(0, 1, 0) + index(1, condition(1, 0), k=2) + updated(1, 1, 1) + index(2, condition(1, 0), k=3) + updated(2, 1, 2),
+        'Lost update: a write was performed though the version that its condition asks for had been replaced (call 2 of "d", line 6).',
+        [],
+    ),
+    (
+        "a get of what a write asked for that was answered with a conflict",
+        index(0) + created(0, 1, 0) + index(1, condition(1, 0), k=4) + conflict(1) + get(2) + found(2, 1, 1, k=4),
+        'Read of something nobody wrote: a get returned what no recorded write can have written (call 2 of "d", line 6).',
+        [
+            "\nDid a conflict hide a write? Call 1 (index k=4 if at 1/0) was answered with a conflict (line 4), and call 2 shows k=4 at 1/1 (line 6), ",
+            "`casbench explain --conflicts maybe FILE`",
+        ],
+    ),
+]
+
+# Histories that have an order, and what the story says that they are able to show, and what it doesn't say.
+NOTHING_OVERLAPS, NOTHING_READ = "no two calls of a document overlapped", "nothing in it reads what was written"
+COVERAGE = [
+    (
+        "calls one after the other",
+        index(0) + created(0, 1, 0) + get(1) + found(1, 1, 0),
+        [
+            "\n  calls that overlapped another call of their document: 0 of 2\n",
+            "\n  gets that were answered: 1\n",
+            "\n  writes under a condition, creates among them: 0 performed, 0 refused\n",
+            "\n  primary terms seen: 1\n",
+            '\n  documents with the most calls: "d" with 2\n',
+            NOTHING_OVERLAPS,
+            "All versions are of one primary term",
+        ],
+        [NOTHING_READ],
+    ),
+    (
+        "calls that overlap, a term that rises, a condition that is refused, and a lost write",
+        create(0) + get(1) + missing(1) + created(0, 1, 0) + index(2, condition(1, 0), k=2) + updated(2, 2, 1)
+        + index(3, condition(1, 0), k=3) + conflict(3) + index(4, k=4) + lost(4),
+        [
+            "\n  calls that overlapped another call of their document: 2 of 5\n",
+            "\n  writes under a condition, creates among them: 2 performed, 1 refused\n",
+            "\n  writes without a reply: 1\n",
+            "\n  primary terms seen: 1 to 2\n",
+        ],
+        [NOTHING_OVERLAPS, NOTHING_READ, "All versions are of one primary term"],
+    ),
+    ("a write that nobody reads", index(0) + created(0, 1, 0), [NOTHING_READ], [NOTHING_OVERLAPS]),
+    ("no calls", "", [], ["What this recording is able to show"]),
+]
+
 
 class Stories(ProgramTest):
     """Stories, each with a page and without."""
@@ -467,14 +591,23 @@ class Stories(ProgramTest):
         """A story begins as it should and has its parts, and so has its page."""
         self.run_subtests(self.check_text, TEXTS)
 
-    def check_reason(self, text, place, parts, counts):
+    def check_advice(self, story):
+        """What is to be ruled out comes after the reasons, then what to do, then the calls."""
+        headings = ["First rule out", "Then", "The calls that matter, in the order of their events"]
+        places = [story.index(f"\n\n{it}:\n") for it in headings]
+        self.assertEqual(places, sorted(places))
+
+    def check_reason(self, headline, text, place, parts, counts):
         event, number, stop = place
-        first = "\n\nThe replies contradict one another: no order of the calls explains them.\nThis is proved, "
+        first = "The replies contradict one another: no order of the calls explains them.\nThis is proved, "
         plain, page = self.story_of(text)
         ruled_out, _ = self.story_of(text, "--rule-out")
         for story, line, more in ((plain, no(event, number), "though"), (ruled_out, refuted("ruled-out", stop, event, number), "since")):
-            begins = line[:-1] + first + more
-            self.assertEqual(story[: len(begins)], begins)
+            self.assertEqual(story[: len(line)], line)
+            title, _, rest = story[len(line) :].lstrip("\n").partition("\n")
+            self.assertEqual(rest[: len(first + more)], first + more)
+            self.assertRegex(title, rf"{headline}: [^:]+ \(call {stop} of \"d\", line \d+\)\.$")
+            self.check_advice(story)
         for part in [*parts, f"\nSo no order has a place for call {stop} and its reply. This is proved", "\nThe calls that matter, "]:
             self.assertIn(part, plain)
         reasons = [it[it.index("\nWhy no order can have these replies:\n") :] for it in (plain, ruled_out)]
@@ -484,7 +617,43 @@ class Stories(ProgramTest):
     def test_reasons(self):
         """A story gives the reason why its document is ruled out: the same with the option, whose line says so, and
         without it."""
-        self.run_subtests(self.check_reason, RULED_OUT)
+        self.run_subtests(self.check_reason, [(name, HEADLINES[name], *row) for name, *row in RULED_OUT])
+
+    def check_headline(self, text, headline, parts, *options):
+        story, page = self.story_of(text, *options)
+        _, _, title, _ = story.split("\n", 3)
+        self.assertEqual(title, headline)
+        self.check_advice(story)
+        for part in parts:
+            self.assertIn(part, story)
+        self.assertIn(f"<h1>{headline}</h1>".replace('"', "&quot;"), page)
+
+    def test_headlines(self):
+        """A story names the anomaly, and says what speaks for or against it."""
+        self.run_subtests(self.check_headline, EVIDENT)
+
+    def check_undecided(self, text, *options):
+        story, _ = self.story_of(text, *options)
+        for heading in ("First rule out", "Then"):
+            self.assertNotIn(f"\n{heading}:\n", story)
+
+    def test_undecided(self):
+        """What is undecided accuses nobody, so nothing is to be ruled out."""
+        self.run_subtests(self.check_undecided, [("a write that is needed twice", NEEDED_TWICE)])
+
+    def check_coverage(self, text, parts, absent):
+        story, page = self.story_of(text)
+        self.assertEqual(story[:4], "yes ")
+        for part in parts:
+            self.assertIn(part, story)
+        for part in absent:
+            self.assertNotIn(part, story)
+        made_with = " with --conflicts plain" if text else ""
+        self.assertIn(f"<p>Made by casbench 0.1.0{made_with}.</p>", page)
+
+    def test_coverage(self):
+        """The story of a history that has an order says what the recording is able to show."""
+        self.run_subtests(self.check_coverage, COVERAGE)
 
 
 if __name__ == "__main__":

@@ -1,5 +1,7 @@
 use crate::calls::id_words;
+use crate::coverage_words::add_coverage;
 use crate::event_lines::EventLines;
+use crate::page_head::made_with;
 use crate::parts::{Part, Story, add_items};
 use crate::refused::{cause_words, line_shown};
 use crate::subject::Explained;
@@ -69,8 +71,14 @@ pub fn explained_story(
         parts.push(Part::Paragraph(String::from_str(alloc, NOTATION)?))?;
         add_items(alloc, reported, count, &mut parts)?;
     }
+    add_coverage(alloc, explained.witnesses, &mut parts)?;
+    let reading = explained
+        .witnesses
+        .first()
+        .map(|witness| witness.conflicts());
     Ok(Story {
         title: String::from_str(alloc, "One order of the calls explains every reply.")?,
+        made: made_with(reading),
         parts,
     })
 }
@@ -86,6 +94,7 @@ pub fn refused_story(alloc: Global, refused: &RefusedLine) -> Result<Story, NoMe
     parts.push(Part::Items(vec![in alloc; shown]?))?;
     Ok(Story {
         title: format!(in alloc; "Line {line} of the text is refused, so nothing was judged.")?,
+        made: made_with(None),
         parts,
     })
 }

@@ -5,6 +5,7 @@ use crate::named::Named;
 use crate::order_before::{OrderBefore, OrderStep};
 use crate::parts::Mark;
 use crate::words::{heard_words, state_words};
+use doc_register::DocState;
 use std::alloc::Global;
 use version_pair::NoMemory;
 
@@ -200,9 +201,14 @@ fn boxes_of(
     };
     let changes = changes_of(alloc, order)?;
     let skipped = changes.len().saturating_sub(most);
-    let (start, when) = match skipped.checked_sub(1).and_then(|at| changes.get(at)) {
-        Some(step) => (step.state, "before"),
-        None => (order.start, "at first"),
+    let start = match skipped.checked_sub(1).and_then(|at| changes.get(at)) {
+        Some(step) => step.state,
+        None => order.start,
+    };
+    let when = if start == DocState::Never {
+        "at first"
+    } else {
+        "before"
     };
     let when = String::from_str(alloc, when)?;
     add_box(&mut boxes, top, state_words(alloc, start)?, when)?;

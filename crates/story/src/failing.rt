@@ -1,11 +1,15 @@
+use crate::advice::add_advice;
 use crate::calls::{Call, call_of, id_words};
-use crate::certainty_words::{certainty_words, title_of};
+use crate::certainty_words::certainty_words;
 use crate::describing::MOST_DESCRIBED;
+use crate::diagnosis::diagnosis_of;
 use crate::event_lines::EventLines;
+use crate::headline::add_headline;
 use crate::kept::Kept;
 use crate::named::Named;
 use crate::order_before::{OrderBefore, order_before};
 use crate::order_search::OrderSearch;
+use crate::page_head::made_with;
 use crate::parts::{Part, Story};
 use crate::shown_calls::Shown;
 use crate::subject::Unexplained;
@@ -132,9 +136,12 @@ pub fn failing_story<S: OrderSearch>(
     let last = last_event(alloc, unexplained, &named)?;
     let kept = kept_of(alloc, &subjects, &named, last)?;
     let order = order_of(alloc, unexplained, search, &subjects)?;
+    let found = diagnosis_of(unexplained, &subjects);
     let mut parts = Vec::new(alloc);
+    let title = add_headline(alloc, unexplained, found, lines, &mut parts)?;
     add_answer(alloc, unexplained, &subjects, lines, &mut parts)?;
     add_why(alloc, unexplained, &subjects, lines, &mut parts)?;
+    add_advice(alloc, unexplained, &subjects, found, lines, &mut parts)?;
     let shown = Shown {
         kept: &kept,
         named: &named,
@@ -145,7 +152,8 @@ pub fn failing_story<S: OrderSearch>(
     };
     shown.add(alloc, &mut parts)?;
     Ok(Story {
-        title: title_of(alloc, unexplained.certainty, unexplained.call)?,
+        title,
+        made: made_with(Some(unexplained.conflicts)),
         parts,
     })
 }

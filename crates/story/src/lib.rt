@@ -8,14 +8,22 @@
 //! ```
 #![tactic(auto)]
 
+mod advice;
+mod advice_words;
+mod anomaly;
 mod calls;
 mod cause_words;
 mod certainty_words;
+mod coverage;
+mod coverage_words;
 mod describing;
+mod diagnosis;
 mod drawing;
 mod event_lines;
 mod evidence_words;
 mod failing;
+mod headline;
+mod hidden_write;
 mod kept;
 mod lanes;
 mod late_line;
@@ -24,6 +32,7 @@ mod named;
 mod numbered_input;
 mod order_before;
 mod order_search;
+mod page_head;
 mod page_pieces;
 mod parts;
 mod plain;
@@ -32,11 +41,13 @@ mod reason_parts;
 mod refused;
 mod reported_line;
 mod shown_calls;
+mod signs;
 mod stop_words;
 mod subject;
 mod subjects;
 mod undecided;
 mod unreported_words;
+mod version_fall;
 mod why;
 mod window;
 mod words;

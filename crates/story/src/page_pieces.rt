@@ -75,7 +75,7 @@ impl Pieces {
     fn line_cell(&mut self, line: ReportedLine) -> Result<(), NoMemory> {
         self.at(Markup::CellBreak, line.number)?;
         if let Some(time) = line.time {
-            let written = format!(in self.alloc; " at {time}")?;
+            let written = format!(in self.alloc; " at {time:.3}")?;
             self.text(written.as_str())?;
         }
         Ok(())
@@ -217,7 +217,7 @@ impl Pieces {
         self.fixed(Markup::DrawingEnd)?;
         self.within(
             Markup::CaptionStart,
-            "Time runs from left to right, by event. A bar is a call from its line to the line of its reply: its number, what was asked, what was answered. A cross and the dotted line: the reply that broke it. A diamond and a thick edge: evidence, or a call of the reasons. A dashed bar with an arrow: no reply. Boxes: the document's versions in the order before that reply.",
+            "Time runs from left to right, by event. A bar is a call from its line to the line of its reply: its number, what was asked, what was answered. A cross and the dotted line: the reply that broke it. A diamond and a thick edge: evidence, or a call of the reasons. A dashed bar with an arrow: no reply. Boxes: the document's versions in the order before that reply. `k` is the number that a write stores; 1/20 is the version with _primary_term 1 and _seq_no 20.",
             Markup::CaptionEnd,
         )
     }
@@ -252,6 +252,7 @@ fn pieces_of(alloc: Global, line: &str, story: &Story) -> Result<Vec<Piece>, NoM
     pieces.fixed(Markup::BodyStart)?;
     pieces.within(Markup::TitleStart, story.title.as_str(), Markup::TitleEnd)?;
     pieces.within(Markup::LineStart, line.trim_end(), Markup::LineEnd)?;
+    pieces.within(Markup::ParagraphStart, story.made, Markup::ParagraphEnd)?;
     for part in story.parts.iter() {
         pieces.part(part)?;
     }

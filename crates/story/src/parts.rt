@@ -75,5 +75,7 @@ pub fn add_items(
 pub struct Story {
     /// What it is about, in a sentence.
     pub title: String,
+    /// What it was made with, in a sentence, which a page has.
+    pub made: &'static str,
     pub parts: Vec<Part>,
 }

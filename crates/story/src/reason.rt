@@ -73,6 +73,14 @@ impl Reason {
         Ok(showers)
     }
 
+    /// Returns the call that shows the version that nobody can have written; `None` if that is not the cause.
+    pub fn unwritten(&self) -> Option<Rec> {
+        match self.cause {
+            Cause::Unwritten(_) => self.shower,
+            _ => None,
+        }
+    }
+
     /// Returns whether some indeterminate write could have given the call a position.
     pub fn wants_write(&self) -> bool {
         !matches!(
@@ -107,9 +115,9 @@ fn version_spoken_of(standings: &Standings, stop: Rec, cause: Cause) -> Option<P
     }
 }
 
-// Whether the reply to a call shows that the document had the version: the call found it, took it, or was
-// performed on the condition that the document has it.
-fn shows(record: &Rec, pair: Pair) -> bool {
+/// Returns whether the reply to a call shows that the document had the version: the call found it, took it, or
+/// was performed on the condition that the document has it.
+pub fn shows(record: &Rec, pair: Pair) -> bool {
     let shown = record.heard.and_then(|heard| heard.1.pair());
     let asked = record.pair_taken().and(record.op.condition());
     shown == Some(pair) || asked == Some(pair)

@@ -5,7 +5,8 @@ use std::alloc::{AllocError, Global};
 use std::fmt;
 use version_pair::NoMemory;
 
-/// A line of a text as sentences name it: its number, from 1, and when it was written, in UTC, if it says so.
+/// A line of a text as sentences name it: its number, from 1, and when it was written, in UTC and to the
+/// millisecond, if it says so.
 #[derive(Clone, Copy, Debug)]
 pub struct ReportedLine {
     pub number: u64,
@@ -16,7 +17,7 @@ impl fmt::Display for ReportedLine {
     fn fmt<W: fmt::Write>(&self, f: &mut fmt::Formatter<W>) -> fmt::Result {
         let number = self.number;
         match self.time {
-            Some(time) => write!(f, "{number} at {time}"),
+            Some(time) => write!(f, "{number} at {time:.3}"),
             None => write!(f, "{number}"),
         }
     }

@@ -1,6 +1,7 @@
 use crate::calls::{call_of, evidence_calls, id_words};
 use crate::event_lines::EventLines;
 use crate::evidence_words::evidence_words;
+use crate::hidden_write::hidden_words;
 use crate::late_line::late_words;
 use crate::parts::Part;
 use crate::reason_parts::{add_reason, add_unreported};
@@ -68,6 +69,39 @@ fn add_subject(
     add_reason(alloc, reason, lines, unexplained.conflicts, parts)
 }
 
+// Returns the call that shows what nobody can have written, if the evidence or the reason is about one.
+fn unwritten_of(unexplained: &Unexplained<'_>, subject: &Subject<'_>) -> Option<Rec> {
+    match (unexplained.evidence, &subject.reason) {
+        (Some(Refuted::NoWriter(no)), _) => {
+            subject
+                .records
+                .iter()
+                .find(|record| record.no == no)
+                .copied()
+        }
+        (_, Some(reason)) => reason.unwritten(),
+        (_, None) => None,
+    }
+}
+
+// Asks whether a conflict hid a write, if it seems so.
+fn add_hidden(
+    alloc: Global,
+    unexplained: &Unexplained<'_>,
+    subject: &Subject<'_>,
+    lines: &EventLines,
+    parts: &mut Vec<Part>,
+) -> Result<(), NoMemory> {
+    let Some(get) = unwritten_of(unexplained, subject) else {
+        return Ok(());
+    };
+    let conflicts = unexplained.conflicts;
+    if let Some(words) = hidden_words(alloc, &get, &subject.records, lines, conflicts)? {
+        parts.push(Part::Paragraph(words))?;
+    }
+    Ok(())
+}
+
 // Returns the calls whose replies may show what a line that was written late writes.
 fn suspects_of(
     alloc: Global,
@@ -132,6 +166,7 @@ pub fn add_why(
     }
     for subject in subjects {
         add_late(alloc, unexplained, subject, lines, parts)?;
+        add_hidden(alloc, unexplained, subject, lines, parts)?;
         add_subject(
             alloc,
             unexplained,

@@ -1,0 +1,118 @@
+use crate::anomaly::Anomaly;
+use crate::reason::Reason;
+use crate::subject::Unexplained;
+use crate::subjects::Subject;
+use doc_register::Op;
+use evidence::{Certainty, Refuted};
+use ruled_out::{Cause, Unmet};
+
+/// The anomaly that an explanation names, and the number of the call whose reply shows it.
+#[derive(Clone, Copy)]
+pub struct Diagnosis {
+    pub anomaly: Anomaly,
+    pub call: u64,
+}
+
+// Whether the reply to a performed write shows how far the document had come, and not only a get or a
+// conflict.
+fn is_acknowledged(reason: &Reason) -> bool {
+    let link = reason.links.last().map(|link| link.record);
+    match link.or(reason.shower) {
+        Some(record) => record.pair_taken().is_some(),
+        None => false,
+    }
+}
+
+// Returns the anomaly of a reply that shows an older state than the document had reached.
+fn anomaly_of_passed(reason: &Reason) -> Anomaly {
+    match (is_acknowledged(reason), reason.stop.op) {
+        (false, _) => Anomaly::TakenBack,
+        (true, Op::Get) => Anomaly::StaleRead,
+        (true, _) => Anomaly::LostWrite,
+    }
+}
+
+// Returns the anomaly of a write that was performed under a condition that can't have been met.
+fn anomaly_of_unmet(unmet: Unmet) -> Anomaly {
+    match unmet {
+        Unmet::Replaced(_) | Unmet::Changed => Anomaly::LostUpdate,
+        Unmet::Created | Unmet::NotBelow | Unmet::Deleted => Anomaly::UnmetCondition,
+    }
+}
+
+// Returns the first of two anomalies if an acknowledged write shows how far the document had come, else the
+// second.
+fn if_acknowledged(reason: &Reason, first: Anomaly, second: Anomaly) -> Anomaly {
+    if is_acknowledged(reason) {
+        first
+    } else {
+        second
+    }
+}
+
+/// Returns the anomaly that a reason shows.
+pub fn anomaly_of(reason: &Reason) -> Anomaly {
+    match reason.cause {
+        Cause::NeverRefused | Cause::StillThere(_) | Cause::NotThere => Anomaly::UnfoundedConflict,
+        Cause::There => if_acknowledged(reason, Anomaly::WriteNotSeen, Anomaly::TakenBack),
+        Cause::Passed(_) => anomaly_of_passed(reason),
+        Cause::WasThere(_) => if_acknowledged(reason, Anomaly::LostWrite, Anomaly::TakenBack),
+        Cause::WasAbsent(_) => {
+            if_acknowledged(reason, Anomaly::LostWrite, Anomaly::UnwrittenVersion)
+        }
+        Cause::Unmet(unmet) => anomaly_of_unmet(unmet),
+        Cause::Unwritten(_) => match reason.stop.op {
+            Op::Get => Anomaly::UnwrittenValue,
+            _ => Anomaly::UnwrittenVersion,
+        },
+    }
+}
+
+// Returns the anomaly of two calls or one that contradict the history by themselves; `None` if the evidence is
+// a document that is ruled out.
+fn evident(evidence: Refuted) -> Option<Diagnosis> {
+    let (anomaly, call) = match evidence {
+        Refuted::PairTwice(_, second) => (Anomaly::VersionTwice, second),
+        Refuted::NoWriter(get) => (Anomaly::UnwrittenValue, get),
+        Refuted::StaleGet(get, _) => (Anomaly::StaleRead, get),
+        Refuted::StaleSwap(_, second) => (Anomaly::LostUpdate, second),
+        Refuted::RuledOut(_) => return None,
+    };
+    Some(Diagnosis { anomaly, call })
+}
+
+// Returns the anomaly of the reason that the answer names, or else of the first one.
+fn reasoned(evidence: Option<Refuted>, subjects: &[Subject<'_>]) -> Option<Diagnosis> {
+    for subject in subjects {
+        if let Some(reason) = &subject.reason {
+            let call = reason.stop.no;
+            let is_named = match evidence {
+                Some(Refuted::RuledOut(named)) => named == call,
+                _ => true,
+            };
+            if is_named {
+                let anomaly = anomaly_of(reason);
+                return Some(Diagnosis { anomaly, call });
+            }
+        }
+    }
+    None
+}
+
+/// Returns the anomaly that an explanation names; `None` if it is undecided whether there is an order. It is
+/// that of the evidence, or else that of the reason.
+pub fn diagnosis_of(unexplained: &Unexplained<'_>, subjects: &[Subject<'_>]) -> Option<Diagnosis> {
+    if unexplained.certainty == Certainty::Undecided {
+        return None;
+    }
+    if let Some(found) = unexplained.evidence.and_then(evident) {
+        return Some(found);
+    }
+    if let Some(found) = reasoned(unexplained.evidence, subjects) {
+        return Some(found);
+    }
+    Some(Diagnosis {
+        anomaly: Anomaly::Unnamed,
+        call: unexplained.call,
+    })
+}
