@@ -1,5 +1,5 @@
-use Rattle.std.proofs.Common.{◌≡◌, ◌≢◌, ◌∙◌, ℕ, List, None, Ok, Option, Err, Some, ap, subst, sym}
-use Rattle.std.specs.Prelude.{IfOk, IfSome, MatchResult}
+use Rattle.std.proofs.Common.{◌≡◌, ◌≢◌, ◌∙◌, ℕ, List, None, Option, Some, ap, subst, sym}
+use Rattle.std.specs.Prelude.{IfOk, IfSome}
 use Rattle.std.proofs.lemmas.Option.{IfSome_then}
 use Rattle.doc_register.specs.declared.state.Conflicts.{Conflicts}
 use Rattle.events.specs.declared.event.Event.{Event}
@@ -9,7 +9,6 @@ use Rattle.compose.specs.Counts.{calls_of}
 use Rattle.compose.specs.declared.finding.Finding.{Finding}
 use Rattle.compose.specs.declared.finding.Finding.TheVariants.{Explained, Unexplained}
 use Rattle.compose.specs.declared.offence.Offence.{Offence}
-use Rattle.history.specs.Reading.{history_text}
 use Rattle.history.specs.Text.{IsHistoryText}
 use Rattle.report.specs.Findings.{IsFindingOf, SaysFailing}
 use Rattle.stream_io.specs.declared.status.Status.{Status}

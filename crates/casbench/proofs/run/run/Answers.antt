@@ -1,7 +1,5 @@
 use Rattle.std.proofs.Common.{◌≡◌, ◌∙◌, ℕ, Bor, List, Option, Result, option_map, subst, sym, true}
 use Rattle.std.specs.Prelude.{IfOk, IfSome}
-use Rattle.doc_register.specs.declared.state.Conflicts.{Conflicts as Reading}
-use Rattle.evidence.specs.declared.ruling_out.RulingOut.{RulingOut as Ruling}
 use Rattle.disturbances.specs.contracts.disturbed_group.DisturbedGroupTarget.TheImpl as group
 use Rattle.disturbances.specs.declared.disturbance.Disturbance.{Disturbance as Way}
 use Rattle.recorded_runs.specs.Runs.{IsTextInTurns}

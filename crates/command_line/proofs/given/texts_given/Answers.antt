@@ -1,4 +1,4 @@
-use Rattle.std.proofs.Common.{◌≡◌, ◌∙◌, [], List, Option, ap, map}
+use Rattle.std.proofs.Common.{◌∙◌, [], List, Option, ap, map}
 use Rattle.std.specs.Prelude.{ℕ, unwrap_or}
 use Rattle.std.proofs.lemmas.Result.{IfOk-weaker}
 use Rattle.clap.proofs.WalkLemmas.{raw_values-rows}
