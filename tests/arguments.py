@@ -25,7 +25,8 @@ from case_files import case_text
 from program import TOP
 from program_test import ProgramTest, run_tests
 from running import SECONDS, ended, run, run_arguments, search_arguments, started
-from texts import READ_FAULT, SETTING_FAULT, WRITE_FAULT, no, refuted, status_of, verified, yes
+from texts import READ_FAULT, SETTING_FAULT, WRITE_FAULT, get, no, no_calls, refused, refuted, status_of, too_few, verified
+from texts import yes
 
 EXAMPLES = TOP / "examples"
 
@@ -38,6 +39,11 @@ FILES = {
     "story": (EXAMPLES / "stale-get.ndjson").read_bytes(),
     "hidden": case_text("hidden-conflict").encode(),
     "packed.gz": gzip.compress(case_text("index-then-get").encode()),
+    "one": get(0).encode(),
+    "few": case_text("index-then-get").encode(),
+    "none": b"",
+    "few.not-judged": b"",
+    "none.not-judged": b"",
     **dict.fromkeys(["check", "help", "-", "a b", "--help"], case_text("index-then-get").encode()),
 }
 
@@ -55,6 +61,9 @@ TWO_INPUTS = f"casbench: standard input is named twice\n{READ_FAULT}"
 TERMINAL = "casbench: reads from the terminal until Ctrl-D on a line of its own; for help: casbench --help\n"
 PACKED = "casbench: packed.gz is compressed; try: zcat packed.gz | casbench check\n"
 
+
+STALE = refuted("stale-get", "3,1", 7, 3)
+LISTED = "casbench: what was not judged is listed in {}.not-judged\n"
 
 VERSION = "casbench 0.1.0\n"
 
@@ -74,12 +83,13 @@ ANSWERED = [
     ("-V", 0, VERSION, ""),
     ([b"check", b"\xff"], 64, "", "casbench: an argument is not UTF-8\n"),
     # the files of a check
-    ("check", 0, NOTHING, ""),
-    ("check empty", 0, NOTHING, ""),
+    ("check", 0, NOTHING, no_calls()),
+    ("check empty", 0, NOTHING, no_calls("empty")),
+    ("", 0, NOTHING, no_calls()),
     ("check broken", 4, "", DIRECTORY),
     ("check absent", 4, "", absent("absent", READ_FAULT)),
     # standard input, named as a file
-    ("check -", 0, NOTHING, ""),
+    ("check -", 0, NOTHING, no_calls()),
     ("witness -", 0, "", ""),
     ("explain -", 0, STORY_OF_NOTHING, ""),
     ("verify - empty", 0, VERIFIED_NOTHING, ""),
@@ -88,6 +98,38 @@ ANSWERED = [
     ("verify - -", 4, "", TWO_INPUTS),
     ("bulk empty -", 2, "refused line=1 cause=syntax\n", ""),
     ("bulk - -", 4, "", TWO_INPUTS),
+    # several files: a line for each behind its name, and the greatest of their statuses
+    ("check check help", 0, f"check: {ANSWER}help: {ANSWER}", ""),
+    ("check help check --workers 3", 0, f"help: {ANSWER}check: {ANSWER}", ""),
+    ("check help --conflicts maybe check", 0, f"help: {ANSWER}check: {ANSWER}", ""),
+    ("check check check", 0, f"check: {ANSWER}check: {ANSWER}", ""),
+    ("check 'a b' -- --help", 0, f"a b: {ANSWER}--help: {ANSWER}", ""),
+    ("check check story hidden", 1, f"check: {ANSWER}story: {STALE}hidden: {no(3, 2)}", ""),
+    ("check packed.gz story", 2, f"packed.gz: {refused(1, 'json')}story: {STALE}", PACKED),
+    ("check story packed.gz check", 2, f"story: {STALE}packed.gz: {refused(1, 'json')}check: {ANSWER}", PACKED),
+    ("check check -", 0, f"check: {ANSWER}-: {NOTHING}", no_calls()),
+    ("check empty check", 0, f"empty: {NOTHING}check: {ANSWER}", no_calls("empty")),
+    ("check - check -", 4, "", TWO_INPUTS),
+    ("check check absent lost", 4, "", absent("absent", READ_FAULT)),
+    ("check story broken", 4, "", DIRECTORY),
+    ("check one check --at-least 2", 6, f"one: {yes(1, left_out=1)}check: {ANSWER}", too_few("1 call", 2, "one")),
+    ("check story few --at-least 3", 6, f"story: {STALE}few: {ANSWER}", too_few("2 calls", 3, "few") + LISTED.format("few")),
+    # the least number of calls, which is asked of a yes alone; a list of what was not judged lies beside `few`
+    ("check check --at-least 2", 0, ANSWER, ""),
+    ("check check --at-least=3", 6, ANSWER, too_few("2 calls", 3, "check")),
+    ("check --at-least 0 check", 0, ANSWER, ""),
+    ("check --at-least 18446744073709551615 check", 6, ANSWER, too_few("2 calls", 2**64 - 1, "check")),
+    ("check --at-least 1", 6, NOTHING, too_few("0 calls", 1)),
+    ("check --at-least 1 -", 6, NOTHING, too_few("0 calls", 1)),
+    ("check --at-least 0", 0, NOTHING, no_calls()),
+    ("check one --at-least 2", 6, yes(1, left_out=1), too_few("1 call", 2, "one")),
+    ("check few --at-least 3", 6, ANSWER, too_few("2 calls", 3, "few") + LISTED.format("few")),
+    ("check few", 0, ANSWER, ""),
+    ("check none", 0, NOTHING, no_calls("none") + LISTED.format("none")),
+    ("check story --at-least 100", 1, STALE, ""),
+    ("check hidden --at-least 100", 1, no(3, 2), ""),
+    ("check packed.gz --at-least 100", 2, "refused line=1 cause=json\n", PACKED),
+    ("check absent --at-least 100", 4, "", absent("absent", READ_FAULT)),
     # a compressed file
     ("check packed.gz", 2, "refused line=1 cause=json\n", PACKED),
     ("verify empty packed.gz", 2, "refused file=witness line=1 cause=json\n", PACKED),
@@ -170,7 +212,6 @@ REFUSED = [
     ("check --file", UNKNOWN.format("--file")),
     ("check -f", UNKNOWN.format("-f")),
     ("check --version", UNKNOWN.format("--version")),
-    ("check a b", UNKNOWN.format("b")),
     ("witness a b", UNKNOWN.format("b")),
     ("verify", missing("<FILE>", "<WITNESS>")),
     ("verify a", missing("<WITNESS>")),
@@ -184,6 +225,18 @@ REFUSED = [
     ("check --workers=1 --workers=1", TWICE.format("--workers <N>")),
     ("witness --workers=1", UNKNOWN.format("--workers")),
     ("--workers 2", UNKNOWN.format("--workers")),
+    # least numbers of calls
+    ("check --at-least", NO_VALUE.format("--at-least <CALLS>")),
+    ("check --at-least few", wrong("few", "--at-least <CALLS>")),
+    ("check --at-least=", wrong("", "--at-least <CALLS>")),
+    ("check --at-least=-1", wrong("-1", "--at-least <CALLS>")),
+    ("check --at-least 1.0", wrong("1.0", "--at-least <CALLS>")),
+    ("check --at-least 18446744073709551616", wrong("18446744073709551616", "--at-least <CALLS>")),
+    ("check --at-least=1 --at-least=1", TWICE.format("--at-least <CALLS>")),
+    ("witness --at-least 1", UNKNOWN.format("--at-least")),
+    ("explain --at-least 1", UNKNOWN.format("--at-least")),
+    ("verify h w --at-least 1", UNKNOWN.format("--at-least")),
+    ("--at-least 1", UNKNOWN.format("--at-least")),
     # readings of conflicts
     ("check h --conflicts Maybe", READING),
     ("check --conflicts=", READING),
@@ -197,7 +250,8 @@ REFUSED = [
     *((f"{command} --rule-out --rule-out", TWICE.format("--rule-out")) for command in RULING_OUT),
     *((f"{command} --rule-out=x", A_VALUE.format("x", "--rule-out")) for command in RULING_OUT),
     ("check --rule-out=", A_VALUE.format("", "--rule-out")),
-    ("check --rule-out a b", UNKNOWN.format("b")),
+    ("witness --rule-out a b", UNKNOWN.format("b")),
+    ("explain a b", UNKNOWN.format("b")),
     ("verify h w --rule-out", UNKNOWN.format("--rule-out")),
     ("bulk b r --rule-out", UNKNOWN.format("--rule-out")),
     (run_arguments() + " --rule-out", UNKNOWN.format("--rule-out")),
@@ -254,7 +308,8 @@ HELP = [(form, example) for form in ("help", "--help", "-h") for example in EXAM
 FORMS = ("help {}", "{} --help", "{} -h")
 HELP += [(form.format(name), example) for form in FORMS for name, example in EXAMPLE.items()]
 HELP += [(form.format(name), "\n      --rule-out ") for form in FORMS for name in RULING_OUT]
-HELP += [("--help", "\nExit status:\n  0   yes")]
+HELP += [("--help", "\nExit status:\n  0   yes"), ("--help", "\n  6   yes, with fewer calls")]
+HELP += [(form.format("check"), "\n      --at-least <CALLS>") for form in FORMS]
 
 # How the sentence of a page begins that says what it was made with.
 MADE_WITH = f"Made by {VERSION.strip()} with --conflicts ".encode()
@@ -391,7 +446,7 @@ class Arguments(ProgramTest):
             os.close(follower)
             self.assertEqual(child.stderr.readline(), TERMINAL)
             os.write(leader, b"\x04")
-            self.assertEqual(child.communicate(timeout=SECONDS), (NOTHING, ""))
+            self.assertEqual(child.communicate(timeout=SECONDS), (NOTHING, no_calls()))
             self.assertEqual(child.returncode, 0)
         os.close(leader)
 

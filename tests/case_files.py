@@ -10,7 +10,8 @@ that, up to the next such line or to the end of the file, byte for byte. The sec
     --- body
     --- reply
     --- status    the exit status
-    --- stdout    the text that has to come on standard output; nothing may come on standard error
+    --- stdout    the text that has to come on standard output; on standard error nothing may come, but for the note of
+                  a check that there are no calls
 
 in this order. Each case has args, status and stdout. If a text doesn't end with a newline, the section ends with the
 line `\ No newline at end of file`, as in the output of diff; neither this line nor the newline before it belongs to the

@@ -15,6 +15,13 @@ import tempfile
 from case_files import FILES, all_cases
 from program_test import ProgramTest, run_tests
 from running import run
+from texts import no_calls, yes
+
+
+def note_of(arguments, answer):
+    """What standard error has beside the answer: a note, if a history without calls was checked."""
+    is_check = not arguments or arguments[0] == "check"
+    return no_calls("history" if "history" in arguments else "") if is_check and answer == yes(0, docs=0) else ""
 
 
 class Cases(ProgramTest):
@@ -29,7 +36,8 @@ class Cases(ProgramTest):
                 if name in texts:
                     (pathlib.Path(folder) / name).write_bytes(texts[name])
             ended = run(self.program, arguments, given, cwd=folder)
-        self.assertEqual(ended, (int(texts["status"]), texts["stdout"].decode(), ""))
+        answer = texts["stdout"].decode()
+        self.assertEqual(ended, (int(texts["status"]), answer, note_of(arguments, answer)))
 
     def test_cases(self):
         self.run_subtests(self.check_case, all_cases().items())

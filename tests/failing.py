@@ -126,6 +126,7 @@ ROWS = [
     Row("", 0, yes(1), (history(MISSED),)),
     Row("check history --workers 2 --conflicts maybe", 1, no_writer(1, 0), (history(STRAY),)),
     Row("check", 2, refused(1, "json"), (history(CUT),)),
+    Row("check history other", 1, f"history: {yes(1)}other: {no_writer(1, 0)}", (history(MISSED), Text("other", STRAY))),
     Row("check history", 2, refused(3, "ended"), (history(ENDED + OPEN, len(ENDED)),)),
     Row("witness", 0, WITNESS, (history(MISSED),)),
     Row("witness history", 2, refused(2, "shape"), (history("\n{}\n" + OPEN, 4),)),

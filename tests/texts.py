@@ -194,6 +194,18 @@ def refused_item(item):
 # The messages on standard error.
 READ_FAULT, WRITE_FAULT, SETTING_FAULT = "casbench: read fault\n", "casbench: write fault\n", "casbench: setting\n"
 
+
+
+def no_calls(file=""):
+    """The note on standard error of a check that writes `yes` of a history without calls, in a file if one is named."""
+    return f"casbench: {file}: no calls, so nothing was judged\n" if file else "casbench: no calls, so nothing was judged\n"
+
+
+def too_few(calls, least, file=""):
+    """The note of a check that writes `yes` of a history with fewer calls than are asked for."""
+    return f"casbench: {file}: {calls}, fewer than {least}\n" if file else f"casbench: {calls}, fewer than {least}\n"
+
+
 # An answer without an order: the kind of evidence and its calls, if there is evidence, and the reply that is named.
 OFFENCE = re.compile(
     r"(?:no|refuted kind=(?P<kind>\S+) calls=(?P<calls>\d+(?:,\d+)?)) "
@@ -209,3 +221,8 @@ def status_of(line):
 def answer_of(out):
     """How a run with this answer ends: its status and both outputs."""
     return status_of(out), out, ""
+
+
+def check_of(out):
+    """The same of a check of standard input, which has a note if there are no calls."""
+    return status_of(out), out, no_calls() if out == yes(0, docs=0) else ""

@@ -193,6 +193,9 @@ SECTIONS = (
         "given, and `Kinds` the kinds of error that may be reported.",
         (
             "command_line/specs/Asked.antt",
+            "casbench/specs/Input.antt",
+            "casbench/specs/Outcomes.antt",
+            "casbench/specs/Each.antt",
             "casbench/specs/Exit.antt",
             "casbench/specs/Faults.antt",
         ),

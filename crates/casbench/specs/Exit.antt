@@ -1,5 +1,7 @@
 -- The exit statuses.
-use Rattle.std.specs.Prelude.{ℕ}
+use Rattle.std.specs.Prelude.{ℕ, if◌then◌else◌, nat_lt}
+use Rattle.casbench.specs.declared.outcome.Outcome.{Outcome}
+use Rattle.casbench.specs.declared.outcome.Outcome.TheVariants.{Answered, TooFew}
 use Rattle.clap.specs.declared.error.kind.ErrorKind.{ErrorKind}
 use Rattle.clap.specs.declared.error.kind.ErrorKind.TheVariants.{DisplayHelp, DisplayVersion, OutOfMemory}
 use Rattle.stream_io.specs.declared.status.Status.{Status}
@@ -14,6 +16,17 @@ code_of_status Yes = 0
 code_of_status No = 1
 code_of_status Refuted = 1
 code_of_status Refused = 2
+
+-- the exit status for what a command came to: that of the answer, or 6 for TooFew
+-- Source: profile.
+abbrev pub code_of_outcome : Outcome → ℕ
+code_of_outcome (Answered status) = code_of_status status
+code_of_outcome TooFew = 6
+
+-- the outcome with the greater exit status, and the first of two that have one
+-- Source: profile.
+abbrev pub greater_outcome : Outcome → Outcome → Outcome
+greater_outcome first second = if nat_lt (code_of_outcome first) (code_of_outcome second) then second else first
 
 -- the exit status for a fault: 3 for NoMemory, 4 for Read and Write, 5 for Worker and Recording, 64 for
 -- Setting

@@ -9,7 +9,8 @@ use Rattle.stream_io.specs.declared.stream_fault.StreamFault.{StreamFault}
 -- `IsRunFault` of a run or a search, `IsStreamFault` of any other
 -- Source: profile.
 abbrev pub MayFail : Request → StreamFault → Type 0
-MayFail (request.Check file conflicts workers ruling) fault = IsWorkedFault fault
+MayFail (request.Check file conflicts workers ruling least) fault = IsWorkedFault fault
+MayFail (request.CheckEach files conflicts workers ruling least) fault = IsWorkedFault fault
 MayFail (request.Witness file conflicts ruling) fault = IsStreamFault fault
 MayFail (request.Verify history witness conflicts) fault = IsStreamFault fault
 MayFail (request.Bulk body reply first) fault = IsStreamFault fault

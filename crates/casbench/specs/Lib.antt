@@ -1,3 +1,6 @@
+pub mod Each
 pub mod Exit
 pub mod Faults
+pub mod Input
+pub mod Outcomes
 pub mod aids

@@ -1,20 +1,45 @@
 ghost use Rattle.std.specs.Prelude.{◌≡◌};
-ghost use Rattle.casbench.specs.Exit.{code_of_fault, code_of_status, code_of_arguments};
+ghost use Rattle.casbench.specs.Exit.{code_of_arguments, code_of_fault, code_of_outcome, code_of_status, greater_outcome};
 
+use crate::outcome::Outcome;
 use clap::error::ErrorKind;
 use report::{Status, StreamFault};
 
 /// The exit status of arguments that are refused.
 pub const ARGUMENTS_REFUSED: u8 = 64;
 
-/// Returns the exit status of an answer.
-pub fn status_code(status: Status) -> u8
+// The exit status of a yes with fewer calls than were asked for.
+const TOO_FEW_CALLS: u8 = 6;
+
+// Returns the exit status of an answer.
+fn status_code(status: Status) -> u8
     ensures { result ≡ code_of_status status }
 {
     match status {
         Status::Yes => 0,
         Status::No | Status::Refuted => 1,
         Status::Refused => 2,
+    }
+}
+
+/// Returns the exit status of what a command came to.
+pub fn outcome_code(outcome: Outcome) -> u8
+    ensures { result ≡ code_of_outcome outcome }
+{
+    match outcome {
+        Outcome::Answered(status) => status_code(status),
+        Outcome::TooFew => TOO_FEW_CALLS,
+    }
+}
+
+/// Returns the outcome with the greater exit status, and the first of two that have one.
+pub fn greater(first: Outcome, second: Outcome) -> Outcome
+    ensures { result ≡ greater_outcome first second }
+{
+    if outcome_code(first) < outcome_code(second) {
+        second
+    } else {
+        first
     }
 }
 

@@ -1,8 +1,12 @@
-ghost use Rattle.std.specs.Prelude.{◌≡◌, None, Ok, IfErr};
+ghost use Rattle.std.specs.Prelude.{◌≡◌, ◌⊎◌, true, Ok, Some, None, IfErr, IfOk, map, option_map};
+ghost use Rattle.std.specs.List.{All};
+ghost use Rattle.casbench.specs.Input.{names_input};
 ghost use Rattle.casbench.specs.aids.Source.{remaining_of};
 ghost use Rattle.casbench.specs.declared.files.Source.TheVariants.{Input};
 
+use crate::named_text::NamedText;
 use report::StreamFault;
+use std::alloc::Global;
 use std::fs::{self, OpenFile};
 use std::io::{self, ErrorKind, Read};
 use std::rt::Files;
@@ -78,8 +82,8 @@ pub fn open_or<R: Files + Eprint, I: Drop>(
     path: Option<&str>,
     input: I,
 ) -> Result<Source<R::File, I>, StreamFault>
-    // If no file is named, it is the input itself.
-    ensures input { path.entry ≡ None → result ≡ Ok (Input input) }
+    // If no file is named, or `-`, it is the input itself.
+    ensures input { names_input (option_map (λ t. t.now) path.entry) ≡ true → result ≡ Ok (Input input) }
     // The only error is `Read`.
     ensures err { IfErr result (λ fault. fault ≡ StreamFault.Read) }
 {
@@ -87,6 +91,63 @@ pub fn open_or<R: Files + Eprint, I: Drop>(
         None | Some(INPUT) => Ok(Source::Input(input)),
         Some(path) => Ok(Source::File(open(rt, path)?)),
     }
+}
+
+// Reports on standard error that two texts are standard input, and returns the fault.
+fn named_twice(rt: &impl Eprint) -> StreamFault
+    ensures { result ≡ StreamFault.Read }
+{
+    let _ = eprintln!(rt; "casbench: standard input is named twice");
+    StreamFault::Read
+}
+
+// Returns the file that is named, opened as by `open`; or what is left of the input, if the name is `-`.
+// Errors: `Read` if the file can't be opened, or if the input was taken before.
+fn open_next<R: Files + Eprint, I: Drop>(
+    rt: &R,
+    name: &str,
+    left: &mut Option<I>,
+) -> Result<Source<R::File, I>, StreamFault>
+    ensures input { names_input (Some name.now) ≡ true → IfOk result (λ source. option_map Input left.old ≡ Some source) }
+    ensures left { (left.new ≡ left.old) ⊎ (left.new ≡ None) }
+    ensures err { IfErr result (λ fault. fault ≡ StreamFault.Read) }
+{
+    match name {
+        INPUT => match left.take() {
+            Some(input) => Ok(Source::Input(input)),
+            None => Err(named_twice(rt)),
+        },
+        _ => Ok(Source::File(open(rt, name)?)),
+    }
+}
+
+/// Opens each of the files in turn, as by `open`; `-` is the input, for one of them only. If one can't be
+/// opened, those behind it aren't tried; this order is tested, not proved.
+///
+/// Errors: `Read` if a file can't be opened, and `NoMemory`.
+pub fn open_each<'a, R: Files + Eprint, I: Drop>(
+    rt: &R,
+    alloc: Global,
+    names: &[&'a str],
+    input: I,
+) -> Result<Vec<NamedText<'a, Source<R::File, I>>>, StreamFault>
+    // They have these names, in this order.
+    ensures names { IfOk result (λ texts. map (λ t. t.name.now) texts.items ≡ map (λ n. n.now) names.now) }
+    // A text that is named `-` is the input itself.
+    ensures input { IfOk result (λ texts. All (λ t. names_input (Some t.name.now) ≡ true → t.source ≡ Input input) texts.items) }
+    // The only errors are `Read` and `NoMemory`.
+    ensures err { IfErr result (λ fault. (fault ≡ StreamFault.Read) ⊎ (fault ≡ StreamFault.NoMemory)) }
+{
+    let mut left = Some(input);
+    let mut texts = Vec::new(alloc);
+    for name in names {
+        let source = open_next(rt, name, &mut left)?;
+        match texts.push(NamedText { name, source }) {
+            Ok(()) => {}
+            Err(_) => return Err(StreamFault::NoMemory),
+        }
+    }
+    Ok(texts)
 }
 
 /// Opens both files as by `open_or`, the first before the second. If the first can't be opened, the second
@@ -105,8 +166,7 @@ pub fn open_both<R: Files + Eprint, I: Drop>(
         return Ok((Source::File(first), open_or(rt, Some(second), input)?));
     }
     if second == INPUT {
-        let _ = eprintln!(rt; "casbench: standard input is named twice");
-        return Err(StreamFault::Read);
+        return Err(named_twice(rt));
     }
     let second = open(rt, second)?;
     Ok((Source::Input(input), Source::File(second)))

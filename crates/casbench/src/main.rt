@@ -7,9 +7,14 @@
 //! ```
 #![tactic(auto)]
 
+mod check;
+mod check_each;
+mod checked;
 mod exit;
 mod files;
+mod named_text;
 mod notes;
+mod outcome;
 mod output;
 mod page_file;
 mod run;
@@ -18,8 +23,9 @@ mod search_reporter;
 use clap::error::ErrorKind;
 use command_line::read_request;
 use events::HashKeys;
-use exit::{ARGUMENTS_REFUSED, arguments_code, fault_code, status_code};
+use exit::{ARGUMENTS_REFUSED, arguments_code, fault_code, outcome_code};
 use notes::{note_compressed, note_terminal};
+use outcome::Outcome;
 use output::Output;
 use report::{Status, StreamFault};
 use run::run;
@@ -84,14 +90,14 @@ fn main(rt: HostRuntime) -> ExitCode {
         Err(error) => return ExitCode::from(report_arguments(&rt, &error)),
     };
     let keys = drawn_keys(&rt);
-    note_terminal(&rt, request);
+    note_terminal(&rt, &request);
     let mut output = Output::new(rt.stdout());
-    match run(alloc, keys, &rt, &rt, rt.stdin(), &mut output, request) {
-        Ok(status) => {
-            if status == Status::Refused {
-                note_compressed(&rt, request);
+    match run(alloc, keys, &rt, &rt, rt.stdin(), &mut output, &request) {
+        Ok(outcome) => {
+            if outcome == Outcome::Answered(Status::Refused) {
+                note_compressed(&rt, &request);
             }
-            ExitCode::from(status_code(status))
+            ExitCode::from(outcome_code(outcome))
         }
         // Whoever closed the pipe wants no more, and needs no message.
         Err(StreamFault::Write) if output.is_closed() => {

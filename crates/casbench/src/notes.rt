@@ -2,6 +2,7 @@
 
 use crate::files::INPUT;
 use command_line::Request;
+use std::alloc::Global;
 use std::fs;
 use std::os::unix::fs::{FileTypeExt, MetadataExt};
 use std::rt::Files;
@@ -12,9 +13,12 @@ const STANDARD_INPUT: &str = "/dev/stdin";
 // The end of the names of files that gzip compressed.
 const COMPRESSED: &str = ".gz";
 
-// The files that are read, standard input under its name.
-fn files_of<'a>(request: Request<'a>) -> (Option<&'a str>, Option<&'a str>) {
-    match request {
+// What follows the name of a history in the name of the list of what its recorder did not judge.
+const NOT_JUDGED: &str = ".not-judged";
+
+// The one file that is read, or both, standard input under its name; none if each of several is checked.
+fn files_of<'a>(request: &Request<'a>) -> (Option<&'a str>, Option<&'a str>) {
+    match *request {
         Request::Check { file, .. }
         | Request::Witness { file, .. }
         | Request::Explain { file, .. } => (Some(file.unwrap_or(INPUT)), None),
@@ -24,8 +28,17 @@ fn files_of<'a>(request: Request<'a>) -> (Option<&'a str>, Option<&'a str>) {
             ..
         } => (Some(history), Some(witness)),
         Request::Bulk { body, reply, .. } => (Some(body), Some(reply)),
-        Request::Run(..) | Request::Search(..) => (None, None),
+        Request::CheckEach { .. } | Request::Run(..) | Request::Search(..) => (None, None),
     }
+}
+
+// Whether standard input is among the texts that are read.
+fn reads_input(request: &Request<'_>) -> bool {
+    if let Request::CheckEach { files, .. } = request {
+        return files.iter().any(|file| *file == INPUT);
+    }
+    let (first, second) = files_of(request);
+    first == Some(INPUT) || second == Some(INPUT)
 }
 
 // Whether a device of this number is a terminal: a console or serial line, which drivers 4 and 5 have on
@@ -46,17 +59,16 @@ fn is_terminal(rt: &impl Files) -> bool {
 }
 
 /// If a text is read from a terminal, says so, and how the text is ended.
-pub fn note_terminal<R: Files + Eprint>(rt: &R, request: Request<'_>) {
-    let (first, second) = files_of(request);
-    if (first == Some(INPUT) || second == Some(INPUT)) && is_terminal(rt) {
+pub fn note_terminal<R: Files + Eprint>(rt: &R, request: &Request<'_>) {
+    if reads_input(request) && is_terminal(rt) {
         let _ = eprintln!(rt;
             "casbench: reads from the terminal until Ctrl-D on a line of its own; for help: casbench --help"
         );
     }
 }
 
-// If the name is that of a file that gzip compressed, says how it is read.
-fn note_if_compressed<R: Files + Eprint>(rt: &R, path: Option<&str>) {
+/// If the name is that of a file that gzip compressed, says how it is read.
+pub fn note_if_compressed<R: Files + Eprint>(rt: &R, path: Option<&str>) {
     if let Some(path) = path {
         if path.ends_with(COMPRESSED) {
             let _ = eprintln!(rt;
@@ -66,9 +78,65 @@ fn note_if_compressed<R: Files + Eprint>(rt: &R, path: Option<&str>) {
     }
 }
 
-/// If a file of a refused text is compressed, by its name, says how it is read. No file is read for that.
-pub fn note_compressed<R: Files + Eprint>(rt: &R, request: Request<'_>) {
+/// If a file of a refused text is compressed, by its name, says how it is read. No file is read for that. Of
+/// each of several files that is said where it is checked.
+pub fn note_compressed<R: Files + Eprint>(rt: &R, request: &Request<'_>) {
     let (first, second) = files_of(request);
     note_if_compressed(rt, first);
     note_if_compressed(rt, second);
+}
+
+// Says that the history of the file, if one is named, has fewer calls than are asked for.
+fn note_too_few(rt: &impl Eprint, file: Option<&str>, calls: usize, at_least: u64) {
+    let word = if calls == 1 { "call" } else { "calls" };
+    let _ = match file {
+        Some(path) => { eprintln!(rt; "casbench: {path}: {calls} {word}, fewer than {at_least}") }
+        None => eprintln!(rt; "casbench: {calls} {word}, fewer than {at_least}"),
+    };
+}
+
+// Says that the history of the file, if one is named, has no calls.
+fn note_none(rt: &impl Eprint, file: Option<&str>) {
+    let _ = match file {
+        Some(path) => eprintln!(rt; "casbench: {path}: no calls, so nothing was judged"),
+        None => eprintln!(rt; "casbench: no calls, so nothing was judged"),
+    };
+}
+
+// If a list of what was not judged lies beside the file, names it.
+fn note_not_judged<R: Files + Eprint>(rt: &R, alloc: Global, path: &str) {
+    if let Ok(list) = format!(in alloc; "{path}{NOT_JUDGED}") {
+        if fs::metadata(rt, list.as_str()).is_ok() {
+            let _ = eprintln!(rt; "casbench: what was not judged is listed in {list}");
+        }
+    }
+}
+
+/// If a history that got yes has fewer calls than are asked for, or none, says so; and names the list of what
+/// was not judged, if one lies beside the file. The number of calls is known if the answer is yes. Standard
+/// input has no name.
+pub fn note_calls<R: Files + Eprint>(
+    rt: &R,
+    alloc: Global,
+    file: Option<&str>,
+    calls: Option<usize>,
+    at_least: u64,
+) {
+    let Some(calls) = calls else {
+        return;
+    };
+    let file = match file {
+        Some(INPUT) => None,
+        other => other,
+    };
+    if (calls as u64) < at_least {
+        note_too_few(rt, file, calls, at_least);
+    } else if calls == 0 {
+        note_none(rt, file);
+    } else {
+        return;
+    }
+    if let Some(path) = file {
+        note_not_judged(rt, alloc, path);
+    }
 }

@@ -1,4 +1,4 @@
-ghost use Rattle.std.specs.Prelude.{◌≡◌};
+ghost use Rattle.std.specs.Prelude.{◌≡◌, false};
 
 use std::io::{self, ErrorKind, Write};
 
@@ -12,7 +12,9 @@ pub struct Output<W> {
 impl<W: Write> Output<W> {
     /// Returns a writer to this one.
     pub fn new(writer: W) -> Output<W>
-        ensures { result.writer ≡ writer }
+        ensures writer { result.writer ≡ writer }
+        // No write has failed yet.
+        ensures open { result.is_closed ≡ false }
     {
         Output {
             writer,
@@ -21,7 +23,9 @@ impl<W: Write> Output<W> {
     }
 
     /// Returns whether a write failed because the pipe is closed.
-    pub fn is_closed(&self) -> bool {
+    pub fn is_closed(&self) -> bool
+        ensures { result ≡ self.now.is_closed }
+    {
         self.is_closed
     }
 }

@@ -1,4 +1,4 @@
-ghost use Rattle.std.specs.Prelude.{◌≡◌, ◌≢◌, ◌≤◌, ◌⊎◌, ℕ, List, Option, None, IfErr, IfOk, IsErrOf};
+ghost use Rattle.std.specs.Prelude.{◌≡◌, ◌≢◌, ◌≤◌, ◌⊎◌, ℕ, true, List, Option, IfErr, IfOk, IfSome, IsErrOf, option_map};
 ghost use Rattle.std.proofs.Common.{Bor};
 ghost use Rattle.std.specs.Io.KnownBytes.{Keeps};
 ghost use Rattle.doc_register.specs.declared.state.Conflicts.{Conflicts as Reading};
@@ -12,10 +12,15 @@ ghost use Rattle.seed_search.specs.Found.{IsFoundText, IsSearched};
 ghost use Rattle.recorded_runs.specs.declared.seeds.Seeds.{Seeds as Range};
 ghost use Rattle.disturbances.specs.declared.disturbance.Disturbance.{Disturbance as Way};
 ghost use Rattle.casbench.specs.Faults.{MayFail};
+ghost use Rattle.casbench.specs.Input.{names_input};
+ghost use Rattle.casbench.specs.Outcomes.{IsAnswerWith, IsJudged, status_of};
 ghost use Rattle.stream_io.specs.Faults.{IsWorkedFault};
 ghost use Rattle.stream_io.specs.Written.{HasAnswer, HasPrefix};
 
-use crate::files::{open_both, open_or};
+use crate::check::check;
+use crate::check_each::check_each;
+use crate::files::{open_both, open_each, open_or};
+use crate::outcome::Outcome;
 use crate::page_file::{ReadyPage, refuse_history};
 use crate::search_reporter::SearchReporter;
 use command_line::Request;
@@ -24,8 +29,8 @@ use doc_register::Conflicts;
 use events::HashKeys;
 use recorded_runs::{Playing, run_played_stream};
 use report::{
-    RulingOut, Status, StreamFault, bulk_stream, check_stream, explain_stream, explained_page,
-    verify_stream, witness_stream, write_answer,
+    RulingOut, Status, StreamFault, bulk_stream, explain_stream, explained_page, verify_stream,
+    witness_stream, write_answer,
 };
 use seed_search::search_stream;
 use std::alloc::Global;
@@ -97,17 +102,19 @@ fn explain<F: Files + Eprint, T: Threads + Wait + Sync, R: Read, W: Write>(
 }
 
 /// Does what the arguments ask for: opens the files in the order in which they were named, `-` being the
-/// input, then reads, and writes the answer. Workers run on `threads`; ids and pairs are found by hashes with these keys.
+/// input, then reads, and writes the answer. Workers run on `threads`; ids and pairs are found by hashes with
+/// these keys.
 ///
 /// Errors, in this order: `Read` if a file can't be opened, which is then named on standard error: nothing
 /// was read then; for an `explain` with a page `Write` if the page is the history's own file; then those of
-/// the command's stream: `check_stream`, `witness_stream`, `verify_stream`, `bulk_stream`, `explain_stream`,
-/// `run_played_stream`, or `search_stream` with `--until`. An `explain` with a page has those of
+/// the command's stream: `check` or `check_each`, `witness_stream`, `verify_stream`, `bulk_stream`,
+/// `explain_stream`, `run_played_stream`, or `search_stream` with `--until`. An `explain` with a page has those of
 /// `explained_page`, then `Write` or `NoMemory` if a new page can't be written, `Write` of the writer, and
 /// `Write` if the page can't take its place. It waits as the stream of the command does.
 ///
-/// `kept` and `reported` are the only clauses about a `verify` and a `bulk`, whose texts are files: that the
-/// files, and the reading of conflicts, are passed on to their streams is tested, not proved.
+/// `kept` and `reported` are the only clauses about a `verify`, a `bulk` and a check of several files, whose
+/// texts are files: that the files, and the reading of conflicts, are passed on to their streams and to
+/// `check_each` is tested, not proved.
 pub fn run<R: Files + Eprint, T: Threads + Wait + Sync, I: Read + Drop, W: Write>(
     alloc: Global,
     keys: HashKeys,
@@ -115,57 +122,70 @@ pub fn run<R: Files + Eprint, T: Threads + Wait + Sync, I: Read + Drop, W: Write
     threads: &T,
     input: I,
     writer: &mut W,
-    request: Request<'_>,
-) -> Result<Status, StreamFault>
-    // A check of the input answers it, with conflicts read as the arguments say.
-    ensures checked { (conflicts : Reading) (workers : ℕ) (ruling : Ruling)
-        → request.entry ≡ Request.Check None conflicts workers ruling
-        → IfOk result (IsAnswered ruling conflicts (I.remaining input) (W.contents writer.old)
-        (W.contents writer.new)) }
+    request: &Request<'_>,
+) -> Result<Outcome, StreamFault>
+    // A check of the input, which no name names, or `-`, answers it, with conflicts read as the arguments say.
+    ensures checked { (file : Option (Bor (List ℕ))) (conflicts : Reading) (workers : ℕ) (ruling : Ruling) (least : ℕ)
+        → request.now ≡ Request.Check file conflicts workers ruling least
+        → names_input (option_map (λ t. t.now) file) ≡ true
+        → IfOk result (λ outcome. IsAnswered ruling conflicts (I.remaining input) (W.contents writer.old)
+        (W.contents writer.new) (status_of outcome)) }
+    // A yes to the input is about fewer calls than are asked for just if the outcome is `TooFew`.
+    ensures judged { (file : Option (Bor (List ℕ))) (conflicts : Reading) (workers : ℕ) (ruling : Ruling) (least : ℕ)
+        → request.now ≡ Request.Check file conflicts workers ruling least
+        → names_input (option_map (λ t. t.now) file) ≡ true
+        → IfOk result (λ outcome. IfSome (I.remaining input) (λ bytes. IsJudged least bytes outcome)) }
     // The witness of the input is written, or the line of a check that is not yes, with conflicts read as the
     // arguments say.
-    ensures witnessed { (conflicts : Reading) (ruling : Ruling) → request.entry ≡ Request.Witness None conflicts ruling
-        → IfOk result (λ status. HasAnswer (WitnessesInput ruling conflicts (I.remaining input) status)
-        (W.contents writer.old) (W.contents writer.new)) }
+    ensures witnessed { (file : Option (Bor (List ℕ))) (conflicts : Reading) (ruling : Ruling)
+        → request.now ≡ Request.Witness file conflicts ruling
+        → names_input (option_map (λ t. t.now) file) ≡ true
+        → IfOk result (IsAnswerWith (λ status. HasAnswer (WitnessesInput ruling conflicts (I.remaining input) status)
+        (W.contents writer.old) (W.contents writer.new))) }
     // A check of the input that is explained begins with its answer, whether a page is written too or not.
-    ensures explained { (conflicts : Reading) (workers : ℕ) (ruling : Ruling) (page : Option (Bor (List ℕ)))
-        → request.entry ≡ Request.Explain None conflicts workers ruling page
-        → IfOk result (λ status. HasAnswer (ExplainsInput ruling conflicts (I.remaining input) status)
-        (W.contents writer.old) (W.contents writer.new)) }
+    ensures explained { (file : Option (Bor (List ℕ))) (conflicts : Reading) (workers : ℕ) (ruling : Ruling) (page : Option (Bor (List ℕ)))
+        → request.now ≡ Request.Explain file conflicts workers ruling page
+        → names_input (option_map (λ t. t.now) file) ≡ true
+        → IfOk result (IsAnswerWith (λ status. HasAnswer (ExplainsInput ruling conflicts (I.remaining input) status)
+        (W.contents writer.old) (W.contents writer.new))) }
     // What the clients of a run recorded is written, and the status is yes.
-    ensures recorded { (setting : Setting) (manner : Going) → request.entry ≡ Request.Run setting manner
-        → IfOk result (λ status. (status ≡ Status.Yes) × HasAnswer (IsRunText ⟦<DisturbedGroup as Target>⟧.issued ⟦<DisturbedGroup as Target>⟧.gave setting)
+    ensures recorded { (setting : Setting) (manner : Going) → request.now ≡ Request.Run setting manner
+        → IfOk result (λ outcome. (outcome ≡ Outcome.Answered Status.Yes) × HasAnswer (IsRunText ⟦<DisturbedGroup as Target>⟧.issued ⟦<DisturbedGroup as Target>⟧.gave setting)
         (W.contents writer.old) (W.contents writer.new)) }
     // In turns it is the text of exactly the run that the setting and the disturbance determine.
-    ensures in_turns { (setting : Setting) (manner : Going) → request.entry ≡ Request.Run setting manner
+    ensures in_turns { (setting : Setting) (manner : Going) → request.now ≡ Request.Run setting manner
         → manner.playing ≡ Playing.InTurns → IfOk result (λ _. HasAnswer (IsTextInTurns setting manner.disturbance)
         (W.contents writer.old) (W.contents writer.new)) }
     // A search through seeds writes the first run that no order was found for, and the status is yes; or
     // there is none, and the status is no.
-    ensures searched { (seeds : Range) (setting : Setting) (way : Way) → request.entry ≡ Request.Search seeds setting way
-        → IfOk result (IsSearched ⟦<DisturbedGroup as Target>⟧.issued ⟦<DisturbedGroup as Target>⟧.gave way setting
-        seeds.first seeds.last (W.contents writer.old) (W.contents writer.new)) }
+    ensures searched { (seeds : Range) (setting : Setting) (way : Way) → request.now ≡ Request.Search seeds setting way
+        → IfOk result (IsAnswerWith (IsSearched ⟦<DisturbedGroup as Target>⟧.issued ⟦<DisturbedGroup as Target>⟧.gave way setting
+        seeds.first seeds.last (W.contents writer.old) (W.contents writer.new))) }
     // `check_cut_off`, `witness_cut_off`, `explain_cut_off`: After `Write` the writer holds a prefix of what
     // the command answers, after what it held; of an `explain` it may hold no more than it held, since a page
     // can fail before.
-    ensures check_cut_off { (conflicts : Reading) (workers : ℕ) (ruling : Ruling)
-        → request.entry ≡ Request.Check None conflicts workers ruling → IsErrOf result StreamFault.Write
+    ensures check_cut_off { (file : Option (Bor (List ℕ))) (conflicts : Reading) (workers : ℕ) (ruling : Ruling) (least : ℕ)
+        → request.now ≡ Request.Check file conflicts workers ruling least
+        → names_input (option_map (λ t. t.now) file) ≡ true → IsErrOf result StreamFault.Write
         → IsCutOff ruling conflicts (I.remaining input) (W.contents writer.old) (W.contents writer.new) }
-    ensures witness_cut_off { (conflicts : Reading) (ruling : Ruling) → request.entry ≡ Request.Witness None conflicts ruling
+    ensures witness_cut_off { (file : Option (Bor (List ℕ))) (conflicts : Reading) (ruling : Ruling)
+        → request.now ≡ Request.Witness file conflicts ruling
+        → names_input (option_map (λ t. t.now) file) ≡ true
         → IsErrOf result StreamFault.Write
         → HasPrefix (WitnessesInput ruling conflicts (I.remaining input)) (W.contents writer.old)
         (W.contents writer.new) }
-    ensures explain_cut_off { (conflicts : Reading) (workers : ℕ) (ruling : Ruling) (page : Option (Bor (List ℕ)))
-        → request.entry ≡ Request.Explain None conflicts workers ruling page → IsErrOf result StreamFault.Write
+    ensures explain_cut_off { (file : Option (Bor (List ℕ))) (conflicts : Reading) (workers : ℕ) (ruling : Ruling) (page : Option (Bor (List ℕ)))
+        → request.now ≡ Request.Explain file conflicts workers ruling page
+        → names_input (option_map (λ t. t.now) file) ≡ true → IsErrOf result StreamFault.Write
         → HasPrefix (ExplainsInput ruling conflicts (I.remaining input)) (W.contents writer.old) (W.contents writer.new)
         ⊎ Keeps (W.contents writer.old) (W.contents writer.new) }
     // `run_cut_off`, `search_cut_off`: After `Write` the writer holds a prefix of the text of such a run,
     // after what it held.
-    ensures run_cut_off { (setting : Setting) (manner : Going) → request.entry ≡ Request.Run setting manner
+    ensures run_cut_off { (setting : Setting) (manner : Going) → request.now ≡ Request.Run setting manner
         → IsErrOf result StreamFault.Write
         → HasPrefix (λ _. IsRunText ⟦<DisturbedGroup as Target>⟧.issued ⟦<DisturbedGroup as Target>⟧.gave setting)
         (W.contents writer.old) (W.contents writer.new) }
-    ensures search_cut_off { (seeds : Range) (setting : Setting) (way : Way) → request.entry ≡ Request.Search seeds setting way
+    ensures search_cut_off { (seeds : Range) (setting : Setting) (way : Way) → request.now ≡ Request.Search seeds setting way
         → IsErrOf result StreamFault.Write
         → HasPrefix (λ _. IsFoundText ⟦<DisturbedGroup as Target>⟧.issued ⟦<DisturbedGroup as Target>⟧.gave way setting
         seeds.first seeds.last) (W.contents writer.old) (W.contents writer.new) }
@@ -173,26 +193,50 @@ pub fn run<R: Files + Eprint, T: Threads + Wait + Sync, I: Read + Drop, W: Write
     ensures kept { IfErr result (λ fault. fault ≢ StreamFault.Write
         → Keeps (W.contents writer.old) (W.contents writer.new)) }
     // Each command returns the errors of its own stream alone.
-    ensures reported { IfErr result (MayFail request.entry) }
+    ensures reported { IfErr result (MayFail request.now) }
 {
-    match request {
+    match *request {
         Request::Check {
             file,
             conflicts,
             workers,
             ruling_out,
+            at_least,
         } => {
             let mut history = open_or(rt, file, input)?;
-            let workers = worker_count(workers);
-            check_stream(
+            check(
+                rt,
                 threads,
                 alloc,
                 keys,
+                file,
                 &mut history,
                 writer,
-                workers,
+                worker_count(workers),
                 conflicts,
                 ruling_out,
+                at_least,
+            )
+        }
+        Request::CheckEach {
+            ref files,
+            conflicts,
+            workers,
+            ruling_out,
+            at_least,
+        } => {
+            let texts = open_each(rt, alloc, files, input)?;
+            check_each(
+                rt,
+                threads,
+                alloc,
+                keys,
+                texts,
+                writer,
+                worker_count(workers),
+                conflicts,
+                ruling_out,
+                at_least,
             )
         }
         Request::Witness {
@@ -201,7 +245,8 @@ pub fn run<R: Files + Eprint, T: Threads + Wait + Sync, I: Read + Drop, W: Write
             ruling_out,
         } => {
             let mut history = open_or(rt, file, input)?;
-            witness_stream(alloc, keys, &mut history, writer, conflicts, ruling_out)
+            let status = witness_stream(alloc, keys, &mut history, writer, conflicts, ruling_out)?;
+            Ok(Outcome::Answered(status))
         }
         Request::Verify {
             history,
@@ -209,18 +254,30 @@ pub fn run<R: Files + Eprint, T: Threads + Wait + Sync, I: Read + Drop, W: Write
             conflicts,
         } => {
             let (mut history, mut witness) = open_both(rt, history, witness, input)?;
-            verify_stream(alloc, keys, &mut history, &mut witness, writer, conflicts)
+            let status = verify_stream(alloc, keys, &mut history, &mut witness, writer, conflicts)?;
+            Ok(Outcome::Answered(status))
         }
         Request::Bulk { body, reply, first } => {
             let (mut body, mut reply) = open_both(rt, body, reply, input)?;
-            bulk_stream(alloc, first, &mut body, &mut reply, writer)
+            let status = bulk_stream(alloc, first, &mut body, &mut reply, writer)?;
+            Ok(Outcome::Answered(status))
         }
         Request::Run(setting, manner) => {
-            run_played_stream(threads, alloc, &setting, &manner, writer)
+            let status = run_played_stream(threads, alloc, &setting, &manner, writer)?;
+            Ok(Outcome::Answered(status))
         }
         Request::Search(seeds, setting, disturbance) => {
             let watch = SearchReporter::new(rt, setting, disturbance);
-            search_stream(threads, alloc, seeds, &setting, disturbance, &watch, writer)
+            let status = search_stream(
+                threads,
+                alloc,
+                seeds,
+                &setting,
+                disturbance,
+                &watch,
+                writer,
+            )?;
+            Ok(Outcome::Answered(status))
         }
         Request::Explain {
             file,
@@ -231,7 +288,7 @@ pub fn run<R: Files + Eprint, T: Threads + Wait + Sync, I: Read + Drop, W: Write
         } => {
             let mut history = open_or(rt, file, input)?;
             refuse_history(rt, page, &history)?;
-            explain(
+            let status = explain(
                 rt,
                 threads,
                 alloc,
@@ -242,7 +299,8 @@ pub fn run<R: Files + Eprint, T: Threads + Wait + Sync, I: Read + Drop, W: Write
                 worker_count(workers),
                 conflicts,
                 ruling_out,
-            )
+            )?;
+            Ok(Outcome::Answered(status))
         }
     }
 }

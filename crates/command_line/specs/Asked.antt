@@ -1,12 +1,12 @@
 -- What the arguments of the command line ask for. `Request` is what the code made of them.
-use Rattle.std.specs.Prelude.{ℕ, ◌==◌, Bool, true, List, Option, Some, None, ◌&&◌, ◌^◌, codes, if◌then◌else◌, length, nat_lt, option_and_then, option_map}
+use Rattle.std.specs.Prelude.{ℕ, ◌==◌, Bool, true, List, Option, Some, None, ◌&&◌, ◌^◌, codes, if◌then◌else◌, [], length, map, nat_lt, option_and_then, option_map, slice_get, unwrap_or}
 use Rattle.std.specs.Char.{digit_value}
 use Rattle.std.specs.List.{after_first, before_first, list_all, position_or_len}
 use Rattle.std.specs.Str.{bytes_eq}
 use Rattle.std.specs.Str.Parse.{digits_value, without_leading_plus}
 use Rattle.clap.specs.Simple.{on_top}
-use Rattle.clap.specs.Words.{App, Kinds, Row, Rule, Text, first_of, fault_of, new_app, new_rule, subcommand_of, with_rule, with_subcommand}
-use Rattle.clap.specs.declared.builder.action.ArgAction.TheVariants.{SetTrue}
+use Rattle.clap.specs.Words.{App, Kinds, Row, Rule, Text, all_of, first_of, fault_of, new_app, new_rule, subcommand_of, with_rule, with_subcommand}
+use Rattle.clap.specs.declared.builder.action.ArgAction.TheVariants.{Append, SetTrue}
 use Rattle.clap.specs.declared.builder.value_parser.ValueParser.TheVariants as parser
 use Rattle.doc_register.specs.declared.state.Conflicts.{Conflicts}
 use Rattle.doc_register.specs.declared.state.Conflicts.TheVariants.{Plain, Maybe}
@@ -28,8 +28,11 @@ use Rattle.command_line.specs.declared.request.Request.TheVariants as request
 -- Source: profile.
 pub data Asked : Type 0 where
   -- a check of a history, in the named file or in standard input, with a reading of conflicts, a number of
-  -- workers, and whether documents are checked for being ruled out
-  ToCheck : Option Text → Conflicts → ℕ → RulingOut → Asked
+  -- workers, whether documents are checked for being ruled out, and the least number of calls that is asked
+  -- for
+  ToCheck : Option Text → Conflicts → ℕ → RulingOut → ℕ → Asked
+  -- the same of each of several files, in this order
+  ToCheckEach : List Text → Conflicts → ℕ → RulingOut → ℕ → Asked
   -- a witness of a history, in the same way, without workers
   ToWitness : Option Text → Conflicts → RulingOut → Asked
   -- a check of a witness against a history, of two files, with a reading of conflicts
@@ -41,12 +44,14 @@ pub data Asked : Type 0 where
   -- runs in turns from the first seed to the last, with a setting, under a disturbance, until one is found
   -- for which no order was found
   ToSearch : ℕ → ℕ → RunSetting → Disturbance → Asked
-  -- a check that is explained, with what a check has, and with a file for the page or none
+  -- a check that is explained, with what a check has but the least number of calls, and with a file for the
+  -- page or none
   ToExplain : Option Text → Conflicts → ℕ → RulingOut → Option Text → Asked
 
 -- the same as the code has it
 abbrev pub asked_by : Request → Asked
-asked_by (request.Check file conflicts workers ruling) = ToCheck (option_map (λ f. f.now) file) conflicts workers ruling
+asked_by (request.Check file conflicts workers ruling at_least) = ToCheck (option_map (λ f. f.now) file) conflicts workers ruling at_least
+asked_by (request.CheckEach files conflicts workers ruling at_least) = ToCheckEach (map (λ f. f.now) files.items) conflicts workers ruling at_least
 asked_by (request.Witness file conflicts ruling) = ToWitness (option_map (λ f. f.now) file) conflicts ruling
 asked_by (request.Verify history witness conflicts) = ToVerify history.now witness.now conflicts
 asked_by (request.Bulk body reply first) = ToWriteBulk body.now reply.now first
@@ -80,14 +85,30 @@ abbrev pub ruling_given : Option Text → RulingOut
 ruling_given None = Off
 ruling_given (Some text) = if bytes_eq text (codes "true") then On else Off
 
--- the check that arguments ask for, by one worker if no number is given; nothing if the name of the reading
--- is unknown, or the number of workers is none
-abbrev pub check_of : List Row → Option Asked
-check_of rows =
-    option_and_then (λ conflicts. option_map (λ n. ToCheck (first_of (codes "history") rows) conflicts n (ruling_given (first_of (codes "rule-out") rows)))
-    (number_or 1 (first_of (codes "workers") rows))) (conflicts_named (first_of (codes "conflicts") rows))
+-- the texts that the argument of this name was given, in their order
+-- Source: profile.
+abbrev pub texts_of : Text → List Row → List Text
+texts_of name rows = unwrap_or (all_of name rows) []
 
--- the same for a check that is explained, with the file of the page
+-- a check of each of the files if there are two or more, and else of the one file, or of standard input
+-- Source: profile.
+abbrev pub to_check : List Text → Conflicts → ℕ → RulingOut → ℕ → Asked
+to_check files conflicts workers ruling at_least =
+    if nat_lt 1 (length files) then ToCheckEach files conflicts workers ruling at_least
+    else ToCheck (slice_get files 0) conflicts workers ruling at_least
+
+-- the check of these files that arguments ask for, by one worker if no number is given, and of 0 calls or
+-- more if no least number is; nothing if the name of the reading is unknown, or one of the numbers is none
+abbrev pub checked_of : List Text → List Row → Option Asked
+checked_of files rows =
+    option_and_then (λ conflicts. option_and_then (λ n. option_map (λ at_least. to_check files conflicts n (ruling_given (first_of (codes "rule-out") rows)) at_least)
+    (number_or 0 (first_of (codes "at-least") rows))) (number_or 1 (first_of (codes "workers") rows))) (conflicts_named (first_of (codes "conflicts") rows))
+
+-- the check that arguments ask for, of the files that they name
+abbrev pub check_of : List Row → Option Asked
+check_of rows = checked_of (texts_of (codes "history") rows) rows
+
+-- the same for a check that is explained, without a least number, and with the file of the page
 abbrev pub explain_of : List Row → Option Asked
 explain_of rows =
     option_and_then (λ conflicts. option_map (λ n. ToExplain (first_of (codes "history") rows) conflicts n (ruling_given (first_of (codes "rule-out") rows)) (first_of (codes "html") rows))
@@ -220,7 +241,7 @@ asked_of_command name rows =
 -- what a command asks for; without a command it is a check of standard input by one worker
 -- Source: profile.
 abbrev pub asked_of : Option (Text × List Row) → Option Asked
-asked_of None = Some (ToCheck None Plain 1 Off)
+asked_of None = Some (ToCheck None Plain 1 Off 0)
 asked_of (Some command) = asked_of_command command.0 command.1
 
 -- ---- the command line
@@ -230,7 +251,12 @@ asked_of (Some command) = asked_of_command command.0 command.1
 abbrev pub file_rule : Text → Rule
 file_rule name = record (new_rule name) { value_names = 1 }
 
--- the same, which is required
+-- an argument with one value or more, by its position
+-- Source: profile.
+abbrev pub files_rule : Text → Rule
+files_rule name = record (file_rule name) { action = Some Append }
+
+-- an argument with one value, by its position, which is required
 -- Source: profile.
 abbrev pub needed_rule : Text → Rule
 needed_rule name = record (file_rule name) { required = true }
@@ -249,6 +275,11 @@ first_rule = record (option_rule (codes "first")) { parser = Some (parser.Unsign
 -- Source: profile.
 abbrev pub workers_rule : Rule
 workers_rule = record (option_rule (codes "workers")) { parser = Some (parser.Unsigned 1 16) }
+
+-- `--at-least CALLS`, CALLS below 2^64
+-- Source: profile.
+abbrev pub at_least_rule : Rule
+at_least_rule = record (option_rule (codes "at-least")) { parser = Some (parser.Unsigned 0 18446744073709551615) }
 
 -- `--rule-out`, without a value
 -- Source: profile.
@@ -275,21 +306,21 @@ fault_rule = record (needed_rule (codes "fault")) { long = Some (codes "fault") 
 abbrev pub in_turns_rule : Rule
 in_turns_rule = record (new_rule (codes "in-turns")) { long = Some (codes "in-turns"); action = Some SetTrue }
 
--- a command of this name that takes what a check takes: a history, which may be left out, `--conflicts`,
--- `--workers`, from 1 to 16, and `--rule-out`
+-- a command with what each check takes: an argument of what is checked, `--conflicts`, `--workers`, from 1 to
+-- 16, and `--rule-out`
 -- Source: profile.
-abbrev pub searched_line : Text → App
-searched_line name = with_rule (with_rule (with_rule (with_rule (new_app name) (file_rule (codes "history"))) (option_rule (codes "conflicts"))) workers_rule) rule_out_rule
+abbrev pub searched_line : App → Rule → App
+searched_line command texts = with_rule (with_rule (with_rule (with_rule command texts) (option_rule (codes "conflicts"))) workers_rule) rule_out_rule
 
--- the command `check`
+-- the command `check`, which takes histories, which may be left out, what each check takes, and `--at-least`
 -- Source: profile.
 abbrev pub check_line : App
-check_line = searched_line (codes "check")
+check_line = with_rule (searched_line (new_app (codes "check")) (files_rule (codes "history"))) at_least_rule
 
--- the command `explain`, which takes what a check takes, and `--html`
+-- the command `explain`, which takes a history, which may be left out, what each check takes, and `--html`
 -- Source: profile.
 abbrev pub explain_line : App
-explain_line = with_rule (searched_line (codes "explain")) (option_rule (codes "html"))
+explain_line = with_rule (searched_line (new_app (codes "explain")) (file_rule (codes "history"))) (option_rule (codes "html"))
 
 -- the command `witness`, which takes a history, which may be left out, `--conflicts` and `--rule-out`
 -- Source: profile.

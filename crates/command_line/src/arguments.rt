@@ -1,6 +1,6 @@
 ghost use Rattle.std.specs.Prelude.{◌≡◌, false, codes};
 ghost use Rattle.clap.specs.Words.{rule_of};
-ghost use Rattle.command_line.specs.Asked.{fault_rule, file_rule, first_rule, in_turns_rule, needed_rule, option_rule, rule_out_rule, seed_rule, small_rule, workers_rule};
+ghost use Rattle.command_line.specs.Asked.{at_least_rule, fault_rule, file_rule, files_rule, first_rule, in_turns_rule, needed_rule, option_rule, rule_out_rule, seed_rule, small_rule, workers_rule};
 
 use clap::builder::ValueParser;
 use clap::{Arg, ArgAction};
@@ -26,6 +26,9 @@ pub const WORKERS: &str = "workers";
 
 /// Whether documents are checked for being ruled out.
 pub const RULE_OUT: &str = "rule-out";
+
+/// The least number of calls.
+pub const AT_LEAST: &str = "at-least";
 
 /// The file of a page.
 pub const HTML: &str = "html";
@@ -71,6 +74,17 @@ pub fn history<'a>(alloc: Global) -> Arg<'a>
     Arg::new(alloc, HISTORY)
         .value_name("FILE")
         .help("The history text; standard input by default")
+}
+
+/// Returns the argument of the files of history texts, which may be left out.
+pub fn histories<'a>(alloc: Global) -> Arg<'a>
+    ensures rule { rule_of result ≡ files_rule (codes "history") }
+    ensures local { result.global ≡ false }
+{
+    Arg::new(alloc, HISTORY)
+        .value_name("FILE")
+        .action(ArgAction::Append)
+        .help("The history texts; standard input by default")
 }
 
 /// Returns the argument of a file that may not be left out: `id` is its key in the matches, `shown` its name
@@ -119,6 +133,15 @@ pub fn workers<'a>(alloc: Global) -> Arg<'a>
 {
     let help = "How many workers search the documents, 1 to 16; 1 by default";
     option(alloc, WORKERS, "N", help).value_parser(ValueParser::Unsigned(1, 16))
+}
+
+/// Returns the option of the least number of calls, which may be left out.
+pub fn at_least<'a>(alloc: Global) -> Arg<'a>
+    ensures rule { rule_of result ≡ at_least_rule }
+    ensures local { result.global ≡ false }
+{
+    let help = "How many calls a history has to have: a yes with fewer gets status 6; 0 by default";
+    option(alloc, AT_LEAST, "CALLS", help).value_parser(ValueParser::Unsigned(0, u64::MAX))
 }
 
 /// Returns the option that has documents checked for being ruled out.

@@ -5,8 +5,9 @@ ghost use Rattle.command_line.specs.Asked.{bulk_line, check_line, command_line, 
 
 use crate::arguments;
 use crate::arguments::{
-    BODY, CALLS, CLIENTS, COPIES, DISTURB, DOCS, HISTORY, HTML, REPLY, SEEDS, UNTIL, conflicts,
-    fault, first, history, in_turns, needed_file, option, rule_out, seed, small, workers,
+    BODY, CALLS, CLIENTS, COPIES, DISTURB, DOCS, HISTORY, HTML, REPLY, SEEDS, UNTIL, at_least,
+    conflicts, fault, first, histories, history, in_turns, needed_file, option, rule_out, seed,
+    small, workers,
 };
 use clap::{Arg, Command};
 use std::alloc::{AllocError, Global};
@@ -38,18 +39,17 @@ fn with_argument<'a>(command: Command<'a>, argument: Arg<'a>) -> Result<Command<
     command.arg(argument)
 }
 
-// Returns a command of this name that takes what a check takes.
+// Returns the command with what each check takes: `texts`, the argument of what is checked, and the options.
 fn searched_command<'a>(
     alloc: Global,
-    name: &'a str,
-    about: &'a str,
-    example: &'a str,
+    command: Command<'a>,
+    texts: Arg<'a>,
 ) -> Result<Command<'a>, AllocError>
-    ensures line { IfOk result (λ command. app_of command ≡ searched_line name.entry.now) }
-    ensures local { IfOk result (λ command. (fields_of command).has_globals ≡ false) }
+    requires { texts.global ≡ false }
+    ensures line { IfOk result (λ searched. app_of searched ≡ searched_line (app_of command.entry) (rule_of texts.entry)) }
+    ensures local { IfOk result (λ searched. (fields_of searched).has_globals ≡ (fields_of command.entry).has_globals) }
 {
-    let command = Command::new(alloc, name).about(about).after_help(example);
-    let command = with_argument(command, history(alloc))?;
+    let command = with_argument(command, texts)?;
     let command = with_argument(command, conflicts(alloc))?;
     let command = with_argument(command, workers(alloc))?;
     with_argument(command, rule_out(alloc))
@@ -59,12 +59,13 @@ fn check_command<'a>(alloc: Global) -> Result<Command<'a>, AllocError>
     ensures line { IfOk result (λ command. app_of command ≡ check_line) }
     ensures local { IfOk result (λ command. (fields_of command).has_globals ≡ false) }
 {
-    searched_command(
-        alloc,
-        CHECK,
-        "Check a history, which is also what casbench does without a command",
-        "Example:\n  casbench check history.ndjson",
-    )
+    let command = Command::new(alloc, CHECK)
+        .about("Check histories; casbench without a command checks standard input")
+        .after_help(
+            "Examples:\n  casbench check history.ndjson\n  casbench check monday.ndjson tuesday.ndjson --at-least 1000",
+        );
+    let command = searched_command(alloc, command, histories(alloc))?;
+    with_argument(command, at_least(alloc))
 }
 
 fn witness_command<'a>(alloc: Global) -> Result<Command<'a>, AllocError>
@@ -116,12 +117,10 @@ fn explain_command<'a>(alloc: Global) -> Result<Command<'a>, AllocError>
     ensures line { IfOk result (λ command. app_of command ≡ explain_line) }
     ensures local { IfOk result (λ command. (fields_of command).has_globals ≡ false) }
 {
-    let command = searched_command(
-        alloc,
-        EXPLAIN,
-        "Check a history and explain the result",
-        "Example:\n  casbench explain history.ndjson --html explanation.html",
-    )?;
+    let command = Command::new(alloc, EXPLAIN)
+        .about("Check a history and explain the result")
+        .after_help("Example:\n  casbench explain history.ndjson --html explanation.html");
+    let command = searched_command(alloc, command, history(alloc))?;
     let help = "Write the explanation to this file too, as a page of HTML";
     with_argument(command, option(alloc, HTML, "OUT", help))
 }
@@ -205,7 +204,7 @@ fn named_program<'a>(alloc: Global) -> Result<Command<'a>, AllocError>
                 "Checks whether a recorded history of an OpenSearch index keeps the compare-and-set promise",
             )
             .after_help(
-                "Exit status:\n  0   yes, verified, or a text was written\n  1   no, refuted or broken\n  2   a text is refused\n  3   out of memory\n  4   a file or stream can't be read or written\n  5   a worker failed\n  64  the arguments are refused\n\nExamples:\n  casbench check history.ndjson\n  casbench witness history.ndjson > history.witness\n  casbench verify history.ndjson history.witness\n  casbench bulk bulk.body bulk.reply --first 100 >> history.ndjson\n  casbench run --seed 1 --clients 4 --calls 200 --docs 3 --copies 3 --fault none\n  casbench explain history.ndjson --html explanation.html",
+                "Exit status:\n  0   yes, verified, or a text was written\n  1   no, refuted or broken\n  2   a text is refused\n  3   out of memory\n  4   a file or stream can't be read or written\n  5   a worker failed\n  6   yes, with fewer calls than --at-least asks for\n  64  the arguments are refused\n\nExamples:\n  casbench check history.ndjson\n  casbench witness history.ndjson > history.witness\n  casbench verify history.ndjson history.witness\n  casbench bulk bulk.body bulk.reply --first 100 >> history.ndjson\n  casbench run --seed 1 --clients 4 --calls 200 --docs 3 --copies 3 --fault none\n  casbench explain history.ndjson --html explanation.html",
             ),
     )
 }

@@ -1,11 +1,11 @@
 ghost use Rattle.std.specs.Prelude.{◌≡◌, ◌⊎◌, [], Some, None, IfOk, IfErr, OnOk, map, option_map};
 ghost use Rattle.clap.specs.Words.{FailsBy, HasKind, found_of, rows_of, subcommand_rows_of};
-ghost use Rattle.command_line.specs.Asked.{asked_by, asked_of, asked_of_command, asked_on, bulk_of, check_of, explain_of, faults_on, number_or as number_parsed, conflicts_named, ruling_given, verify_of, witness_of};
+ghost use Rattle.command_line.specs.Asked.{asked_by, asked_of, asked_of_command, asked_on, bulk_of, check_of, checked_of, explain_of, faults_on, number_or as number_parsed, conflicts_named, ruling_given, verify_of, witness_of};
 
 use crate::arguments;
-use crate::arguments::{BODY, CONFLICTS, FIRST, HISTORY, HTML, REPLY, RULE_OUT, WORKERS};
+use crate::arguments::{AT_LEAST, BODY, CONFLICTS, FIRST, HISTORY, HTML, REPLY, RULE_OUT, WORKERS};
 use crate::commands::{BULK, CHECK, EXPLAIN, RUN, VERIFY, WITNESS, program};
-use crate::given::text_given;
+use crate::given::{text_given, texts_given};
 use crate::run_request::{asked_run, unnamed_of_run};
 use clap::error::ErrorKind;
 use clap::{ArgMatches, Error};
@@ -17,15 +17,25 @@ use std::alloc::{AllocError, Global};
 use std::convert::AsStr;
 
 /// What the program is asked for.
-#[derive(Clone, Copy, PartialEq, Eq)]
+#[derive(Drop)]
 pub enum Request<'a> {
     /// To check a history text: that of the file, or of standard input if none is named; by that many
-    /// workers, 1 to 16.
+    /// workers, 1 to 16. At least so many calls are asked for.
     Check {
         file: Option<&'a str>,
         conflicts: Conflicts,
         workers: u64,
         ruling_out: RulingOut,
+        at_least: u64,
+    },
+    /// To check each of several history texts in the same way: those of the files, in this order, of which
+    /// there are two or more.
+    CheckEach {
+        files: Vec<&'a str>,
+        conflicts: Conflicts,
+        workers: u64,
+        ruling_out: RulingOut,
+        at_least: u64,
     },
     /// To write the witness of a history text: that of the file, or of standard input if none is named.
     Witness {
@@ -108,16 +118,30 @@ pub fn number_or(other: u64, text: Option<&str>) -> Option<u64>
     }
 }
 
-// Returns a check of a history, if a reading is named or none is, and a number of workers is given or none
-// is.
-fn check_request<'a>(given: &ArgMatches<'a>) -> Option<Request<'a>>
-    ensures { option_map asked_by result ≡ check_of (rows_of (found_of given.now)) }
+// Returns a check of the history of each of these files, or of standard input if there is none; if a reading
+// is named or none is, and a number of workers and a least number of calls are each given or not.
+fn check_request<'a>(files: Vec<&'a str>, given: &ArgMatches<'a>) -> Option<Request<'a>>
+    ensures { option_map asked_by result ≡ checked_of (map (λ f. f.now) files.entry.items) (rows_of (found_of given.now)) }
 {
+    let conflicts = conflicts_named(text_given(given, CONFLICTS))?;
+    let workers = number_or(1, text_given(given, WORKERS))?;
+    let ruling_out = ruling_given(text_given(given, RULE_OUT));
+    let at_least = number_or(0, text_given(given, AT_LEAST))?;
+    if files.len() > 1 {
+        return Some(Request::CheckEach {
+            files,
+            conflicts,
+            workers,
+            ruling_out,
+            at_least,
+        });
+    }
     Some(Request::Check {
-        file: text_given(given, HISTORY),
-        conflicts: conflicts_named(text_given(given, CONFLICTS))?,
-        workers: number_or(1, text_given(given, WORKERS))?,
-        ruling_out: ruling_given(text_given(given, RULE_OUT)),
+        file: files.first().copied(),
+        conflicts,
+        workers,
+        ruling_out,
+        at_least,
     })
 }
 
@@ -169,33 +193,41 @@ fn explain_request<'a>(given: &ArgMatches<'a>) -> Option<Request<'a>>
 }
 
 // Returns what the command of this name asks for.
-fn asked_of_command<'a>(name: &str, given: &ArgMatches<'a>) -> Option<Request<'a>>
-    ensures { option_map asked_by result
-        ≡ asked_of_command name.now (rows_of (found_of given.now)) }
+fn asked_of_command<'a>(
+    alloc: Global,
+    name: &str,
+    given: &ArgMatches<'a>,
+) -> Result<Option<Request<'a>>, AllocError>
+    ensures { IfOk result (λ asked. option_map asked_by asked
+        ≡ asked_of_command name.now (rows_of (found_of given.now))) }
 {
     match name {
-        CHECK => check_request(given),
-        WITNESS => witness_request(given),
-        VERIFY => verify_request(given),
-        BULK => bulk_request(given),
-        RUN => asked_run(given),
-        EXPLAIN => explain_request(given),
-        _ => None,
+        CHECK => {
+            let files = texts_given(alloc, given, HISTORY)?;
+            Ok(check_request(files, given))
+        }
+        WITNESS => Ok(witness_request(given)),
+        VERIFY => Ok(verify_request(given)),
+        BULK => Ok(bulk_request(given)),
+        RUN => Ok(asked_run(given)),
+        EXPLAIN => Ok(explain_request(given)),
+        _ => Ok(None),
     }
 }
 
 // Returns what is asked for by the matches of the program.
-fn asked_for<'a>(matches: &ArgMatches<'a>) -> Option<Request<'a>>
-    ensures { option_map asked_by result ≡ asked_of (subcommand_rows_of matches.now) }
+fn asked_for<'a>(alloc: Global, matches: &ArgMatches<'a>) -> Result<Option<Request<'a>>, AllocError>
+    ensures { IfOk result (λ asked. option_map asked_by asked ≡ asked_of (subcommand_rows_of matches.now)) }
 {
     match matches.subcommand() {
-        Some((name, given)) => asked_of_command(name, given),
-        None => Some(Request::Check {
+        Some((name, given)) => asked_of_command(alloc, name, given),
+        None => Ok(Some(Request::Check {
             file: None,
             conflicts: Conflicts::Plain,
             workers: 1,
             ruling_out: RulingOut::Off,
-        }),
+            at_least: 0,
+        })),
     }
 }
 
@@ -239,7 +271,7 @@ pub fn read_request<'a, S: AsStr>(
         ⊎ (asked_on (map S.text process_arguments.entry.now) ≡ None)) }
 {
     let matches = parse(alloc, process_arguments)?;
-    match asked_for(&matches) {
+    match asked_for(alloc, &matches)? {
         Some(request) => Ok(request),
         None => Err(unnamed_error(alloc, &matches)?),
     }

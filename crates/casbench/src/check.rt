@@ -1,0 +1,60 @@
+ghost use Rattle.std.specs.Prelude.{◌≡◌, ◌≢◌, ◌≤◌, IfErr, IfOk, IfSome, IsErrOf};
+ghost use Rattle.std.specs.Io.KnownBytes.{Keeps};
+ghost use Rattle.casbench.specs.Outcomes.{IsJudged, status_of};
+ghost use Rattle.report.specs.Verdict.{IsAnswered, IsCutOff};
+ghost use Rattle.stream_io.specs.Faults.{IsWorkedFault};
+
+use crate::checked::check_text;
+use crate::notes::note_calls;
+use crate::outcome::{Outcome, outcome_of};
+use doc_register::Conflicts;
+use events::HashKeys;
+use report::{RulingOut, StreamFault, write_answer};
+use std::alloc::Global;
+use std::io::{Read, Write};
+use std::rt::Files;
+use std::sync::Wait;
+use std::thread::Threads;
+
+/// Checks a history and writes its line, as `report::check_stream` does. If the answer is yes, and the history
+/// has no calls or fewer than are asked for, standard error says so. `file` is its name, if it has one. It
+/// waits as `report::check_stream` does, and has the same errors.
+pub fn check<F: Files + Eprint, T: Threads + Wait + Sync, R: Read, W: Write>(
+    rt: &F,
+    threads: &T,
+    alloc: Global,
+    keys: HashKeys,
+    file: Option<&str>,
+    history: &mut R,
+    writer: &mut W,
+    workers: usize,
+    conflicts: Conflicts,
+    ruling_out: RulingOut,
+    at_least: u64,
+) -> Result<Outcome, StreamFault>
+    // `some`, `few`: There are 1 to 16 workers.
+    requires some { 1 ≤ workers }
+    requires few { workers ≤ 16 }
+    // The writer holds the line after what it held, and the line answers the bytes of the reader.
+    ensures answered { IfOk result (λ outcome. IsAnswered ruling_out conflicts (R.remaining history.old)
+        (W.contents writer.old) (W.contents writer.new) (status_of outcome)) }
+    // A yes is about fewer calls than are asked for just if the outcome is `TooFew`.
+    ensures judged { IfOk result (λ outcome. IfSome (R.remaining history.old)
+        (λ input. IsJudged at_least input outcome)) }
+    // After `Write` the writer holds a prefix of such a line after what it held.
+    ensures cut_off { IsErrOf result StreamFault.Write
+        → IsCutOff ruling_out conflicts (R.remaining history.old) (W.contents writer.old)
+        (W.contents writer.new) }
+    // After any other error the writer holds what it held.
+    ensures kept { IfErr result (λ fault. fault ≢ StreamFault.Write
+        → Keeps (W.contents writer.old) (W.contents writer.new)) }
+    // The only errors are `Read`, `Write`, `NoMemory` and `Worker`.
+    ensures reported { IfErr result IsWorkedFault }
+{
+    let found = check_text(
+        threads, alloc, keys, history, workers, conflicts, ruling_out,
+    )?;
+    let status = write_answer(writer, &found.answer)?;
+    note_calls(rt, alloc, file, found.calls, at_least);
+    Ok(outcome_of(status, found.calls, at_least))
+}
