@@ -463,15 +463,15 @@ EVIDENT = [
         index(0) + created(0, 1, 0) + index(1) + updated(1, 1, 1) + get(2) + found(2, 1, 0) + get(3) + found(3, 1, 1) + index(4, k=5) + updated(4, 1, 2),
         f'{STALE} (call 2 of "d", line 6).',
         [
-            "\nThe version 1/1 is shown again by call 3, which was made after that reply (line 8): so it was not lost for good,",
-            "\nThe versions that the document's writes were given never fall back, after that reply neither, ",
+            "\nThe version 1/1 is shown again by call 3 (line 8), which was made after the reply to call 2: so it was not lost for good,",
+            "\nThe versions that the document's writes were given never fall back, neither before nor after the reply ",
         ],
     ),
     (
         "a stale get, after which the version isn't shown again",
         index(0) + created(0, 1, 0) + index(1) + updated(1, 1, 1) + get(2) + found(2, 1, 0) + get(3) + found(3, 1, 0),
         f'{STALE} (call 2 of "d", line 6).',
-        ["\nNo call that was made after that reply shows the version 1/1 again, "],
+        ["\nNo call that was made after the reply to call 2 shows the version 1/1 again, "],
     ),
     (
         "a stale get with times",
@@ -495,7 +495,7 @@ EVIDENT = [
         "one version for two writes of a document",
         index(0) + created(0, 1, 0) + index(1, k=2) + updated(1, 1, 0),
         f'{TWICE} (call 1 of "d", line 4).',
-        ["\nBoth writes are of one document, so they are of one shard.\n"],
+        ["\nBoth lines name one document: make sure that both are of one index, "],
     ),
     (
         "a condition that was not looked at",
@@ -512,10 +512,23 @@ EVIDENT = [
             "`casbench explain --conflicts maybe FILE`",
         ],
     ),
+    (
+        "a creation where the document was, by a write that was acknowledged only later",
+        index(0) + index(1) + created(1, 1, 1) + created(0, 1, 0),
+        'Shown and taken back: a reply shows the document as it was before what another reply shows (call 1 of "d", line 3).',
+        [],
+    ),
+    (
+        "a get that found what a lost write may have written, behind a version that nobody wrote",
+        index(0) + created(0, 1, 0) + get(1) + index(2, k=2) + lost(2) + get(4) + found(4, 1, 5, k=2)
+        + index(3, k=9) + lost(3) + found(1, 1, 1, k=9),
+        'Version that nobody wrote: a reply needs a version that no recorded write can have made (call 4 of "d", line 7).',
+        [],
+    ),
 ]
 
 # Histories that have an order, and what the story says that they are able to show, and what it doesn't say.
-NOTHING_OVERLAPS, NOTHING_READ = "no two calls of a document overlapped", "nothing in it reads what was written"
+NOTHING_OVERLAPS, NOTHING_READ = "no two calls of a document overlapped", "neither a get nor a condition asks for what was written"
 COVERAGE = [
     (
         "calls one after the other",
@@ -523,7 +536,7 @@ COVERAGE = [
         [
             "\n  calls that overlapped another call of their document: 0 of 2\n",
             "\n  gets that were answered: 1\n",
-            "\n  writes under a condition, creates among them: 0 performed, 0 refused\n",
+            "\n  writes under a condition, creates among them: 0 performed, 0 answered with a conflict\n",
             "\n  primary terms seen: 1\n",
             '\n  documents with the most calls: "d" with 2\n',
             NOTHING_OVERLAPS,
@@ -537,7 +550,7 @@ COVERAGE = [
         + index(3, condition(1, 0), k=3) + conflict(3) + index(4, k=4) + lost(4),
         [
             "\n  calls that overlapped another call of their document: 2 of 5\n",
-            "\n  writes under a condition, creates among them: 2 performed, 1 refused\n",
+            "\n  writes under a condition, creates among them: 2 performed, 1 answered with a conflict\n",
             "\n  writes without a reply: 1\n",
             "\n  primary terms seen: 1 to 2\n",
         ],
@@ -606,7 +619,7 @@ class Stories(ProgramTest):
             self.assertEqual(story[: len(line)], line)
             title, _, rest = story[len(line) :].lstrip("\n").partition("\n")
             self.assertEqual(rest[: len(first + more)], first + more)
-            self.assertRegex(title, rf"{headline}: [^:]+ \(call {stop} of \"d\", line \d+\)\.$")
+            self.assertRegex(title, rf"^{headline}: [^:]+ \(call {stop} of \"d\", line \d+\)\.$")
             self.check_advice(story)
         for part in [*parts, f"\nSo no order has a place for call {stop} and its reply. This is proved", "\nThe calls that matter, "]:
             self.assertIn(part, plain)

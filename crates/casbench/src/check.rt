@@ -38,7 +38,7 @@ pub fn check<F: Files + Eprint, T: Threads + Wait + Sync, R: Read, W: Write>(
     // The writer holds the line after what it held, and the line answers the bytes of the reader.
     ensures answered { IfOk result (λ outcome. IsAnswered ruling_out conflicts (R.remaining history.old)
         (W.contents writer.old) (W.contents writer.new) (status_of outcome)) }
-    // A yes is about fewer calls than are asked for just if the outcome is `TooFew`.
+    // A yes is about fewer calls than are asked for exactly if the outcome is `TooFew`.
     ensures judged { IfOk result (λ outcome. IfSome (R.remaining history.old)
         (λ input. IsJudged at_least input outcome)) }
     // After `Write` the writer holds a prefix of such a line after what it held.

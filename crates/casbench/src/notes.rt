@@ -78,8 +78,8 @@ pub fn note_if_compressed<R: Files + Eprint>(rt: &R, path: Option<&str>) {
     }
 }
 
-/// If a file of a refused text is compressed, by its name, says how it is read. No file is read for that. Of
-/// each of several files that is said where it is checked.
+/// If a file of a refused text is compressed, by its name, says how it is read. No file is read for that. For
+/// several files `check_each` says it of each.
 pub fn note_compressed<R: Files + Eprint>(rt: &R, request: &Request<'_>) {
     let (first, second) = files_of(request);
     note_if_compressed(rt, first);

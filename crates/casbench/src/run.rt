@@ -112,9 +112,9 @@ fn explain<F: Files + Eprint, T: Threads + Wait + Sync, R: Read, W: Write>(
 /// `explained_page`, then `Write` or `NoMemory` if a new page can't be written, `Write` of the writer, and
 /// `Write` if the page can't take its place. It waits as the stream of the command does.
 ///
-/// `kept` and `reported` are the only clauses about a `verify`, a `bulk` and a check of several files, whose
-/// texts are files: that the files, and the reading of conflicts, are passed on to their streams and to
-/// `check_each` is tested, not proved.
+/// `kept` and `reported` are the only clauses about a `verify`, a `bulk` and a check of several files: that
+/// their texts, and the reading of conflicts, are passed on to their streams and to `check_each` is tested, not
+/// proved.
 pub fn run<R: Files + Eprint, T: Threads + Wait + Sync, I: Read + Drop, W: Write>(
     alloc: Global,
     keys: HashKeys,
@@ -130,7 +130,7 @@ pub fn run<R: Files + Eprint, T: Threads + Wait + Sync, I: Read + Drop, W: Write
         → names_input (option_map (λ t. t.now) file) ≡ true
         → IfOk result (λ outcome. IsAnswered ruling conflicts (I.remaining input) (W.contents writer.old)
         (W.contents writer.new) (status_of outcome)) }
-    // A yes to the input is about fewer calls than are asked for just if the outcome is `TooFew`.
+    // A yes to the input is about fewer calls than are asked for exactly if the outcome is `TooFew`.
     ensures judged { (file : Option (Bor (List ℕ))) (conflicts : Reading) (workers : ℕ) (ruling : Ruling) (least : ℕ)
         → request.now ≡ Request.Check file conflicts workers ruling least
         → names_input (option_map (λ t. t.now) file) ≡ true

@@ -13,7 +13,7 @@ use version_pair::{NoMemory, Pair};
 
 /// What a search is given beside the records.
 #[derive(Clone, Copy)]
-pub struct Given<'a> {
+pub struct PartSearch<'a> {
     /// What is seen in the history.
     pub seen: Seen,
     /// How conflicts are read.
@@ -28,17 +28,17 @@ pub struct Given<'a> {
 fn places_found(
     alloc: Global,
     records: &[Rec],
-    given: Given<'_>,
+    search: PartSearch<'_>,
 ) -> Result<Option<Vec<Place>>, NoMemory> {
     // How far the search came is of no use here.
     let mut stuck = None;
     search_forward(
         alloc,
         records,
-        given.seen,
-        given.conflicts,
-        given.used,
-        given.limits,
+        search.seen,
+        search.conflicts,
+        search.used,
+        search.limits,
         &mut stuck,
     )
 }
@@ -81,11 +81,11 @@ impl Nearby {
         &self,
         alloc: Global,
         witness: &DocWitness,
-        given: Given<'_>,
+        search: PartSearch<'_>,
     ) -> Result<Option<DocWitness>, NoMemory>
         ensures { IfOk result (λ found. IfSome found (IsAlike witness.now)) }
     {
-        let Some(own) = places_found(alloc, &self.records, given)? else {
+        let Some(own) = places_found(alloc, &self.records, search)? else {
             return Ok(None);
         };
         let places = self.part.with_places(alloc, witness, &self.members, &own)?;
@@ -96,7 +96,7 @@ impl Nearby {
     fn has_order_before(
         &self,
         alloc: Global,
-        given: Given<'_>,
+        search: PartSearch<'_>,
         event: usize,
     ) -> Result<bool, NoMemory> {
         let mut records = Vec::with_capacity(alloc, self.records.len())?;
@@ -105,7 +105,7 @@ impl Nearby {
                 records.push(found.known_before(event))?;
             }
         }
-        Ok(places_found(alloc, &records, given)?.is_some())
+        Ok(places_found(alloc, &records, search)?.is_some())
     }
 
     // The positions of the replies of the part, rising.
@@ -125,7 +125,7 @@ impl Nearby {
     pub fn first_failing(
         &self,
         alloc: Global,
-        given: Given<'_>,
+        search: PartSearch<'_>,
     ) -> Result<Option<usize>, NoMemory> {
         let replies = self.replies(alloc)?;
         let mut low = 0usize;
@@ -134,7 +134,7 @@ impl Nearby {
             let middle = low.saturating_add(high.saturating_sub(low) / 2);
             match replies.get(middle) {
                 Some(event) if low < high => {
-                    if self.has_order_before(alloc, given, event.saturating_add(1))? {
+                    if self.has_order_before(alloc, search, event.saturating_add(1))? {
                         low = middle.saturating_add(1);
                     } else {
                         high = middle;

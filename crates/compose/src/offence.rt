@@ -87,19 +87,34 @@ fn next_tried(places: &[usize], low: usize, high: usize, guessed: Option<usize>)
     low + half
 }
 
-// The guess after a failure at the reply of this index: the one that this search gave, if it is earlier; the
-// reply before, if the search gave this one; else the same as before, unless it was the guess that failed.
-fn guess_after_failure(
-    places: &[usize],
-    at: usize,
-    guessed: Option<usize>,
-    found: Option<usize>,
-) -> Option<usize> {
-    let place = places.get(at).copied();
-    match found {
-        Some(earlier) if Some(earlier) < place => Some(earlier),
-        Some(_) => places.get(at.checked_sub(1)?).copied(),
-        None => { if guessed == place { None } else { guessed } }
+// What is known of the reply at which the search first fails.
+#[derive(Clone, Copy)]
+struct Guesses {
+    // The next guess, if there is one.
+    next: Option<usize>,
+    // How many events an order was found for.
+    shown: usize,
+    // How many replies before one that fails are passed over, if the search names this very one.
+    back: usize,
+}
+
+impl Guesses {
+    // The guesses after a failure at the reply of this index. The next is the reply that this search gave, if
+    // that is earlier. If it gave this one, it is the reply before, and twice as far before each time. Else it
+    // is the same as before, unless it was the guess that failed.
+    fn after_failure(self, places: &[usize], at: usize, found: Option<usize>) -> Guesses {
+        let place = places.get(at).copied();
+        let mut guesses = self;
+        match found {
+            Some(earlier) if Some(earlier) < place => guesses.next = Some(earlier),
+            Some(_) => {
+                guesses.next = places.get(at.saturating_sub(self.back)).copied();
+                guesses.back = self.back.saturating_mul(2);
+            }
+            None if self.next == place => guesses.next = None,
+            None => {}
+        }
+        guesses
     }
 }
 
@@ -112,18 +127,18 @@ fn narrower(
     places: &[usize],
     low: usize,
     high: usize,
-    guessed: &mut Option<usize>,
+    guesses: &mut Guesses,
 ) -> Result<(usize, usize), NoMemory>
     requires order { low < high }
     requires within { high < length places.now }
     requires replies { AreReplies history.now (length history.now) places.now }
     ensures { IfOk result (IsNarrower history.now places.now low high) }
 {
-    let at = next_tried(places, low, high, *guessed);
+    let at = next_tried(places, low, high, guesses.next);
     match search_outcome_to(alloc, history, conflicts, places[at])? {
         SearchOutcome::Found => Ok((at + 1, high)),
         SearchOutcome::NotFound(found) => {
-            *guessed = guess_after_failure(places, at, *guessed, found);
+            *guesses = guesses.after_failure(places, at, found);
             Ok((low, at))
         }
     }
@@ -145,7 +160,7 @@ fn first_wrong(
     ensures reply { IfOk result (IsReplyPlace history.now) }
     ensures wrong { IfOk result (IsWrongAt history.now) }
 {
-    let mut guessed = guesses.next;
+    let mut guesses = guesses;
     let shown = guesses.shown;
     let low = places.partition_point(|place| *place < shown);
     let mut left = (low.min(places.len() - 1), places.len() - 1);
@@ -157,7 +172,7 @@ fn first_wrong(
             places,
             left.0,
             left.1,
-            &mut guessed,
+            &mut guesses,
         )?;
     }
     Ok(places[left.1])
@@ -183,15 +198,6 @@ fn offence_at(
         }),
         Event::Call { .. } | Event::Lost { .. } => unreachable!(),
     }
-}
-
-// What is known of the reply at which the search first fails.
-#[derive(Clone, Copy)]
-struct Guesses {
-    // The next guess, if there is one.
-    next: Option<usize>,
-    // How many events an order was found for.
-    shown: usize,
 }
 
 // The offence at this reply, if the search finds an order of all events before and fails there. If it fails
@@ -261,6 +267,7 @@ pub fn first_offence(alloc: Global, case: &Case) -> Result<Offence, NoMemory>
     let mut guesses = Guesses {
         next: first_guess(alloc, case)?,
         shown: 0,
+        back: 1,
     };
     for _ in 0..MOST_GUESSES {
         let Some(place) = guesses.next else {

@@ -63,7 +63,8 @@ fn write_above(witness: &DocWitness, index: usize, reach: usize) -> Option<usize
     None
 }
 
-// A write that leaves the document as this one does, and is called and answered before the event.
+// A write that leaves the document as this one does. It is called before the event, and answered at it, which
+// counts as before a call at the event.
 fn same_before(write: Rec, event: usize) -> Option<Rec> {
     let pair = write.pair_taken()?;
     let (op, reply) = match write.op.value() {
@@ -162,7 +163,7 @@ impl Part {
         if self.before.is_some() { 1 } else { 0 }
     }
 
-    // A record for the write before the part, called and answered before the first of its records.
+    // A record for the write before the part, which comes before the first of its records.
     fn first_record(self, witness: &DocWitness, members: &[usize]) -> Option<Rec> {
         let start = witness.records().get(*members.first()?)?;
         same_before(write_at(witness, self.before?)?, start.call_at)

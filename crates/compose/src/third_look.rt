@@ -7,7 +7,7 @@ ghost use Rattle.compose.specs.aids.Searched.{AreSearched};
 use crate::covering::Covering;
 use crate::doc_limits::DocLimits;
 use crate::joined::{Joined, joined_again};
-use crate::nearby::{Given, Nearby};
+use crate::nearby::{Nearby, PartSearch};
 use crate::renumbered::gaps::{Gap, Gaps};
 use crate::reordered::with_reordered;
 use crate::second_look::SearchContext;
@@ -22,7 +22,7 @@ use version_pair::NoMemory;
 const MOST_STEPS: usize = 64;
 
 // The greatest number of gaps that are tried for one that can do with fewer numbers.
-const MOST_TRIED: usize = 64;
+const MOST_TRIED: usize = 16;
 
 // How many answered writes below and above a gap other orders may differ: first a few, then more.
 const NEAR: usize = 12;
@@ -66,9 +66,9 @@ impl<'a> Scene<'a, '_> {
         Ok(gaps.wanted(doc))
     }
 
-    // Returns what a search for the document of a gap is given.
-    fn given(self, gap: &Gap, witness: &DocWitness, limits: &'a [Limit]) -> Given<'a> {
-        Given {
+    // Returns the search of a part of the document of a gap.
+    fn search_of(self, gap: &Gap, witness: &DocWitness, limits: &'a [Limit]) -> PartSearch<'a> {
+        PartSearch {
             seen: self.known.seen,
             conflicts: witness.conflicts(),
             used: self.known.used.of_shard(gap.shard),
@@ -87,7 +87,7 @@ impl<'a> Scene<'a, '_> {
     ) -> Result<Option<DocWitness>, NoMemory> {
         for reach in [NEAR, FAR] {
             if let Some(nearby) = Nearby::of(alloc, witness, gap, reach)? {
-                let found = nearby.order(alloc, witness, self.given(gap, witness, limits))?;
+                let found = nearby.order(alloc, witness, self.search_of(gap, witness, limits))?;
                 if found.is_some() {
                     return Ok(found);
                 }
@@ -153,7 +153,7 @@ impl<'a> Scene<'a, '_> {
         };
         let limits = self.limits.with(alloc, gap.witness, limit)?;
         match Nearby::of(alloc, witness, gap, NEAR)? {
-            Some(nearby) => nearby.first_failing(alloc, self.given(gap, witness, &limits)),
+            Some(nearby) => nearby.first_failing(alloc, self.search_of(gap, witness, &limits)),
             None => Ok(None),
         }
     }

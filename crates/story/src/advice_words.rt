@@ -13,10 +13,10 @@ pub fn rule_out_words(anomaly: Anomaly) -> &'static str {
             "A later call whose line was written only after it was sent: the two calls may have overlapped. A reply that was recorded for another call than its own. A client that is not recorded and changed the document, or an index that was created anew between the two replies."
         }
         Anomaly::LostWrite => {
-            "An index that was created anew, or restored from a snapshot, between the two writes. A client that is not recorded and changed the document between them. A store whose numbers are not assigned in the order of its changes."
+            "An index that was created anew, or restored from a snapshot, between the two writes. A client that is not recorded and changed the document between them. A write whose line was written only after it was sent: the two may have overlapped. A store whose numbers are not assigned in the order of its changes."
         }
         Anomaly::LostUpdate => {
-            "A client library or a proxy that leaves the condition out. A store that compares something other than the pair, such as a version of its own, or whose numbers are not assigned in the order of its changes. An index that was created anew between the two writes."
+            "A client library or a proxy that leaves the condition out. A store that compares something other than the pair, such as a version of its own, or whose numbers are not assigned in the order of its changes. An index that was created anew between the two writes. A write whose line was written only after it was sent."
         }
         Anomaly::UnmetCondition => {
             "A client library or a proxy that leaves the condition out, or a store that compares something other than the pair. A client that is not recorded and wrote the document in between. A reply that was recorded for another call than its own."
@@ -80,4 +80,4 @@ pub fn look_words(anomaly: Anomaly) -> &'static str {
 
 /// What to keep and how to shorten it, whatever the anomaly.
 pub const KEEP: &str =
-    "Keep the whole recording, and the logs of all nodes and the list of what was done to them for the minutes around these lines. `python3 -m casbench_recording.shrink FILE` cuts the recording down to the few calls that get the same answer.";
+    "Keep the whole recording, and the logs of all nodes and the list of what was done to them for the minutes around these lines. `python3 -m casbench_recording.shrink FILE > FEW` cuts the recording down to the few calls that get the same answer without options.";

@@ -19,7 +19,7 @@ pub enum Anomaly {
     UnwrittenValue,
     /// A reply needs a version that no recorded write can have made.
     UnwrittenVersion,
-    /// A write was answered with a conflict, though its condition held.
+    /// A write was answered with a conflict, though it has no condition, or its condition held.
     UnfoundedConflict,
     /// None of these: the calls that are named show no more than that there is no order.
     Unnamed,
@@ -57,7 +57,7 @@ impl Anomaly {
                 "Version that nobody wrote: a reply needs a version that no recorded write can have made"
             }
             Anomaly::UnfoundedConflict => {
-                "Conflict without a cause: a write was answered with a conflict though its condition held"
+                "Conflict without a cause: a write was answered with a conflict though no condition of it was unmet"
             }
             Anomaly::Unnamed => "No order of the calls explains the replies",
         }

@@ -7,14 +7,14 @@ use version_pair::Pair;
 #[derive(Clone, Copy)]
 pub struct Coverage {
     pub calls: usize,
-    /// The calls that were open at the same time as another call of their document.
+    /// The calls that were open at the same time as an answered call of their document.
     pub overlapping: usize,
     /// The gets that were answered.
     pub gets: usize,
     /// The writes under a condition, creates among them, that were performed.
     pub performed: usize,
-    /// Those that were refused.
-    pub refused: usize,
+    /// Those that were answered with a conflict.
+    pub conflicts: usize,
     /// The writes without a reply.
     pub unanswered: usize,
     /// The least and the greatest version that a reply shows.
@@ -27,13 +27,14 @@ fn is_conditional(op: Op) -> bool {
     matches!(op, Op::Create { .. }) || op.condition().is_some()
 }
 
-// Returns where the call ended; past all events if it was never answered.
+// Returns where the call ended. One that was never answered counts as ended at once: it may take effect at any
+// time, so all later calls would overlap it.
 fn end_of(record: &Rec) -> usize {
-    record.heard.map_or(usize::MAX, |heard| heard.0)
+    record.heard.map_or(record.call_at, |heard| heard.0)
 }
 
 // Returns how many of a document's calls, in the order in which they were made, were open at the same time as
-// another one of them.
+// an answered one of them.
 fn overlapping_of(records: &[Rec]) -> usize {
     let mut count = 0usize;
     let mut open_until = 0usize;
@@ -58,7 +59,7 @@ impl Coverage {
             overlapping: 0,
             gets: 0,
             performed: 0,
-            refused: 0,
+            conflicts: 0,
             unanswered: 0,
             least: None,
             greatest: None,
@@ -96,7 +97,7 @@ impl Coverage {
         match (op, reply) {
             (Op::Get, _) => self.gets = self.gets.saturating_add(1),
             (_, Reply::Conflict) if is_conditional(op) => {
-                self.refused = self.refused.saturating_add(1)
+                self.conflicts = self.conflicts.saturating_add(1)
             }
             _ if is_conditional(op) => self.performed = self.performed.saturating_add(1),
             _ => {}

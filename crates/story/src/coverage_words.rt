@@ -62,7 +62,7 @@ fn items_of(
     let overlapping = coverage.overlapping;
     let gets = coverage.gets;
     let performed = coverage.performed;
-    let refused = coverage.refused;
+    let conflicts = coverage.conflicts;
     let unanswered = coverage.unanswered;
     let terms = terms_words(alloc, coverage)?;
     let busiest = busiest_words(alloc, witnesses)?;
@@ -72,7 +72,7 @@ fn items_of(
     )?)?;
     items.push(format!(in alloc; "gets that were answered: {gets}")?)?;
     items.push(format!(in alloc;
-        "writes under a condition, creates among them: {performed} performed, {refused} refused"
+        "writes under a condition, creates among them: {performed} performed, {conflicts} answered with a conflict"
     )?)?;
     items.push(format!(in alloc; "writes without a reply: {unanswered}")?)?;
     items.push(format!(in alloc; "primary terms seen: {terms}")?)?;
@@ -82,9 +82,9 @@ fn items_of(
 
 // Returns why the recording can show little; `None` if nothing speaks for that.
 fn warning_words(coverage: &Coverage) -> Option<&'static str> {
-    if coverage.gets == 0 && coverage.performed == 0 && coverage.refused == 0 {
+    if coverage.gets == 0 && coverage.performed == 0 && coverage.conflicts == 0 {
         Some(
-            "This recording can show little: nothing in it reads what was written, neither a get nor a condition.",
+            "This recording can show little: neither a get nor a condition asks for what was written.",
         )
     } else if coverage.overlapping == 0 {
         Some(

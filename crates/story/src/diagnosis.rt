@@ -3,8 +3,10 @@ use crate::reason::Reason;
 use crate::subject::Unexplained;
 use crate::subjects::Subject;
 use doc_register::Op;
+use events::Rec;
 use evidence::{Certainty, Refuted};
 use ruled_out::{Cause, Unmet};
+use version_pair::Pair;
 
 /// The anomaly that an explanation names, and the number of the call whose reply shows it.
 #[derive(Clone, Copy)]
@@ -13,19 +15,22 @@ pub struct Diagnosis {
     pub call: u64,
 }
 
-// Whether the reply to a performed write shows how far the document had come, and not only a get or a
-// conflict.
-fn is_acknowledged(reason: &Reason) -> bool {
+// Whether the write of the version that the document had reached was acknowledged before the call that has no
+// position was made.
+fn is_acknowledged(reason: &Reason, records: &[Rec]) -> bool {
     let link = reason.links.last().map(|link| link.record);
-    match link.or(reason.shower) {
-        Some(record) => record.pair_taken().is_some(),
-        None => false,
-    }
+    let shower = link.or(reason.shower);
+    let reached = shower.and_then(|it| it.heard.and_then(|heard| heard.1.pair()));
+    let called = reason.stop.call_at;
+    reached.is_some()
+        && records.iter().any(|write| {
+            write.pair_taken() == reached && write.heard.is_some_and(|heard| heard.0 < called)
+        })
 }
 
 // Returns the anomaly of a reply that shows an older state than the document had reached.
-fn anomaly_of_passed(reason: &Reason) -> Anomaly {
-    match (is_acknowledged(reason), reason.stop.op) {
+fn anomaly_of_passed(reason: &Reason, records: &[Rec]) -> Anomaly {
+    match (is_acknowledged(reason, records), reason.stop.op) {
         (false, _) => Anomaly::TakenBack,
         (true, Op::Get) => Anomaly::StaleRead,
         (true, _) => Anomaly::LostWrite,
@@ -40,31 +45,50 @@ fn anomaly_of_unmet(unmet: Unmet) -> Anomaly {
     }
 }
 
-// Returns the first of two anomalies if an acknowledged write shows how far the document had come, else the
-// second.
-fn if_acknowledged(reason: &Reason, first: Anomaly, second: Anomaly) -> Anomaly {
-    if is_acknowledged(reason) {
+// Returns the first of two anomalies if the write of the version that the document had reached was
+// acknowledged, else the second.
+fn if_acknowledged(reason: &Reason, records: &[Rec], first: Anomaly, second: Anomaly) -> Anomaly {
+    if is_acknowledged(reason, records) {
         first
     } else {
         second
     }
 }
 
-/// Returns the anomaly that a reason shows.
-pub fn anomaly_of(reason: &Reason) -> Anomaly {
+// Returns the anomaly of a write whose reply says that the document was there where it was absent.
+fn anomaly_of_absent(reason: &Reason, records: &[Rec]) -> Anomaly {
+    let other = if reason.links.is_empty() {
+        Anomaly::UnwrittenVersion
+    } else {
+        Anomaly::TakenBack
+    };
+    if_acknowledged(reason, records, Anomaly::LostWrite, other)
+}
+
+// Returns the anomaly of a call by which the document must have had a version that nobody wrote.
+fn anomaly_of_unwritten(stop: &Rec, version: Pair) -> Anomaly {
+    let shown = stop.heard.and_then(|heard| heard.1.pair());
+    if stop.op == Op::Get && shown == Some(version) {
+        Anomaly::UnwrittenValue
+    } else {
+        Anomaly::UnwrittenVersion
+    }
+}
+
+/// Returns the anomaly that a reason shows; the records are those of its document.
+pub fn anomaly_of(reason: &Reason, records: &[Rec]) -> Anomaly {
     match reason.cause {
         Cause::NeverRefused | Cause::StillThere(_) | Cause::NotThere => Anomaly::UnfoundedConflict,
-        Cause::There => if_acknowledged(reason, Anomaly::WriteNotSeen, Anomaly::TakenBack),
-        Cause::Passed(_) => anomaly_of_passed(reason),
-        Cause::WasThere(_) => if_acknowledged(reason, Anomaly::LostWrite, Anomaly::TakenBack),
-        Cause::WasAbsent(_) => {
-            if_acknowledged(reason, Anomaly::LostWrite, Anomaly::UnwrittenVersion)
+        Cause::There => {
+            if_acknowledged(reason, records, Anomaly::WriteNotSeen, Anomaly::TakenBack)
         }
+        Cause::Passed(_) => anomaly_of_passed(reason, records),
+        Cause::WasThere(_) => {
+            if_acknowledged(reason, records, Anomaly::LostWrite, Anomaly::TakenBack)
+        }
+        Cause::WasAbsent(_) => anomaly_of_absent(reason, records),
         Cause::Unmet(unmet) => anomaly_of_unmet(unmet),
-        Cause::Unwritten(_) => match reason.stop.op {
-            Op::Get => Anomaly::UnwrittenValue,
-            _ => Anomaly::UnwrittenVersion,
-        },
+        Cause::Unwritten(pair) => anomaly_of_unwritten(&reason.stop, pair),
     }
 }
 
@@ -91,7 +115,7 @@ fn reasoned(evidence: Option<Refuted>, subjects: &[Subject<'_>]) -> Option<Diagn
                 _ => true,
             };
             if is_named {
-                let anomaly = anomaly_of(reason);
+                let anomaly = anomaly_of(reason, &subject.records);
                 return Some(Diagnosis { anomaly, call });
             }
         }

@@ -8,6 +8,7 @@ use crate::subject::Unexplained;
 use crate::subjects::Subject;
 use crate::version_fall::{VersionFall, version_fall};
 use crate::words::pair_words;
+use doc_register::Op;
 use events::Rec;
 use evidence::Refuted;
 use std::alloc::Global;
@@ -47,8 +48,13 @@ fn is_short_of(record: &Rec, pair: Pair) -> bool {
     shown_by(record).is_none_or(|shown| shown.is_below(pair))
 }
 
-// Says whether a call that was made after the reply shows the version again that the document had reached
-// before the call of that reply; nothing if the reply isn't short of that version.
+// Whether a delete was given the version: no get can show it.
+fn is_of_delete(records: &[Rec], pair: Pair) -> bool {
+    records.iter().any(|it| { matches!(it.op, Op::Delete { .. }) && it.pair_taken() == Some(pair) })
+}
+
+// Says whether a call that was made after the reply to a get shows the version again that the document had
+// reached before the get was made; nothing if the reply isn't short of that version, or no get can show it.
 fn again_words(
     alloc: Global,
     records: &[Rec],
@@ -58,22 +64,23 @@ fn again_words(
     let (Some(pair), Some(heard)) = (reached_before(records, broken.call_at), broken.heard) else {
         return Ok(None);
     };
-    if !is_short_of(broken, pair) {
+    if broken.op != Op::Get || !is_short_of(broken, pair) || is_of_delete(records, pair) {
         return Ok(None);
     }
     let version = pair_words(alloc, pair)?;
     let first = records.partition_point(|record| record.call_at <= heard.0);
     let again = records.iter().skip(first).find(|it| shows(it, pair));
+    let get = broken.no;
     let words = match again {
         Some(later) => {
             let no = later.no;
             let line = lines.reply(later);
             format!(in alloc;
-                "The version {version} is shown again by call {no}, which was made after that reply (line {line}): so it was not lost for good, which speaks for a reply from an older copy."
+                "The version {version} is shown again by call {no} (line {line}), which was made after the reply to call {get}: so it was not lost for good, which speaks for a reply from an older copy."
             )?
         }
         None => format!(in alloc;
-            "No call that was made after that reply shows the version {version} again, so nothing here says whether it is still there."
+            "No call that was made after the reply to call {get} shows the version {version} again, so nothing here says whether it is still there."
         )?,
     };
     Ok(Some(words))
@@ -81,7 +88,7 @@ fn again_words(
 
 // What is said if no version falls back, though the document was written after the reply.
 const NO_FALL: &str =
-    "The versions that the document's writes were given never fall back, after that reply neither, which speaks against an index that was created anew.";
+    "The versions that the document's writes were given never fall back, neither before nor after the reply that broke the order, which speaks against an index that was created anew.";
 
 // Whether a write that was called after the reply to this call was performed.
 fn is_written_after(records: &[Rec], broken: &Rec) -> bool {
@@ -132,7 +139,9 @@ fn documents_words(unexplained: &Unexplained<'_>) -> Option<&'static str> {
     let first = call_of(unexplained.history, one)?;
     let second = call_of(unexplained.history, two)?;
     if first.id.as_str() == second.id.as_str() {
-        Some("Both writes are of one document, so they are of one shard.")
+        Some(
+            "Both lines name one document: make sure that both are of one index, and of one routing if the index uses it.",
+        )
     } else {
         Some("The two writes are of different documents: make sure that both are of one shard.")
     }
@@ -148,7 +157,7 @@ fn is_of_state(anomaly: Anomaly) -> bool {
 
 // Whether an index that was created anew makes the same picture.
 fn is_of_numbers(anomaly: Anomaly) -> bool {
-    matches!(anomaly, Anomaly::VersionTwice | Anomaly::LostUpdate) || is_of_state(anomaly)
+    anomaly == Anomaly::LostUpdate || is_of_state(anomaly)
 }
 
 // Adds a paragraph if there is something to say.
