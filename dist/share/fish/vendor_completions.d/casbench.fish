@@ -43,7 +43,7 @@ function __casbench_wants -a command most
 end
 
 complete -c casbench -f
-complete -c casbench -n '__casbench_is ""' -a check -d 'Check a history, which is also what casbench does without a command'
+complete -c casbench -n '__casbench_is ""' -a check -d 'Check histories; casbench without a command checks standard input'
 complete -c casbench -n '__casbench_is ""' -a witness -d 'Write the witness of a history'
 complete -c casbench -n '__casbench_is ""' -a verify -d 'Check a witness against a history'
 complete -c casbench -n '__casbench_is ""' -a bulk -d 'Write a bulk request and its reply as lines of a history'
@@ -55,8 +55,9 @@ complete -c casbench -n '__casbench_lacks "" flag -V --version' -s V -l version 
 complete -c casbench -n '__casbench_lacks check value --conflicts' -l conflicts -x -a 'plain maybe' -d 'How a conflict is read: plain (not performed) or maybe (possibly performed); plain by default'
 complete -c casbench -n '__casbench_lacks check value --workers' -l workers -x -d 'How many workers search the documents, 1 to 16; 1 by default'
 complete -c casbench -n '__casbench_lacks check flag --rule-out' -l rule-out -d 'If no order is found, look for a document that no order explains, whatever became of lost calls'
+complete -c casbench -n '__casbench_lacks check value --at-least' -l at-least -x -d 'How many calls a history has to have: a yes with fewer gets status 6; 0 by default'
 complete -c casbench -n '__casbench_lacks check flag -h --help' -s h -l help -d 'Print help'
-complete -c casbench -n '__casbench_wants check 1 --conflicts --workers' -F
+complete -c casbench -n '__casbench_wants check 999 --conflicts --workers --at-least' -F
 complete -c casbench -n '__casbench_lacks witness value --conflicts' -l conflicts -x -a 'plain maybe' -d 'How a conflict is read: plain (not performed) or maybe (possibly performed); plain by default'
 complete -c casbench -n '__casbench_lacks witness flag --rule-out' -l rule-out -d 'If no order is found, look for a document that no order explains, whatever became of lost calls'
 complete -c casbench -n '__casbench_lacks witness flag -h --help' -s h -l help -d 'Print help'
