@@ -7,6 +7,7 @@ import contextlib
 import os
 import pathlib
 import random
+import re
 import shutil
 import socket
 import socketserver
@@ -18,6 +19,9 @@ from program import TOP
 
 # A run that takes longer has failed.
 SECONDS = 120
+
+# What a check says of a history without calls.
+NO_CALLS = re.compile(r"casbench: ([^\n]*: )?no calls, so nothing was judged\n")
 
 
 def run_arguments(seed=1, clients=1, calls=1, docs=1, copies=1, fault="none"):
@@ -52,9 +56,9 @@ def run_on_files(program, command, texts, options=()):
 
 
 def said(end):
-    """The status and the answer of a run that has nothing to say on standard error."""
+    """The status and the answer of a run that has nothing to say on standard error, but that a history has no calls."""
     status, out, err = end
-    if err:
+    if err and not NO_CALLS.fullmatch(err):
         raise OSError(err[:300])
     return status, out
 
