@@ -3,6 +3,10 @@
 fails.
 
     python3 tests/offences.py [PROGRAM]
+    python3 tests/offences.py --large 4 [PROGRAM]
+
+The second one draws recordings of 524,288 calls that lack several numbers, of 2, 3 and 4 documents by as many seeds,
+and prints the answer to each and the processor time that it took.
 
 PROGRAM is the built casbench; if it isn't named, the one that ./casbench would run. If no order is found, the answer
 names the event of a reply. The text up to that event, itself with it, must then get no `yes`; and the text before it
@@ -27,6 +31,7 @@ from concurrent.futures import ProcessPoolExecutor
 
 from drawing import CONFLICT, MISSING, Call, Draws, Ending, Op, Reply, lines, pair_taken, performed
 from honest import Recording
+from program import built_program
 from program_test import ProgramTest, run_tests
 from running import run, said
 from texts import OFFENCE, no, status_of
@@ -41,6 +46,9 @@ ORDER = "an order"
 # How many calls a long recording has, its seed, and how many times the processor time a check may take if the guess is
 # right.
 LONG_CALLS, LONG_SEED, MOST_TIMES = 60_000, 7, 6
+
+# How many calls the largest ones have: with their endings as many events as a text may have.
+LARGE_CALLS = 524_288
 
 # How many numbers are taken out of a long recording of which several are missing; its clients, and its part of lost
 # calls; and the documents and the seeds of these recordings.
@@ -311,6 +319,16 @@ def check_short(program, docs, seed):
         raise AssertionError(f"it takes {after:.2f} s, and the honest recording {before:.2f}")
 
 
+def print_large(program, seeds):
+    """Prints the answers to the largest recordings of which several numbers are missing, and what each took."""
+    for docs in (2, 3, 4):
+        for seed in range(1, seeds + 1):
+            text = Recording(seed, docs, SHORT_CLIENTS, LARGE_CALLS, SHORT_LOSS).lines()
+            text = without_numbers("".join(text).splitlines(keepends=True), seed)
+            seconds, line = seconds_of(program, text)
+            print(f"{docs} documents, seed {seed}: {seconds:.2f} s, {line.strip()}", flush=True)
+
+
 class Offences(ProgramTest):
     """Recordings with one changed reply."""
 
@@ -355,4 +373,7 @@ class Offences(ProgramTest):
 
 
 if __name__ == "__main__":
-    sys.exit(run_tests())
+    if sys.argv[1:2] == ["--large"]:
+        print_large(built_program(sys.argv[3:4]), int(sys.argv[2]))
+    else:
+        sys.exit(run_tests())

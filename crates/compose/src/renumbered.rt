@@ -5,7 +5,7 @@ use crate::renumbered::free_numbers::{FreeNumbers, pair_after};
 use crate::renumbered::gaps::{Gap, Gaps};
 use crate::renumbered::names::Names;
 use crate::renumbered::tight::{Filled, tight_set};
-use crate::reordered::reordered;
+use crate::reordered::if_valid;
 use crate::used_pairs::UsedPairs;
 use events::HashKeys;
 use places::DocWitness;
@@ -181,14 +181,16 @@ fn change_places(
 ) -> Result<Option<DocWitness>, NoMemory>
     ensures { IfOk result (λ other. IfSome other (IsAlike witness)) }
 {
-    let mut places = Vec::from_slice(alloc, witness.places())?;
+    let conflicts = witness.conflicts();
+    let (id, records, places) = witness.into_parts();
+    let mut places = places;
     for i in 0..changes.len() {
         let (_, place, pair) = changes[i];
         if let Some(found) = places.get_mut(place) {
             found.pair = Some(pair);
         }
     }
-    reordered(alloc, witness, places)
+    if_valid(DocWitness::check(alloc, id, records, places, conflicts))
 }
 
 // Returns the index at which the changes of this witness end, which begin at `from`.

@@ -6,8 +6,8 @@ use places::{Broken, DocWitness, Place};
 use std::alloc::{AllocError, Global};
 use version_pair::{DocId, NoMemory};
 
-// Returns the witness, if there is one.
-fn if_valid(
+/// Returns the witness, if the places that were checked are valid.
+pub fn if_valid(
     checked: Result<DocWitness, (Broken, DocId, Vec<Rec>, Vec<Place>)>,
 ) -> Result<Option<DocWitness>, NoMemory>
     ensures { IfOk result (λ found. IfSome found (λ w. checked ≡ Ok w)) }
@@ -21,8 +21,8 @@ fn if_valid(
     }
 }
 
-/// Returns the witness with these places in place of its own, if they are valid.
-pub fn reordered(
+// Returns the witness with these places in place of its own, if they are valid.
+fn reordered(
     alloc: Global,
     witness: DocWitness,
     places: Vec<Place>,
