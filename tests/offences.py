@@ -52,7 +52,7 @@ LARGE_CALLS = 524_288
 
 # How many numbers are taken out of a long recording of which several are missing; its clients, and its part of lost
 # calls; and the documents and the seeds of these recordings.
-MISSING_NUMBERS, SHORT_CLIENTS, SHORT_LOSS, SHORT_RECORDINGS = 5, 32, 0.05, ((2, 4), (2, 14), (3, 13), (4, 7), (4, 8))
+MISSING_NUMBERS, SHORT_CLIENTS, SHORT_LOSS, SHORT_RECORDINGS = 5, 32, 0.05, ((2, 4), (3, 13), (4, 7), (4, 8))
 
 
 class Clients:
