@@ -199,6 +199,14 @@ def wrong(value, name):
     return f"invalid value '{value}' for '{name}': "
 
 
+def wrong_numbers(command, option, name):
+    """The arguments of a command with an option that takes a number below 2^64, with other texts or twice, and how the
+    message begins."""
+    for text in ("few", "", "-1", "1.0", "18446744073709551616"):
+        yield f"{command} {option}={text}", wrong(text, name)
+    yield f"{command} {option}=1 {option}=1", TWICE.format(name)
+
+
 # The commands that have --rule-out.
 RULING_OUT = ("check", "witness", "explain")
 
@@ -227,12 +235,7 @@ REFUSED = [
     ("--workers 2", UNKNOWN.format("--workers")),
     # least numbers of calls
     ("check --at-least", NO_VALUE.format("--at-least <CALLS>")),
-    ("check --at-least few", wrong("few", "--at-least <CALLS>")),
-    ("check --at-least=", wrong("", "--at-least <CALLS>")),
-    ("check --at-least=-1", wrong("-1", "--at-least <CALLS>")),
-    ("check --at-least 1.0", wrong("1.0", "--at-least <CALLS>")),
-    ("check --at-least 18446744073709551616", wrong("18446744073709551616", "--at-least <CALLS>")),
-    ("check --at-least=1 --at-least=1", TWICE.format("--at-least <CALLS>")),
+    *wrong_numbers("check", "--at-least", "--at-least <CALLS>"),
     ("witness --at-least 1", UNKNOWN.format("--at-least")),
     ("explain --at-least 1", UNKNOWN.format("--at-least")),
     ("verify h w --at-least 1", UNKNOWN.format("--at-least")),
@@ -260,12 +263,7 @@ REFUSED = [
     ("bulk", missing("<BODY>", "<REPLY>")),
     ("bulk b --first 1", missing("<REPLY>")),
     ("bulk b r 1", UNKNOWN.format("1")),
-    ("bulk b r --first x", wrong("x", "--first <N>")),
-    ("bulk b r --first=", wrong("", "--first <N>")),
-    ("bulk b r --first=-1", wrong("-1", "--first <N>")),
-    ("bulk b r --first=1.0", wrong("1.0", "--first <N>")),
-    ("bulk b r --first=18446744073709551616", wrong("18446744073709551616", "--first <N>")),
-    ("bulk b r --first=1 --first=1", TWICE.format("--first <N>")),
+    *wrong_numbers("bulk b r", "--first", "--first <N>"),
     ("check h --first=1", UNKNOWN.format("--first")),
     # runs
     (RUN.format("18446744073709551616", "1") + " --fault none", wrong("18446744073709551616", "--seed <S>")),
